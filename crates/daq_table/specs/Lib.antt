@@ -1,0 +1,4 @@
+pub mod ColumnFacts
+pub mod HeadFacts
+pub mod Tables
+pub mod Numbers
