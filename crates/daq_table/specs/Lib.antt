@@ -2,3 +2,4 @@ pub mod ColumnFacts
 pub mod HeadFacts
 pub mod Tables
 pub mod Numbers
+pub mod CellTexts

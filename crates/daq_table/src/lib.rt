@@ -2,6 +2,7 @@
 #![tactic(auto)]
 
 mod buffer;
+mod cells;
 mod column;
 mod head;
 mod names;
@@ -10,7 +11,8 @@ mod table;
 mod table_head;
 
 pub use buffer::{NoRoom, TextBuf};
-pub use column::ends;
+pub use cells::int_cell;
+pub use column::{ends, width};
 pub use head::{ColumnHead, ColumnHeads, Ends, Kind};
 pub use names::{Name, Names, Text};
 pub use numbers::number_text;

@@ -20,7 +20,7 @@ fn append_digits(number: u128, scale: u8, out: &mut TextBuf)
     requires digits { scale ≤ 18 }
     requires room { length out.old ≤ 580 }
     ensures text { out.new ≡ out.old ++ digits_text scale number }
-    ensures within { length out.new ≤ 640 }
+    ensures within { length out.new ≤ length out.old + 58 }
 {
     let mut buffer = Buffer::new();
     let digits = buffer.format(number).as_bytes();
@@ -32,7 +32,7 @@ fn append_digits(number: u128, scale: u8, out: &mut TextBuf)
 fn scaled(value: i128, scale: u8) -> TextBuf
     requires { (1 ≤ scale) × (scale ≤ 18) }
     ensures text { result ≡ scaled_text scale value }
-    ensures short { length result ≤ 640 }
+    ensures short { length result ≤ 100 }
 {
     let mut buffer = Buffer::new();
     let mut text = TextBuf::new();
@@ -52,6 +52,7 @@ pub fn number_text(value: i128, scale: u8, out: &mut TextBuf) -> Result<(), NoRo
     requires { scale ≤ 18 }
     ensures ok { OnOk result (out.new ≡ out.old ++ scaled_text scale value) }
     ensures err { OnErr result ((out.new ≡ out.old) × (640 < length out.old + length (scaled_text scale value))) }
+    ensures short { length (scaled_text scale value) ≤ 100 }
 {
     if scale == 0 {
         let mut digits = Buffer::new();
