@@ -1,0 +1,55 @@
+//! The program `daq`: hands the words of the command line, files and streams to `run`, and ends with its status.
+#![tactic(auto)]
+
+mod files;
+
+use daq_cli::{Status, Words, World, run};
+use files::{FileSink, FileSource, FileStore};
+use std::alloc::{AllocError, Global};
+use std::env;
+use std::process::ExitCode;
+
+// The words of the command line, without the program's name; none where one of them is no text.
+fn read_words(rt: &HostRuntime, alloc: Global) -> Result<Option<Words>, AllocError> {
+    let mut words = Words::new(alloc);
+    let Ok(args) = env::args(rt) else {
+        return Ok(None);
+    };
+    for word in args.skip(1) {
+        words.push(word.as_str())?;
+    }
+    Ok(Some(words))
+}
+
+// The file of the second word.
+fn open_input(rt: &HostRuntime, words: &Words) -> FileSource {
+    if words.len() < 2 {
+        return FileSource::closed();
+    }
+    FileSource::open(rt, words.word(1))
+}
+
+// Says why the program ends before its words are known.
+fn give_up(rt: &HostRuntime, line: &str, status: Status) -> ExitCode {
+    match rt.eprintln(line) {
+        Ok(()) => ExitCode::from(status as u8),
+        Err(_) => ExitCode::from(Status::WriteFault as u8),
+    }
+}
+
+fn main(rt: HostRuntime) -> ExitCode {
+    let words = match read_words(&rt, rt.alloc()) {
+        Ok(Some(words)) => words,
+        Ok(None) => return give_up(&rt, "daq: usage: word 1", Status::Usage),
+        Err(_) => return give_up(&rt, "daq: no memory", Status::NoMemory),
+    };
+    let mut world = World {
+        input: open_input(&rt, &words),
+        side: FileSource::closed(),
+        planes: FileStore::closed(),
+        made: FileSink::closed(),
+        out: FileSink::out(&rt),
+        err: FileSink::err(&rt),
+    };
+    ExitCode::from(run(rt.alloc(), &words, &mut world) as u8)
+}

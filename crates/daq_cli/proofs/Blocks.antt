@@ -1,0 +1,133 @@
+-- Blocks of a report, written one after the other.
+use Rattle.std.proofs.Common.{◌≡◌, ℕ, zero, suc, ◌+◌, ◌-◌, ◌*◌, ◌/◌, ◌^◌, ◌<◌, ◌≤◌, List, [], ◌∷◌, ◌++◌, length, map, slice_index, get_or, All, refl, sym, ap, ◌∙◌, subst, arith, append_assoc, append-nil, IsTrue, IsFalse, Some, Option, zero-add}
+use Rattle.std.proofs.lemmas.Bool.{false≢true}
+use Rattle.std.proofs.lemmas.List.{get_or-map, length-map}
+use Rattle.std.proofs.lemmas.Nat.{div-add-mod'}
+use Rattle.std.proofs.KnownBytes.{Appends-trans}
+use Rattle.std.specs.Io.KnownBytes.{Appends}
+use Rattle.std.specs.List.{cons_option, filter_map, range_with_len}
+use Rattle.daq_table.specs.Tables.{Cells, Frame, IsTable, planes, spread}
+use Rattle.daq_table.specs.declared.head.Ends.{Ends}
+use Rattle.outer_world.specs.Whole.{AppendsPrefix}
+use Rattle.query_model.specs.Bounds.{Pair, bound_of, pair_of}
+use Rattle.query_model.specs.Knowledge.{ranges_of}
+use Rattle.query_model.specs.declared.bounds.Bound.{Bound}
+use Rattle.query_model.specs.declared.query.ItemKind.TheVariants.{Sum}
+use Rattle.daq_cli.specs.Headline.{FullRoundsAreNarrow}
+use Rattle.daq_cli.specs.Prefixes.{FitsColumn, column_frame, sure_pair, sure_pairs}
+use Rattle.daq_cli.specs.Report.{block, block_of, blocks_below}
+use Rattle.daq_cli.specs.Rounds.{IsLastRound, bound_after, is_narrow, known_after, sum_item, sum_query}
+
+-- ---- the bound of a round
+
+-- a pair for each row, from the row's prefix
+pairs_of_rows : (f : ℕ → Option Pair) (g : ℕ → Pair) (a : ℕ) (xs : List ℕ) → ((r : ℕ) → r < length xs → f (a + r) ≡ Some (g (slice_index xs r))) →
+    filter_map f (range_with_len a (length xs)) ≡ map g xs
+pairs_of_rows f g a [] h = refl
+pairs_of_rows f g a (x ∷ xs) h =
+    let here : a ≡ a + 0 = omega arith in
+    let first : f a ≡ Some (g x) = ap f here ∙ h 0 (omega arith) in
+    let next = pairs_of_rows f g (a + 1) xs (λ r k. let there : a + 1 + r ≡ a + suc r = omega arith in ap f there ∙ h (suc r) (omega arith)) in
+    ap (λ o. cons_option o (filter_map f (range_with_len (a + 1) (length xs)))) first ∙ ap (λ l. g x ∷ l) next
+
+pub bound_of_prefixes : (ends : Ends) (cells : List ℕ) (round : ℕ) →
+    bound_after (column_frame (length cells) ends) (cells ∷ []) round ≡ bound_of Sum (sure_pairs ends (2 ^ (planes ends - round)) (map (λ cell. cell / 2 ^ (planes ends - round)) cells))
+bound_of_prefixes ends cells round =
+    let frame = column_frame (length cells) ends in
+    let b = 2 ^ (planes ends - round) in
+    let ps = map (λ cell. cell / b) cells in
+    let f = λ (r : ℕ). pair_of sum_query sum_item [] (ranges_of frame (known_after frame (cells ∷ []) round) r) in
+    let long : length ps ≡ length cells = length-map cells (λ cell. cell / b) in
+    let rows : filter_map f (range_with_len 0 (length ps)) ≡ sure_pairs ends b ps = pairs_of_rows f (sure_pair ends b) 0 ps (λ r h. ap f (zero-add r)) in
+    ap (bound_of Sum) (ap (λ n. filter_map f (range_with_len 0 n)) (sym long) ∙ rows)
+
+-- what is computed of the prefixes is the bound of the round, and the block that is written is the round's
+pub block_written : (name : List ℕ) (ends : Ends) (width round : ℕ) (cells prefixes : List ℕ) (bound : Bound) → width ≡ planes ends →
+    prefixes ≡ map (λ cell. cell / 2 ^ (width - round)) cells → bound ≡ bound_of Sum (sure_pairs ends (2 ^ (width - round)) prefixes) →
+    (bound ≡ bound_after (column_frame (length cells) ends) (cells ∷ []) round) × (block name width round bound ≡ block_of name (column_frame (length cells) ends) (cells ∷ []) round)
+block_written name ends width round cells prefixes bound wide before is =
+    let computed = λ (w : ℕ). bound_of Sum (sure_pairs ends (2 ^ (w - round)) (map (λ cell. cell / 2 ^ (w - round)) cells)) in
+    let same : bound ≡ bound_after (column_frame (length cells) ends) (cells ∷ []) round =
+    is ∙ ap (λ ps. bound_of Sum (sure_pairs ends (2 ^ (width - round)) ps)) before ∙ ap computed wide ∙ sym (bound_of_prefixes ends cells round) in
+    (same, ap (λ b. block name width round b) same ∙ ap (λ w. block name w round (bound_after (column_frame (length cells) ends) (cells ∷ []) round)) wide)
+
+-- each prefix is one of the column
+pub prefixes_fit : (ends : Ends) (unread : ℕ) (cells prefixes : List ℕ) → IsTable (column_frame (length cells) ends) (cells ∷ []) →
+    prefixes ≡ map (λ cell. cell / 2 ^ unread) cells → All (FitsColumn ends (2 ^ unread)) prefixes
+prefixes_fit ends unread cells prefixes table is = λ k d h.
+    let b = 2 ^ unread in
+    let long : length prefixes ≡ length cells = ap length is ∙ length-map cells (λ cell. cell / b) in
+    let within : k < length cells = omega (arith, h, long) in
+    let at : get_or prefixes k d ≡ get_or cells k 0 / b = ap (λ ps. get_or ps k d) is ∙ get_or-map (λ cell. cell / b) cells k 0 d within in
+    let fits : get_or cells k 0 ≤ spread ends = table.within 0 k (omega arith) within in
+    let below : get_or cells k 0 / b * b ≤ spread ends = omega (arith, fits, div-add-mod' (get_or cells k 0) b) in
+    subst (λ p. p * b ≤ spread ends) (sym at) below
+
+-- ---- the last round
+
+pub last_is_here : (frame : Frame) (cells : Cells) (round : ℕ) → ((k : ℕ) → k < round → IsFalse (is_narrow 0 (bound_after frame cells k))) →
+    IsTrue (is_narrow 0 (bound_after frame cells round)) → IsLastRound frame cells round
+last_is_here frame cells round before narrow = record { narrow = narrow; first = before }
+
+pub last_is_later : (frame : Frame) (cells : Cells) (round last : ℕ) → ((k : ℕ) → k < round → IsFalse (is_narrow 0 (bound_after frame cells k))) →
+    IsLastRound frame cells last → round ≤ last
+last_is_later frame cells round last before is_last =
+    let not_earlier : last < round → ⊥ = λ h. false≢true (sym (before last h) ∙ is_last.narrow) in
+    omega (arith, not_earlier)
+
+-- a round that is not the last has a plane left
+pub plane_left : FullRoundsAreNarrow → (ends : Ends) (cells : List ℕ) (width round : ℕ) → width ≡ planes ends → round ≤ width → IsTable (column_frame (length cells) ends) (cells ∷ []) →
+    IsFalse (is_narrow 0 (bound_after (column_frame (length cells) ends) (cells ∷ []) round)) → round < width
+plane_left full ends cells width round wide within table wider =
+    let frame = column_frame (length cells) ends in
+    let not_full : round ≡ width → ⊥ = λ e.
+    false≢true (sym wider ∙ subst (λ n. IsTrue (is_narrow 0 (bound_after frame (cells ∷ []) n))) (sym (e ∙ wide)) (full frame ends (cells ∷ []) refl table)) in
+    omega (arith, within, not_full)
+
+-- ---- prefixes of the text
+
+-- all of xs and then a prefix of ys is a prefix of both
+pub prefix_after : (a b c : Option (List ℕ)) (xs ys : List ℕ) → Appends a b xs → AppendsPrefix b c ys → AppendsPrefix a c (xs ++ ys)
+prefix_after a b c xs ys p q = record {
+  done = xs ++ q.done;
+  rest = q.rest;
+  split = ap (λ l. xs ++ l) q.split ∙ sym (append_assoc xs q.done q.rest);
+  appended = Appends-trans a b c xs q.done p q.appended;
+}
+
+-- a prefix of xs is one of any longer text
+pub prefix_more : (a c : Option (List ℕ)) (xs zs : List ℕ) → AppendsPrefix a c xs → AppendsPrefix a c (xs ++ zs)
+prefix_more a c xs zs q = record {
+  done = q.done;
+  rest = q.rest ++ zs;
+  split = ap (λ l. l ++ zs) q.split ∙ append_assoc q.done q.rest zs;
+  appended = q.appended;
+}
+
+-- the blocks go on from each of them
+blocks_go_on : (name : List ℕ) (frame : Frame) (cells : Cells) (i d : ℕ) → (rest : List ℕ) × (blocks_below name frame cells (i + d) ≡ blocks_below name frame cells i ++ rest)
+unfolding blocks_below
+blocks_go_on name frame cells i zero = let same : i + 0 ≡ i = omega arith in ([], ap (blocks_below name frame cells) same ∙ sym (append-nil (blocks_below name frame cells i)))
+blocks_go_on name frame cells i (suc d) =
+    let (rest, e) = blocks_go_on name frame cells i d in
+    let grown : i + suc d ≡ suc (i + d) = omega arith in (
+      rest ++ block_of name frame cells (i + d),
+      ap (blocks_below name frame cells) grown ∙ ap (λ l. l ++ block_of name frame cells (i + d)) e ∙ append_assoc (blocks_below name frame cells i) rest (block_of name frame cells (i + d)),
+    )
+
+-- a prefix of some blocks is one of more blocks and what follows them
+pub prefix_of_blocks : (name : List ℕ) (frame : Frame) (cells : Cells) (a c : Option (List ℕ)) (i n : ℕ) (end : List ℕ) → i ≤ n →
+    AppendsPrefix a c (blocks_below name frame cells i) → AppendsPrefix a c (blocks_below name frame cells n ++ end)
+prefix_of_blocks name frame cells a c i n end le p =
+    let (rest, e) = blocks_go_on name frame cells i (n - i) in
+    let whole : i + (n - i) ≡ n = omega arith in
+    prefix_more a c (blocks_below name frame cells n) end
+    (subst (AppendsPrefix a c) (sym e ∙ ap (blocks_below name frame cells) whole) (prefix_more a c (blocks_below name frame cells i) rest p))
+
+pub no_blocks : (name : List ℕ) (frame : Frame) (cells : Cells) → blocks_below name frame cells 0 ≡ []
+unfolding blocks_below
+no_blocks name frame cells = refl
+
+pub next_block : (name : List ℕ) (frame : Frame) (cells : Cells) (round : ℕ) → blocks_below name frame cells (round + 1) ≡ blocks_below name frame cells round ++ block_of name frame cells round
+unfolding blocks_below
+next_block name frame cells round = let same : round + 1 ≡ suc round = omega arith in ap (blocks_below name frame cells) same

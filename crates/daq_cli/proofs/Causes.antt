@@ -1,0 +1,152 @@
+-- Causes exclude one another, so each status comes exactly where its cause is shown.
+use Rattle.std.proofs.Common.{◌≡◌, ℕ, ◌≤◌, List, ◌++◌, length, sym, ap, ◌∙◌, subst, arith, Option, Some, None, inl, inr, ◌⊎◌, codes, length-append, append-nil}
+use Rattle.std.specs.Io.KnownBytes.{Consumes, IsAtEnd}
+use Rattle.daq_table.specs.Tables.{Cells}
+use Rattle.daq_table.specs.declared.table_head.Head.{Head}
+use Rattle.outer_world.specs.Device.{Rose}
+use Rattle.daq_cli.specs.Command.{Ask, IsNoCommand, words_of}
+use Rattle.daq_cli.specs.Forms.{IsColumnText, IsSumOf, schema_text}
+use Rattle.daq_cli.specs.Outcome.{Accepts, AsksSum, IsAnswered, IsCause, IsNoTable, IsTableText, IsTold, QueryCause, ReadsTable, SchemaCause, SinkState, SourceState, TableCause, most_bytes}
+use Rattle.daq_cli.specs.Refusals.{status_of}
+use Rattle.daq_cli.specs.declared.refusal.Refusal.{Refusal}
+use Rattle.daq_cli.specs.declared.refusal.Refusal.TheVariants.{Usage, QueryNotBuilt, TableNotBuilt, TooLong, ReadFault, WriteFault, NoMemory}
+use Rattle.daq_cli.specs.declared.refusal.Status.{Status}
+use Rattle.daq_cli.specs.declared.refusal.Status.TheVariants as s
+use Rattle.daq_cli.proofs.Texts.{same_middle}
+
+-- ---- words ask for one column
+
+same_ask : (words : List (List ℕ)) (a b : Ask) → words ≡ words_of a → words ≡ words_of b → (a.schema ≡ b.schema) × (a.sql ≡ b.sql)
+same_ask words a b e f = (cc, cc)
+
+same_name : (sql other name next : List ℕ) → sql ≡ other → IsSumOf sql name → IsSumOf other next → name ≡ next
+same_name sql other name next same a b = same_middle (codes "SELECT SUM(") name next (codes ") FROM t") (sym a.text ∙ same ∙ b.text)
+
+asks_one : (words : List (List ℕ)) (schema other name next : List ℕ) → AsksSum words schema name → AsksSum words other next → (schema ≡ other) × (name ≡ next)
+asks_one words schema other name next a b =
+    let (schemas, sqls) = same_ask words _ _ a.command b.command in
+    (schemas, same_name a.sql b.sql name next sqls a.query b.query)
+
+no_command_asks : (words : List (List ℕ)) (schema name : List ℕ) → IsNoCommand words → AsksSum words schema name → ⊥
+no_command_asks words schema name none asks = none _ asks.command
+
+no_sum_asks : (words : List (List ℕ)) (schema name : List ℕ) → QueryCause words → AsksSum words schema name → ⊥
+no_sum_asks words schema name cause asks =
+    let (schemas, sqls) = same_ask words cause.ask _ cause.command asks.command in
+    cause.no_sum name (subst (λ sql. IsSumOf sql name) (sym sqls) asks.query)
+
+other_schema_asks : (words : List (List ℕ)) (name : List ℕ) → SchemaCause words → Accepts words name → ⊥
+other_schema_asks words name cause accepted =
+    let (schemas, names) = asks_one words cause.schema (schema_text name) cause.name name cause.asks accepted in
+    cause.other (schemas ∙ ap schema_text (sym names))
+
+-- ---- told bytes are read whole
+
+all_bytes : (left left' : Option (List ℕ)) (bytes read : List ℕ) → left ≡ Some bytes → Consumes left left' read → IsAtEnd left' → bytes ≡ read
+all_bytes None left' bytes read e c end = absurd cc
+all_bytes (Some xs) None bytes read e c end = absurd c
+all_bytes (Some xs) (Some ys) bytes read e c end =
+    let told : xs ≡ bytes = cc in
+    sym told ∙ c ∙ ap (λ l. read ++ l) end ∙ append-nil read
+
+few_bytes : (left left' : Option (List ℕ)) (bytes read : List ℕ) → left ≡ Some bytes → Consumes left left' read → length read ≤ length bytes
+few_bytes None left' bytes read e c = absurd cc
+few_bytes (Some xs) None bytes read e c = absurd c
+few_bytes (Some xs) (Some ys) bytes read e c =
+    let told : xs ≡ bytes = cc in
+    let long : length bytes ≡ length (read ++ ys) = ap length (sym told ∙ c) in
+    omega (arith, long, length-append read ys)
+
+no_table_is_read : (words : List (List ℕ)) (input input' : SourceState) (name next bytes : List ℕ) (head : Head) (cells : Cells) → Accepts words name → Accepts words next →
+    input.left ≡ Some bytes → IsNoTable name bytes → ReadsTable next input input' head cells → ⊥
+no_table_is_read words input input' name next bytes head cells a b told none read =
+    let (schemas, names) = asks_one words (schema_text name) (schema_text next) name next a b in
+    let same = all_bytes input.left input'.left bytes read.bytes told read.whole.read read.whole.ended in
+    by none names same
+  where
+    by : IsNoTable name bytes → name ≡ next → bytes ≡ read.bytes → ⊥
+    by (inl long) names same = let small : length bytes ≤ most_bytes = subst (λ l. length l ≤ most_bytes) (sym same) read.whole.small in omega (arith, long, small)
+    by (inr other) names same =
+        other read.table.texts (subst (λ n. IsColumnText n bytes read.table.texts) (sym names) (subst (λ l. IsColumnText next l read.table.texts) (sym same) read.table.text))
+
+-- ---- an answer shows no cause
+
+pub answered_command : (words : List (List ℕ)) (input input' : SourceState) (out out' : SinkState) → IsAnswered words input input' out out' → IsNoCommand words → ⊥
+answered_command words input input' out out' answered none = no_command_asks words _ _ none answered.accepted
+
+pub answered_schema : (words : List (List ℕ)) (input input' : SourceState) (out out' : SinkState) → IsAnswered words input input' out out' → SchemaCause words → ⊥
+answered_schema words input input' out out' answered cause = other_schema_asks words answered.name cause answered.accepted
+
+pub answered_table : (words : List (List ℕ)) (input input' : SourceState) (out out' : SinkState) → IsAnswered words input input' out out' →
+    (name bytes : List ℕ) → Accepts words name → input.left ≡ Some bytes → IsNoTable name bytes → ⊥
+answered_table words input input' out out' answered name bytes accepted told none =
+    no_table_is_read words input input' name answered.name bytes answered.head answered.cells accepted answered.accepted told none answered.read
+
+-- ---- a cause is told
+
+-- the status, or the write of the line failed
+abbrev pub Told : Status → Status → SinkState → SinkState → Type 0
+Told wanted status err err' = (status ≡ wanted) ⊎ ((status ≡ s.WriteFault) × Rose err.faults err'.faults)
+
+told : (why : Refusal) (status : Status) (err err' : SinkState) → IsTold why status err err' → Told (status_of why) status err err'
+told why status err err' (inl t) = inl t.0
+told why status err err' (inr t) = inr (t.0, t.1)
+
+pub usage_is_told : (words : List (List ℕ)) (input input' : SourceState) (out out' err err' : SinkState) (why : Refusal) (status : Status) → IsNoCommand words →
+    IsCause words input input' out out' why → IsTold why status err err' → Told s.Usage status err err'
+usage_is_told words input input' out out' err err' (Usage place) status none cause t = told (Usage place) status err err' t
+usage_is_told words input input' out out' err err' QueryNotBuilt status none cause t = absurd (none cause.0.ask cause.0.command)
+usage_is_told words input input' out out' err err' TableNotBuilt status none cause t = absurd (by cause.0)
+  where
+    by : ((SchemaCause words × (input' ≡ input)) ⊎ TableCause words input input') → ⊥
+    by (inl c) = no_command_asks words _ _ none c.0.asks
+    by (inr c) = no_command_asks words _ _ none c.accepted
+usage_is_told words input input' out out' err err' (TooLong limit) status none cause t = absurd (no_command_asks words _ _ none cause.0.accepted)
+usage_is_told words input input' out out' err err' ReadFault status none cause t = absurd (no_command_asks words _ _ none cause.0.accepted)
+usage_is_told words input input' out out' err err' WriteFault status none cause t = absurd (no_command_asks words _ _ none cause.accepted)
+usage_is_told words input input' out out' err err' NoMemory status none cause t = absurd (no_command_asks words _ _ none cause.0.1)
+
+pub schema_is_told : (words : List (List ℕ)) (input input' : SourceState) (out out' err err' : SinkState) (why : Refusal) (status : Status) → SchemaCause words →
+    IsCause words input input' out out' why → IsTold why status err err' → Told s.TableRefused status err err'
+schema_is_told words input input' out out' err err' (Usage place) status other cause t = absurd (no_command_asks words _ _ cause.0 other.asks)
+schema_is_told words input input' out out' err err' QueryNotBuilt status other cause t = absurd (no_sum_asks words _ _ cause.0 other.asks)
+schema_is_told words input input' out out' err err' TableNotBuilt status other cause t = told TableNotBuilt status err err' t
+schema_is_told words input input' out out' err err' (TooLong limit) status other cause t = told (TooLong limit) status err err' t
+schema_is_told words input input' out out' err err' ReadFault status other cause t = absurd (other_schema_asks words _ other cause.0.accepted)
+schema_is_told words input input' out out' err err' WriteFault status other cause t = absurd (other_schema_asks words _ other cause.accepted)
+schema_is_told words input input' out out' err err' NoMemory status other cause t = absurd (other_schema_asks words _ other cause.0.1)
+
+pub table_is_told : (words : List (List ℕ)) (input input' : SourceState) (out out' err err' : SinkState) (why : Refusal) (status : Status) (name bytes : List ℕ) → Accepts words name →
+    input.left ≡ Some bytes → IsNoTable name bytes → IsCause words input input' out out' why → IsTold why status err err' →
+    (status ≡ s.TableRefused) ⊎ (status ≡ s.NoMemory) ⊎ Rose input.faults input'.faults ⊎ Rose err.faults err'.faults
+table_is_told words input input' out out' err err' (Usage place) status name bytes accepted left none cause t = absurd (no_command_asks words _ _ cause.0 accepted)
+table_is_told words input input' out out' err err' QueryNotBuilt status name bytes accepted left none cause t = absurd (no_sum_asks words _ _ cause.0 accepted)
+table_is_told words input input' out out' err err' TableNotBuilt status name bytes accepted left none cause (inl t) = inl t.0
+table_is_told words input input' out out' err err' TableNotBuilt status name bytes accepted left none cause (inr t) = inr (inr (inr t.1))
+table_is_told words input input' out out' err err' (TooLong limit) status name bytes accepted left none cause (inl t) = inl t.0
+table_is_told words input input' out out' err err' (TooLong limit) status name bytes accepted left none cause (inr t) = inr (inr (inr t.1))
+table_is_told words input input' out out' err err' ReadFault status name bytes accepted left none cause t = inr (inr (inl cause.0.rose))
+table_is_told words input input' out out' err err' WriteFault status name bytes accepted left none cause t =
+    absurd (no_table_is_read words input input' name cause.name bytes cause.head cause.cells accepted cause.accepted left none cause.read)
+table_is_told words input input' out out' err err' NoMemory status name bytes accepted left none cause (inl t) = inr (inl t.0)
+table_is_told words input input' out out' err err' NoMemory status name bytes accepted left none cause (inr t) = inr (inr (inr t.1))
+
+pub table_is_read : (words : List (List ℕ)) (input input' : SourceState) (out out' err err' : SinkState) (why : Refusal) (status : Status) (name bytes : List ℕ) → Accepts words name →
+    input.left ≡ Some bytes → IsTableText name bytes → IsCause words input input' out out' why → IsTold why status err err' →
+    (status ≡ s.Done) ⊎ (status ≡ s.NoMemory) ⊎ Rose input.faults input'.faults ⊎ Rose out.faults out'.faults ⊎ Rose err.faults err'.faults
+table_is_read words input input' out out' err err' (Usage place) status name bytes accepted left text cause t = absurd (no_command_asks words _ _ cause.0 accepted)
+table_is_read words input input' out out' err err' QueryNotBuilt status name bytes accepted left text cause t = absurd (no_sum_asks words _ _ cause.0 accepted)
+table_is_read words input input' out out' err err' TableNotBuilt status name bytes accepted left text cause t = absurd (by cause.0)
+  where
+    by : ((SchemaCause words × (input' ≡ input)) ⊎ TableCause words input input') → ⊥
+    by (inl c) = other_schema_asks words name c.0 accepted
+    by (inr c) =
+        let (schemas, names) = asks_one words (schema_text name) (schema_text c.name) name c.name accepted c.accepted in
+        let same = all_bytes input.left input'.left bytes c.bytes left c.whole.read c.whole.ended in
+        c.no_table text.texts (subst (λ n. IsColumnText n c.bytes text.texts) names (subst (λ l. IsColumnText name l text.texts) same text.text))
+table_is_read words input input' out out' err err' (TooLong limit) status name bytes accepted left text cause t =
+    absurd (let few = few_bytes input.left input'.left bytes cause.0.bytes left cause.0.read in omega (arith, few, cause.0.longer, text.small))
+table_is_read words input input' out out' err err' ReadFault status name bytes accepted left text cause t = inr (inr (inl cause.0.rose))
+table_is_read words input input' out out' err err' WriteFault status name bytes accepted left text cause t = inr (inr (inr (inl cause.rose)))
+table_is_read words input input' out out' err err' NoMemory status name bytes accepted left text cause (inl t) = inr (inl t.0)
+table_is_read words input input' out out' err err' NoMemory status name bytes accepted left text cause (inr t) = inr (inr (inr (inr t.1)))

@@ -1,0 +1,11 @@
+pub mod Texts
+pub mod Places
+pub mod Lines
+pub mod Values
+pub mod OneColumn
+pub mod Digits
+pub mod Certain
+pub mod Blocks
+pub mod Reports
+pub mod Outcomes
+pub mod Causes

@@ -1,0 +1,87 @@
+//! The command `ask`: reads a CSV and writes the report of its query, round by round.
+
+ghost use Rattle.std.specs.Prelude.{◌≡◌, ◌≢◌, ◌≤◌, [], ◌∷◌, ℕ, List, IfOk, IfErr, OnOk};
+ghost use Rattle.std.specs.Io.KnownBytes.{Appends};
+ghost use Rattle.daq_table.specs.Tables.{frame_of, IsTable};
+ghost use Rattle.daq_table.specs.declared.head.ColumnHead.{ColumnHead};
+ghost use Rattle.daq_cli.specs.Forms.{IsColumnName};
+ghost use Rattle.daq_cli.specs.Outcome.{Accepts, IsAnswered, IsCause, IsInputCause, IsOutputCause, IsRequestCause, ReadsTable, sink_of, source_of};
+ghost use Rattle.daq_cli.specs.Report.{report};
+ghost use Rattle.daq_cli.specs.Rounds.{IsLastRound};
+
+use crate::form::{declares, summed_column};
+use crate::load::{LoadFault, load};
+use crate::refusal::Refusal;
+use crate::words::{Words, usage_place};
+use crate::writing::write_report;
+use daq_table::Table;
+use outer_world::{Failed, ReadAll, Sink, Source, read_all};
+use std::alloc::Global;
+
+// The most bytes of an input.
+const MOST_BYTES: usize = 1_073_741_824;
+
+// The column that the words ask for, where words, SQL and schema are accepted.
+pub(crate) fn requested_column(words: &Words) -> Result<&[u8], Refusal>
+    ensures ok { IfOk result (λ name. Accepts words.now name.now) }
+    ensures refused { IfErr result (IsRequestCause words.now) }
+{
+    if let Some(place) = usage_place(words) {
+        return Err(Refusal::Usage { place });
+    }
+    match summed_column(words.word(3).as_bytes()) {
+        Some(name) if declares(words.word(2).as_bytes(), name) => Ok(name),
+        Some(_) => Err(Refusal::TableNotBuilt),
+        None => Err(Refusal::QueryNotBuilt),
+    }
+}
+
+// The table of the input.
+pub(crate) fn read_table<S: Source>(
+    alloc: Global,
+    name: &[u8],
+    input: &mut S,
+) -> Result<Table, Refusal>
+    requires { IsColumnName name.now }
+    ensures ok { IfOk result (λ table. ReadsTable name.now (source_of S.left S.faults input.old) (source_of S.left S.faults input.new) table.head table.cells) }
+    ensures refused { IfErr result (IsInputCause name.now (source_of S.left S.faults input.old) (source_of S.left S.faults input.new)) }
+    ensures faults { S.faults input.old ≤ S.faults input.new }
+{
+    let bytes = match read_all(alloc, input, MOST_BYTES) {
+        Ok(bytes) => bytes,
+        Err(ReadAll::Fault) => return Err(Refusal::ReadFault),
+        Err(ReadAll::TooLong { limit }) => return Err(Refusal::TooLong { limit }),
+        Err(ReadAll::NoMemory) => return Err(Refusal::NoMemory),
+    };
+    match load(alloc, name, &bytes) {
+        Ok(table) => Ok(table),
+        Err(LoadFault::NotBuilt) => Err(Refusal::TableNotBuilt),
+        Err(LoadFault::NoMemory) => Err(Refusal::NoMemory),
+    }
+}
+
+// Writes the report of the table.
+pub(crate) fn report_table<K: Sink>(
+    alloc: Global,
+    name: &[u8],
+    table: &Table,
+    out: &mut K,
+) -> Result<(), Refusal>
+    requires name { IsColumnName name.now }
+    requires column { (column : ColumnHead) × (table.now.head.columns ≡ column ∷ []) }
+    requires table { IsTable (frame_of table.now.head) table.now.cells }
+    ensures ok { OnOk result ((last : ℕ) × IsLastRound (frame_of table.now.head) table.now.cells last
+        × Appends (K.written out.old) (K.written out.new) (report name.now (frame_of table.now.head) table.now.cells last)) }
+    ensures refused { IfErr result (IsOutputCause name.now table.now.head table.now.cells (sink_of K.written K.faults out.old) (sink_of K.written K.faults out.new)) }
+    ensures early { IfErr result (λ why. why ≢ Refusal.WriteFault → out.new ≡ out.old) }
+    ensures faults { K.faults out.old ≤ K.faults out.new }
+{
+    let rows = table.column(0).len();
+    let Ok(mut prefixes) = vec![in alloc; 0u64; rows] else {
+        return Err(Refusal::NoMemory);
+    };
+    match write_report(name, table, &mut prefixes, out) {
+        Ok(()) => Ok(()),
+        Err(Failed) => Err(Refusal::WriteFault),
+    }
+}

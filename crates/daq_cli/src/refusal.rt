@@ -1,0 +1,109 @@
+//! Why a command stops: the status that it ends with and the line that says so.
+
+ghost use Rattle.std.specs.Prelude.{◌≡◌, ◌≤◌, ◌++◌, length, pos};
+ghost use Rattle.std.specs.Fmt.{signed_decimal};
+ghost use Rattle.daq_cli.specs.Outcome.{IsTold, sink_of};
+ghost use Rattle.daq_cli.specs.Refusals.{fault_line, fault_text, status_of};
+
+use crate::report::written_number;
+use daq_table::TextBuf;
+use outer_world::{Sink, write_whole};
+
+/// How a run ends.
+#[derive(Clone, Copy, Debug, PartialEq, Eq)]
+pub enum Status {
+    Done = 0,
+    Usage = 2,
+    QueryRefused = 3,
+    TableRefused = 4,
+    FileRefused = 5,
+    ReadFault = 6,
+    WriteFault = 7,
+    NoMemory = 8,
+}
+
+/// Why a command stopped.
+#[derive(Clone, Copy, Debug, PartialEq, Eq)]
+pub enum Refusal {
+    /// The words are no command from this word on, counted from 1.
+    Usage { place: usize },
+    QueryNotBuilt,
+    TableNotBuilt,
+    TooLong { limit: usize },
+    ReadFault,
+    WriteFault,
+    NoMemory,
+}
+
+// Writes the line of a refusal, and gives the status.
+pub(crate) fn refuse<K: Sink>(why: Refusal, err: &mut K) -> Status
+    ensures told { IsTold why result (sink_of K.written K.faults err.old) (sink_of K.written K.faults err.new) }
+    ensures faults { K.faults err.old ≤ K.faults err.new }
+{
+    if write_whole(err, written_line(why).bytes()).is_err() {
+        return Status::WriteFault;
+    }
+    own_status(why)
+}
+
+fn own_status(why: Refusal) -> Status
+    ensures { result ≡ status_of why }
+{
+    match why {
+        Refusal::Usage { .. } => Status::Usage,
+        Refusal::QueryNotBuilt => Status::QueryRefused,
+        Refusal::TableNotBuilt | Refusal::TooLong { .. } => Status::TableRefused,
+        Refusal::ReadFault => Status::ReadFault,
+        Refusal::WriteFault => Status::WriteFault,
+        Refusal::NoMemory => Status::NoMemory,
+    }
+}
+
+// The line that tells of a refusal.
+fn written_line(why: Refusal) -> TextBuf
+    ensures { result ≡ fault_line why }
+{
+    let mut text = TextBuf::new();
+    text.append(b"daq: ");
+    text.append(written_cause(why).bytes());
+    text.append(b"\n");
+    text
+}
+
+fn written_cause(why: Refusal) -> TextBuf
+    ensures text { result ≡ fault_text why }
+    ensures short { length result ≤ 140 }
+{
+    match why {
+        Refusal::Usage { place } => with_number(b"usage: word ", place, b""),
+        Refusal::TooLong { limit } => with_number(b"table refused: longer than ", limit, b" bytes"),
+        Refusal::QueryNotBuilt => plain(b"query refused: not built"),
+        Refusal::TableNotBuilt => plain(b"table refused: not built"),
+        Refusal::ReadFault => plain(b"read fault"),
+        Refusal::WriteFault => plain(b"write fault"),
+        Refusal::NoMemory => plain(b"no memory"),
+    }
+}
+
+fn plain(words: &[u8]) -> TextBuf
+    requires { length words.now ≤ 30 }
+    ensures text { result ≡ words.now }
+    ensures short { length result ≤ 30 }
+{
+    let mut text = TextBuf::new();
+    text.append(words);
+    text
+}
+
+fn with_number(front: &[u8], number: usize, back: &[u8]) -> TextBuf
+    requires front { length front.now ≤ 30 }
+    requires back { length back.now ≤ 10 }
+    ensures text { result ≡ front.now ++ signed_decimal (pos number) ++ back.now }
+    ensures short { length result ≤ 140 }
+{
+    let mut text = TextBuf::new();
+    text.append(front);
+    text.append(written_number(number as i128).bytes());
+    text.append(back);
+    text
+}

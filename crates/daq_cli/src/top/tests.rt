@@ -1,0 +1,250 @@
+//! Whole runs over devices in memory.
+
+use super::*;
+use outer_world::{MemSink, MemSource, MemStore};
+use std::alloc::AllocError;
+use std::test::Fail;
+
+const SUM: [&str; 4] = ["ask", "p.csv", "price:int", "SELECT SUM(price) FROM t"];
+
+type MemWorld = World<MemSource, MemStore, MemSink>;
+
+// Devices that work: the input comes in small pieces, and the output has so much room.
+fn world_of(alloc: Global, csv: &[u8], room: usize) -> Result<MemWorld, AllocError> {
+    Ok(World {
+        input: MemSource::new(csv.to_vec(alloc)?, 7, Vec::new(alloc)),
+        side: MemSource::new(Vec::new(alloc), 1, Vec::new(alloc)),
+        planes: MemStore::new(alloc, Vec::new(alloc), 1, Vec::new(alloc), 0)?,
+        made: MemSink::with_room(alloc, 0, 1, Vec::new(alloc))?,
+        out: MemSink::with_room(alloc, room, 5, Vec::new(alloc))?,
+        err: MemSink::with_room(alloc, 200, 3, Vec::new(alloc))?,
+    })
+}
+
+fn words_of(alloc: Global, texts: &[&str]) -> Result<Words, AllocError> {
+    let mut words = Words::new(alloc);
+    for text in texts {
+        words.push(text)?;
+    }
+    Ok(words)
+}
+
+// Whether a run of these words over this input ends so, with this output and this line of a refusal.
+fn ends_so(
+    alloc: Global,
+    texts: &[&str],
+    csv: &[u8],
+    status: Status,
+    out: &[u8],
+    err: &[u8],
+) -> Result<bool, AllocError> {
+    let words = words_of(alloc, texts)?;
+    let mut world = world_of(alloc, csv, 4000)?;
+    let ended = run(alloc, &words, &mut world);
+    Ok(ended == status && world.out.contents() == out && world.err.contents() == err)
+}
+
+#[test]
+fn prices_are_summed_round_by_round(rt: HostRuntime) -> Result<(), Fail> {
+    let report =
+        b"query SELECT SUM(price) FROM t\nround 0\n1 [12, 48]\nround 1 price 1/4\n1 [20, 42]\nround 2 price 2/4\n1 [24, 34]\nround 3 price 3/4\n1 [28, 32]\nround 4 price 4/4\n1 29\nend narrow\n";
+    let csv = b"price\n5\n9\n12\n3\n";
+    assert!(rt; ends_so(rt.alloc(), &SUM, csv, Status::Done, report, b"")?);
+    Ok(())
+}
+
+#[test]
+fn no_rows_have_no_sum(rt: HostRuntime) -> Result<(), Fail> {
+    let report = b"query SELECT SUM(price) FROM t\nround 0\n1 null\nend narrow\n";
+    assert!(rt; ends_so(rt.alloc(), &SUM, b"price\n", Status::Done, report, b"")?);
+    Ok(())
+}
+
+#[test]
+fn equal_values_need_no_plane(rt: HostRuntime) -> Result<(), Fail> {
+    let report = b"query SELECT SUM(price) FROM t\nround 0\n1 14\nend narrow\n";
+    assert!(rt;
+        ends_so(
+            rt.alloc(),
+            &SUM,
+            b"price\n+7\n007\n",
+            Status::Done,
+            report,
+            b""
+        )?
+    );
+    Ok(())
+}
+
+#[test]
+fn other_tables_are_not_built(rt: HostRuntime) -> Result<(), Fail> {
+    let line = b"daq: table refused: not built\n";
+    assert!(rt;
+        ends_so(
+            rt.alloc(),
+            &SUM,
+            b"price\n5,2\n",
+            Status::TableRefused,
+            b"",
+            line
+        )?
+    );
+    assert!(rt;
+        ends_so(
+            rt.alloc(),
+            &SUM,
+            b"price\n5",
+            Status::TableRefused,
+            b"",
+            line
+        )?
+    );
+    assert!(rt;
+        ends_so(
+            rt.alloc(),
+            &SUM,
+            b"cost\n5\n",
+            Status::TableRefused,
+            b"",
+            line
+        )?
+    );
+    let schema = ["ask", "p.csv", "price:dec2", "SELECT SUM(price) FROM t"];
+    assert!(rt;
+        ends_so(
+            rt.alloc(),
+            &schema,
+            b"price\n5\n",
+            Status::TableRefused,
+            b"",
+            line
+        )?
+    );
+    Ok(())
+}
+
+#[test]
+fn other_queries_are_not_built(rt: HostRuntime) -> Result<(), Fail> {
+    let line = b"daq: query refused: not built\n";
+    let count = ["ask", "p.csv", "price:int", "SELECT COUNT(*) FROM t"];
+    assert!(rt;
+        ends_so(
+            rt.alloc(),
+            &count,
+            b"price\n5\n",
+            Status::QueryRefused,
+            b"",
+            line
+        )?
+    );
+    let keyword = ["ask", "p.csv", "Group:int", "SELECT SUM(Group) FROM t"];
+    assert!(rt;
+        ends_so(
+            rt.alloc(),
+            &keyword,
+            b"Group\n5\n",
+            Status::QueryRefused,
+            b"",
+            line
+        )?
+    );
+    Ok(())
+}
+
+#[test]
+fn words_that_are_no_command_go_wrong_somewhere(rt: HostRuntime) -> Result<(), Fail> {
+    assert!(rt;
+        ends_so(
+            rt.alloc(),
+            &[],
+            b"",
+            Status::Usage,
+            b"",
+            b"daq: usage: word 1\n"
+        )?
+    );
+    assert!(rt;
+        ends_so(
+            rt.alloc(),
+            &["ask", "p.csv", "price:int"],
+            b"",
+            Status::Usage,
+            b"",
+            b"daq: usage: word 4\n"
+        )?
+    );
+    assert!(rt;
+        ends_so(
+            rt.alloc(),
+            &["sum", "p.csv", "price:int"],
+            b"",
+            Status::Usage,
+            b"",
+            b"daq: usage: word 1\n"
+        )?
+    );
+    let long = [
+        "ask",
+        "p.csv",
+        "price:int",
+        "SELECT SUM(price) FROM t",
+        "--list",
+    ];
+    assert!(rt;
+        ends_so(
+            rt.alloc(),
+            &long,
+            b"",
+            Status::Usage,
+            b"",
+            b"daq: usage: word 5\n"
+        )?
+    );
+    Ok(())
+}
+
+#[test]
+fn a_full_output_holds_a_prefix(rt: HostRuntime) -> Result<(), Fail> {
+    let words = words_of(rt.alloc(), &SUM)?;
+    let mut world = world_of(rt.alloc(), b"price\n5\n9\n12\n3\n", 40)?;
+    assert_eq!(rt; run(rt.alloc(), &words, &mut world), Status::WriteFault);
+    assert_eq!(rt;
+        world.out.contents(),
+        b"query SELECT SUM(price) FROM t\nround 0\n1".as_slice()
+    );
+    assert_eq!(rt; world.err.contents(), b"daq: write fault\n".as_slice());
+    Ok(())
+}
+
+#[test]
+fn a_fault_in_mid_stream_is_told(rt: HostRuntime) -> Result<(), Fail> {
+    let alloc = rt.alloc();
+    let words = words_of(alloc, &SUM)?;
+    let mut world = world_of(alloc, b"", 4000)?;
+    let fails = vec![in alloc; 1u64]?;
+    world.input = MemSource::new(b"price\n5\n9\n".to_vec(alloc)?, 7, fails);
+    assert_eq!(rt; run(alloc, &words, &mut world), Status::ReadFault);
+    assert!(rt; world.out.contents().is_empty());
+    assert_eq!(rt; world.err.contents(), b"daq: read fault\n".as_slice());
+    Ok(())
+}
+
+#[test]
+fn the_widest_values_take_64_planes(rt: HostRuntime) -> Result<(), Fail> {
+    let alloc = rt.alloc();
+    let words = words_of(alloc, &["ask", "a.csv", "a:int", "SELECT SUM(a) FROM t"])?;
+    let mut world = world_of(
+        alloc,
+        b"a\n-9223372036854775808\n9223372036854775807\n",
+        9000,
+    )?;
+    assert_eq!(rt; run(alloc, &words, &mut world), Status::Done);
+    let report = world.out.contents();
+    assert!(rt;
+        report.starts_with(
+            b"query SELECT SUM(a) FROM t\nround 0\n1 [-18446744073709551616, 18446744073709551614]\nround 1 a 1/64\n1 [-9223372036854775808, 9223372036854775806]\n"
+        )
+    );
+    assert!(rt; report.ends_with(b"round 64 a 64/64\n1 -1\nend narrow\n"));
+    Ok(())
+}

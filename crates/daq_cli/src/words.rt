@@ -1,0 +1,89 @@
+//! The words of a command line.
+
+ghost use Rattle.std.specs.Prelude.{◌≡◌, ◌==◌, ◌<◌, [], ◌∷◌, ◌++◌, length, OnOk, OnErr, MatchOption, slice_get, Some, ℕ, List, codes};
+ghost use Rattle.std.specs.Bool.{MatchBool};
+ghost use Rattle.daq_cli.specs.Command.{IsNoCommand, IsUsagePlace, Ask, words_of};
+
+use std::alloc::{AllocError, Global};
+use std::marker::Model;
+
+/// The words of a command line, without the program's name.
+#[derive(Drop)]
+pub struct Words {
+    alloc: Global,
+    words: Vec<String>,
+}
+
+impl Model for Words {
+    ghost use Rattle.std.specs.Prelude.{ℕ, List, map, string_bytes};
+
+    ghost Value = { List (List ℕ) };
+
+    ghost view = { λ w. map string_bytes w.words.items };
+}
+
+impl Words {
+    /// No words. It takes no memory.
+    pub fn new(alloc: Global) -> Words
+        ensures { result ≡ [] }
+    {
+        Words {
+            alloc,
+            words: Vec::new(alloc),
+        }
+    }
+
+    /// Appends a word. Where there is no memory the words are as before.
+    pub fn push(&mut self, word: &str) -> Result<(), AllocError>
+        ensures ok { OnOk result (self.new ≡ self.old ++ word.now ∷ []) }
+        ensures err { OnErr result (self.new ≡ self.old) }
+    {
+        let text = String::from_str(self.alloc, word)?;
+        self.words.push(text)?;
+        Ok(())
+    }
+
+    /// The number of words.
+    pub fn len(&self) -> usize
+        ensures { result ≡ length self.now }
+    {
+        self.words.len()
+    }
+
+    /// Whether there are no words.
+    pub fn is_empty(&self) -> bool
+        ensures { result ≡ (length self.now == 0) }
+    {
+        self.words.is_empty()
+    }
+
+    /// The word at a place, counted from 0.
+    pub fn word(&self, at: usize) -> &str
+        requires { at < length self.now }
+        ensures { slice_get self.now at ≡ Some result.now }
+    {
+        self.words[at].as_str()
+    }
+}
+
+// Whether the first word is `ask`.
+fn begins_with_ask(words: &Words) -> bool
+    ensures { MatchBool result ((rest : List (List ℕ)) × (words.now ≡ codes "ask" ∷ rest)) ((rest : List (List ℕ)) → words.now ≡ codes "ask" ∷ rest → ⊥) }
+{
+    !words.is_empty() && words.word(0) == "ask"
+}
+
+// The place at which words that are no command go wrong, counted from 1, and none where they are `ask` with its three words.
+pub(crate) fn usage_place(words: &Words) -> Option<usize>
+    ensures { MatchOption result ((ask : Ask) × (words.now ≡ words_of ask)) (λ place. IsNoCommand words.now × IsUsagePlace words.now place) }
+{
+    if !begins_with_ask(words) {
+        return Some(1);
+    }
+    let count = words.len();
+    if count == 4 {
+        None
+    } else {
+        Some(count.min(4) + 1)
+    }
+}
