@@ -1,9 +1,10 @@
 -- The first bit that is 1.
-use Rattle.std.proofs.Common.{◌≡◌, ℕ, zero, suc, ◌+◌, ◌-◌, ◌*◌, ◌^◌, ◌<◌, ◌≤◌, min, ◌==◌, Bool, true, false, nat_eq, List, [], ◌∷◌, ◌++◌, length, Some, sym, refl, ap, ◌∙◌, arith, inl, inr}
-use Rattle.std.proofs.lemmas.Bool.{cases_lt, cases_eq, cond-true, cond-false, eq-eqb, ne_eqb}
+use Rattle.std.proofs.Common.{◌≡◌, ℕ, zero, suc, ◌+◌, ◌-◌, ◌*◌, ◌^◌, ◌<◌, ◌≤◌, min, ◌==◌, Bool, true, false, nat_eq, List, [], ◌∷◌, ◌++◌, length, cond, Option, Some, IsNone, ◌↔◌, sym, refl, ap, subst, ◌∙◌, arith, inl, inr}
+use Rattle.std.proofs.lemmas.Bool.{true≢false, cases_lt, cases_eq, cond-true, cond-false, eq-eqb, ne_eqb}
 use Rattle.std.proofs.lemmas.Nat.Bits.{bit_at-trailing_zeros, bit_at_above}
 use Rattle.std.specs.Int.{w64, bit_at, trailing_zeros}
-use Rattle.std.specs.List.{position, position_from, slice_get}
+use Rattle.std.proofs.lemmas.List.Sums.{sum_by-cons}
+use Rattle.std.specs.List.{count_by, position, position_from, slice_get}
 use Rattle.std.proofs.Math.Nat.{pow-le-pow_right}
 use Rattle.std.proofs.lemmas.Iterator.Adapters.{position_from-zero}
 use Rattle.plane_kernels.specs.Rows.{bits_of, rows_of, IsPadded, HoldsRows}
@@ -59,3 +60,21 @@ first-rows_of i n (w ∷ ws) h p =
 -- the first bit of the words is the first row
 pub first_is_position : (n : ℕ) (ws : List ℕ) → HoldsRows n ws → first_bit 0 ws ≡ position (λ b. b) (rows_of n ws)
 first_is_position n ws p = first-rows_of 0 n ws p.tight p.padded ∙ sym (position_from-zero (λ b. b) (rows_of n ws))
+
+-- ---- no row
+
+none_counted : (xs : List Bool) (i : ℕ) → IsNone (position_from (λ b. b) i xs) → count_by (λ b. b) xs ≡ 0
+none_counted [] i h = refl
+none_counted (true ∷ xs) i h = absurd (true≢false h)
+none_counted (false ∷ xs) i h = sum_by-cons (λ b. cond b 1 0) false xs ∙ ap (λ n. 0 + n) (none_counted xs (i + 1) h)
+
+none_found : (xs : List Bool) (i : ℕ) → count_by (λ b. b) xs ≡ 0 → IsNone (position_from (λ b. b) i xs)
+none_found [] i e = refl
+none_found (true ∷ xs) i e = absurd (omega (arith, sum_by-cons (λ b. cond b 1 0) true xs, e))
+none_found (false ∷ xs) i e = none_found xs (i + 1) (omega (arith, sum_by-cons (λ b. cond b 1 0) false xs, e))
+
+-- there is no first row exactly where no row is counted
+pub no_first : (xs : List Bool) (r : Option ℕ) → r ≡ position (λ b. b) xs → IsNone r ↔ (count_by (λ b. b) xs ≡ 0)
+no_first xs r e =
+    let found : position_from (λ b. b) 0 xs ≡ r = sym (e ∙ position_from-zero (λ b. b) xs) in
+    subst (λ o. IsNone o ↔ (count_by (λ b. b) xs ≡ 0)) found (none_counted xs 0, none_found xs 0)

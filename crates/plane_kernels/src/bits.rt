@@ -1,5 +1,5 @@
 // A truth value for each row, as words of 64 bits: row r is bit r % 64 of word r / 64, and the bits past the last row are 0.
-ghost use Rattle.std.specs.Prelude.{◌≡◌, ◌<◌, ◌&&◌, ◌||◌, not, false, length, map, replicate, count_by, position, slice_get, slice_set, Some, IfOk};
+ghost use Rattle.std.specs.Prelude.{◌≡◌, ◌<◌, ◌&&◌, ◌||◌, ◌↔◌, not, false, length, map, replicate, count_by, position, slice_get, slice_set, Some, IfOk, IsNone};
 ghost use Rattle.std.specs.Simd.Lanes.{zip2};
 ghost use Rattle.plane_kernels.specs.Rows.{digit_at};
 
@@ -8,6 +8,7 @@ use crate::words::{first_one, flip_words, gather_words, with_bit};
 use std::alloc::{AllocError, Global};
 use std::marker::Model;
 
+// What masks and planes are made of.
 #[derive(Drop)]
 pub struct Bits {
     rows: usize,
@@ -106,7 +107,8 @@ impl Bits {
     }
 
     pub fn first_one(&self) -> Option<usize>
-        ensures { result ≡ position (λ b. b) self.now }
+        ensures first { result ≡ position (λ b. b) self.now }
+        ensures none { IsNone result ↔ (count_by (λ b. b) self.now ≡ 0) }
     {
         let _rows = self.rows;
         first_one(&self.words)

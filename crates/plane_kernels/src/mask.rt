@@ -1,5 +1,5 @@
 // A mask of rows.
-ghost use Rattle.std.specs.Prelude.{◌≡◌, ◌<◌, ◌&&◌, ◌||◌, not, false, true, length, map, replicate, count_by, position, slice_get, slice_set, Some, IfOk};
+ghost use Rattle.std.specs.Prelude.{◌≡◌, ◌<◌, ◌&&◌, ◌||◌, ◌↔◌, not, false, true, length, map, replicate, count_by, position, slice_get, slice_set, Some, IfOk, IsNone};
 ghost use Rattle.std.specs.Simd.Lanes.{zip2};
 
 use crate::bits::Bits;
@@ -125,9 +125,10 @@ impl Mask {
         self.bits.count_both(&plane.bits)
     }
 
-    /// The first row that it has, if there is one.
+    /// The first row that it has, or none where it has no row.
     pub fn first_one(&self) -> Option<usize>
-        ensures { result ≡ position (λ b. b) self.now }
+        ensures first { result ≡ position (λ b. b) self.now }
+        ensures none { IsNone result ↔ (count_by (λ b. b) self.now ≡ 0) }
     {
         self.bits.first_one()
     }
