@@ -6,7 +6,7 @@ use Rattle.daq_table.specs.declared.table_head.Head.{Head}
 use Rattle.outer_world.specs.Device.{Rose}
 use Rattle.daq_cli.specs.Command.{Ask, IsNoCommand, words_of}
 use Rattle.daq_cli.specs.Forms.{IsColumnText, IsSumOf, schema_text}
-use Rattle.daq_cli.specs.Outcome.{Accepts, AsksSum, IsAnswered, IsCause, IsNoTable, IsTableText, IsTold, QueryCause, ReadsTable, SchemaCause, SinkState, SourceState, TableCause, most_bytes}
+use Rattle.daq_cli.specs.Outcome.{Accepts, AsksSum, EndsWith, Tells, IsAnswered, IsCause, IsNoTable, IsTableText, IsTold, QueryCause, ReadsTable, SchemaCause, SinkState, SourceState, TableCause, most_bytes}
 use Rattle.daq_cli.specs.Refusals.{status_of}
 use Rattle.daq_cli.specs.declared.refusal.Refusal.{Refusal}
 use Rattle.daq_cli.specs.declared.refusal.Refusal.TheVariants.{Usage, QueryNotBuilt, TableNotBuilt, TooLong, ReadFault, WriteFault, NoMemory}
@@ -78,22 +78,18 @@ pub answered_schema : (words : List (List ℕ)) (input input' : SourceState) (ou
 answered_schema words input input' out out' answered cause = other_schema_asks words answered.name cause answered.accepted
 
 pub answered_table : (words : List (List ℕ)) (input input' : SourceState) (out out' : SinkState) → IsAnswered words input input' out out' →
-    (name bytes : List ℕ) → Accepts words name → input.left ≡ Some bytes → IsNoTable name bytes → ⊥
-answered_table words input input' out out' answered name bytes accepted told none =
-    no_table_is_read words input input' name answered.name bytes answered.head answered.cells accepted answered.accepted told none answered.read
+    (name bytes : List ℕ) → Tells words input name bytes → IsNoTable name bytes → ⊥
+answered_table words input input' out out' answered name bytes tells none =
+    no_table_is_read words input input' name answered.name bytes answered.head answered.cells tells.accepted answered.accepted tells.left none answered.read
 
 -- ---- a cause is told
 
--- the status, or the write of the line failed
-abbrev pub Told : Status → Status → SinkState → SinkState → Type 0
-Told wanted status err err' = (status ≡ wanted) ⊎ ((status ≡ s.WriteFault) × Rose err.faults err'.faults)
-
-told : (why : Refusal) (status : Status) (err err' : SinkState) → IsTold why status err err' → Told (status_of why) status err err'
+told : (why : Refusal) (status : Status) (err err' : SinkState) → IsTold why status err err' → EndsWith (status_of why) status err err'
 told why status err err' (inl t) = inl t.0
 told why status err err' (inr t) = inr (t.0, t.1)
 
 pub usage_is_told : (words : List (List ℕ)) (input input' : SourceState) (out out' err err' : SinkState) (why : Refusal) (status : Status) → IsNoCommand words →
-    IsCause words input input' out out' why → IsTold why status err err' → Told s.Usage status err err'
+    IsCause words input input' out out' why → IsTold why status err err' → EndsWith s.Usage status err err'
 usage_is_told words input input' out out' err err' (Usage place) status none cause t = told (Usage place) status err err' t
 usage_is_told words input input' out out' err err' QueryNotBuilt status none cause t = absurd (none cause.0.ask cause.0.command)
 usage_is_told words input input' out out' err err' TableNotBuilt status none cause t = absurd (by cause.0)
@@ -107,7 +103,7 @@ usage_is_told words input input' out out' err err' WriteFault status none cause 
 usage_is_told words input input' out out' err err' NoMemory status none cause t = absurd (no_command_asks words _ _ none cause.0.1)
 
 pub schema_is_told : (words : List (List ℕ)) (input input' : SourceState) (out out' err err' : SinkState) (why : Refusal) (status : Status) → SchemaCause words →
-    IsCause words input input' out out' why → IsTold why status err err' → Told s.TableRefused status err err'
+    IsCause words input input' out out' why → IsTold why status err err' → EndsWith s.TableRefused status err err'
 schema_is_told words input input' out out' err err' (Usage place) status other cause t = absurd (no_command_asks words _ _ cause.0 other.asks)
 schema_is_told words input input' out out' err err' QueryNotBuilt status other cause t = absurd (no_sum_asks words _ _ cause.0 other.asks)
 schema_is_told words input input' out out' err err' TableNotBuilt status other cause t = told TableNotBuilt status err err' t
@@ -116,37 +112,37 @@ schema_is_told words input input' out out' err err' ReadFault status other cause
 schema_is_told words input input' out out' err err' WriteFault status other cause t = absurd (other_schema_asks words _ other cause.accepted)
 schema_is_told words input input' out out' err err' NoMemory status other cause t = absurd (other_schema_asks words _ other cause.0.1)
 
-pub table_is_told : (words : List (List ℕ)) (input input' : SourceState) (out out' err err' : SinkState) (why : Refusal) (status : Status) (name bytes : List ℕ) → Accepts words name →
-    input.left ≡ Some bytes → IsNoTable name bytes → IsCause words input input' out out' why → IsTold why status err err' →
+pub table_is_told : (words : List (List ℕ)) (input input' : SourceState) (out out' err err' : SinkState) (why : Refusal) (status : Status) (name bytes : List ℕ) → Tells words input name bytes →
+    IsNoTable name bytes → IsCause words input input' out out' why → IsTold why status err err' →
     (status ≡ s.TableRefused) ⊎ (status ≡ s.NoMemory) ⊎ Rose input.faults input'.faults ⊎ Rose err.faults err'.faults
-table_is_told words input input' out out' err err' (Usage place) status name bytes accepted left none cause t = absurd (no_command_asks words _ _ cause.0 accepted)
-table_is_told words input input' out out' err err' QueryNotBuilt status name bytes accepted left none cause t = absurd (no_sum_asks words _ _ cause.0 accepted)
-table_is_told words input input' out out' err err' TableNotBuilt status name bytes accepted left none cause (inl t) = inl t.0
-table_is_told words input input' out out' err err' TableNotBuilt status name bytes accepted left none cause (inr t) = inr (inr (inr t.1))
-table_is_told words input input' out out' err err' (TooLong limit) status name bytes accepted left none cause (inl t) = inl t.0
-table_is_told words input input' out out' err err' (TooLong limit) status name bytes accepted left none cause (inr t) = inr (inr (inr t.1))
-table_is_told words input input' out out' err err' ReadFault status name bytes accepted left none cause t = inr (inr (inl cause.0.rose))
-table_is_told words input input' out out' err err' WriteFault status name bytes accepted left none cause t =
-    absurd (no_table_is_read words input input' name cause.name bytes cause.head cause.cells accepted cause.accepted left none cause.read)
-table_is_told words input input' out out' err err' NoMemory status name bytes accepted left none cause (inl t) = inr (inl t.0)
-table_is_told words input input' out out' err err' NoMemory status name bytes accepted left none cause (inr t) = inr (inr (inr t.1))
+table_is_told words input input' out out' err err' (Usage place) status name bytes tells none cause t = absurd (no_command_asks words _ _ cause.0 tells.accepted)
+table_is_told words input input' out out' err err' QueryNotBuilt status name bytes tells none cause t = absurd (no_sum_asks words _ _ cause.0 tells.accepted)
+table_is_told words input input' out out' err err' TableNotBuilt status name bytes tells none cause (inl t) = inl t.0
+table_is_told words input input' out out' err err' TableNotBuilt status name bytes tells none cause (inr t) = inr (inr (inr t.1))
+table_is_told words input input' out out' err err' (TooLong limit) status name bytes tells none cause (inl t) = inl t.0
+table_is_told words input input' out out' err err' (TooLong limit) status name bytes tells none cause (inr t) = inr (inr (inr t.1))
+table_is_told words input input' out out' err err' ReadFault status name bytes tells none cause t = inr (inr (inl cause.0.rose))
+table_is_told words input input' out out' err err' WriteFault status name bytes tells none cause t =
+    absurd (no_table_is_read words input input' name cause.name bytes cause.head cause.cells tells.accepted cause.accepted tells.left none cause.read)
+table_is_told words input input' out out' err err' NoMemory status name bytes tells none cause (inl t) = inr (inl t.0)
+table_is_told words input input' out out' err err' NoMemory status name bytes tells none cause (inr t) = inr (inr (inr t.1))
 
-pub table_is_read : (words : List (List ℕ)) (input input' : SourceState) (out out' err err' : SinkState) (why : Refusal) (status : Status) (name bytes : List ℕ) → Accepts words name →
-    input.left ≡ Some bytes → IsTableText name bytes → IsCause words input input' out out' why → IsTold why status err err' →
+pub table_is_read : (words : List (List ℕ)) (input input' : SourceState) (out out' err err' : SinkState) (why : Refusal) (status : Status) (name bytes : List ℕ) → Tells words input name bytes →
+    IsTableText name bytes → IsCause words input input' out out' why → IsTold why status err err' →
     (status ≡ s.Done) ⊎ (status ≡ s.NoMemory) ⊎ Rose input.faults input'.faults ⊎ Rose out.faults out'.faults ⊎ Rose err.faults err'.faults
-table_is_read words input input' out out' err err' (Usage place) status name bytes accepted left text cause t = absurd (no_command_asks words _ _ cause.0 accepted)
-table_is_read words input input' out out' err err' QueryNotBuilt status name bytes accepted left text cause t = absurd (no_sum_asks words _ _ cause.0 accepted)
-table_is_read words input input' out out' err err' TableNotBuilt status name bytes accepted left text cause t = absurd (by cause.0)
+table_is_read words input input' out out' err err' (Usage place) status name bytes tells text cause t = absurd (no_command_asks words _ _ cause.0 tells.accepted)
+table_is_read words input input' out out' err err' QueryNotBuilt status name bytes tells text cause t = absurd (no_sum_asks words _ _ cause.0 tells.accepted)
+table_is_read words input input' out out' err err' TableNotBuilt status name bytes tells text cause t = absurd (by cause.0)
   where
     by : ((SchemaCause words × (input' ≡ input)) ⊎ TableCause words input input') → ⊥
-    by (inl c) = other_schema_asks words name c.0 accepted
+    by (inl c) = other_schema_asks words name c.0 tells.accepted
     by (inr c) =
-        let (schemas, names) = asks_one words (schema_text name) (schema_text c.name) name c.name accepted c.accepted in
-        let same = all_bytes input.left input'.left bytes c.bytes left c.whole.read c.whole.ended in
+        let (schemas, names) = asks_one words (schema_text name) (schema_text c.name) name c.name tells.accepted c.accepted in
+        let same = all_bytes input.left input'.left bytes c.bytes tells.left c.whole.read c.whole.ended in
         c.no_table text.texts (subst (λ n. IsColumnText n c.bytes text.texts) names (subst (λ l. IsColumnText name l text.texts) same text.text))
-table_is_read words input input' out out' err err' (TooLong limit) status name bytes accepted left text cause t =
-    absurd (let few = few_bytes input.left input'.left bytes cause.0.bytes left cause.0.read in omega (arith, few, cause.0.longer, text.small))
-table_is_read words input input' out out' err err' ReadFault status name bytes accepted left text cause t = inr (inr (inl cause.0.rose))
-table_is_read words input input' out out' err err' WriteFault status name bytes accepted left text cause t = inr (inr (inr (inl cause.rose)))
-table_is_read words input input' out out' err err' NoMemory status name bytes accepted left text cause (inl t) = inr (inl t.0)
-table_is_read words input input' out out' err err' NoMemory status name bytes accepted left text cause (inr t) = inr (inr (inr (inr t.1)))
+table_is_read words input input' out out' err err' (TooLong limit) status name bytes tells text cause t =
+    absurd (let few = few_bytes input.left input'.left bytes cause.0.bytes tells.left cause.0.read in omega (arith, few, cause.0.longer, text.small))
+table_is_read words input input' out out' err err' ReadFault status name bytes tells text cause t = inr (inr (inl cause.0.rose))
+table_is_read words input input' out out' err err' WriteFault status name bytes tells text cause t = inr (inr (inr (inl cause.rose)))
+table_is_read words input input' out out' err err' NoMemory status name bytes tells text cause (inl t) = inr (inl t.0)
+table_is_read words input input' out out' err err' NoMemory status name bytes tells text cause (inr t) = inr (inr (inr (inr t.1)))

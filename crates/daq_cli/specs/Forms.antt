@@ -46,6 +46,10 @@ pub record IsSumOf (sql name : List ℕ) : Type 0 where
   pub text : sql ≡ sum_text name
   pub column : IsColumnName name
 
+-- the text asks for no sum of a column
+abbrev pub IsNoSum : List ℕ → Type 0
+IsNoSum sql = (name : List ℕ) → IsSumOf sql name → ⊥
+
 -- ---- the schema
 
 abbrev pub schema_text : List ℕ → List ℕ
@@ -67,6 +71,14 @@ pub record IsColumnText (name bytes : List ℕ) (texts : List (List ℕ)) : Type
   pub rest : List ℕ
   pub header : bytes ≡ name ++ 10 ∷ rest
   pub cells : AreCellLines rest texts
+
+-- the bytes are no such text
+abbrev pub HasNoCells : List ℕ → List ℕ → Type 0
+HasNoCells name bytes = (texts : List (List ℕ)) → IsColumnText name bytes texts → ⊥
+
+-- the numbers of the cells of a text
+abbrev pub HoldsNumbers : (List (List ℕ) → Type 0) → List ℤ → Type 0
+HoldsNumbers IsText numbers = (texts : List (List ℕ)) × IsText texts × (numbers ≡ map int_value texts)
 
 -- a column of whole numbers of this name, from the least of the values to the greatest
 pub record IsIntColumn (title : List ℕ) (values : List ℤ) (column : ColumnHead) : Type 0 where

@@ -1,5 +1,5 @@
 -- What a run comes to: the report and what it says of the answer, or a refusal and its cause.
-use Rattle.std.specs.Prelude.{◌≡◌, ◌≢◌, ◌⊎◌, ℕ, ◌<◌, ◌≤◌, List, length}
+use Rattle.std.specs.Prelude.{◌≡◌, ◌≢◌, ◌⊎◌, ℕ, ◌<◌, ◌≤◌, List, length, Some}
 use Rattle.std.specs.declared.option.Option.{Option}
 use Rattle.std.specs.Io.KnownBytes.{Appends, Consumes, IsAtEnd}
 use Rattle.daq_table.specs.Tables.{Cells, frame_of}
@@ -7,10 +7,10 @@ use Rattle.daq_table.specs.declared.table_head.Head.{Head}
 use Rattle.outer_world.specs.Device.{Rose}
 use Rattle.outer_world.specs.Whole.{AppendsPrefix}
 use Rattle.daq_cli.specs.Command.{Ask, IsNoCommand, IsUsagePlace, words_of}
-use Rattle.daq_cli.specs.Forms.{IsColumnText, IsSumOf, StandsFor, schema_text}
+use Rattle.daq_cli.specs.Forms.{HasNoCells, IsColumnText, IsNoSum, IsSumOf, StandsFor, schema_text}
 use Rattle.daq_cli.specs.Headline.{IsCertain}
 use Rattle.daq_cli.specs.Refusals.{fault_line, status_of}
-use Rattle.daq_cli.specs.Report.{report}
+use Rattle.daq_cli.specs.Report.{WritesPart, report}
 use Rattle.daq_cli.specs.Rounds.{IsLastRound}
 use Rattle.daq_cli.specs.declared.refusal.Refusal.{Refusal}
 use Rattle.daq_cli.specs.declared.refusal.Refusal.TheVariants.{Usage, QueryNotBuilt, TableNotBuilt, TooLong, ReadFault, WriteFault, NoMemory}
@@ -62,6 +62,25 @@ pub record ReadsTable (name : List ℕ) (input input' : SourceState) (head : Hea
   pub whole : ReadsAll input input' bytes
   pub table : StandsFor name bytes head cells
 
+-- words, SQL or schema are refused
+abbrev pub IsRefused : List (List ℕ) → Type 0
+IsRefused words = (name : List ℕ) → Accepts words name → ⊥
+
+-- they are accepted, and the input tells these bytes
+pub record Tells (words : List (List ℕ)) (input : SourceState) (name bytes : List ℕ) : Type 0 where
+  pub accepted : Accepts words name
+  pub left : input.left ≡ Some bytes
+
+-- bytes that stand for a table
+pub record IsTableText (name bytes : List ℕ) : Type 0 where
+  pub small : length bytes ≤ most_bytes
+  pub texts : List (List ℕ)
+  pub text : IsColumnText name bytes texts
+
+-- bytes that stand for none
+abbrev pub IsNoTable : List ℕ → List ℕ → Type 0
+IsNoTable name bytes = (most_bytes < length bytes) ⊎ HasNoCells name bytes
+
 -- ---- the answer
 
 -- the input was read, the report of its table written, and each interval in it is certain
@@ -82,7 +101,7 @@ pub record IsAnswered (words : List (List ℕ)) (input input' : SourceState) (ou
 pub record QueryCause (words : List (List ℕ)) : Type 0 where
   pub ask : Ask
   pub command : words ≡ words_of ask
-  pub no_sum : (name : List ℕ) → IsSumOf ask.sql name → ⊥
+  pub no_sum : IsNoSum ask.sql
 
 -- the schema is another, or the bytes stand for no table
 pub record SchemaCause (words : List (List ℕ)) : Type 0 where
@@ -96,7 +115,7 @@ pub record TableCause (words : List (List ℕ)) (input input' : SourceState) : T
   pub accepted : Accepts words name
   pub bytes : List ℕ
   pub whole : ReadsAll input input' bytes
-  pub no_table : (texts : List (List ℕ)) → IsColumnText name bytes texts → ⊥
+  pub no_table : HasNoCells name bytes
 
 pub record TooLongCause (words : List (List ℕ)) (input input' : SourceState) (limit : ℕ) : Type 0 where
   pub name : List ℕ
@@ -123,15 +142,10 @@ pub record WriteCause (words : List (List ℕ)) (input input' : SourceState) (ou
   pub report : AppendsPrefix out.written out'.written (report name (frame_of head) cells last)
   pub rose : Rose out.faults out'.faults
 
--- bytes that stand for no table under a schema that is accepted
-abbrev pub IsNoTable : List ℕ → List ℕ → Type 0
-IsNoTable name bytes = (most_bytes < length bytes) ⊎ ((texts : List (List ℕ)) → IsColumnText name bytes texts → ⊥)
-
--- bytes that stand for one
-pub record IsTableText (name bytes : List ℕ) : Type 0 where
-  pub small : length bytes ≤ most_bytes
-  pub texts : List (List ℕ)
-  pub text : IsColumnText name bytes texts
+-- why a table is refused
+abbrev pub NoTableCause : List (List ℕ) → SourceState → SourceState → Type 0
+NoTableCause words input input' =
+    SchemaCause words ⊎ TableCause words input input' ⊎ ((limit : ℕ) × TooLongCause words input input' limit)
 
 -- what each refusal shows. But for a failed write nothing was written to the output, and words, SQL and schema are refused before the input is read
 abbrev pub IsCause : List (List ℕ) → SourceState → SourceState → SinkState → SinkState → Refusal → Type 0
@@ -143,11 +157,16 @@ IsCause words input input' out out' ReadFault = ReadCause words input input' × 
 IsCause words input input' out out' WriteFault = WriteCause words input input' out out'
 IsCause words input input' out out' NoMemory = ((name : List ℕ) × Accepts words name) × (out' ≡ out)
 
+-- the status is this one, or the write of its line failed
+abbrev pub EndsWith : Status → Status → SinkState → SinkState → Type 0
+EndsWith wanted status err err' = (status ≡ wanted) ⊎ ((status ≡ s.WriteFault) × Rose err.faults err'.faults)
+
 -- the refusal's line was written and the status is its own, or the write of the line failed part way
 abbrev pub IsTold : Refusal → Status → SinkState → SinkState → Type 0
 IsTold why status err err' =
     ((status ≡ status_of why) × Appends err.written err'.written (fault_line why))
-    ⊎ ((status ≡ s.WriteFault) × Rose err.faults err'.faults × AppendsPrefix err.written err'.written (fault_line why))
+    ⊎ ((status ≡ s.WriteFault) × Rose err.faults err'.faults
+    × AppendsPrefix err.written err'.written (fault_line why))
 
 -- ---- steps of a command
 
@@ -165,8 +184,9 @@ IsRequestCause words NoMemory = ⊥
 abbrev pub IsInputCause : List ℕ → SourceState → SourceState → Refusal → Type 0
 IsInputCause name input input' (Usage place) = ⊥
 IsInputCause name input input' QueryNotBuilt = ⊥
-IsInputCause name input input' TableNotBuilt = (bytes : List ℕ) × ReadsAll input input' bytes × ((texts : List (List ℕ)) → IsColumnText name bytes texts → ⊥)
-IsInputCause name input input' (TooLong limit) = (limit ≡ most_bytes) × ((bytes : List ℕ) × (most_bytes < length bytes) × Consumes input.left input'.left bytes)
+IsInputCause name input input' TableNotBuilt = (bytes : List ℕ) × ReadsAll input input' bytes × HasNoCells name bytes
+IsInputCause name input input' (TooLong limit) =
+    (limit ≡ most_bytes) × ((bytes : List ℕ) × (most_bytes < length bytes) × Consumes input.left input'.left bytes)
 IsInputCause name input input' ReadFault = Rose input.faults input'.faults
 IsInputCause name input input' WriteFault = ⊥
 IsInputCause name input input' NoMemory = Unit {0}
@@ -179,5 +199,5 @@ IsOutputCause name head cells out out' TableNotBuilt = ⊥
 IsOutputCause name head cells out out' (TooLong limit) = ⊥
 IsOutputCause name head cells out out' ReadFault = ⊥
 IsOutputCause name head cells out out' WriteFault =
-    Rose out.faults out'.faults × ((last : ℕ) × IsLastRound (frame_of head) cells last × AppendsPrefix out.written out'.written (report name (frame_of head) cells last))
+    Rose out.faults out'.faults × WritesPart (report name) (frame_of head) cells out.written out'.written
 IsOutputCause name head cells out out' NoMemory = out' ≡ out

@@ -1,13 +1,16 @@
 -- The text of a report: the query, a block for each round, and the end.
 use Rattle.std.specs.Prelude.{ℕ, zero, suc, ◌+◌, ℤ, List, [], ◌++◌, codes, decimal, if◌then◌else◌}
+use Rattle.std.specs.declared.option.Option.{Option}
+use Rattle.std.specs.Io.KnownBytes.{Appends}
 use Rattle.std.specs.Fmt.{signed_decimal}
 use Rattle.std.specs.Ordering.{int_eq}
 use Rattle.daq_table.specs.Tables.{Frame, Cells, ends_at, planes}
 use Rattle.query_model.specs.declared.bounds.Bound.{Bound}
 use Rattle.query_model.specs.declared.bounds.Presence.{Presence}
 use Rattle.query_model.specs.declared.bounds.Presence.TheVariants.{Never, Possibly, Always}
+use Rattle.outer_world.specs.Whole.{AppendsPrefix}
 use Rattle.daq_cli.specs.Forms.{sum_text}
-use Rattle.daq_cli.specs.Rounds.{bound_after}
+use Rattle.daq_cli.specs.Rounds.{IsLastRound, bound_after}
 
 -- one number where both ends are equal, else both
 abbrev pub ends_text : ℤ → ℤ → List ℕ
@@ -48,6 +51,18 @@ query_line name = codes "query " ++ sum_text name ++ codes "\n"
 abbrev pub end_line : List ℕ
 end_line = codes "end narrow\n"
 
+-- the blocks of the rounds up to the last, and the end line
+abbrev pub rounds_text : List ℕ → Frame → Cells → ℕ → List ℕ
+rounds_text name frame cells last = blocks_below name frame cells (last + 1) ++ end_line
+
 -- the whole report, of which this is the last round
 abbrev pub report : List ℕ → Frame → Cells → ℕ → List ℕ
-report name frame cells last = query_line name ++ (blocks_below name frame cells (last + 1) ++ end_line)
+report name frame cells last = query_line name ++ rounds_text name frame cells last
+
+-- what was written is such a text up to the table's last round, or a prefix of it
+abbrev pub WritesAll : (Frame → Cells → ℕ → List ℕ) → Frame → Cells → Option (List ℕ) → Option (List ℕ) → Type 0
+WritesAll text frame cells old new = (last : ℕ) × IsLastRound frame cells last × Appends old new (text frame cells last)
+
+abbrev pub WritesPart : (Frame → Cells → ℕ → List ℕ) → Frame → Cells → Option (List ℕ) → Option (List ℕ) → Type 0
+WritesPart text frame cells old new =
+    (last : ℕ) × IsLastRound frame cells last × AppendsPrefix old new (text frame cells last)

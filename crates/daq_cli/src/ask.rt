@@ -1,13 +1,11 @@
 //! The command `ask`: reads a CSV and writes the report of its query, round by round.
 
 ghost use Rattle.std.specs.Prelude.{◌≡◌, ◌≢◌, ◌≤◌, [], ◌∷◌, ℕ, List, IfOk, IfErr, OnOk};
-ghost use Rattle.std.specs.Io.KnownBytes.{Appends};
 ghost use Rattle.daq_table.specs.Tables.{frame_of, IsTable};
 ghost use Rattle.daq_table.specs.declared.head.ColumnHead.{ColumnHead};
 ghost use Rattle.daq_cli.specs.Forms.{IsColumnName};
 ghost use Rattle.daq_cli.specs.Outcome.{Accepts, IsAnswered, IsCause, IsInputCause, IsOutputCause, IsRequestCause, ReadsTable, sink_of, source_of};
-ghost use Rattle.daq_cli.specs.Report.{report};
-ghost use Rattle.daq_cli.specs.Rounds.{IsLastRound};
+ghost use Rattle.daq_cli.specs.Report.{WritesAll, report};
 
 use crate::form::{declares, summed_column};
 use crate::load::{LoadFault, load};
@@ -43,8 +41,10 @@ pub(crate) fn read_table<S: Source>(
     input: &mut S,
 ) -> Result<Table, Refusal>
     requires { IsColumnName name.now }
-    ensures ok { IfOk result (λ table. ReadsTable name.now (source_of S.left S.faults input.old) (source_of S.left S.faults input.new) table.head table.cells) }
-    ensures refused { IfErr result (IsInputCause name.now (source_of S.left S.faults input.old) (source_of S.left S.faults input.new)) }
+    ensures ok { IfOk result (λ table. ReadsTable name.now
+        (source_of S.left S.faults input.old) (source_of S.left S.faults input.new) table.head table.cells) }
+    ensures refused { IfErr result (IsInputCause name.now
+        (source_of S.left S.faults input.old) (source_of S.left S.faults input.new)) }
     ensures faults { S.faults input.old ≤ S.faults input.new }
 {
     let bytes = match read_all(alloc, input, MOST_BYTES) {
@@ -70,9 +70,10 @@ pub(crate) fn report_table<K: Sink>(
     requires name { IsColumnName name.now }
     requires column { (column : ColumnHead) × (table.now.head.columns ≡ column ∷ []) }
     requires table { IsTable (frame_of table.now.head) table.now.cells }
-    ensures ok { OnOk result ((last : ℕ) × IsLastRound (frame_of table.now.head) table.now.cells last
-        × Appends (K.written out.old) (K.written out.new) (report name.now (frame_of table.now.head) table.now.cells last)) }
-    ensures refused { IfErr result (IsOutputCause name.now table.now.head table.now.cells (sink_of K.written K.faults out.old) (sink_of K.written K.faults out.new)) }
+    ensures ok { OnOk result (WritesAll (report name.now) (frame_of table.now.head) table.now.cells
+        (K.written out.old) (K.written out.new)) }
+    ensures refused { IfErr result (IsOutputCause name.now table.now.head table.now.cells
+        (sink_of K.written K.faults out.old) (sink_of K.written K.faults out.new)) }
     ensures early { IfErr result (λ why. why ≢ Refusal.WriteFault → out.new ≡ out.old) }
     ensures faults { K.faults out.old ≤ K.faults out.new }
 {

@@ -1,8 +1,8 @@
 //! The forms of query and schema that are accepted so far.
 
-ghost use Rattle.std.specs.Prelude.{◌≡◌, ◌↔◌, ◌++◌, ℕ, List, IsTrue, MatchOption};
+ghost use Rattle.std.specs.Prelude.{◌≡◌, ◌≢◌, ◌↔◌, ◌++◌, ℕ, List, IsTrue, MatchOption};
 ghost use Rattle.std.specs.List.{list_all, list_any};
-ghost use Rattle.daq_cli.specs.Forms.{IsColumnName, IsSumOf, is_keyword, is_same_word, continues_name, starts_name, is_plain_name, schema_text};
+ghost use Rattle.daq_cli.specs.Forms.{IsColumnName, IsNoSum, IsSumOf, is_keyword, is_same_word, continues_name, starts_name, is_plain_name, schema_text};
 
 const MOST_NAME_BYTES: usize = 64;
 
@@ -15,7 +15,7 @@ const KEYWORDS: [&[u8]; 22] = [
 
 // The column of a query for the sum of one column, none of another query.
 pub(crate) fn summed_column(sql: &[u8]) -> Option<&[u8]>
-    ensures { MatchOption result ((name : List ℕ) → IsSumOf sql.now name → ⊥) (λ name. IsSumOf sql.now name.now) }
+    ensures { MatchOption result (IsNoSum sql.now) (λ name. IsSumOf sql.now name.now) }
 {
     let name = between(sql, b"SELECT SUM(", b") FROM t")?;
     if is_column_name(name) {
@@ -37,7 +37,8 @@ pub(crate) fn declares(schema: &[u8], name: &[u8]) -> bool
 
 // What stands between two parts, where the text begins with one and goes on to end with the other.
 fn between<'a>(text: &'a [u8], front: &[u8], back: &[u8]) -> Option<&'a [u8]>
-    ensures { MatchOption result ((middle : List ℕ) → text.now ≡ front.now ++ middle ++ back.now → ⊥) (λ middle. text.now ≡ front.now ++ middle.now ++ back.now) }
+    ensures { MatchOption result ((middle : List ℕ) → text.now ≢ front.now ++ middle ++ back.now)
+        (λ middle. text.now ≡ front.now ++ middle.now ++ back.now) }
 {
     match text.strip_prefix(front) {
         Some(rest) => rest.strip_suffix(back),

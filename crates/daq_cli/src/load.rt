@@ -1,9 +1,9 @@
 //! The table of a CSV in the form that is accepted so far: one column of whole numbers.
 
-ghost use Rattle.std.specs.Prelude.{◌≡◌, ◌++◌, ◌∷◌, ◌<◌, [], ℕ, List, IfOk, Err, MatchOption, length, map};
+ghost use Rattle.std.specs.Prelude.{◌≡◌, ◌≢◌, ◌++◌, ◌∷◌, ◌<◌, [], ℕ, List, IfOk, Err, MatchOption, length, map};
 ghost use Rattle.std.specs.List.{position, slice_split};
 ghost use Rattle.daq_table.specs.CellTexts.{int_value};
-ghost use Rattle.daq_cli.specs.Forms.{AreCellLines, IsColumnName, IsColumnText, StandsFor, is_line_feed};
+ghost use Rattle.daq_cli.specs.Forms.{AreCellLines, HasNoCells, HoldsNumbers, IsColumnName, IsColumnText, StandsFor, is_line_feed};
 ghost use Rattle.daq_cli.specs.declared.load.LoadFault.TheVariants.{NoMemory};
 
 use crate::table::table_of;
@@ -39,7 +39,7 @@ const MOST_CELLS: usize = 16_777_216;
 pub(crate) fn load(alloc: Global, name: &[u8], bytes: &[u8]) -> Result<Table, LoadFault>
     requires { IsColumnName name.now }
     ensures ok { IfOk result (λ table. StandsFor name.now bytes.now table.head table.cells) }
-    ensures not_built { result ≡ Err LoadFault.NotBuilt → (texts : List (List ℕ)) → IsColumnText name.now bytes.now texts → ⊥ }
+    ensures not_built { result ≡ Err LoadFault.NotBuilt → HasNoCells name.now bytes.now }
 {
     match read_values(alloc, name, bytes) {
         Ok(values) => Ok(table_of(alloc, name, &values)?),
@@ -49,8 +49,8 @@ pub(crate) fn load(alloc: Global, name: &[u8], bytes: &[u8]) -> Result<Table, Lo
 
 // The numbers of the cells that stand under the name.
 fn read_values(alloc: Global, name: &[u8], bytes: &[u8]) -> Result<Vec<i64>, LoadFault>
-    ensures ok { IfOk result (λ values. (texts : List (List ℕ)) × IsColumnText name.now bytes.now texts × (values.items ≡ map int_value texts)) }
-    ensures not_built { result ≡ Err LoadFault.NotBuilt → (texts : List (List ℕ)) → IsColumnText name.now bytes.now texts → ⊥ }
+    ensures ok { IfOk result (λ values. HoldsNumbers (IsColumnText name.now bytes.now) values.items) }
+    ensures not_built { result ≡ Err LoadFault.NotBuilt → HasNoCells name.now bytes.now }
 {
     match after_header(name, bytes) {
         Some(text) => read_cells(alloc, text),
@@ -60,7 +60,8 @@ fn read_values(alloc: Global, name: &[u8], bytes: &[u8]) -> Result<Vec<i64>, Loa
 
 // What follows the line of the name.
 fn after_header<'a>(name: &[u8], bytes: &'a [u8]) -> Option<&'a [u8]>
-    ensures { MatchOption result ((rest : List ℕ) → bytes.now ≡ name.now ++ 10 ∷ rest → ⊥) (λ rest. bytes.now ≡ name.now ++ 10 ∷ rest.now) }
+    ensures { MatchOption result ((rest : List ℕ) → bytes.now ≢ name.now ++ 10 ∷ rest)
+        (λ rest. bytes.now ≡ name.now ++ 10 ∷ rest.now) }
 {
     match bytes.strip_prefix(name) {
         Some(text) => text.strip_prefix(b"\n"),
@@ -70,8 +71,9 @@ fn after_header<'a>(name: &[u8], bytes: &'a [u8]) -> Option<&'a [u8]>
 
 // The numbers of the cells, one a line.
 fn read_cells(alloc: Global, text: &[u8]) -> Result<Vec<i64>, LoadFault>
-    ensures ok { IfOk result (λ values. (texts : List (List ℕ)) × AreCellLines text.now texts × (values.items ≡ map int_value texts)) }
-    ensures not_built { result ≡ Err LoadFault.NotBuilt → (texts : List (List ℕ)) → AreCellLines text.now texts → ⊥ }
+    ensures ok { IfOk result (λ values. HoldsNumbers (AreCellLines text.now) values.items) }
+    ensures not_built { result ≡ Err LoadFault.NotBuilt
+        → (texts : List (List ℕ)) → AreCellLines text.now texts → ⊥ }
 {
     let mut values = Vec::new(alloc);
     let mut rest = text;
@@ -95,7 +97,8 @@ fn read_cells(alloc: Global, text: &[u8]) -> Result<Vec<i64>, LoadFault>
 // The first line without its line feed, and what follows; none where there is no line feed.
 fn cut_line(text: &[u8]) -> Option<(&[u8], &[u8])>
     ensures { MatchOption result (slice_split is_line_feed text.now ≡ text.now ∷ [])
-        (λ cut. (slice_split is_line_feed text.now ≡ cut.0.now ∷ slice_split is_line_feed cut.1.now) × (length cut.1.now < length text.now)) }
+        (λ cut. (slice_split is_line_feed text.now ≡ cut.0.now ∷ slice_split is_line_feed cut.1.now)
+        × (length cut.1.now < length text.now)) }
 {
     let end = end_of_line(text)?;
     Some((&text[..end], &text[end + 1..]))

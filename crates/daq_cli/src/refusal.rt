@@ -37,7 +37,8 @@ pub enum Refusal {
 
 // Writes the line of a refusal, and gives the status.
 pub(crate) fn refuse<K: Sink>(why: Refusal, err: &mut K) -> Status
-    ensures told { IsTold why result (sink_of K.written K.faults err.old) (sink_of K.written K.faults err.new) }
+    ensures told { IsTold why result
+        (sink_of K.written K.faults err.old) (sink_of K.written K.faults err.new) }
     ensures faults { K.faults err.old ≤ K.faults err.new }
 {
     if write_whole(err, written_line(why).bytes()).is_err() {

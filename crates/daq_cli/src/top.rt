@@ -3,7 +3,7 @@
 ghost use Rattle.std.specs.Prelude.{◌≡◌, ◌≢◌, ◌≤◌, ◌<◌, ◌⊎◌, ◌∷◌, ℕ, List, OnOk, IfErr, Some, length};
 ghost use Rattle.outer_world.specs.Device.{Rose};
 ghost use Rattle.daq_cli.specs.Command.{IsNoCommand};
-ghost use Rattle.daq_cli.specs.Outcome.{Accepts, IsAnswered, IsCause, IsNoTable, IsTableText, IsTold, QueryCause, SchemaCause, TableCause, TooLongCause, sink_of, source_of};
+ghost use Rattle.daq_cli.specs.Outcome.{Accepts, EndsWith, IsAnswered, IsCause, IsNoTable, IsRefused, IsTableText, IsTold, NoTableCause, QueryCause, SchemaCause, Tells, sink_of, source_of};
 ghost use Rattle.daq_cli.specs.declared.refusal.Refusal.{Refusal};
 
 use crate::ask::{read_table, report_table, requested_column};
@@ -38,7 +38,7 @@ fn ask<S: Source, K: Sink>(
         (source_of S.left S.faults input.old) (source_of S.left S.faults input.new)
         (sink_of K.written K.faults out.old) (sink_of K.written K.faults out.new)) }
     ensures early { IfErr result (λ why. why ≢ Refusal.WriteFault → out.new ≡ out.old) }
-    ensures untouched { ((name : List ℕ) → Accepts words.now name → ⊥) → (input.new ≡ input.old) × (out.new ≡ out.old) }
+    ensures untouched { IsRefused words.now → (input.new ≡ input.old) × (out.new ≡ out.old) }
 {
     last_rounds_are_certain();
     let name = match requested_column(words) {
@@ -58,39 +58,54 @@ pub fn run<S: Source, P: Store, K: Sink>(
     words: &Words,
     world: &mut World<S, P, K>,
 ) -> Status
-    // What a run comes to: the report, each of whose intervals is certain, or a refusal that shows its cause.
+    // What a run comes to: the report, each of whose intervals is certain, or a refusal with its cause.
     ensures answered { result ≡ Status.Done → IsAnswered words.now
         (source_of S.left S.faults world.old.input) (source_of S.left S.faults world.new.input)
         (sink_of K.written K.faults world.old.out) (sink_of K.written K.faults world.new.out) }
     ensures refused { result ≢ Status.Done → (why : Refusal) × IsCause words.now
         (source_of S.left S.faults world.old.input) (source_of S.left S.faults world.new.input)
         (sink_of K.written K.faults world.old.out) (sink_of K.written K.faults world.new.out) why
-        × IsTold why result (sink_of K.written K.faults world.old.err) (sink_of K.written K.faults world.new.err) }
+        × IsTold why result
+        (sink_of K.written K.faults world.old.err) (sink_of K.written K.faults world.new.err) }
 
-    // When each status comes. Each yields to WriteFault where its line is not written whole.
-    ensures usage { IsNoCommand words.now → (result ≡ Status.Usage) ⊎ ((result ≡ Status.WriteFault) × Rose (K.faults world.old.err) (K.faults world.new.err)) }
+    // When each status comes, unless its line is not written whole.
+    ensures usage { IsNoCommand words.now → EndsWith Status.Usage result
+        (sink_of K.written K.faults world.old.err) (sink_of K.written K.faults world.new.err) }
     ensures usage_only { result ≡ Status.Usage → IsNoCommand words.now }
-    ensures query { QueryCause words.now → (result ≡ Status.QueryRefused) ⊎ ((result ≡ Status.WriteFault) × Rose (K.faults world.old.err) (K.faults world.new.err)) }
+    ensures query { QueryCause words.now → EndsWith Status.QueryRefused result
+        (sink_of K.written K.faults world.old.err) (sink_of K.written K.faults world.new.err) }
     ensures query_only { result ≡ Status.QueryRefused → QueryCause words.now }
-    ensures schema { SchemaCause words.now → (result ≡ Status.TableRefused) ⊎ ((result ≡ Status.WriteFault) × Rose (K.faults world.old.err) (K.faults world.new.err)) }
-    ensures table { (name bytes : List ℕ) → Accepts words.now name → S.left world.old.input ≡ Some bytes → IsNoTable name bytes →
-        (result ≡ Status.TableRefused) ⊎ (result ≡ Status.NoMemory) ⊎ Rose (S.faults world.old.input) (S.faults world.new.input) ⊎ Rose (K.faults world.old.err) (K.faults world.new.err) }
-    ensures table_only { result ≡ Status.TableRefused → SchemaCause words.now
-        ⊎ TableCause words.now (source_of S.left S.faults world.old.input) (source_of S.left S.faults world.new.input)
-        ⊎ ((limit : ℕ) × TooLongCause words.now (source_of S.left S.faults world.old.input) (source_of S.left S.faults world.new.input) limit) }
+    ensures schema { SchemaCause words.now → EndsWith Status.TableRefused result
+        (sink_of K.written K.faults world.old.err) (sink_of K.written K.faults world.new.err) }
+    ensures table { (name bytes : List ℕ)
+        → Tells words.now (source_of S.left S.faults world.old.input) name bytes → IsNoTable name bytes
+        → (result ≡ Status.TableRefused) ⊎ (result ≡ Status.NoMemory)
+        ⊎ Rose (S.faults world.old.input) (S.faults world.new.input)
+        ⊎ Rose (K.faults world.old.err) (K.faults world.new.err) }
+    ensures table_only { result ≡ Status.TableRefused → NoTableCause words.now
+        (source_of S.left S.faults world.old.input) (source_of S.left S.faults world.new.input) }
     ensures no_file { result ≢ Status.FileRefused }
-    ensures read_fault { result ≡ Status.ReadFault → Rose (S.faults world.old.input) (S.faults world.new.input) }
-    ensures write_fault { result ≡ Status.WriteFault → Rose (K.faults world.old.out) (K.faults world.new.out) ⊎ Rose (K.faults world.old.err) (K.faults world.new.err) }
-    ensures no_memory { result ≡ Status.NoMemory → ((name : List ℕ) × Accepts words.now name) × (world.new.out ≡ world.old.out) }
-    ensures complete { (name bytes : List ℕ) → Accepts words.now name → S.left world.old.input ≡ Some bytes → IsTableText name bytes →
-        (result ≡ Status.Done) ⊎ (result ≡ Status.NoMemory) ⊎ Rose (S.faults world.old.input) (S.faults world.new.input)
-        ⊎ Rose (K.faults world.old.out) (K.faults world.new.out) ⊎ Rose (K.faults world.old.err) (K.faults world.new.err) }
+    ensures read_fault { result ≡ Status.ReadFault
+        → Rose (S.faults world.old.input) (S.faults world.new.input) }
+    ensures write_fault { result ≡ Status.WriteFault
+        → Rose (K.faults world.old.out) (K.faults world.new.out)
+        ⊎ Rose (K.faults world.old.err) (K.faults world.new.err) }
+    ensures no_memory { result ≡ Status.NoMemory
+        → ((name : List ℕ) × Accepts words.now name) × (world.new.out ≡ world.old.out) }
+    ensures complete { (name bytes : List ℕ)
+        → Tells words.now (source_of S.left S.faults world.old.input) name bytes → IsTableText name bytes
+        → (result ≡ Status.Done) ⊎ (result ≡ Status.NoMemory)
+        ⊎ Rose (S.faults world.old.input) (S.faults world.new.input)
+        ⊎ Rose (K.faults world.old.out) (K.faults world.new.out)
+        ⊎ Rose (K.faults world.old.err) (K.faults world.new.err) }
 
     // What stays as it was.
-    ensures untouched { ((name : List ℕ) → Accepts words.now name → ⊥) → (world.new.input ≡ world.old.input) × (world.new.out ≡ world.old.out) }
+    ensures untouched { IsRefused words.now
+        → (world.new.input ≡ world.old.input) × (world.new.out ≡ world.old.out) }
     ensures early { result ≢ Status.Done → result ≢ Status.WriteFault → world.new.out ≡ world.old.out }
     ensures quiet { result ≡ Status.Done → world.new.err ≡ world.old.err }
-    ensures others { (world.new.side ≡ world.old.side) × (world.new.planes ≡ world.old.planes) × (world.new.made ≡ world.old.made) }
+    ensures others { (world.new.side ≡ world.old.side) × (world.new.planes ≡ world.old.planes)
+        × (world.new.made ≡ world.old.made) }
 {
     match ask(alloc, words, &mut world.input, &mut world.out) {
         Ok(()) => Status::Done,

@@ -1,6 +1,6 @@
 //! The words of a command line.
 
-ghost use Rattle.std.specs.Prelude.{◌≡◌, ◌==◌, ◌<◌, [], ◌∷◌, ◌++◌, length, OnOk, OnErr, MatchOption, slice_get, Some, ℕ, List, codes};
+ghost use Rattle.std.specs.Prelude.{◌≡◌, ◌≢◌, ◌==◌, ◌<◌, [], ◌∷◌, ◌++◌, length, OnOk, OnErr, MatchOption, slice_get, Some, ℕ, List, codes};
 ghost use Rattle.std.specs.Bool.{MatchBool};
 ghost use Rattle.daq_cli.specs.Command.{IsNoCommand, IsUsagePlace, Ask, words_of};
 
@@ -68,14 +68,17 @@ impl Words {
 
 // Whether the first word is `ask`.
 fn begins_with_ask(words: &Words) -> bool
-    ensures { MatchBool result ((rest : List (List ℕ)) × (words.now ≡ codes "ask" ∷ rest)) ((rest : List (List ℕ)) → words.now ≡ codes "ask" ∷ rest → ⊥) }
+    ensures { MatchBool result ((rest : List (List ℕ)) × (words.now ≡ codes "ask" ∷ rest))
+        ((rest : List (List ℕ)) → words.now ≢ codes "ask" ∷ rest) }
 {
     !words.is_empty() && words.word(0) == "ask"
 }
 
-// The place at which words that are no command go wrong, counted from 1, and none where they are `ask` with its three words.
+// The place at which words that are no command go wrong, counted from 1; none where they are `ask` and its
+// three words.
 pub(crate) fn usage_place(words: &Words) -> Option<usize>
-    ensures { MatchOption result ((ask : Ask) × (words.now ≡ words_of ask)) (λ place. IsNoCommand words.now × IsUsagePlace words.now place) }
+    ensures { MatchOption result ((ask : Ask) × (words.now ≡ words_of ask))
+        (λ place. IsNoCommand words.now × IsUsagePlace words.now place) }
 {
     if !begins_with_ask(words) {
         return Some(1);

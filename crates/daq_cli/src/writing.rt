@@ -1,14 +1,11 @@
 //! The rounds of a table's sum, written one after the other until the bound is one number, or surely none.
 
 ghost use Rattle.std.specs.Prelude.{◌≡◌, ◌≤◌, ◌/◌, ◌^◌, ◌+◌, ◌++◌, [], ◌∷◌, ℕ, All, OnOk, OnErr, length, map, replicate};
-ghost use Rattle.std.specs.Io.KnownBytes.{Appends};
 ghost use Rattle.daq_table.specs.Tables.{IsTable, frame_of, planes, spread};
 ghost use Rattle.daq_table.specs.declared.head.ColumnHead.{ColumnHead};
 ghost use Rattle.outer_world.specs.Device.{HasCause};
-ghost use Rattle.outer_world.specs.Whole.{AppendsPrefix};
 ghost use Rattle.daq_cli.specs.Prefixes.{column_frame};
-ghost use Rattle.daq_cli.specs.Report.{block_of, blocks_below, end_line, report};
-ghost use Rattle.daq_cli.specs.Rounds.{IsLastRound};
+ghost use Rattle.daq_cli.specs.Report.{WritesAll, WritesPart, report, rounds_text};
 
 use crate::headline::{full_rounds_are_narrow, tables_have_last_rounds};
 use crate::report::{written_block, written_query};
@@ -28,10 +25,10 @@ pub(crate) fn write_report<K: Sink>(
     requires column { (column : ColumnHead) × (table.now.head.columns ≡ column ∷ []) }
     requires table { IsTable (frame_of table.now.head) table.now.cells }
     requires start { prefixes.old ≡ replicate table.now.head.rows 0 }
-    ensures done { OnOk result ((last : ℕ) × IsLastRound (frame_of table.now.head) table.now.cells last
-        × Appends (K.written out.old) (K.written out.new) (report name.now (frame_of table.now.head) table.now.cells last)) }
-    ensures part { OnErr result ((last : ℕ) × IsLastRound (frame_of table.now.head) table.now.cells last
-        × AppendsPrefix (K.written out.old) (K.written out.new) (report name.now (frame_of table.now.head) table.now.cells last)) }
+    ensures done { OnOk result (WritesAll (report name.now) (frame_of table.now.head) table.now.cells
+        (K.written out.old) (K.written out.new)) }
+    ensures part { OnErr result (WritesPart (report name.now) (frame_of table.now.head) table.now.cells
+        (K.written out.old) (K.written out.new)) }
     ensures cause { HasCause (K.faults out.old) (K.faults out.new) result }
 {
     tables_have_last_rounds();
@@ -63,10 +60,10 @@ fn write_rounds<K: Sink>(
     requires rows { length cells.now ≤ 16777216 }
     requires table { IsTable (column_frame (length cells.now) ends) (cells.now ∷ []) }
     requires start { prefixes.old ≡ map (λ cell. cell / 2 ^ width) cells.now }
-    ensures done { OnOk result ((last : ℕ) × IsLastRound (column_frame (length cells.now) ends) (cells.now ∷ []) last
-        × Appends (K.written out.old) (K.written out.new) (blocks_below name.now (column_frame (length cells.now) ends) (cells.now ∷ []) (last + 1) ++ end_line)) }
-    ensures part { OnErr result ((last : ℕ) × IsLastRound (column_frame (length cells.now) ends) (cells.now ∷ []) last
-        × AppendsPrefix (K.written out.old) (K.written out.new) (blocks_below name.now (column_frame (length cells.now) ends) (cells.now ∷ []) (last + 1) ++ end_line)) }
+    ensures done { OnOk result (WritesAll (rounds_text name.now) (column_frame (length cells.now) ends)
+        (cells.now ∷ []) (K.written out.old) (K.written out.new)) }
+    ensures part { OnErr result (WritesPart (rounds_text name.now) (column_frame (length cells.now) ends)
+        (cells.now ∷ []) (K.written out.old) (K.written out.new)) }
     ensures cause { HasCause (K.faults out.old) (K.faults out.new) result }
 {
     full_rounds_are_narrow();

@@ -9,7 +9,7 @@ pub returns-in-Ok-clause-schema : goal.returns-in-Ok-clause-schema
 returns-in-Ok-clause-schema g c = λ cause. absurd (answered_schema _ _ _ _ _ c.in-Ok.ensures.answered cause)
 
 pub returns-in-Ok-clause-table : goal.returns-in-Ok-clause-table
-returns-in-Ok-clause-table g c = λ name bytes accepted left none. absurd (answered_table _ _ _ _ _ c.in-Ok.ensures.answered name bytes accepted left none)
+returns-in-Ok-clause-table g c = λ name bytes tells none. absurd (answered_table _ _ _ _ _ c.in-Ok.ensures.answered name bytes tells none)
 
 pub returns-in-Err-clause-usage : goal.returns-in-Err-clause-usage
 returns-in-Err-clause-usage g c = λ none. usage_is_told _ _ _ _ _ _ _ c.in-Err.why c.refuse.result none c.in-Err.ensures.refused c.refuse.ensures.told
@@ -18,9 +18,9 @@ pub returns-in-Err-clause-schema : goal.returns-in-Err-clause-schema
 returns-in-Err-clause-schema g c = λ cause. schema_is_told _ _ _ _ _ _ _ c.in-Err.why c.refuse.result cause c.in-Err.ensures.refused c.refuse.ensures.told
 
 pub returns-in-Err-clause-table : goal.returns-in-Err-clause-table
-returns-in-Err-clause-table g c = λ name bytes accepted left none.
-    table_is_told _ _ _ _ _ _ _ c.in-Err.why c.refuse.result name bytes accepted left none c.in-Err.ensures.refused c.refuse.ensures.told
+returns-in-Err-clause-table g c = λ name bytes tells none.
+    table_is_told _ _ _ _ _ _ _ c.in-Err.why c.refuse.result name bytes tells none c.in-Err.ensures.refused c.refuse.ensures.told
 
 pub returns-in-Err-clause-complete : goal.returns-in-Err-clause-complete
-returns-in-Err-clause-complete g c = λ name bytes accepted left text.
-    table_is_read _ _ _ _ _ _ _ c.in-Err.why c.refuse.result name bytes accepted left text c.in-Err.ensures.refused c.refuse.ensures.told
+returns-in-Err-clause-complete g c = λ name bytes tells text.
+    table_is_read _ _ _ _ _ _ _ c.in-Err.why c.refuse.result name bytes tells text c.in-Err.ensures.refused c.refuse.ensures.told
