@@ -6,7 +6,7 @@ use Rattle.std.specs.Io.KnownBytes.{Appends}
 use borrow.Author.Count.{below_more}
 use Rattle.outer_world.specs.Whole.{AppendsPrefix}
 use Rattle.daq_cli.specs.Prefixes.{column_frame}
-use Rattle.daq_cli.specs.Report.{end_line}
+use Rattle.daq_cli.specs.Report.{block_of, end_line}
 use Rattle.daq_cli.specs.Rounds.{bound_after, is_narrow}
 use Rattle.daq_cli.proofs.Blocks.{block_written, last_is_here, last_is_later, next_block, no_blocks, plane_left, prefix_after, prefix_of_blocks, prefixes_fit}
 use Rattle.daq_cli.proofs.writing.write_rounds.Goals as goal
