@@ -36,7 +36,7 @@ none_begins w h not_blank = (
   not_blank,
 )
 
-token_long : (front : List ℕ) (m : Mark) → IsToken front m → 0 < length front
+pub token_long : (front : List ℕ) (m : Mark) → IsToken front m → 0 < length front
 token_long front m (word c each) = omega arith
 token_long front m (quoted each) = omega arith
 token_long front m (digits c each) = omega arith

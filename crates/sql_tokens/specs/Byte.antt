@@ -24,6 +24,10 @@ abbrev pub is_blank : Class → Bool
 is_blank Blank = true
 is_blank _ = false
 
+abbrev pub is_letter : Class → Bool
+is_letter Letter = true
+is_letter _ = false
+
 abbrev pub is_digit : Class → Bool
 is_digit Digit = true
 is_digit _ = false

@@ -1,5 +1,5 @@
 -- The spellings of tokens, and the tokens of a text.
-use Rattle.std.specs.Prelude.{◌≡◌, ℕ, ◌+◌, ◌-◌, ◌*◌, ◌^◌, ◌≤◌, List, [], ◌∷◌, ◌++◌, length, map, reverse, take, Bool, true, false, Option, Some, None, nat_eq, nat_le, ◌&&◌, if◌then◌else◌}
+use Rattle.std.specs.Prelude.{◌≡◌, ℕ, ◌+◌, ◌-◌, ◌*◌, ◌^◌, ◌≤◌, List, [], ◌∷◌, ◌++◌, length, map, reverse, take, Bool, true, false, Option, Some, None, nat_eq, nat_le, is_none, ◌&&◌, if◌then◌else◌}
 use Rattle.std.specs.List.{prefix_len, find}
 use Rattle.sql_tokens.specs.declared.byte.Class.TheVariants.{Blank, Letter, Digit, Other}
 use Rattle.sql_tokens.specs.declared.token.Fixed.{Fixed}
@@ -7,7 +7,7 @@ use Rattle.sql_tokens.specs.declared.token.Fixed.TheVariants.{Open, Close, Comma
 use Rattle.sql_tokens.specs.declared.token.TheConstants.{KEYWORDS}
 use Rattle.sql_tokens.specs.Fixed.{spelling}
 use Rattle.sql_tokens.specs.Lexeme.{Mark, FIXED, NAME, NUMBER, STRING, Lexeme, token}
-use Rattle.sql_tokens.specs.Byte.{class_of, in_word, in_number, in_quotes, is_zero, capital, Each}
+use Rattle.sql_tokens.specs.Byte.{class_of, is_letter, in_word, in_number, in_quotes, is_zero, capital, Each}
 
 -- ---- words
 
@@ -26,6 +26,11 @@ keyword_or w (Some k) = FIXED k
 
 unfoldable pub word_of : List ℕ → Mark
 word_of w = keyword_or w (keyword_of w)
+
+-- a name that needs no quotes
+abbrev pub is_plain_name : List ℕ → Bool
+is_plain_name [] = false
+is_plain_name (b ∷ w) = is_letter (class_of b) && nat_eq (prefix_len in_word (b ∷ w)) (length (b ∷ w)) && is_none (keyword_of (b ∷ w))
 
 -- ---- numbers
 

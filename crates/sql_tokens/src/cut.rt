@@ -1,6 +1,6 @@
 //! Cutting a text into tokens.
 
-ghost use Rattle.std.specs.Prelude.{◌≡◌, ◌<◌, ℕ, List, length, drop, IfOk};
+ghost use Rattle.std.specs.Prelude.{◌≡◌, ◌<◌, ◌≤◌, ℕ, List, length, drop, IfOk};
 ghost use Rattle.sql_tokens.specs.Lexeme.{views, Lexeme};
 ghost use Rattle.sql_tokens.specs.Spelling.{Splits};
 ghost use Rattle.sql_tokens.specs.Reads.{token_at, GivesToken};
@@ -44,7 +44,8 @@ fn token<'a>(alloc: Global, text: &'a [u8]) -> Result<Option<(Kind, &'a [u8])>, 
 /// The tokens of a text, and the place where no more of them begins: the end of the text, or a byte that begins no token.
 pub fn tokens(alloc: Global, text: &[u8]) -> Result<(Vec<Token>, usize), AllocError>
     requires { length text.now < 65536 }
-    ensures { IfOk result (λ x. Splits 0 text.now (views x.0.items) (drop x.1 text.now)) }
+    ensures cut { IfOk result (λ x. Splits 0 text.now (views x.0.items) (drop x.1 text.now)) }
+    ensures within { IfOk result (λ x. x.1 ≤ length text.now) }
 {
     let mut out = Vec::new(alloc);
     let mut at = 0;

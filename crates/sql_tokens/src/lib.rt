@@ -13,3 +13,4 @@ mod word;
 
 pub use cut::{one_cut, tokens};
 pub use token::{Fixed, KEYWORDS, Kind, Number, Token};
+pub use word::is_plain_name;

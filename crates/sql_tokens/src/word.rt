@@ -3,11 +3,11 @@
 ghost use Rattle.std.specs.Prelude.{◌≡◌, ◌≤◌, length, map, IfOk};
 ghost use Rattle.std.specs.List.{prefix_len};
 ghost use Rattle.sql_tokens.specs.Byte.{in_word, in_quotes, capital};
-ghost use Rattle.sql_tokens.specs.Spelling.{same_bytes, keyword_of, word_of};
+ghost use Rattle.sql_tokens.specs.Spelling.{same_bytes, keyword_of, word_of, is_plain_name};
 ghost use Rattle.sql_tokens.specs.Lexeme.{mark_of};
 ghost use Rattle.sql_tokens.specs.Reads.{closed_at, GivesToken};
 
-use crate::byte::{in_quotes, in_word};
+use crate::byte::{Class, class_of, in_quotes, in_word};
 use crate::token::{Fixed, KEYWORDS, Kind};
 use std::alloc::{AllocError, Global};
 
@@ -85,5 +85,19 @@ pub fn closed<'a>(
                 }
             }
         },
+    }
+}
+
+/// The name is written as it is, without quotes.
+pub fn is_plain_name(name: &[u8]) -> bool
+    ensures { result ≡ is_plain_name name.now }
+{
+    match name {
+        [] => false,
+        [b, ..] => {
+            matches!(class_of(*b), Class::Letter)
+                && word_len(name) == name.len()
+                && keyword(name).is_none()
+        }
     }
 }

@@ -1,0 +1,14 @@
+pub mod Keywords
+pub mod Loops
+pub mod Levels
+pub mod Fine
+pub mod Same
+pub mod Whole
+pub mod Clear
+pub mod RuleFine
+pub mod RuleSame
+pub mod RuleWhole
+pub mod GrammarClear
+pub mod Sentence
+pub mod OneRefusal
+pub mod Answering

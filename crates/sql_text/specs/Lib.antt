@@ -1,0 +1,7 @@
+pub mod Tree
+pub mod Number
+pub mod Rule
+pub mod Grammar
+pub mod Reading
+pub mod Sentence
+pub mod Answer
