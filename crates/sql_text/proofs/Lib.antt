@@ -12,3 +12,12 @@ pub mod GrammarClear
 pub mod Sentence
 pub mod OneRefusal
 pub mod Answering
+pub mod Back
+pub mod ExprBack
+pub mod PredBack
+pub mod QueryBack
+pub mod Spelled
+pub mod Numerals
+pub mod Pieces
+pub mod TokenFacts
+pub mod TreeTexts

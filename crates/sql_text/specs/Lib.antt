@@ -5,3 +5,5 @@ pub mod Grammar
 pub mod Reading
 pub mod Sentence
 pub mod Answer
+pub mod Bare
+pub mod Printed

@@ -6,6 +6,7 @@ mod expression;
 mod fault;
 mod look;
 mod predicate;
+mod printing;
 mod query;
 mod reading;
 #[cfg(test)]
@@ -13,6 +14,7 @@ mod tests;
 mod tree;
 
 pub use fault::SqlFault;
+pub use printing::{print, reads_back};
 pub use reading::{one_answer, parse};
 pub use tree::{
     CallKind, Cmp, ExprTree, ItemTree, Named, Num, PredTree, Select, Tail, Text, Tree, Value,

@@ -18,7 +18,7 @@ blank_is Quote h = absurd cc
 blank_is Apostrophe h = absurd cc
 blank_is Other h = absurd cc
 
-longest : (front w : List ℕ) (m : Mark) → token_at (front ++ w) ≡ Some (m, w) → IsLongest front w
+pub longest : (front w : List ℕ) (m : Mark) → token_at (front ++ w) ≡ Some (m, w) → IsLongest front w
 longest front w m h u v n e tok =
     let r = reach u v n tok in
     let same : ◌≡◌ {A = Option (Mark × List ℕ)} (Some (m, w)) (Some r.0) = sym h ∙ ap token_at e ∙ r.1 in

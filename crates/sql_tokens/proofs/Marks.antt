@@ -21,7 +21,7 @@ some_is : {A : Type 0} (x y : A) → Some x ≡ Some y → x ≡ y
 some_is x y e = cc
 
 module _ (p : ℕ → Bool) where
-  each_taken : (t : List ℕ) → Each p (take (prefix_len p t) t)
+  pub each_taken : (t : List ℕ) → Each p (take (prefix_len p t) t)
   each_taken [] = tt
   each_taken (b ∷ w) = go (each_taken w) (p b) refl
     where
