@@ -21,3 +21,5 @@ pub mod Numerals
 pub mod Pieces
 pub mod TokenFacts
 pub mod TreeTexts
+pub mod Utf8
+pub mod TreeUtf8

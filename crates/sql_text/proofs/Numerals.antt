@@ -38,11 +38,11 @@ each_append : (p : ℕ → Bool) (s t : List ℕ) → Each p s → Each p t → 
 each_append p [] t h k = k
 each_append p (b ∷ s) t h k = (h.0, each_append p s t h.1 k)
 
-each_left : (p : ℕ → Bool) (s t : List ℕ) → Each p (s ++ t) → Each p s
+pub each_left : (p : ℕ → Bool) (s t : List ℕ) → Each p (s ++ t) → Each p s
 each_left p [] t h = tt
 each_left p (b ∷ s) t h = (h.0, each_left p s t h.1)
 
-each_right : (p : ℕ → Bool) (s t : List ℕ) → Each p (s ++ t) → Each p t
+pub each_right : (p : ℕ → Bool) (s t : List ℕ) → Each p (s ++ t) → Each p t
 each_right p [] t h = h
 each_right p (b ∷ s) t h = each_right p s t h.1
 
@@ -87,14 +87,14 @@ zeros_value zero ds = refl
 zeros_value (suc k) ds = zeros_value k ds
 
 -- the digits that are printed
-record Digits (u s : ℕ) (ds : List ℕ) : Type 0 where
-  each : Each in_number ds
-  value : value_from 0 ds ≡ u
-  front : List ℕ
-  last : ds ≡ front ++ ((48 + u % 10) ∷ [])
-  long : s < length ds
+pub record Digits (u s : ℕ) (ds : List ℕ) : Type 0 where
+  pub each : Each in_number ds
+  pub value : value_from 0 ds ≡ u
+  pub front : List ℕ
+  pub last : ds ≡ front ++ ((48 + u % 10) ∷ [])
+  pub long : s < length ds
 
-digits_are : (u s : ℕ) → u < 2 ^ 64 → Digits u s (digits_of u s)
+pub digits_are : (u s : ℕ) → u < 2 ^ 64 → Digits u s (digits_of u s)
 unfolding digits_of
 digits_are u s h =
     let k = spells_decimal u h in

@@ -436,8 +436,9 @@ pub fn print(alloc: Global, tree: &Tree) -> Result<String, AllocError>
     String::from_utf8_lossy(alloc, out.as_slice())
 }
 
-/// The printed form of a query of a text is a query again where it is short enough, and the same but for places.
+/// The printed form of a query of a text is a text, and where it is short enough a query again, the same but for places.
 pub fn reads_back()
-    ensures { (text : List ℕ) (q : Query) → IsText text q → length (printed q) ≤ 4096
+    ensures again { (text : List ℕ) (q : Query) → IsText text q → length (printed q) ≤ 4096
         → (p : Query) × IsText (printed q) p × (bare p ≡ bare q) }
+    ensures text { (text : List ℕ) (q : Query) → IsText text q → IsUtf8 text → IsUtf8 (printed q) }
 {}
