@@ -1,0 +1,9 @@
+pub mod Tree
+pub mod Number
+pub mod Rule
+pub mod Grammar
+pub mod Reading
+pub mod Sentence
+pub mod Answer
+pub mod Bare
+pub mod Printed

@@ -1,0 +1,113 @@
+//! What a query says. Names and numbers carry their places in the text.
+
+/// Bytes of a text.
+pub type Text = Vec<u8>;
+
+#[derive(Debug, Drop)]
+pub struct Named {
+    pub at: usize,
+    pub name: Text,
+}
+
+/// A number of `units`, of which so many digits stand behind the point. A signed one has the place of its digits.
+#[derive(Clone, Copy, Debug, PartialEq, Eq)]
+pub struct Num {
+    pub at: usize,
+    pub units: i64,
+    pub scale: u16,
+}
+
+#[derive(Debug, Drop)]
+pub enum ExprTree {
+    Column(Named),
+    Number(Num),
+    Add(Box<ExprTree>, Box<ExprTree>),
+    Sub(Box<ExprTree>, Box<ExprTree>),
+    /// `at` is the place of the sign.
+    Mul {
+        at: usize,
+        left: Box<ExprTree>,
+        right: Box<ExprTree>,
+    },
+}
+
+#[derive(Clone, Copy, Debug, PartialEq, Eq)]
+pub enum CallKind {
+    Sum,
+    Avg,
+    Min,
+    Max,
+}
+
+#[derive(Debug, Drop)]
+pub enum ItemTree {
+    Column(Named),
+    Count,
+    Call { kind: CallKind, arg: ExprTree },
+}
+
+#[derive(Debug, Drop)]
+pub enum Select {
+    Items(Vec<ItemTree>),
+    Star,
+}
+
+#[derive(Clone, Copy, Debug, PartialEq, Eq)]
+pub enum Cmp {
+    Eq,
+    Ne,
+    Lt,
+    Le,
+    Gt,
+    Ge,
+}
+
+#[derive(Debug, Drop)]
+pub enum Value {
+    Number(Num),
+    Str { at: usize, text: Text },
+    /// `at` is the place of DATE.
+    Day { at: usize, text: Text },
+}
+
+#[derive(Debug, Drop)]
+pub enum PredTree {
+    Compare {
+        column: Named,
+        op: Cmp,
+        value: Value,
+    },
+    Columns {
+        left: Named,
+        op: Cmp,
+        right: Named,
+    },
+    Between {
+        column: Named,
+        low: Value,
+        high: Value,
+    },
+    OneOf {
+        column: Named,
+        values: Vec<Value>,
+    },
+    Not(Box<PredTree>),
+    And(Box<PredTree>, Box<PredTree>),
+    Or(Box<PredTree>, Box<PredTree>),
+}
+
+#[derive(Debug, Drop)]
+pub enum Tail {
+    Nothing,
+    Group(Vec<Named>),
+    Order { key: Named, down: bool, limit: Num },
+}
+
+/// A whole query. Its head is `Star` exactly where its tail is `Order`.
+#[derive(Debug, Drop)]
+pub struct Tree {
+    pub head: Select,
+    pub table: Named,
+    pub pred: Option<PredTree>,
+    pub tail: Tail,
+}

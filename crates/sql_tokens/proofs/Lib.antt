@@ -1,0 +1,5 @@
+pub mod Strings
+pub mod Marks
+pub mod Cutting
+pub mod OneCut
+pub mod Units

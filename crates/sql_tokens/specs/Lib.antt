@@ -1,0 +1,5 @@
+pub mod Fixed
+pub mod Lexeme
+pub mod Byte
+pub mod Spelling
+pub mod Reads
