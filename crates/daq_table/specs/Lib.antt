@@ -3,3 +3,4 @@ pub mod HeadFacts
 pub mod Tables
 pub mod Numbers
 pub mod CellTexts
+pub mod ValueTexts
