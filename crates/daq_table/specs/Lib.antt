@@ -4,3 +4,5 @@ pub mod Tables
 pub mod Numbers
 pub mod CellTexts
 pub mod ValueTexts
+pub mod Schemas
+pub mod SchemaFaults

@@ -9,8 +9,14 @@ mod head;
 mod names;
 mod numbers;
 mod parts;
+mod schema;
+mod schema_column;
+mod schema_fault;
+mod schema_items;
 mod table;
 mod table_head;
+#[cfg(test)]
+mod tests;
 mod values;
 
 pub use buffer::{NoRoom, TextBuf};
@@ -19,6 +25,9 @@ pub use column::{ends, width};
 pub use head::{ColumnHead, ColumnHeads, Ends, Kind};
 pub use names::{Name, Names, Text};
 pub use numbers::number_text;
+pub use schema::Schema;
+pub use schema_column::{SchemaColumn, SchemaColumns};
+pub use schema_fault::SchemaFault;
 pub use table::Table;
 pub use table_head::Head;
 pub use values::value_text;
