@@ -1,5 +1,5 @@
 -- The year, the month and the day of a day number.
-use Rattle.std.proofs.Common.{◌≡◌, ℕ, zero, suc, ◌+◌, ◌<◌, ◌≤◌, Bool, true, false, cond, ℤ, pos, neg_ℤ, int_le, nat_abs, unsigned_abs, ◌-ℤ◌, ◌≤ℤ◌, ◌<ℤ◌, inl, inr, ◌∙◌, refl, sym, ap, subst, arith}
+use Rattle.std.proofs.Common.{◌≡◌, ℕ, zero, suc, ◌<◌, ◌≤◌, Bool, true, false, cond, ℤ, pos, int_le, nat_abs, unsigned_abs, ◌-ℤ◌, ◌≤ℤ◌, ◌<ℤ◌, inl, inr, ◌∙◌, refl, sym, ap, subst, arith}
 use Rattle.std.proofs.lemmas.Bool.{cases_lt}
 use Rattle.std.proofs.lemmas.Int.{by_lt_z, ints}
 use Rattle.jiff_core.specs.declared.civil.date.Date.{Date}
@@ -9,7 +9,7 @@ use Rattle.jiff_core.proofs.CalendarLemmas.{day_count-day, day_count-day_of_year
 use Rattle.jiff_core.proofs.DateLemmas.{civil, days_from_civil-day}
 use Rattle.jiff_core.proofs.MarchLemmas.{day_count-early}
 use Rattle.jiff_core.proofs.SignedLemmas.{signed_arith}
-use Rattle.daq_table.specs.ValueTexts.{IsDay, last_year, last_month, year_of, month_of, day_of, text_of_date, ymd_text}
+use Rattle.daq_table.specs.ValueTexts.{IsDay, last_year, last_month, year_of, text_of_date, ymd_text}
 
 by_test : (b : Bool) (n rest m : ℕ) → (b ≡ true → n ≡ m) → (b ≡ false → rest ≡ m) → cond b n rest ≡ m
 by_test true n rest m if_true if_false = if_true refl

@@ -1,5 +1,5 @@
 -- What each fault says of the text of a schema.
-use Rattle.std.specs.Prelude.{◌≡◌, ℕ, ◌<◌, ◌≤◌, ⊤, Option, Some, None, List, length}
+use Rattle.std.specs.Prelude.{◌≡◌, ℕ, ◌<◌, ◌≤◌, ⊤, Some, None, List, length}
 use Rattle.daq_table.specs.Schemas.{IsFirstRepeat, bad_place, columns_of, items_of, names_of}
 use Rattle.daq_table.specs.declared.schema_fault.SchemaFault.{SchemaFault}
 use Rattle.daq_table.specs.declared.schema_fault.SchemaFault.TheVariants.{BadItem, TooMany, RepeatedName, NoMemory}

@@ -1,5 +1,5 @@
 -- The text of a schema: items parted by `,`, each a name, `:` and a kind.
-use Rattle.std.specs.Prelude.{◌≡◌, ℕ, ◌+◌, ◌-◌, ◌<◌, ◌==◌, nat_eq, nat_le, Bool, true, not, ◌&&◌, ◌||◌, if◌then◌else◌, IsTrue, Option, Some, None, is_some, List, [], ◌∷◌, length, map, take, codes, slice_get, slice_index}
+use Rattle.std.specs.Prelude.{◌≡◌, ℕ, ◌+◌, ◌-◌, ◌<◌, ◌==◌, nat_eq, nat_le, Bool, true, not, ◌&&◌, if◌then◌else◌, IsTrue, Option, Some, None, is_some, List, [], ◌∷◌, length, map, take, codes, slice_get, slice_index}
 use Rattle.std.specs.Char.{is_ascii_digit}
 use Rattle.std.specs.List.{after_first, before_first, filter_map, list_all, slice_split, starts_with}
 use Rattle.std.specs.Str.{bytes_eq}

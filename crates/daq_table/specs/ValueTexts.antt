@@ -1,5 +1,5 @@
 -- The texts of values.
-use Rattle.std.specs.Prelude.{ℕ, zero, suc, ◌==◌, ⊤, if◌then◌else◌, ℤ, pos, negsuc, neg_ℤ, int_le, nat_abs, ◌-ℤ◌, ◌≤ℤ◌, List, [], ◌∷◌, ◌++◌, codes, slice_get, Option, Some, None}
+use Rattle.std.specs.Prelude.{ℕ, zero, suc, ◌==◌, ⊤, if◌then◌else◌, ℤ, pos, negsuc, neg_ℤ, int_le, nat_abs, ◌-ℤ◌, List, [], ◌∷◌, ◌++◌, codes, slice_get, Option, Some, None}
 use Rattle.std.specs.List.{flat_map}
 use Rattle.jiff_core.specs.Calendar.{IsBetween, days_from_civil}
 use Rattle.daq_table.specs.Numbers.{digits_text, scaled_text}

@@ -1,4 +1,5 @@
-// The text of a number with a fixed number of decimals.
+//! The text of a number with a fixed number of decimals.
+
 ghost use Rattle.std.specs.Prelude.{◌≡◌, ◌≤◌, ◌<◌, ◌+◌, ◌-◌, ◌/◌, ◌%◌, ◌^◌, ◌++◌, ℤ, length, OnOk, OnErr, replicate};
 ghost use Rattle.daq_table.specs.Numbers.{scaled_text, digits_text, sign_text};
 

@@ -29,12 +29,14 @@ impl Model for SchemaColumns {
 impl SchemaColumns {
     ghost use Rattle.std.specs.Prelude.{◌≡◌};
 
+    /// The list of these columns.
     pub fn new(items: Vec<SchemaColumn>) -> SchemaColumns
         ensures { result ≡ items.items }
     {
         SchemaColumns { items }
     }
 
+    /// The columns, in order.
     pub fn as_slice(&self) -> &[SchemaColumn]
         ensures { result.now ≡ self.now }
     {

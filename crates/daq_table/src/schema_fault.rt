@@ -18,6 +18,7 @@ pub enum SchemaFault {
     /// Two items have one name. The second is the first that repeats an earlier one.
     #[error("schema items {first} and {second} have one name")]
     RepeatedName { first: usize, second: usize },
+    /// Memory ran out.
     #[error("no memory")]
     NoMemory,
 }

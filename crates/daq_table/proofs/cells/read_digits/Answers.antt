@@ -1,4 +1,4 @@
-use Rattle.std.proofs.Common.{◌≡◌, ◌+◌, ◌*◌, ◌≤◌, [], ◌∷◌, drop, get_or, arith}
+use Rattle.std.proofs.Common.{◌≡◌, ◌+◌, [], drop, get_or, arith}
 use Rattle.std.proofs.lemmas.List.{at_drop_more, drop_all}
 use Rattle.std.specs.Str.Parse.{digits_value_after}
 use Rattle.daq_table.proofs.CellDigits.{too_long}

@@ -1,4 +1,4 @@
-use Rattle.std.proofs.Common.{◌≡◌, ◌∙◌, sym, subst, to_z-of_z}
+use Rattle.std.proofs.Common.{◌∙◌, sym, subst, to_z-of_z}
 use Rattle.daq_table.specs.ValueTexts.{IsDay}
 use Rattle.daq_table.proofs.DateParts.{text_of_parts, year_from}
 use Rattle.daq_table.proofs.dates.date_text.Goals as goal

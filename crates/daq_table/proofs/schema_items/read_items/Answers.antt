@@ -1,6 +1,5 @@
-use Rattle.std.proofs.Common.{◌≡◌, ◌∙◌, ◌+◌, ◌<◌, ◌≤◌, [], ◌∷◌, ◌++◌, length, sym, ap, arith, append_assoc}
+use Rattle.std.proofs.Common.{◌∙◌, ◌+◌, ◌<◌, ◌≤◌, length, sym, arith, append_assoc}
 use Rattle.daq_table.proofs.Items.{bad_here, columns_last, columns_more, good_last, good_more, item_within}
-use Rattle.daq_table.specs.Schemas.{columns_of, items_of}
 use Rattle.daq_table.proofs.schema_items.read_items.Goals as goal
 
 pub returns-in-None-clause-err : goal.returns-in-None-clause-err

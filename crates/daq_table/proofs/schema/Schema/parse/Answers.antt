@@ -1,4 +1,4 @@
-use Rattle.std.proofs.Common.{◌≡◌, ℕ, List, length, ◌∙◌, sym, ap, subst, arith}
+use Rattle.std.proofs.Common.{ℕ, List, length, ◌∙◌, ap, subst, arith}
 use Rattle.daq_table.proofs.Items.{length-columns, scales_fit}
 use Rattle.daq_table.specs.Schemas.{Declares, IsFirstRepeat, items_of, names_of}
 use Rattle.daq_table.specs.declared.schema_column.SchemaColumn.{SchemaColumn}

@@ -1,4 +1,4 @@
-use Rattle.std.proofs.Common.{◌≡◌, ◌<◌, length, sym, subst, arith}
+use Rattle.std.proofs.Common.{◌<◌, length, sym, subst, arith}
 use Rattle.daq_table.specs.Tables.{Contents}
 use Rattle.daq_table.proofs.TableCells.{row_within, cell_within}
 use Rattle.daq_table.proofs.table.Table.cell.Goals as goal
