@@ -3,3 +3,6 @@ pub mod HeadFacts
 pub mod Tables
 pub mod Numbers
 pub mod CellTexts
+pub mod ValueTexts
+pub mod Schemas
+pub mod SchemaFaults

@@ -4,17 +4,30 @@
 mod buffer;
 mod cells;
 mod column;
+mod dates;
 mod head;
 mod names;
 mod numbers;
+mod parts;
+mod schema;
+mod schema_column;
+mod schema_fault;
+mod schema_items;
 mod table;
 mod table_head;
+#[cfg(test)]
+mod tests;
+mod values;
 
 pub use buffer::{NoRoom, TextBuf};
-pub use cells::int_cell;
+pub use cells::{cell_value, int_cell};
 pub use column::{ends, width};
 pub use head::{ColumnHead, ColumnHeads, Ends, Kind};
 pub use names::{Name, Names, Text};
 pub use numbers::number_text;
+pub use schema::Schema;
+pub use schema_column::{SchemaColumn, SchemaColumns};
+pub use schema_fault::SchemaFault;
 pub use table::Table;
 pub use table_head::Head;
+pub use values::value_text;

@@ -1,0 +1,104 @@
+//! The items of a schema, read from their text.
+
+ghost use Rattle.std.specs.Prelude.{◌≡◌, ◌==◌, ◌≤◌, drop, length, IfOk, IfErr};
+ghost use Rattle.std.specs.List.{before_first, list_all};
+ghost use Rattle.daq_table.specs.SchemaFaults.{Refuses};
+ghost use Rattle.daq_table.specs.Schemas.{Declares, column_of, is_dec_word, is_name_byte, is_schema_name, kind_of};
+
+use crate::head::Kind;
+use crate::names::Name;
+use crate::parts::around_first;
+use crate::schema_column::SchemaColumn;
+use crate::schema_fault::SchemaFault;
+use std::alloc::{AllocError, Global};
+
+// Whether a byte may stand in a name.
+fn is_letter(byte: u8) -> bool
+    ensures { result ≡ is_name_byte byte }
+{
+    byte >= 0x20 && byte <= 0x7E && byte != b',' && byte != b':' && byte != b'"'
+}
+
+// Whether each byte may stand in a name.
+fn are_letters(bytes: &[u8]) -> bool
+    ensures { result ≡ list_all is_name_byte bytes.now }
+{
+    bytes.iter().all(|byte| is_letter(*byte))
+}
+
+// Whether the bytes are a name.
+fn is_name(bytes: &[u8]) -> bool
+    ensures { result ≡ is_schema_name bytes.now }
+{
+    bytes.len() >= 1 && bytes.len() <= 64 && are_letters(bytes)
+}
+
+// Whether the word is `dec` and one digit.
+fn is_dec(word: &[u8]) -> bool
+    ensures { result ≡ is_dec_word word.now }
+{
+    word.len() == 4 && word.starts_with(b"dec") && word[3].is_ascii_digit()
+}
+
+// The kind that a word names.
+fn read_kind(word: &[u8]) -> Option<Kind>
+    ensures { result ≡ kind_of word.now }
+{
+    if word == b"int".as_slice() {
+        Some(Kind::Int)
+    } else if word == b"date".as_slice() {
+        Some(Kind::Date)
+    } else if word == b"text".as_slice() {
+        Some(Kind::Text)
+    } else if is_dec(word) {
+        Some(Kind::Dec(word[3] - b'0'))
+    } else {
+        None
+    }
+}
+
+// The column that an item declares, if it has the form of one.
+fn read_item(alloc: Global, item: &[u8]) -> Result<Option<SchemaColumn>, AllocError>
+    ensures { IfOk result (λ column. column ≡ column_of item.now) }
+{
+    let (name, word) = around_first(item, b':');
+    match read_kind(word) {
+        Some(kind) => {
+            if !is_name(name) {
+                return Ok(None);
+            }
+            let name = Name::new(Vec::from_slice(alloc, name)?);
+            Ok(Some(SchemaColumn { name, kind }))
+        }
+        None => Ok(None),
+    }
+}
+
+// The item that stands at that place.
+fn item_at(text: &[u8], at: usize) -> &[u8]
+    requires { at ≤ length text.now }
+    ensures { result.now ≡ before_first (λ c. c == 44) (drop at text.now) }
+{
+    let (item, _) = around_first(&text[at..], b',');
+    item
+}
+
+// The columns that the items of a text declare, or the first item that declares none.
+pub(crate) fn read_items(alloc: Global, text: &[u8]) -> Result<Vec<SchemaColumn>, SchemaFault>
+    ensures ok { IfOk result (λ columns. Declares text.now columns.items) }
+    ensures err { IfErr result (Refuses text.now) }
+{
+    let mut columns = Vec::new(alloc);
+    let mut at = 0;
+    'items: loop {
+        let item = item_at(text, at);
+        match read_item(alloc, item)? {
+            Some(column) => columns.push(column)?,
+            None => return Err(SchemaFault::BadItem { at }),
+        }
+        if at + item.len() == text.len() {
+            return Ok(columns);
+        }
+        at += item.len() + 1;
+    }
+}
