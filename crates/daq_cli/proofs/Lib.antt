@@ -1,4 +1,5 @@
 pub mod Texts
+pub mod Printed
 pub mod Places
 pub mod Lines
 pub mod Values

@@ -1,41 +1,47 @@
 -- The forms of query, schema and table that are accepted so far: the sum of the one column of whole numbers of a table.
-use Rattle.std.specs.Prelude.{◌≡◌, ℕ, ◌≤◌, ◌==◌, ℤ, Bool, false, not, ◌&&◌, ◌||◌, List, [], ◌∷◌, ◌++◌, length, map, codes, slice_index_or, IsTrue}
-use Rattle.std.specs.Char.{is_ascii_alphabetic, is_ascii_alphanumeric, to_ascii_lowercase}
-use Rattle.std.specs.List.{AllByRecursion, list_all, list_any, slice_split}
-use Rattle.std.specs.Str.{bytes_eq}
+use Rattle.std.specs.Prelude.{◌≡◌, ℕ, ◌≤◌, ◌==◌, ℤ, Bool, None, List, [], ◌∷◌, ◌++◌, length, map, codes, slice_index_or, IsTrue}
+use Rattle.std.specs.List.{AllByRecursion, slice_split}
 use Rattle.daq_table.specs.CellTexts.{IsIntCell, int_value}
 use Rattle.daq_table.specs.Tables.{Cells, IsTable, ends_of, frame_of, value_of}
 use Rattle.daq_table.specs.declared.head.ColumnHead.{ColumnHead}
 use Rattle.daq_table.specs.declared.head.Kind.TheVariants.{Int}
-use Rattle.daq_table.specs.declared.table_head.Head.{Head}
+use Rattle.daq_table.specs.declared.table_head.Head as table
 use Rattle.query_model.specs.Answers.{greatest, least}
-use Rattle.daq_cli.specs.declared.form.TheConstants.{KEYWORDS}
+use Rattle.sql_tokens.specs.Spelling.{is_plain_name}
+use Rattle.sql_text.specs.Answer.{IsFault, IsText}
+use Rattle.sql_text.specs.Tree.{Call, Column, Head, Items, Name, Nothing, Query}
+use Rattle.sql_text.specs.declared.fault.SqlFault.TheVariants as sql
+use Rattle.sql_text.specs.declared.tree.CallKind.TheVariants.{Sum}
+use Rattle.daq_cli.specs.declared.refusal.QueryFault.{QueryFault}
+use Rattle.daq_cli.specs.declared.refusal.QueryFault.TheVariants.{TooLong, Syntax, TooDeep, NumberTooLarge, NotBuilt}
 
 -- ---- the query
 
--- two words are one but for the case of their letters
-abbrev pub is_same_word : List ℕ → List ℕ → Bool
-is_same_word word other = bytes_eq (map to_ascii_lowercase word) (map to_ascii_lowercase other)
+-- the sum of the column alone
+abbrev pub sum_head : Name → Head
+sum_head column = Items (Call Sum (Column column) ∷ [])
 
--- the word is one of those that are no names
-unfoldable pub is_keyword : List ℕ → Bool
-is_keyword word = list_any (λ keyword. is_same_word word keyword.now) KEYWORDS
-
-abbrev pub starts_name : List ℕ → Bool
-starts_name [] = false
-starts_name (byte ∷ bytes) = is_ascii_alphabetic byte || byte == 95
-
-abbrev pub continues_name : ℕ → Bool
-continues_name byte = is_ascii_alphanumeric byte || byte == 95
-
--- a letter or _, then letters, digits and _, and no keyword
-abbrev pub is_plain_name : List ℕ → Bool
-is_plain_name name = (starts_name name && list_all continues_name name) && not (is_keyword name)
+-- the query is over table t, with nothing after the table's name
+pub record IsOverAllRows (query : Query) : Type 0 where
+  pub table : query.table.name ≡ codes "t"
+  pub all : query.pred ≡ None
+  pub plain : query.tail ≡ Nothing
 
 -- a name without quotes, of at most 64 bytes
 pub record IsColumnName (name : List ℕ) : Type 0 where
   pub plain : IsTrue (is_plain_name name)
   pub few : length name ≤ 64
+
+-- the query asks for the sum of the column, over all rows
+pub record SumsColumn (query : Query) (name : List ℕ) : Type 0 where
+  pub rows : IsOverAllRows query
+  pub at : ℕ
+  pub head : query.head ≡ sum_head (record { at = at; name = name })
+  pub column : IsColumnName name
+
+-- the query asks for something else
+abbrev pub IsOther : Query → Type 0
+IsOther query = (name : List ℕ) → SumsColumn query name → ⊥
 
 -- the printed form of the query for the sum of a column
 abbrev pub sum_text : List ℕ → List ℕ
@@ -43,12 +49,23 @@ sum_text name = codes "SELECT SUM(" ++ name ++ codes ") FROM t"
 
 -- the text asks for the sum of the column
 pub record IsSumOf (sql name : List ℕ) : Type 0 where
-  pub text : sql ≡ sum_text name
-  pub column : IsColumnName name
+  pub query : Query
+  pub text : IsText sql query
+  pub sum : SumsColumn query name
 
--- the text asks for no sum of a column
-abbrev pub IsNoSum : List ℕ → Type 0
-IsNoSum sql = (name : List ℕ) → IsSumOf sql name → ⊥
+-- the text is a query for something else
+pub record IsOtherQuery (sql : List ℕ) : Type 0 where
+  pub query : Query
+  pub text : IsText sql query
+  pub other : IsOther query
+
+-- why a text is refused: it is no query, or one that is not built
+abbrev pub IsQueryFault : List ℕ → QueryFault → Type 0
+IsQueryFault text TooLong = IsFault text sql.TooLong
+IsQueryFault text (Syntax at) = IsFault text (sql.Syntax at)
+IsQueryFault text (TooDeep at) = IsFault text (sql.TooDeep at)
+IsQueryFault text (NumberTooLarge at) = IsFault text (sql.LiteralTooLarge at)
+IsQueryFault text NotBuilt = IsOtherQuery text
 
 -- ---- the schema
 
@@ -88,7 +105,7 @@ pub record IsIntColumn (title : List ℕ) (values : List ℤ) (column : ColumnHe
   pub top : column.top ≡ greatest values
 
 -- the table with one column, of this name and with these numbers in order
-pub record IsColumnTable (name : List ℕ) (numbers : List ℤ) (head : Head) (cells : Cells) : Type 0 where
+pub record IsColumnTable (name : List ℕ) (numbers : List ℤ) (head : table.Head) (cells : Cells) : Type 0 where
   pub rows : head.rows ≡ length numbers
   pub column : ColumnHead
   pub columns : head.columns ≡ column ∷ []
@@ -97,7 +114,7 @@ pub record IsColumnTable (name : List ℕ) (numbers : List ℤ) (head : Head) (c
   pub table : IsTable (frame_of head) cells
 
 -- the bytes stand for the table of the numbers of their cells
-pub record StandsFor (name bytes : List ℕ) (head : Head) (cells : Cells) : Type 0 where
+pub record StandsFor (name bytes : List ℕ) (head : table.Head) (cells : Cells) : Type 0 where
   pub texts : List (List ℕ)
   pub text : IsColumnText name bytes texts
   pub table : IsColumnTable name (map int_value texts) head cells

@@ -1,11 +1,14 @@
 -- What the intervals of a report say of the answer.
-use Rattle.std.specs.Prelude.{◌≡◌, ◌≢◌, ℕ, ◌+◌, ◌<◌, ◌≤◌, [], ◌∷◌, IsTrue}
+use Rattle.std.specs.Prelude.{◌≡◌, ◌≢◌, ℕ, ◌+◌, ◌<◌, ◌≤◌, List, [], ◌∷◌, IsTrue}
 use Rattle.std.specs.declared.option.Option.TheVariants.{Some}
 use Rattle.daq_table.specs.Tables.{Frame, Cells, IsTable, ends_at, planes}
 use Rattle.daq_table.specs.declared.head.Ends.{Ends}
 use Rattle.query_model.specs.Bounds.{Admits, IsExtremes, IsNested}
 use Rattle.query_model.specs.Worlds.{AgreesWith}
 use Rattle.query_model.specs.declared.bounds.Presence.TheVariants.{Always}
+use Rattle.sql_text.specs.Printed.{printed}
+use Rattle.sql_text.specs.Tree.{Query}
+use Rattle.daq_cli.specs.Forms.{SumsColumn, sum_text}
 use Rattle.daq_cli.specs.Rounds.{IsLastRound, bound_after, is_narrow, known_after, sum_on, sum_query}
 
 -- a table with this frame agrees with the planes that are read of the table after a round: it may be the table, for all that is known
@@ -43,3 +46,7 @@ TablesHaveLastRounds = (frame : Frame) (ends : Ends) (cells : Cells) → frame.c
 abbrev pub LastRoundsAreCertain : Type 0
 LastRoundsAreCertain =
     (frame : Frame) (ends : Ends) (cells : Cells) (last : ℕ) → frame.columns ≡ ends ∷ [] → IsTable frame cells → IsLastRound frame cells last → IsCertain frame cells last
+
+-- the first line of a report shows the printed form of the query
+abbrev pub SumsArePrinted : Type 0
+SumsArePrinted = (query : Query) (name : List ℕ) → SumsColumn query name → printed query ≡ sum_text name

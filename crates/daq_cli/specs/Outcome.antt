@@ -7,13 +7,16 @@ use Rattle.daq_table.specs.declared.table_head.Head.{Head}
 use Rattle.outer_world.specs.Device.{Rose}
 use Rattle.outer_world.specs.Whole.{AppendsPrefix}
 use Rattle.daq_cli.specs.Command.{Ask, IsNoCommand, IsUsagePlace, words_of}
-use Rattle.daq_cli.specs.Forms.{HasNoCells, IsColumnText, IsNoSum, IsSumOf, StandsFor, schema_text}
+use Rattle.sql_text.specs.Answer.{IsText}
+use Rattle.sql_text.specs.Tree as sql
+use Rattle.daq_cli.specs.Forms.{HasNoCells, IsColumnText, IsQueryFault, IsSumOf, StandsFor, schema_text}
 use Rattle.daq_cli.specs.Headline.{IsCertain}
 use Rattle.daq_cli.specs.Refusals.{fault_line, status_of}
 use Rattle.daq_cli.specs.Report.{WritesPart, report}
 use Rattle.daq_cli.specs.Rounds.{IsLastRound}
+use Rattle.daq_cli.specs.declared.refusal.QueryFault.{QueryFault}
 use Rattle.daq_cli.specs.declared.refusal.Refusal.{Refusal}
-use Rattle.daq_cli.specs.declared.refusal.Refusal.TheVariants.{Usage, QueryNotBuilt, TableNotBuilt, TooLong, ReadFault, WriteFault, NoMemory}
+use Rattle.daq_cli.specs.declared.refusal.Refusal.TheVariants.{Usage, Query, TableNotBuilt, TooLong, ReadFault, WriteFault, NoMemory}
 use Rattle.daq_cli.specs.declared.refusal.Status.{Status}
 use Rattle.daq_cli.specs.declared.refusal.Status.TheVariants as s
 
@@ -38,6 +41,12 @@ abbrev pub most_bytes : ℕ
 most_bytes = 1073741824
 
 -- ---- what is accepted
+
+-- the words are a command, and its SQL is the query
+pub record AsksQuery (words : List (List ℕ)) (query : sql.Query) : Type 0 where
+  pub ask : Ask
+  pub command : words ≡ words_of ask
+  pub text : IsText ask.sql query
 
 -- the words are a command, and its SQL asks for the sum of the column
 pub record AsksSum (words : List (List ℕ)) (schema name : List ℕ) : Type 0 where
@@ -97,11 +106,17 @@ pub record IsAnswered (words : List (List ℕ)) (input input' : SourceState) (ou
 
 -- ---- refusals
 
--- the words or the SQL are refused
-pub record QueryCause (words : List (List ℕ)) : Type 0 where
+-- the SQL is refused
+pub record QueryCause (words : List (List ℕ)) (fault : QueryFault) : Type 0 where
   pub ask : Ask
   pub command : words ≡ words_of ask
-  pub no_sum : IsNoSum ask.sql
+  pub is_fault : IsQueryFault ask.sql fault
+
+-- the words are a command whose SQL is not refused before any memory is taken
+pub record MemoryCause (words : List (List ℕ)) : Type 0 where
+  pub ask : Ask
+  pub command : words ≡ words_of ask
+  pub few : length ask.sql ≤ 4096
 
 -- the schema is another, or the bytes stand for no table
 pub record SchemaCause (words : List (List ℕ)) : Type 0 where
@@ -150,16 +165,20 @@ NoTableCause words input input' =
 -- what each refusal shows. But for a failed write nothing was written to the output, and words, SQL and schema are refused before the input is read
 abbrev pub IsCause : List (List ℕ) → SourceState → SourceState → SinkState → SinkState → Refusal → Type 0
 IsCause words input input' out out' (Usage place) = IsNoCommand words × IsUsagePlace words place × (input' ≡ input) × (out' ≡ out)
-IsCause words input input' out out' QueryNotBuilt = QueryCause words × (input' ≡ input) × (out' ≡ out)
+IsCause words input input' out out' (Query fault) = QueryCause words fault × (input' ≡ input) × (out' ≡ out)
 IsCause words input input' out out' TableNotBuilt = ((SchemaCause words × (input' ≡ input)) ⊎ TableCause words input input') × (out' ≡ out)
 IsCause words input input' out out' (TooLong limit) = TooLongCause words input input' limit × (out' ≡ out)
 IsCause words input input' out out' ReadFault = ReadCause words input input' × (out' ≡ out)
 IsCause words input input' out out' WriteFault = WriteCause words input input' out out'
-IsCause words input input' out out' NoMemory = ((name : List ℕ) × Accepts words name) × (out' ≡ out)
+IsCause words input input' out out' NoMemory = MemoryCause words × (out' ≡ out)
 
 -- the status is this one, or the write of its line failed
 abbrev pub EndsWith : Status → Status → SinkState → SinkState → Type 0
 EndsWith wanted status err err' = (status ≡ wanted) ⊎ ((status ≡ s.WriteFault) × Rose err.faults err'.faults)
+
+-- so too, unless memory runs out
+abbrev pub EndsOrLacksMemory : Status → Status → SinkState → SinkState → Type 0
+EndsOrLacksMemory wanted status err err' = (status ≡ s.NoMemory) ⊎ EndsWith wanted status err err'
 
 -- the refusal's line was written and the status is its own, or the write of the line failed part way
 abbrev pub IsTold : Refusal → Status → SinkState → SinkState → Type 0
@@ -170,20 +189,30 @@ IsTold why status err err' =
 
 -- ---- steps of a command
 
+-- why a text is not read to its query
+abbrev pub IsTextCause : List ℕ → Refusal → Type 0
+IsTextCause sql (Usage place) = ⊥
+IsTextCause sql (Query fault) = IsQueryFault sql fault
+IsTextCause sql TableNotBuilt = ⊥
+IsTextCause sql (TooLong limit) = ⊥
+IsTextCause sql ReadFault = ⊥
+IsTextCause sql WriteFault = ⊥
+IsTextCause sql NoMemory = Unit {0}
+
 -- why words, SQL or schema are refused
 abbrev pub IsRequestCause : List (List ℕ) → Refusal → Type 0
 IsRequestCause words (Usage place) = IsNoCommand words × IsUsagePlace words place
-IsRequestCause words QueryNotBuilt = QueryCause words
+IsRequestCause words (Query fault) = QueryCause words fault
 IsRequestCause words TableNotBuilt = SchemaCause words
 IsRequestCause words (TooLong limit) = ⊥
 IsRequestCause words ReadFault = ⊥
 IsRequestCause words WriteFault = ⊥
-IsRequestCause words NoMemory = ⊥
+IsRequestCause words NoMemory = MemoryCause words
 
 -- why the input is refused
 abbrev pub IsInputCause : List ℕ → SourceState → SourceState → Refusal → Type 0
 IsInputCause name input input' (Usage place) = ⊥
-IsInputCause name input input' QueryNotBuilt = ⊥
+IsInputCause name input input' (Query fault) = ⊥
 IsInputCause name input input' TableNotBuilt = (bytes : List ℕ) × ReadsAll input input' bytes × HasNoCells name bytes
 IsInputCause name input input' (TooLong limit) =
     (limit ≡ most_bytes) × ((bytes : List ℕ) × (most_bytes < length bytes) × Consumes input.left input'.left bytes)
@@ -194,7 +223,7 @@ IsInputCause name input input' NoMemory = Unit {0}
 -- why the report is not written whole
 abbrev pub IsOutputCause : List ℕ → Head → Cells → SinkState → SinkState → Refusal → Type 0
 IsOutputCause name head cells out out' (Usage place) = ⊥
-IsOutputCause name head cells out out' QueryNotBuilt = ⊥
+IsOutputCause name head cells out out' (Query fault) = ⊥
 IsOutputCause name head cells out out' TableNotBuilt = ⊥
 IsOutputCause name head cells out out' (TooLong limit) = ⊥
 IsOutputCause name head cells out out' ReadFault = ⊥

@@ -3,34 +3,64 @@
 ghost use Rattle.std.specs.Prelude.{◌≡◌, ◌≢◌, ◌≤◌, [], ◌∷◌, ℕ, List, IfOk, IfErr, OnOk};
 ghost use Rattle.daq_table.specs.Tables.{frame_of, IsTable};
 ghost use Rattle.daq_table.specs.declared.head.ColumnHead.{ColumnHead};
+ghost use Rattle.sql_text.specs.Answer.{IsFault};
+ghost use Rattle.sql_text.specs.Tree.{query_of};
+ghost use Rattle.sql_text.specs.declared.fault.SqlFault.{SqlFault};
 ghost use Rattle.daq_cli.specs.Forms.{IsColumnName};
-ghost use Rattle.daq_cli.specs.Outcome.{Accepts, IsAnswered, IsCause, IsInputCause, IsOutputCause, IsRequestCause, ReadsTable, sink_of, source_of};
+ghost use Rattle.daq_cli.specs.Outcome.{Accepts, AsksQuery, IsInputCause, IsOutputCause, IsRequestCause, IsTextCause, ReadsTable, sink_of, source_of};
 ghost use Rattle.daq_cli.specs.Report.{WritesAll, report};
 
 use crate::form::{declares, summed_column};
 use crate::load::{LoadFault, load};
-use crate::refusal::Refusal;
+use crate::refusal::{QueryFault, Refusal};
 use crate::words::{Words, usage_place};
 use crate::writing::write_report;
 use daq_table::Table;
 use outer_world::{Failed, ReadAll, Sink, Source, read_all};
+use sql_text::{SqlFault, Tree, parse};
 use std::alloc::Global;
 
 // The most bytes of an input.
 const MOST_BYTES: usize = 1_073_741_824;
 
-// The column that the words ask for, where words, SQL and schema are accepted.
-pub(crate) fn requested_column(words: &Words) -> Result<&[u8], Refusal>
-    ensures ok { IfOk result (λ name. Accepts words.now name.now) }
+// The query of the words.
+pub(crate) fn requested_query(alloc: Global, words: &Words) -> Result<Tree, Refusal>
+    ensures ok { IfOk result (λ query. AsksQuery words.now (query_of query)) }
     ensures refused { IfErr result (IsRequestCause words.now) }
 {
     if let Some(place) = usage_place(words) {
         return Err(Refusal::Usage { place });
     }
-    match summed_column(words.word(3).as_bytes()) {
+    match parse(alloc, words.word(3)) {
+        Ok(query) => Ok(query),
+        Err(fault) => Err(refusal_of(fault)),
+    }
+}
+
+// The refusal of a text.
+fn refusal_of(fault: SqlFault) -> Refusal
+    ensures cause { (sql : List ℕ) → IsFault sql fault → IsTextCause sql result }
+    ensures memory { result ≡ Refusal.NoMemory → fault ≡ SqlFault.NoMemory }
+{
+    match fault {
+        SqlFault::TooLong => Refusal::Query(QueryFault::TooLong),
+        SqlFault::Syntax { at } => Refusal::Query(QueryFault::Syntax { at }),
+        SqlFault::TooDeep { at } => Refusal::Query(QueryFault::TooDeep { at }),
+        SqlFault::LiteralTooLarge { at } => Refusal::Query(QueryFault::NumberTooLarge { at }),
+        SqlFault::NoMemory => Refusal::NoMemory,
+    }
+}
+
+// The column whose sum is asked for, where query and schema are accepted.
+pub(crate) fn requested_column<'a>(words: &Words, query: &'a Tree) -> Result<&'a [u8], Refusal>
+    requires { AsksQuery words.now (query_of query.now) }
+    ensures ok { IfOk result (λ name. Accepts words.now name.now) }
+    ensures refused { IfErr result (IsRequestCause words.now) }
+{
+    match summed_column(query) {
         Some(name) if declares(words.word(2).as_bytes(), name) => Ok(name),
         Some(_) => Err(Refusal::TableNotBuilt),
-        None => Err(Refusal::QueryNotBuilt),
+        None => Err(Refusal::Query(QueryFault::NotBuilt)),
     }
 }
 

@@ -1,28 +1,79 @@
 //! The forms of query and schema that are accepted so far.
 
-ghost use Rattle.std.specs.Prelude.{◌≡◌, ◌≢◌, ◌↔◌, ◌++◌, ℕ, List, IsTrue, MatchOption};
-ghost use Rattle.std.specs.List.{list_all, list_any};
-ghost use Rattle.daq_cli.specs.Forms.{IsColumnName, IsNoSum, IsSumOf, is_keyword, is_same_word, continues_name, starts_name, is_plain_name, schema_text};
+ghost use Rattle.std.specs.Prelude.{◌≡◌, ◌≢◌, ◌↔◌, ℕ, IsTrue, MatchOption};
+ghost use Rattle.sql_text.specs.Tree.{Call, Column, Name, expr_of, head_of, item_of, query_of};
+ghost use Rattle.sql_text.specs.declared.tree.CallKind.TheVariants.{Sum};
+ghost use Rattle.daq_cli.specs.Forms.{IsColumnName, IsOther, IsOverAllRows, SumsColumn, schema_text, sum_head};
+
+use sql_text::{CallKind, ExprTree, ItemTree, Select, Tail, Tree};
+use sql_tokens::is_plain_name;
 
 const MOST_NAME_BYTES: usize = 64;
 
-// The words that are no names.
-const KEYWORDS: [&[u8]; 22] = [
-    b"SELECT", b"FROM", b"WHERE", b"GROUP", b"BY", b"ORDER", b"ASC", b"DESC", b"LIMIT", b"AND",
-    b"OR", b"NOT", b"BETWEEN", b"IN", b"DATE", b"COUNT", b"SUM", b"AVG", b"MIN", b"MAX", b"IS",
-    b"NULL",
-];
-
-// The column of a query for the sum of one column, none of another query.
-pub(crate) fn summed_column(sql: &[u8]) -> Option<&[u8]>
-    ensures { MatchOption result (IsNoSum sql.now) (λ name. IsSumOf sql.now name.now) }
+// The column of a query for the sum of one column over all rows, none of another query.
+pub(crate) fn summed_column(query: &Tree) -> Option<&[u8]>
+    ensures { MatchOption result (IsOther (query_of query.now)) (λ name. SumsColumn (query_of query.now) name.now) }
 {
-    let name = between(sql, b"SELECT SUM(", b") FROM t")?;
+    if !takes_all_rows(query) {
+        return None;
+    }
+    let name = only_sum(&query.head)?;
     if is_column_name(name) {
         Some(name)
     } else {
         None
     }
+}
+
+// Whether the query is over table t, with nothing after the table's name.
+fn takes_all_rows(query: &Tree) -> bool
+    ensures { IsTrue result ↔ IsOverAllRows (query_of query.now) }
+{
+    query.table.name.as_slice() == b"t".as_slice()
+        && query.pred.is_none()
+        && matches!(query.tail, Tail::Nothing)
+}
+
+// The column of which a head is the sum.
+fn only_sum(head: &Select) -> Option<&[u8]>
+    ensures { MatchOption result ((column : Name) → head_of head.now ≢ sum_head column)
+        (λ name. (at : ℕ) × (head_of head.now ≡ sum_head (record { at = at; name = name.now }))) }
+{
+    match head {
+        Select::Items(items) => match items.as_slice() {
+            [item] => summed(item),
+            _ => None,
+        },
+        Select::Star => None,
+    }
+}
+
+// The column of which an item is the sum.
+fn summed(item: &ItemTree) -> Option<&[u8]>
+    ensures { MatchOption result ((column : Name) → item_of item.now ≢ Call Sum (Column column))
+        (λ name. (at : ℕ) × (item_of item.now ≡ Call Sum (Column (record { at = at; name = name.now })))) }
+{
+    match item {
+        ItemTree::Call { kind, arg } if *kind == CallKind::Sum => bare_column(arg),
+        _ => None,
+    }
+}
+
+// The column that an expression is, where it is one alone.
+fn bare_column(expr: &ExprTree) -> Option<&[u8]>
+    ensures { MatchOption result ((column : Name) → expr_of expr.now ≢ Column column)
+        (λ name. (at : ℕ) × (expr_of expr.now ≡ Column (record { at = at; name = name.now }))) }
+{
+    match expr {
+        ExprTree::Column(column) => Some(column.name.as_slice()),
+        _ => None,
+    }
+}
+
+fn is_column_name(name: &[u8]) -> bool
+    ensures { IsTrue result ↔ IsColumnName name.now }
+{
+    is_plain_name(name) && name.len() <= MOST_NAME_BYTES
 }
 
 // Whether the schema declares one column of whole numbers with this name.
@@ -33,68 +84,4 @@ pub(crate) fn declares(schema: &[u8], name: &[u8]) -> bool
         Some(declared) => declared == name,
         None => false,
     }
-}
-
-// What stands between two parts, where the text begins with one and goes on to end with the other.
-fn between<'a>(text: &'a [u8], front: &[u8], back: &[u8]) -> Option<&'a [u8]>
-    ensures { MatchOption result ((middle : List ℕ) → text.now ≢ front.now ++ middle ++ back.now)
-        (λ middle. text.now ≡ front.now ++ middle.now ++ back.now) }
-{
-    match text.strip_prefix(front) {
-        Some(rest) => rest.strip_suffix(back),
-        None => None,
-    }
-}
-
-fn is_column_name(name: &[u8]) -> bool
-    ensures { IsTrue result ↔ IsColumnName name.now }
-{
-    is_plain(name) && name.len() <= MOST_NAME_BYTES
-}
-
-fn is_plain(name: &[u8]) -> bool
-    ensures { result ≡ is_plain_name name.now }
-{
-    begins(name) && goes_on(name) && !names_keyword(name)
-}
-
-fn begins(name: &[u8]) -> bool
-    ensures { result ≡ starts_name name.now }
-{
-    match name {
-        [] => false,
-        [byte, ..] => byte.is_ascii_alphabetic() || *byte == b'_',
-    }
-}
-
-fn goes_on(name: &[u8]) -> bool
-    ensures { result ≡ list_all continues_name name.now }
-{
-    name.iter().all(|byte| may_go_on(*byte))
-}
-
-fn may_go_on(byte: u8) -> bool
-    ensures { result ≡ continues_name byte }
-{
-    byte.is_ascii_alphanumeric() || byte == b'_'
-}
-
-// Whether the word is a keyword, whatever the case of its letters.
-#[tactic(auto, unfolding(crate::specs::Forms::is_keyword))]
-fn names_keyword(word: &[u8]) -> bool
-    ensures { result ≡ is_keyword word.now }
-{
-    is_among(&KEYWORDS, word)
-}
-
-fn is_among(others: &[&[u8]], word: &[u8]) -> bool
-    ensures { result ≡ list_any (λ other. is_same_word word.now other.now) others.now }
-{
-    others.iter().any(|other| same_word(word, other))
-}
-
-fn same_word(word: &[u8], other: &[u8]) -> bool
-    ensures { result ≡ is_same_word word.now other.now }
-{
-    word.eq_ignore_ascii_case(other)
 }

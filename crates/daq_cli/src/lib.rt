@@ -13,7 +13,7 @@ mod top;
 mod words;
 mod writing;
 
-pub use headline::last_rounds_are_certain;
+pub use headline::{last_rounds_are_certain, sums_are_printed};
 pub use refusal::Status;
 pub use top::{World, run};
 pub use words::Words;

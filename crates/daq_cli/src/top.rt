@@ -2,15 +2,18 @@
 
 ghost use Rattle.std.specs.Prelude.{◌≡◌, ◌≢◌, ◌≤◌, ◌<◌, ◌⊎◌, ◌∷◌, ℕ, List, OnOk, IfErr, Some, length};
 ghost use Rattle.outer_world.specs.Device.{Rose};
+ghost use Rattle.sql_text.specs.Tree.{query_of};
 ghost use Rattle.daq_cli.specs.Command.{IsNoCommand};
-ghost use Rattle.daq_cli.specs.Outcome.{Accepts, EndsWith, IsAnswered, IsCause, IsNoTable, IsRefused, IsTableText, IsTold, NoTableCause, QueryCause, SchemaCause, Tells, sink_of, source_of};
+ghost use Rattle.daq_cli.specs.Outcome.{AsksQuery, EndsOrLacksMemory, EndsWith, IsAnswered, IsCause, IsNoTable, IsRefused, IsTableText, IsTold, MemoryCause, NoTableCause, QueryCause, SchemaCause, Tells, sink_of, source_of};
+ghost use Rattle.daq_cli.specs.declared.refusal.QueryFault.{QueryFault};
 ghost use Rattle.daq_cli.specs.declared.refusal.Refusal.{Refusal};
 
-use crate::ask::{read_table, report_table, requested_column};
+use crate::ask::{read_table, report_table, requested_column, requested_query};
 use crate::headline::last_rounds_are_certain;
 use crate::refusal::{Refusal, Status, refuse};
 use crate::words::Words;
 use outer_world::{Sink, Source, Store};
+use sql_text::{Tree, one_answer};
 use std::alloc::Global;
 
 /// The devices of a run: an input, one beside it, a plane file, a file to be made, and where output and errors go.
@@ -22,6 +25,35 @@ pub struct World<S: Source, P: Store, K: Sink> {
     pub made: K,
     pub out: K,
     pub err: K,
+}
+
+// Answers the query over the input.
+fn answer<S: Source, K: Sink>(
+    alloc: Global,
+    words: &Words,
+    query: &Tree,
+    input: &mut S,
+    out: &mut K,
+) -> Result<(), Refusal>
+    requires { AsksQuery words.now (query_of query.now) }
+    ensures answered { OnOk result (IsAnswered words.now
+        (source_of S.left S.faults input.old) (source_of S.left S.faults input.new)
+        (sink_of K.written K.faults out.old) (sink_of K.written K.faults out.new)) }
+    ensures refused { IfErr result (IsCause words.now
+        (source_of S.left S.faults input.old) (source_of S.left S.faults input.new)
+        (sink_of K.written K.faults out.old) (sink_of K.written K.faults out.new)) }
+    ensures early { IfErr result (λ why. why ≢ Refusal.WriteFault → out.new ≡ out.old) }
+    ensures untouched { IsRefused words.now → (input.new ≡ input.old) × (out.new ≡ out.old) }
+{
+    last_rounds_are_certain();
+    let name = match requested_column(words, query) {
+        Ok(name) => name,
+        Err(why) => return Err(why),
+    };
+    match read_table(alloc, name, input) {
+        Ok(table) => report_table(alloc, name, &table, out),
+        Err(why) => Err(why),
+    }
 }
 
 // Answers the query of the words over the input.
@@ -40,13 +72,8 @@ fn ask<S: Source, K: Sink>(
     ensures early { IfErr result (λ why. why ≢ Refusal.WriteFault → out.new ≡ out.old) }
     ensures untouched { IsRefused words.now → (input.new ≡ input.old) × (out.new ≡ out.old) }
 {
-    last_rounds_are_certain();
-    let name = match requested_column(words) {
-        Ok(name) => name,
-        Err(why) => return Err(why),
-    };
-    match read_table(alloc, name, input) {
-        Ok(table) => report_table(alloc, name, &table, out),
+    match requested_query(alloc, words) {
+        Ok(query) => answer(alloc, words, &query, input, out),
         Err(why) => Err(why),
     }
 }
@@ -72,10 +99,10 @@ pub fn run<S: Source, P: Store, K: Sink>(
     ensures usage { IsNoCommand words.now → EndsWith Status.Usage result
         (sink_of K.written K.faults world.old.err) (sink_of K.written K.faults world.new.err) }
     ensures usage_only { result ≡ Status.Usage → IsNoCommand words.now }
-    ensures query { QueryCause words.now → EndsWith Status.QueryRefused result
+    ensures query { (fault : QueryFault) → QueryCause words.now fault → EndsOrLacksMemory Status.QueryRefused result
         (sink_of K.written K.faults world.old.err) (sink_of K.written K.faults world.new.err) }
-    ensures query_only { result ≡ Status.QueryRefused → QueryCause words.now }
-    ensures schema { SchemaCause words.now → EndsWith Status.TableRefused result
+    ensures query_only { result ≡ Status.QueryRefused → (fault : QueryFault) × QueryCause words.now fault }
+    ensures schema { SchemaCause words.now → EndsOrLacksMemory Status.TableRefused result
         (sink_of K.written K.faults world.old.err) (sink_of K.written K.faults world.new.err) }
     ensures table { (name bytes : List ℕ)
         → Tells words.now (source_of S.left S.faults world.old.input) name bytes → IsNoTable name bytes
@@ -91,7 +118,7 @@ pub fn run<S: Source, P: Store, K: Sink>(
         → Rose (K.faults world.old.out) (K.faults world.new.out)
         ⊎ Rose (K.faults world.old.err) (K.faults world.new.err) }
     ensures no_memory { result ≡ Status.NoMemory
-        → ((name : List ℕ) × Accepts words.now name) × (world.new.out ≡ world.old.out) }
+        → MemoryCause words.now × (world.new.out ≡ world.old.out) }
     ensures complete { (name bytes : List ℕ)
         → Tells words.now (source_of S.left S.faults world.old.input) name bytes → IsTableText name bytes
         → (result ≡ Status.Done) ⊎ (result ≡ Status.NoMemory)
@@ -107,6 +134,7 @@ pub fn run<S: Source, P: Store, K: Sink>(
     ensures others { (world.new.side ≡ world.old.side) × (world.new.planes ≡ world.old.planes)
         × (world.new.made ≡ world.old.made) }
 {
+    one_answer();
     match ask(alloc, words, &mut world.input, &mut world.out) {
         Ok(()) => Status::Done,
         Err(why) => refuse(why, &mut world.err),

@@ -76,113 +76,110 @@ fn equal_values_need_no_plane(rt: HostRuntime) -> Result<(), Fail> {
     Ok(())
 }
 
+// Whether a run of these words ends so before it reads anything, with this line of a refusal.
+fn stops_so(alloc: Global, texts: &[&str], status: Status, err: &[u8]) -> Result<bool, AllocError> {
+    let words = words_of(alloc, texts)?;
+    let mut world = world_of(alloc, b"price\n5\n", 4000)?;
+    let ended = run(alloc, &words, &mut world);
+    Ok(ended == status && world.out.contents().is_empty() && world.err.contents() == err)
+}
+
 #[test]
 fn other_tables_are_not_built(rt: HostRuntime) -> Result<(), Fail> {
+    let alloc = rt.alloc();
     let line = b"daq: table refused: not built\n";
+    let refused = Status::TableRefused;
+    assert!(rt; ends_so(alloc, &SUM, b"price\n5,2\n", refused, b"", line)?);
+    assert!(rt; ends_so(alloc, &SUM, b"price\n5", refused, b"", line)?);
+    assert!(rt; ends_so(alloc, &SUM, b"cost\n5\n", refused, b"", line)?);
+    let decimals = ["ask", "p.csv", "price:dec2", "SELECT SUM(price) FROM t"];
+    assert!(rt; stops_so(alloc, &decimals, refused, line)?);
+    Ok(())
+}
+
+fn query_refused(alloc: Global, sql: &str, line: &[u8]) -> Result<bool, AllocError> {
+    stops_so(
+        alloc,
+        &["ask", "p.csv", "price:int", sql],
+        Status::QueryRefused,
+        line,
+    )
+}
+
+#[test]
+fn other_queries_are_not_built(rt: HostRuntime) -> Result<(), Fail> {
+    let alloc = rt.alloc();
+    let line = b"daq: query refused: not built\n";
+    assert!(rt; query_refused(alloc, "SELECT COUNT(*) FROM t", line)?);
+    assert!(rt; query_refused(alloc, "SELECT SUM(price), SUM(price) FROM t", line)?);
+    assert!(rt; query_refused(alloc, "SELECT SUM(price) FROM u", line)?);
+    assert!(rt; query_refused(alloc, "SELECT MIN(price) FROM t", line)?);
+    assert!(rt; query_refused(alloc, "SELECT SUM(price) FROM t GROUP BY price", line)?);
+    let filtered = "select sum( price ) from t where not (price<1 or price>2) and qty=1";
+    assert!(rt; query_refused(alloc, filtered, line)?);
+    Ok(())
+}
+
+#[test]
+fn texts_that_are_no_query_are_refused_at_their_place(rt: HostRuntime) -> Result<(), Fail> {
+    let alloc = rt.alloc();
     assert!(rt;
-        ends_so(
-            rt.alloc(),
-            &SUM,
-            b"price\n5,2\n",
-            Status::TableRefused,
-            b"",
-            line
+        query_refused(
+            alloc,
+            "SELECT SUM(price FROM t",
+            b"daq: query refused: syntax at 17\n"
+        )?
+    );
+    assert!(rt; query_refused(alloc, "", b"daq: query refused: syntax at 0\n")?);
+    assert!(rt;
+        query_refused(
+            alloc,
+            "SELECT SUM(9223372036854775808) FROM t",
+            b"daq: query refused: number too large at 11\n"
         )?
     );
     assert!(rt;
-        ends_so(
-            rt.alloc(),
-            &SUM,
-            b"price\n5",
-            Status::TableRefused,
-            b"",
-            line
-        )?
-    );
-    assert!(rt;
-        ends_so(
-            rt.alloc(),
-            &SUM,
-            b"cost\n5\n",
-            Status::TableRefused,
-            b"",
-            line
-        )?
-    );
-    let schema = ["ask", "p.csv", "price:dec2", "SELECT SUM(price) FROM t"];
-    assert!(rt;
-        ends_so(
-            rt.alloc(),
-            &schema,
-            b"price\n5\n",
-            Status::TableRefused,
-            b"",
-            line
+        query_refused(
+            alloc,
+            "SELECT SUM((((((((((((((((((((((((((((((((((v)))))))))))))))))))))))))))))))))) FROM t",
+            b"daq: query refused: nested too deep at 43\n"
         )?
     );
     Ok(())
 }
 
 #[test]
-fn other_queries_are_not_built(rt: HostRuntime) -> Result<(), Fail> {
-    let line = b"daq: query refused: not built\n";
-    let count = ["ask", "p.csv", "price:int", "SELECT COUNT(*) FROM t"];
-    assert!(rt;
-        ends_so(
-            rt.alloc(),
-            &count,
-            b"price\n5\n",
-            Status::QueryRefused,
-            b"",
-            line
-        )?
-    );
-    let keyword = ["ask", "p.csv", "Group:int", "SELECT SUM(Group) FROM t"];
-    assert!(rt;
-        ends_so(
-            rt.alloc(),
-            &keyword,
-            b"Group\n5\n",
-            Status::QueryRefused,
-            b"",
-            line
-        )?
-    );
+fn a_text_of_4097_bytes_is_too_long(rt: HostRuntime) -> Result<(), Fail> {
+    let alloc = rt.alloc();
+    let mut blanks = String::new(alloc);
+    for _ in 0..4097 {
+        blanks.push(' ')?;
+    }
+    let line = b"daq: query refused: longer than 4096 bytes\n";
+    assert!(rt; query_refused(alloc, blanks.as_str(), line)?);
+    Ok(())
+}
+
+#[test]
+fn a_query_is_shown_in_its_printed_form(rt: HostRuntime) -> Result<(), Fail> {
+    let alloc = rt.alloc();
+    let words = [
+        "ask",
+        "p.csv",
+        "price:int",
+        "select  sum(\"price\")\tfrom t ;",
+    ];
+    let report = b"query SELECT SUM(price) FROM t\nround 0\n1 5\nend narrow\n";
+    assert!(rt; ends_so(alloc, &words, b"price\n5\n", Status::Done, report, b"")?);
     Ok(())
 }
 
 #[test]
 fn words_that_are_no_command_go_wrong_somewhere(rt: HostRuntime) -> Result<(), Fail> {
-    assert!(rt;
-        ends_so(
-            rt.alloc(),
-            &[],
-            b"",
-            Status::Usage,
-            b"",
-            b"daq: usage: word 1\n"
-        )?
-    );
-    assert!(rt;
-        ends_so(
-            rt.alloc(),
-            &["ask", "p.csv", "price:int"],
-            b"",
-            Status::Usage,
-            b"",
-            b"daq: usage: word 4\n"
-        )?
-    );
-    assert!(rt;
-        ends_so(
-            rt.alloc(),
-            &["sum", "p.csv", "price:int"],
-            b"",
-            Status::Usage,
-            b"",
-            b"daq: usage: word 1\n"
-        )?
-    );
+    let alloc = rt.alloc();
+    let usage = Status::Usage;
+    let three = ["ask", "p.csv", "price:int"];
+    let other = ["sum", "p.csv", "price:int"];
     let long = [
         "ask",
         "p.csv",
@@ -190,16 +187,10 @@ fn words_that_are_no_command_go_wrong_somewhere(rt: HostRuntime) -> Result<(), F
         "SELECT SUM(price) FROM t",
         "--list",
     ];
-    assert!(rt;
-        ends_so(
-            rt.alloc(),
-            &long,
-            b"",
-            Status::Usage,
-            b"",
-            b"daq: usage: word 5\n"
-        )?
-    );
+    assert!(rt; stops_so(alloc, &[], usage, b"daq: usage: word 1\n")?);
+    assert!(rt; stops_so(alloc, &three, usage, b"daq: usage: word 4\n")?);
+    assert!(rt; stops_so(alloc, &other, usage, b"daq: usage: word 1\n")?);
+    assert!(rt; stops_so(alloc, &long, usage, b"daq: usage: word 5\n")?);
     Ok(())
 }
 

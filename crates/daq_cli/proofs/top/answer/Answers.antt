@@ -1,7 +1,8 @@
 -- The query is answered, or refused with its cause.
-use Rattle.daq_cli.proofs.Outcomes.{cause_of_output, certain_of_bytes, on_error}
+use Rattle.std.proofs.Common.{refl}
+use Rattle.daq_cli.proofs.Outcomes.{cause_of_input, cause_of_output, certain_of_bytes, on_error}
 use Rattle.daq_cli.proofs.Reports.{on_ok}
-use Rattle.daq_cli.proofs.top.ask.Goals as goal
+use Rattle.daq_cli.proofs.top.answer.Goals as goal
 
 pub returns-in-Ok-read_table-clause-answered : goal.returns-in-Ok-read_table-clause-answered
 returns-in-Ok-read_table-clause-answered g c =
@@ -23,3 +24,7 @@ pub returns-in-Ok-read_table-clause-refused : goal.returns-in-Ok-read_table-clau
 returns-in-Ok-read_table-clause-refused g c =
     on_error _ _ c.report_table.result _ _
     (λ why cause. cause_of_output c.args.words.now c.in-Ok.name.now c.in-Ok-read_table.table.head c.in-Ok-read_table.table.cells _ _ _ _ why c.in-Ok.ensures.ok c.in-Ok-read_table.ensures.ok cause) c.report_table.ensures.refused
+
+pub returns-in-Err-read_table-clause-refused : goal.returns-in-Err-read_table-clause-refused
+returns-in-Err-read_table-clause-refused g c =
+    cause_of_input c.args.words.now c.in-Ok.name.now _ _ _ _ c.in-Err-read_table.why c.in-Ok.ensures.ok refl c.in-Err-read_table.ensures.refused
