@@ -1,0 +1,12 @@
+//! Tables from CSV texts under a schema: each fault exactly where it belongs, and else the table that the text stands for.
+#![tactic(auto)]
+
+mod column;
+mod fault;
+mod limits;
+mod marks;
+mod reading;
+mod record;
+
+pub use fault::TableFault;
+pub use limits::Limits;
