@@ -4,3 +4,4 @@ pub mod FieldFacts
 pub mod RefusalFacts
 pub mod RowFacts
 pub mod RecordSteps
+pub mod RankFacts

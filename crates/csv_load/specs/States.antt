@@ -1,13 +1,17 @@
 -- What is kept of a column while its CSV is read.
-use Rattle.std.specs.Prelude.{◌≡◌, ◌≢◌, ℕ, zero, suc, ◌*◌, ◌<◌, ◌≤◌, ⊤, ℤ, if◌then◌else◌, List, [], ◌∷◌, ◌++◌, length, map, Some, slice_get, slice_index_or}
+use Rattle.std.specs.Prelude.{◌≡◌, ◌≢◌, ℕ, zero, suc, ◌*◌, ◌<◌, ◌≤◌, ⊤, ℤ, pos, Bool, true, false, All, IsTrue, if◌then◌else◌, List, [], ◌∷◌, ◌++◌, length, map, Some, slice_get, slice_index_or}
 use Rattle.std.specs.BTreeSet.{insert_key}
 use Rattle.std.specs.Cmp.Lexicographic.{slice_cmp}
+use Rattle.std.specs.List.{list_any}
 use Rattle.std.specs.Ordering.{nat_cmp}
+use Rattle.std.specs.Str.{bytes_eq}
 use Rattle.daq_table.specs.Schemas.{names_of}
 use Rattle.daq_table.specs.CellTexts.{cell_number}
+use Rattle.daq_table.specs.Tables.{Cells, ends_of, value_of}
+use Rattle.daq_table.specs.declared.head.ColumnHead.{ColumnHead}
 use Rattle.daq_table.specs.declared.head.Kind.{Kind}
 use Rattle.daq_table.specs.declared.schema_column.SchemaColumn.{SchemaColumn}
-use Rattle.csv_load.specs.Columns.{IsValue, column_texts, dictionary, is_text}
+use Rattle.csv_load.specs.Columns.{IsValue, column_texts, dictionary, greatest, is_text, least, rank_of}
 use Rattle.csv_load.specs.Records.{AreRecordsOf, Fields}
 use Rattle.csv_load.specs.Faults.{IsFirstDifference}
 use Rattle.csv_load.specs.Rows.{AreGoodRows}
@@ -156,3 +160,29 @@ pub record HasRead (bytes : List ℕ) (columns : List SchemaColumn) (limits : Li
   pub good : AreGoodRows columns limits rows
   pub count_is : count ≡ length rows
   pub states_are : AreStates columns rows states
+
+-- the numbers of a state's cells
+abbrev pub numbers_in : State → List ℤ
+numbers_in s = if is_text s.kind then map (λ text. pos (rank_of s.names text)) s.texts else s.numbers
+
+-- the state after so many cells: each text is among the names, which only a column of texts has
+pub record IsComplete (rows : ℕ) (s : State) : Type 0 where
+  pub count : length (numbers_in s) ≡ rows
+  pub known : All (λ text. IsTrue (list_any (bytes_eq text) s.names)) s.texts
+  pub plain : is_text s.kind ≡ false → s.names ≡ []
+
+-- the head and the cells that a state stands for
+pub record IsFinished (s : State) (name : List ℕ) (head : ColumnHead) (cells : List ℕ) : Type 0 where
+  pub name_is : head.name ≡ name
+  pub kind : head.kind ≡ s.kind
+  pub names : head.names ≡ s.names
+  pub base : head.base ≡ least (numbers_in s)
+  pub top : head.top ≡ greatest (numbers_in s)
+  pub cells_are : map (value_of (ends_of head)) cells ≡ numbers_in s
+
+-- the first of the declared columns, up to that place, are finished
+pub record AreFinished (columns : List SchemaColumn) (states : List State) (end : ℕ) (heads : List ColumnHead) (lists : Cells) : Type 0 where
+  pub heads_count : length heads ≡ end
+  pub lists_count : length lists ≡ end
+  pub each : (c : ℕ) (column : SchemaColumn) (d : State) (head : ColumnHead) (cells : List ℕ) → slice_get columns c ≡ Some column → slice_get heads c ≡ Some head → slice_get lists c ≡ Some cells
+      → IsFinished (slice_index_or states c d) column.name head cells

@@ -2,9 +2,11 @@
 #![tactic(auto)]
 
 mod column;
+mod extremes;
 mod fault;
 mod limits;
 mod marks;
+mod ranks;
 mod reading;
 mod record;
 

@@ -24,7 +24,7 @@ fn has_field(fields: &ByteRecord, place: usize, text: &[u8]) -> bool
 }
 
 // A field of the record.
-fn field_at(fields: &ByteRecord, place: usize) -> &[u8]
+pub(crate) fn field_at(fields: &ByteRecord, place: usize) -> &[u8]
     requires { place < length (fields_of fields.now) }
     ensures { result.now ≡ slice_index_or (fields_of fields.now) place [] }
 {
