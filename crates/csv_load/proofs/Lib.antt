@@ -5,3 +5,6 @@ pub mod RefusalFacts
 pub mod RowFacts
 pub mod RecordSteps
 pub mod RankFacts
+pub mod EndFacts
+pub mod TableFacts
+pub mod LoadFacts

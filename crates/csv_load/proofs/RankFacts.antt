@@ -61,12 +61,12 @@ before_or_from i j = grind arith
 names_rise : (names : List (List ℕ)) (text : List ℕ) → IsStrictlySortedBy (slice_cmp nat_cmp) names → IsNonDecreasingBy (λ y. ordering_index (slice_cmp nat_cmp y text)) names
 names_rise names text sorted = λ i j d le lt.
     elim (before_or_at i j le) [
-      inl before ↦
+      | inl before ↦
           let below = Less-from_sorted (slice_cmp nat_cmp) names i j d sorted before lt in
           rises (slice_cmp nat_cmp (get_or names i d) text) (slice_cmp nat_cmp (get_or names j d) text)
           (λ h. nat_list_cmp_total.trans (get_or names i d) (get_or names j d) text below h)
           (λ h. ap (λ (t : List ℕ). slice_cmp nat_cmp (get_or names i d) t) (sym (equal_is (get_or names j d) text h)) ∙ below)
-    | inr same ↦ rw same (omega arith)
+      | inr same ↦ rw same (omega arith)
     ]
 
 pub rank_not_missed : (names : List (List ℕ)) (text : List ℕ) (place : ℕ) → IsStrictlySortedBy (slice_cmp nat_cmp) names → IsTrue (list_any (bytes_eq text) names)
@@ -76,8 +76,8 @@ rank_not_missed names text place sorted known parts =
     let some = Any-from_list_any (bytes_eq text) names known in
     let same : get_or names some.0 some.1 ≡ text = some.3 ∙ sym (same_is text some.1 some.4) in
     elim (before_or_from some.0 place) [
-      inl before ↦ not_below (get_or names some.0 some.1) text (point.0 some.0 some.1 (omega arith) before) same
-    | inr from ↦ not_above (get_or names some.0 some.1) text (point.1 some.0 some.1 from some.2) same
+      | inl before ↦ not_below (get_or names some.0 some.1) text (point.0 some.0 some.1 (omega arith) before) same
+      | inr from ↦ not_above (get_or names some.0 some.1) text (point.1 some.0 some.1 from some.2) same
     ]
 
 below_viewed : {K : Type 0} (view : K → List ℕ) (x : K) (keys : List K) → AllByRecursion (λ y. slice_cmp nat_cmp (view x) (view y) ≡ Less) keys → AllByRecursion (λ y. slice_cmp nat_cmp (view x) y ≡ Less) (map view keys)

@@ -69,7 +69,7 @@ row_is_good columns limits rows old new next s t = record {
   cells = cells_are_good columns limits rows old next (length columns) s (λ c d lt. t.took.takes c d (omega (arith, lt, s.wide)));
 }
 
-last_place : (r n : ℕ) → r < n + 1 → (r < n) ⊎ (r ≡ n)
+pub last_place : (r n : ℕ) → r < n + 1 → (r < n) ⊎ (r ≡ n)
 last_place r n lt = grind arith
 
 pub rows_more : (columns : List SchemaColumn) (limits : Limits) (rows : List Fields) (next : Fields) → AreGoodRows columns limits rows → IsGoodRow columns limits rows next → AreGoodRows columns limits (rows ++ next ∷ [])

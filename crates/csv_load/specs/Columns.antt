@@ -1,8 +1,9 @@
 -- The cells of one column: which texts are values, and the numbers that they stand for.
-use Rattle.std.specs.Prelude.{◌≡◌, ℕ, ◌≤◌, ℤ, pos, int_lt, Bool, true, false, if◌then◌else◌, List, [], ◌∷◌, fold, length, map, slice_index_or, IsUtf8}
+use Rattle.std.specs.Prelude.{◌≡◌, ℕ, ◌≤◌, ℤ, pos, Bool, true, false, if◌then◌else◌, List, [], ◌∷◌, fold, length, map, slice_index_or, IsUtf8}
 use Rattle.std.specs.BTreeSet.{insert_key}
 use Rattle.std.specs.Cmp.Lexicographic.{slice_cmp}
-use Rattle.std.specs.List.{best_of, position_or_len}
+use Rattle.std.specs.Int.{int_max, int_min}
+use Rattle.std.specs.List.{position_or_len}
 use Rattle.std.specs.Ordering.{nat_cmp}
 use Rattle.std.specs.Str.{bytes_eq}
 use Rattle.daq_table.specs.CellTexts.{IsCell, cell_number}
@@ -55,9 +56,9 @@ numbers_of kind texts = map (number_in kind (dictionary kind texts)) texts
 -- the least number, and 0 where there is none
 abbrev pub least : List ℤ → ℤ
 least [] = pos 0
-least (z ∷ zs) = best_of (λ x y. int_lt x y) z zs
+least (z ∷ zs) = fold int_min z zs
 
 -- the greatest number, and 0 where there is none
 abbrev pub greatest : List ℤ → ℤ
 greatest [] = pos 0
-greatest (z ∷ zs) = best_of (λ x y. int_lt y x) z zs
+greatest (z ∷ zs) = fold int_max z zs

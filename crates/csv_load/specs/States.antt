@@ -165,9 +165,8 @@ pub record HasRead (bytes : List ℕ) (columns : List SchemaColumn) (limits : Li
 abbrev pub numbers_in : State → List ℤ
 numbers_in s = if is_text s.kind then map (λ text. pos (rank_of s.names text)) s.texts else s.numbers
 
--- the state after so many cells: each text is among the names, which only a column of texts has
-pub record IsComplete (rows : ℕ) (s : State) : Type 0 where
-  pub count : length (numbers_in s) ≡ rows
+-- each text is among the names, which only a column of texts has
+pub record IsComplete (s : State) : Type 0 where
   pub known : All (λ text. IsTrue (list_any (bytes_eq text) s.names)) s.texts
   pub plain : is_text s.kind ≡ false → s.names ≡ []
 
@@ -186,3 +185,8 @@ pub record AreFinished (columns : List SchemaColumn) (states : List State) (end 
   pub lists_count : length lists ≡ end
   pub each : (c : ℕ) (column : SchemaColumn) (d : State) (head : ColumnHead) (cells : List ℕ) → slice_get columns c ≡ Some column → slice_get heads c ≡ Some head → slice_get lists c ≡ Some cells
       → IsFinished (slice_index_or states c d) column.name head cells
+
+-- each of the states is complete, after so many cells
+pub record AreComplete (rows : ℕ) (states : List State) : Type 0 where
+  pub complete : (c : ℕ) (d : State) → c < length states → IsComplete (slice_index_or states c d)
+  pub count : (c : ℕ) (d : State) → c < length states → length (numbers_in (slice_index_or states c d)) ≡ rows

@@ -1,16 +1,21 @@
 //! A column while its CSV is read.
 
 ghost use Rattle.std.specs.Prelude.{◌≡◌, ◌↔◌, ◌≢◌, ◌≤◌, length, IfOk, OnOk, IfErr, IsTrue, [], true, false};
+ghost use Rattle.std.specs.Cmp.Lexicographic.{slice_cmp};
+ghost use Rattle.std.specs.List.Sorted.{IsStrictlySortedBy};
 ghost use Rattle.std.specs.Option.{SomeIff};
+ghost use Rattle.std.specs.Ordering.{nat_cmp};
 ghost use Rattle.daq_table.specs.CellTexts.{IsCell, cell_number};
 ghost use Rattle.daq_table.specs.declared.head.Kind.TheVariants.{Text};
 ghost use Rattle.csv_load.specs.Columns.{IsShortText, is_text};
-ghost use Rattle.csv_load.specs.States.{RefusesCell, Takes, state_of, state_with};
+ghost use Rattle.csv_load.specs.States.{IsComplete, IsFinished, RefusesCell, Takes, numbers_in, state_of, state_with};
 
+use crate::extremes::{distances, greatest_number, least_number};
 use crate::fault::TableFault;
+use crate::ranks::{ranks, sorted_names};
 use csv::ByteRecord;
-use daq_table::{Kind, cell_value};
-use std::alloc::Global;
+use daq_table::{ColumnHead, Kind, Name, Text, cell_value};
+use std::alloc::{AllocError, Global};
 use std::collections::BTreeSet;
 use std::marker::Model;
 use std::str::from_utf8;
@@ -145,5 +150,43 @@ impl Column {
             return Err(TableFault::NoMemory);
         }
         Ok(())
+    }
+
+    // The numbers of the cells, by the sorted names.
+    fn numbers(&self, alloc: Global, names: &[Text]) -> Result<Vec<i64>, AllocError>
+        requires names { names.now ≡ self.now.names }
+        requires sorted { IsStrictlySortedBy (slice_cmp nat_cmp) names.now }
+        requires complete { IsComplete self.now }
+        ensures { IfOk result (λ numbers. numbers.items ≡ numbers_in self.now) }
+    {
+        match self.kind {
+            Kind::Int => Vec::from_slice(alloc, &self.numbers),
+            Kind::Dec(_) => Vec::from_slice(alloc, &self.numbers),
+            Kind::Date => Vec::from_slice(alloc, &self.numbers),
+            Kind::Text => ranks(alloc, &self.texts, names),
+        }
+    }
+
+    /// The column's head under that name, and its cells.
+    pub(crate) fn finish(
+        &self,
+        alloc: Global,
+        name: Name,
+    ) -> Result<(ColumnHead, Vec<u64>), AllocError>
+        requires { IsComplete self.now }
+        ensures { IfOk result (λ column. IsFinished self.now name column.0 column.1.items) }
+    {
+        let names = sorted_names(alloc, &self.names)?;
+        let numbers = self.numbers(alloc, names.as_slice())?;
+        let base = least_number(&numbers);
+        let cells = distances(alloc, &numbers, base)?;
+        let head = ColumnHead {
+            name,
+            kind: self.kind,
+            base,
+            top: greatest_number(&numbers),
+            names,
+        };
+        Ok((head, cells))
     }
 }

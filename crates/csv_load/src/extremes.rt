@@ -11,9 +11,7 @@ pub(crate) fn least_number(numbers: &[i64]) -> i64
 {
     let mut best = if numbers.is_empty() { 0 } else { numbers[0] };
     for number in numbers {
-        if *number < best {
-            best = *number;
-        }
+        best = best.min(*number);
     }
     best
 }
@@ -24,9 +22,7 @@ pub(crate) fn greatest_number(numbers: &[i64]) -> i64
 {
     let mut best = if numbers.is_empty() { 0 } else { numbers[0] };
     for number in numbers {
-        if best < *number {
-            best = *number;
-        }
+        best = best.max(*number);
     }
     best
 }

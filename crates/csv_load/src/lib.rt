@@ -1,10 +1,12 @@
 //! Tables from CSV texts under a schema: each fault exactly where it belongs, and else the table that the text stands for.
 #![tactic(auto)]
 
+mod building;
 mod column;
 mod extremes;
 mod fault;
 mod limits;
+mod loading;
 mod marks;
 mod ranks;
 mod reading;
@@ -12,3 +14,4 @@ mod record;
 
 pub use fault::TableFault;
 pub use limits::Limits;
+pub use loading::load;

@@ -41,7 +41,11 @@ fn rank(names: &[Text], text: &[u8]) -> usize
 }
 
 /// The ranks of the texts.
-pub(crate) fn ranks(alloc: Global, texts: &ByteRecord, names: &[Text]) -> Result<Vec<i64>, AllocError>
+pub(crate) fn ranks(
+    alloc: Global,
+    texts: &ByteRecord,
+    names: &[Text],
+) -> Result<Vec<i64>, AllocError>
     requires sorted { IsStrictlySortedBy (slice_cmp nat_cmp) names.now }
     requires known { All (λ text. IsTrue (list_any (bytes_eq text) names.now)) (fields_of texts.now) }
     ensures { IfOk result (λ ranks. ranks.items ≡ map (λ text. pos (rank_of names.now text)) (fields_of texts.now)) }
