@@ -1,8 +1,7 @@
 -- The least and the greatest of a column's numbers: every number lies between them, and they are ranks where all are.
-use Rattle.std.proofs.Common.{◌≡◌, ℕ, zero, suc, ◌+◌, ◌<◌, ◌≤◌, ℤ, pos, ◌+ℤ◌, ◌-ℤ◌, ◌≤ℤ◌, unsigned_abs, Bool, true, false, ◌&&◌, ◌||◌, not, IsTrue, All, List, [], ◌∷◌, length, map, get_or, refl, sym, ap, subst, inl, inr, ◌⊎◌, ◌∙◌, arith, cond}
+use Rattle.std.proofs.Common.{◌≡◌, ℕ, ◌+◌, ◌<◌, ℤ, pos, ◌+ℤ◌, ◌-ℤ◌, ◌≤ℤ◌, unsigned_abs, Bool, true, false, ◌||◌, not, IsTrue, All, List, [], ◌∷◌, length, map, get_or, refl, sym, ap, subst, inl, inr, ◌∙◌, arith, cond}
 use Rattle.std.proofs.lemmas.Bool.{and_from}
 use Rattle.std.proofs.lemmas.Int.{fold-int_max_bounds, fold-int_max_reached, fold-int_min_bounds, fold-int_min_reached, ints}
-use Rattle.std.proofs.lemmas.List.{get_or-map, length-map}
 use Rattle.std.proofs.lemmas.List.Elements.{All-cons, All-map, All-tail}
 use Rattle.std.specs.Prelude.{int_le, int_lt}
 use Rattle.std.specs.List.{list_any, position_or_len}
@@ -14,7 +13,7 @@ use Rattle.daq_table.proofs.Ascending.{ascending_when_sorted}
 use Rattle.daq_table.specs.ColumnFacts.{IsColumn, IsName, are_ranks, fits_names}
 use Rattle.daq_table.specs.declared.head.Kind.{Kind}
 use Rattle.daq_table.specs.declared.head.Kind.TheVariants.{Int, Dec, Date, Text}
-use Rattle.csv_load.specs.Columns.{greatest, is_text, least, rank_of}
+use Rattle.csv_load.specs.Columns.{greatest, least, rank_of}
 use Rattle.csv_load.specs.States.{IsComplete, State, numbers_in}
 
 pub least_below : (zs : List ℤ) → All (λ z. least zs ≤ℤ z) zs

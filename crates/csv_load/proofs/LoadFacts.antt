@@ -1,9 +1,9 @@
 -- What was read of a CSV, finished, is its table.
-use Rattle.std.proofs.Common.{◌≡◌, ℕ, zero, suc, ◌+◌, ◌<◌, ◌≤◌, ℤ, pos, Bool, true, false, ◌||◌, IsTrue, All, Some, List, [], ◌∷◌, ◌++◌, slice_get, length, map, fold, get_or, refl, sym, ap, subst, inl, inr, ◌∙◌, arith}
+use Rattle.std.proofs.Common.{◌≡◌, ℕ, ◌<◌, ◌≤◌, Bool, true, false, ◌||◌, IsTrue, All, Some, List, [], ◌∷◌, slice_get, length, fold, get_or, refl, sym, ap, subst, inl, inr, ◌∙◌, arith}
 use Rattle.std.proofs.lemmas.List.{length-map}
 use Rattle.std.proofs.lemmas.List.Elements.{All-cons}
 use Rattle.std.proofs.lemmas.Map.Text.{is_eq-slice_cmp}
-use Rattle.std.proofs.lemmas.Option.{slice_get_cases, slice_get_within}
+use Rattle.std.proofs.lemmas.Option.{slice_get_cases}
 use Rattle.std.proofs.lemmas.Slice.Eq.{bytes_eq-Decides}
 use Rattle.std.specs.BTreeSet.{insert_key}
 use Rattle.std.specs.Cmp.Lexicographic.{slice_cmp}
@@ -12,16 +12,15 @@ use Rattle.std.specs.Ordering.{is_eq, match_ordering, nat_cmp}
 use Rattle.std.specs.Str.{bytes_eq}
 use Rattle.std.specs.declared.cmp.Ordering.{Ordering}
 use Rattle.std.specs.declared.cmp.Ordering.TheVariants.{Less, Equal, Greater}
-use Rattle.daq_table.specs.CellTexts.{cell_number}
-use Rattle.daq_table.specs.Tables.{Cells, Contents}
+use Rattle.daq_table.specs.Tables.{Contents}
 use Rattle.daq_table.specs.declared.head.ColumnHead.{ColumnHead}
 use Rattle.daq_table.specs.declared.head.Kind.{Kind}
 use Rattle.daq_table.specs.declared.head.Kind.TheVariants.{Int, Dec, Date, Text}
 use Rattle.daq_table.specs.declared.schema_column.SchemaColumn.{SchemaColumn}
-use Rattle.csv_load.specs.Columns.{column_texts, dictionary, distinct, greatest, is_text, least, numbers_of}
+use Rattle.csv_load.specs.Columns.{column_texts, greatest, least, numbers_of}
 use Rattle.csv_load.specs.Records.{Fields}
 use Rattle.csv_load.specs.Rows.{AreGoodRows}
-use Rattle.csv_load.specs.States.{AreComplete, AreFinished, AreStates, HasRead, IsComplete, IsFinished, State, numbers_in, state_of}
+use Rattle.csv_load.specs.States.{AreComplete, AreFinished, HasRead, IsComplete, IsFinished, State, numbers_in, state_of}
 use Rattle.csv_load.specs.TableOf.{IsColumnOf, IsTableOf}
 use Rattle.csv_load.specs.declared.limits.Limits.{Limits}
 use Rattle.csv_load.proofs.RowFacts.{rows_bound}

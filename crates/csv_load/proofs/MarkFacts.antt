@@ -1,8 +1,8 @@
 -- Marks at the start of a text, one after the other.
-use Rattle.std.proofs.Common.{◌≡◌, ◌==◌, ◌&&◌, ℕ, Bool, true, false, List, [], ◌∷◌, ◌-◌, drop, take, length, length-drop, nat_eq, refl, ◌∙◌, arith}
+use Rattle.std.proofs.Common.{◌≡◌, ◌&&◌, ℕ, Bool, true, false, List, [], ◌∷◌, ◌-◌, drop, take, length, length-drop, nat_eq, refl, ◌∙◌, arith}
 use Rattle.std.proofs.lemmas.List.{take_all}
 use Rattle.std.specs.List.{starts_with}
-use Rattle.csv.specs.Reading.{is_bom, strip_bom}
+use Rattle.csv.specs.Reading.{strip_bom}
 use Rattle.csv_load.specs.Records.{starts_with_mark, without_marks}
 
 turned : (m n : ℕ) → nat_eq m n ≡ nat_eq n m

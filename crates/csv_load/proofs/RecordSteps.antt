@@ -1,13 +1,13 @@
 -- One more record: either it is taken, or it shows what the text is refused for.
-use Rattle.std.proofs.Common.{◌≡◌, ◌≢◌, ℕ, zero, suc, ◌+◌, ◌*◌, ◌<◌, ◌≤◌, Some, List, [], ◌∷◌, ◌++◌, slice_get, get_or, length, refl, sym, ap, subst, inl, inr, ◌∙◌, arith}
+use Rattle.std.proofs.Common.{◌≡◌, ℕ, suc, ◌+◌, ◌*◌, ◌<◌, ◌≤◌, Some, List, [], ◌∷◌, ◌++◌, slice_get, get_or, length, refl, sym, ap, subst, inl, inr, ◌∙◌, arith}
 use Rattle.std.proofs.lemmas.Option.{slice_get_cases}
 use Rattle.daq_table.specs.Schemas.{names_of}
 use Rattle.daq_table.specs.declared.schema_column.SchemaColumn.{SchemaColumn}
-use Rattle.csv_load.specs.Columns.{IsValue, column_texts, dictionary}
-use Rattle.csv_load.specs.Faults.{HasBadCell, HasFaultyRow, PassesNames, ReachesCell, Refuses, ShowsFault}
+use Rattle.csv_load.specs.Columns.{column_texts}
+use Rattle.csv_load.specs.Faults.{HasBadCell, PassesNames, ReachesCell, Refuses}
 use Rattle.csv_load.specs.Records.{Begins, Fields}
 use Rattle.csv_load.specs.Rows.{AreGoodRows}
-use Rattle.csv_load.specs.States.{AreStates, HasRows, HasTaken, RefusesAt, RefusesCell, RefusesField, RefusesRecord, RefusesRow, State, TakesRecord, state_of}
+use Rattle.csv_load.specs.States.{AreStates, HasTaken, RefusesCell, RefusesField, RefusesRecord, RefusesRow, State, TakesRecord, state_of}
 use Rattle.csv_load.specs.declared.fault.TableFault.{TableFault}
 use Rattle.csv_load.specs.declared.fault.TableFault.TheVariants.{NoHeader, HeaderDiffers, TooManyRows, TooManyCells, UnequalLength, BadCell, TooManyNames, NoMemory}
 use Rattle.csv_load.specs.declared.limits.Limits.{Limits}

@@ -1,5 +1,5 @@
 -- One more row: what its columns took are the states after it, and it is good.
-use Rattle.std.proofs.Common.{◌≡◌, ℕ, zero, suc, ◌+◌, ◌<◌, ◌≤◌, Bool, true, false, Some, List, [], ◌∷◌, ◌++◌, slice_get, get_or, length, map, fold, take, refl, sym, ap, subst, inl, inr, ◌⊎◌, ◌∙◌, arith, length-append}
+use Rattle.std.proofs.Common.{◌≡◌, ℕ, suc, ◌+◌, ◌<◌, ◌≤◌, Some, List, [], ◌∷◌, ◌++◌, slice_get, get_or, length, map, refl, sym, ap, subst, inl, inr, ◌⊎◌, ◌∙◌, arith, length-append}
 use Rattle.std.proofs.Math.Seq.{get_or-append_seam, take-append_seam}
 use Rattle.std.proofs.lemmas.List.{get_or_append_left, length-take-le, map-append, take-append-le}
 use Rattle.std.proofs.lemmas.List.Sums.{fold-append}
@@ -12,7 +12,7 @@ use Rattle.daq_table.specs.CellTexts.{cell_number}
 use Rattle.daq_table.specs.declared.head.Kind.{Kind}
 use Rattle.daq_table.specs.declared.head.Kind.TheVariants.{Int, Dec, Date, Text}
 use Rattle.daq_table.specs.declared.schema_column.SchemaColumn.{SchemaColumn}
-use Rattle.csv_load.specs.Columns.{IsValue, column_texts, dictionary, distinct, is_text}
+use Rattle.csv_load.specs.Columns.{column_texts, dictionary, distinct}
 use Rattle.csv_load.specs.Records.{Fields}
 use Rattle.csv_load.specs.Rows.{AreGoodBefore, AreGoodRows, HasRoom, IsGoodCell, IsGoodRow}
 use Rattle.csv_load.specs.States.{AreStates, HasRoomFor, State, Takes, TakesRow, TookBelow, names_with, state_of, state_with}

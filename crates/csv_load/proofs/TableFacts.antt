@@ -1,5 +1,5 @@
 -- Finished columns are the columns of a table.
-use Rattle.std.proofs.Common.{◌≡◌, ℕ, zero, suc, ◌+◌, ◌<◌, ◌≤◌, ℤ, pos, ◌+ℤ◌, ◌-ℤ◌, ◌≤ℤ◌, unsigned_abs, Bool, true, false, IsTrue, All, Some, List, [], ◌∷◌, ◌++◌, slice_get, length, map, get_or, refl, sym, ap, subst, inl, inr, ◌⊎◌, ◌∙◌, arith, length-append}
+use Rattle.std.proofs.Common.{◌≡◌, ℕ, ◌+◌, ◌<◌, ◌≤◌, ℤ, pos, ◌+ℤ◌, ◌-ℤ◌, ◌≤ℤ◌, unsigned_abs, true, false, IsTrue, Some, List, [], ◌∷◌, ◌++◌, slice_get, length, map, get_or, refl, sym, ap, subst, inl, inr, ◌∙◌, arith, length-append}
 use Rattle.std.proofs.Math.Seq.{get_or-append_seam}
 use Rattle.std.proofs.lemmas.Int.{ints}
 use Rattle.std.proofs.lemmas.List.{get_or-map, get_or_append_left, get_or_read, length-map, same_lists}
@@ -12,7 +12,7 @@ use Rattle.daq_table.specs.declared.head.ColumnHead.{ColumnHead}
 use Rattle.daq_table.specs.declared.head.Kind.{Kind}
 use Rattle.daq_table.specs.declared.head.Kind.TheVariants.{Int, Dec, Date, Text}
 use Rattle.daq_table.specs.declared.schema_column.SchemaColumn.{SchemaColumn}
-use Rattle.csv_load.specs.Columns.{greatest, least}
+use Rattle.csv_load.specs.Columns.{greatest}
 use Rattle.csv_load.specs.States.{AreComplete, AreFinished, IsComplete, IsFinished, State, numbers_in, state_of}
 use Rattle.csv_load.proofs.EndFacts.{greatest_above}
 use Rattle.csv_load.proofs.RowFacts.{last_place}

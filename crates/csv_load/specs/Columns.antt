@@ -1,5 +1,5 @@
 -- The cells of one column: which texts are values, and the numbers that they stand for.
-use Rattle.std.specs.Prelude.{◌≡◌, ℕ, ◌≤◌, ℤ, pos, Bool, true, false, if◌then◌else◌, List, [], ◌∷◌, fold, length, map, slice_index_or, IsUtf8}
+use Rattle.std.specs.Prelude.{ℕ, ◌≤◌, ℤ, pos, Bool, true, false, if◌then◌else◌, List, [], ◌∷◌, fold, length, map, slice_index_or, IsUtf8}
 use Rattle.std.specs.BTreeSet.{insert_key}
 use Rattle.std.specs.Cmp.Lexicographic.{slice_cmp}
 use Rattle.std.specs.Int.{int_max, int_min}

@@ -1,7 +1,7 @@
 -- The table that a CSV stands for.
 use Rattle.std.specs.Prelude.{◌≡◌, ℕ, List, ◌∷◌, length, map, Some, slice_get}
 use Rattle.daq_table.specs.Schemas.{names_of}
-use Rattle.daq_table.specs.Tables.{Cells, Contents, ends_of, value_of}
+use Rattle.daq_table.specs.Tables.{Contents, ends_of, value_of}
 use Rattle.daq_table.specs.declared.head.ColumnHead.{ColumnHead}
 use Rattle.daq_table.specs.declared.schema_column.SchemaColumn.{SchemaColumn}
 use Rattle.csv_load.specs.Columns.{column_texts, dictionary, greatest, least, numbers_of}

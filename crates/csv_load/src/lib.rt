@@ -11,6 +11,8 @@ mod marks;
 mod ranks;
 mod reading;
 mod record;
+#[cfg(test)]
+mod tests;
 
 pub use fault::TableFault;
 pub use limits::Limits;

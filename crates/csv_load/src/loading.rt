@@ -19,9 +19,9 @@ pub fn load(
     schema: &Schema,
     limits: &Limits,
 ) -> Result<Table, TableFault>
-    requires rows { limits.now.rows ≤ 16777216 }
-    requires cells { limits.now.cells ≤ 134217728 }
-    requires names { limits.now.names ≤ 65536 }
+    requires rows { limits.now.rows ≤ Limits.PROFILE.rows }
+    requires cells { limits.now.cells ≤ Limits.PROFILE.cells }
+    requires names { limits.now.names ≤ Limits.PROFILE.names }
     ensures table { IfOk result (IsTableOf bytes.now schema.now.columns limits.now) }
     ensures refused { IfErr result (Refuses bytes.now schema.now.columns limits.now) }
 {

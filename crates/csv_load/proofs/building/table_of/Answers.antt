@@ -1,4 +1,4 @@
-use Rattle.std.proofs.Common.{◌≡◌, ◌<◌, ◌∙◌, ◌++◌, ◌∷◌, [], ℕ, List, length, map, vec_items, get_or, sym, ap, subst, refl, arith, Vec, Global}
+use Rattle.std.proofs.Common.{◌≡◌, ◌<◌, ◌∙◌, ◌∷◌, [], ℕ, List, length, map, vec_items, get_or, sym, ap, subst, arith, Vec, Global}
 use Rattle.std.proofs.lemmas.List.{map-append}
 use Rattle.daq_table.specs.Tables.{IsTable, ends_of}
 use Rattle.daq_table.specs.declared.head.ColumnHead.{ColumnHead}

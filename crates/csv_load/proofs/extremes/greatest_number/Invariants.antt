@@ -1,4 +1,4 @@
-use Rattle.std.proofs.Common.{◌≡◌, ℤ, pos, fold, get_or, take}
+use Rattle.std.proofs.Common.{◌≡◌, pos, fold, get_or, take}
 use Rattle.std.specs.Int.{int_max}
 use Rattle.csv_load.proofs.extremes.greatest_number.Given as goal
 

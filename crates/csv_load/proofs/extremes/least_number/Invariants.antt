@@ -1,4 +1,4 @@
-use Rattle.std.proofs.Common.{◌≡◌, ℤ, pos, fold, get_or, take}
+use Rattle.std.proofs.Common.{◌≡◌, pos, fold, get_or, take}
 use Rattle.std.specs.Int.{int_min}
 use Rattle.csv_load.proofs.extremes.least_number.Given as goal
 

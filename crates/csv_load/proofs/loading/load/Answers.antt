@@ -1,4 +1,4 @@
-use Rattle.std.proofs.Common.{◌≡◌, ◌∙◌, List, length, sym, subst, arith}
+use Rattle.std.proofs.Common.{List, length, sym, subst}
 use Rattle.csv_load.specs.States.{AreComplete, AreFinished, State}
 use Rattle.csv_load.proofs.LoadFacts.{all_complete, table_is}
 use Rattle.csv_load.proofs.loading.load.Goals as goal

@@ -1,5 +1,4 @@
-use Rattle.std.proofs.Common.{◌≡◌, ◌∙◌, false, true, sym}
-use Rattle.csv_load.specs.Records.{starts_with_mark}
+use Rattle.std.proofs.Common.{◌∙◌, sym}
 use Rattle.csv_load.proofs.MarkFacts.{mark_passed, no_mark}
 use Rattle.csv_load.proofs.marks.past_marks.Goals as goal
 

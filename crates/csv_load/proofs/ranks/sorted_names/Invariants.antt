@@ -1,4 +1,4 @@
-use Rattle.std.proofs.Common.{◌≡◌, List, ℕ, map, Bor, Vec, Global}
+use Rattle.std.proofs.Common.{◌≡◌, ℕ, map, Bor, Vec, Global}
 use Rattle.csv_load.proofs.ranks.sorted_names.Given as goal
 
 abbrev pub invariant-loop-name : goal.invariant-loop-name

@@ -1,4 +1,4 @@
-use Rattle.std.proofs.Common.{Bor, List, ℕ, ◌≡◌, ◌+◌, ◌∙◌, ◌++◌, sym, ap, subst, refl, rules, inl, inr, Some, ◌∷◌, [], drop, length, length-append, arith}
+use Rattle.std.proofs.Common.{Bor, List, ℕ, ◌∙◌, ◌++◌, sym, ap, subst, refl, inl, inr, Some, ◌∷◌, [], drop, length, length-append, arith}
 use Rattle.std.proofs.lemmas.List.{take_at}
 use Rattle.std.proofs.lemmas.Result.{err_from_is_err_and}
 use Rattle.csv.specs.Reading.{Reached, default_config}

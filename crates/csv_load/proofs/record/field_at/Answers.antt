@@ -1,4 +1,4 @@
-use Rattle.std.proofs.Common.{◌≡◌, ◌∙◌, Some, None, Bor, List, ℕ, option_map, sym, ap}
+use Rattle.std.proofs.Common.{◌∙◌, Bor, List, ℕ, option_map, sym, ap}
 use Rattle.csv.proofs.RecordFacts.{field-get, field-there}
 use Rattle.csv.specs.Records.{fields_of}
 use Rattle.csv_load.proofs.record.field_at.Goals as goal

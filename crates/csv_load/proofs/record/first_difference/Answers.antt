@@ -1,4 +1,4 @@
-use Rattle.std.proofs.Common.{◌≡◌, ◌∙◌, Some, List, ℕ, slice_get, length, sym, ap, arith}
+use Rattle.std.proofs.Common.{◌≡◌, ◌∙◌, Some, slice_get, length, ap, arith}
 use Rattle.csv.specs.Records.{fields_of}
 use Rattle.daq_table.specs.Schemas.{names_of}
 use Rattle.csv_load.proofs.FieldFacts.{longer_differs, name_at, same_more}

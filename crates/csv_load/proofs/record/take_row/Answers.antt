@@ -1,4 +1,4 @@
-use Rattle.std.proofs.Common.{◌≡◌, ◌∙◌, ℕ, suc, ◌+◌, length, sym, ap, subst, add-one, arith}
+use Rattle.std.proofs.Common.{◌≡◌, ◌∙◌, ℕ, ◌+◌, length, sym, subst, add-one, arith}
 use Rattle.std.proofs.lemmas.Result.{IfErr-weaker}
 use Rattle.csv.specs.Records.{fields_of}
 use Rattle.csv_load.specs.States.{HasRoomFor, RefusesAt, RefusesRow}

@@ -1,6 +1,5 @@
-use Rattle.std.proofs.Common.{◌≡◌, ◌∙◌, List, ℕ, ap, subst, refl, w64, to_z, of_z, to_z-of_z, FitsSigned, arith}
+use Rattle.std.proofs.Common.{◌≡◌, ◌∙◌, ap, subst, refl, w64, to_z, of_z, to_z-of_z, FitsSigned}
 use Rattle.daq_table.specs.ColumnFacts.{IsName}
-use Rattle.daq_table.specs.declared.head.Kind.{Kind}
 use Rattle.csv_load.specs.Columns.{greatest, least}
 use Rattle.csv_load.specs.States.{State, numbers_in}
 use Rattle.csv_load.proofs.EndFacts.{cells_of, column_is}
