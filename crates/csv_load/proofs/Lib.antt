@@ -8,3 +8,4 @@ pub mod RankFacts
 pub mod EndFacts
 pub mod TableFacts
 pub mod LoadFacts
+pub mod OneFault

@@ -4,3 +4,4 @@ pub mod Rows
 pub mod Faults
 pub mod TableOf
 pub mod States
+pub mod Laws

@@ -3,6 +3,7 @@
 
 mod building;
 mod column;
+mod exactness;
 mod extremes;
 mod fault;
 mod limits;
@@ -14,6 +15,7 @@ mod record;
 #[cfg(test)]
 mod tests;
 
+pub use exactness::faults_are_exact;
 pub use fault::TableFault;
 pub use limits::Limits;
 pub use loading::load;
