@@ -1,0 +1,11 @@
+pub mod MarkFacts
+pub mod StateFacts
+pub mod FieldFacts
+pub mod RefusalFacts
+pub mod RowFacts
+pub mod RecordSteps
+pub mod RankFacts
+pub mod EndFacts
+pub mod TableFacts
+pub mod LoadFacts
+pub mod OneFault

@@ -1,0 +1,19 @@
+-- Why a record is refused, by why one of its fields is.
+use Rattle.std.proofs.Common.{◌≡◌, ℕ, suc, List, [], length}
+use Rattle.daq_table.specs.declared.head.Kind.TheVariants.{Int}
+use Rattle.csv_load.specs.Records.{Fields}
+use Rattle.csv_load.specs.States.{HasRoomFor, RefusesAt, RefusesRow, State, state_of}
+use Rattle.csv_load.specs.declared.fault.TableFault.{TableFault}
+use Rattle.csv_load.specs.declared.fault.TableFault.TheVariants.{NoHeader, HeaderDiffers, TooManyRows, TooManyCells, UnequalLength, BadCell, TooManyNames, NoMemory}
+use Rattle.csv_load.specs.declared.limits.Limits.{Limits}
+
+pub field_refused : (limits : Limits) (rows : ℕ) (old : List State) (fields : Fields) (fault : TableFault) → HasRoomFor limits rows (length old) → length fields ≡ length old
+    → RefusesAt limits.names (suc rows) old fields fault → RefusesRow limits rows old fields fault
+field_refused limits rows old fields NoHeader room full h = absurd (h.refused (state_of Int []))
+field_refused limits rows old fields (HeaderDiffers place) room full h = absurd (h.refused (state_of Int []))
+field_refused limits rows old fields (TooManyRows n) room full h = absurd (h.refused (state_of Int []))
+field_refused limits rows old fields (TooManyCells n) room full h = absurd (h.refused (state_of Int []))
+field_refused limits rows old fields (UnequalLength n got want) room full h = absurd (h.refused (state_of Int []))
+field_refused limits rows old fields (BadCell n place) room full h = record { room = room; full = full; field = h }
+field_refused limits rows old fields (TooManyNames place) room full h = record { room = room; full = full; field = h }
+field_refused limits rows old fields NoMemory room full h = tt

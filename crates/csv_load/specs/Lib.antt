@@ -1,0 +1,7 @@
+pub mod Records
+pub mod Columns
+pub mod Rows
+pub mod Faults
+pub mod TableOf
+pub mod States
+pub mod Laws

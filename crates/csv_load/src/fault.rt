@@ -1,0 +1,68 @@
+//! Why a CSV is refused.
+
+ghost use Rattle.std.specs.Prelude.{◌≡◌};
+ghost use Rattle.csv_load.specs.declared.fault.TableFault.TheVariants.{NoMemory};
+
+use std::alloc::{AllocError, AllocFailed};
+use thiserror::Error;
+
+/// Why a CSV stands for no table, or that memory ran out. The header is record 0, and columns count from 0. Of several
+/// faults the one of the first record is answered; of one record that which is named first here, its cells in turn.
+#[derive(Debug, PartialEq, Eq, Drop, Error)]
+pub enum TableFault {
+    /// There is no record.
+    #[error("no header")]
+    NoHeader,
+    /// The header and the schema's names differ first at that column.
+    #[error("header differs at column {column}")]
+    HeaderDiffers {
+        column: usize,
+    },
+    /// There is a row past the limit of rows.
+    #[error("more than {limit} rows")]
+    TooManyRows {
+        limit: u64,
+    },
+    /// The rows up to the record have so many cells, which is past the limit of cells.
+    #[error("{count} cells")]
+    TooManyCells {
+        count: u64,
+    },
+    /// The record has `got` fields, and the schema `want` columns.
+    #[error("record {entry} has {got} fields, not {want}")]
+    UnequalLength {
+        entry: usize,
+        got: usize,
+        want: usize,
+    },
+    /// The cell is no value of its column's kind.
+    #[error("record {entry} column {column} is no value of its kind")]
+    BadCell {
+        entry: usize,
+        column: usize,
+    },
+    /// A cell brings the column a name past the limit of names.
+    #[error("column {column} has too many names")]
+    TooManyNames {
+        column: usize,
+    },
+    /// Memory ran out.
+    #[error("no memory")]
+    NoMemory,
+}
+
+impl From<AllocError> for TableFault {
+    ghost from_gives = { λ _ e. e ≡ NoMemory };
+
+    fn from(_: AllocError) -> Self {
+        TableFault::NoMemory
+    }
+}
+
+impl<T: Drop> From<AllocFailed<T>> for TableFault {
+    ghost from_gives = { λ _ e. e ≡ NoMemory };
+
+    fn from(_: AllocFailed<T>) -> Self {
+        TableFault::NoMemory
+    }
+}

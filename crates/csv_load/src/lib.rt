@@ -1,0 +1,21 @@
+//! Tables from CSV texts under a schema: each fault exactly where it belongs, and else the table that the text stands for.
+#![tactic(auto)]
+
+mod building;
+mod column;
+mod exactness;
+mod extremes;
+mod fault;
+mod limits;
+mod loading;
+mod marks;
+mod ranks;
+mod reading;
+mod record;
+#[cfg(test)]
+mod tests;
+
+pub use exactness::faults_are_exact;
+pub use fault::TableFault;
+pub use limits::Limits;
+pub use loading::load;

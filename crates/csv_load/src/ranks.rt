@@ -1,0 +1,58 @@
+//! The dictionary of a column of texts, and the ranks of its cells.
+
+ghost use Rattle.std.specs.Prelude.{◌≡◌, ◌<◌, pos, length, map, vec_items, All, IfOk, IsTrue};
+ghost use Rattle.std.specs.Cmp.Lexicographic.{slice_cmp};
+ghost use Rattle.std.specs.List.{list_any};
+ghost use Rattle.std.specs.List.Sorted.{IsStrictlySortedBy};
+ghost use Rattle.std.specs.Ordering.{nat_cmp};
+ghost use Rattle.std.specs.Str.{bytes_eq};
+ghost use Rattle.csv.specs.Records.{fields_of};
+ghost use Rattle.csv_load.specs.Columns.{rank_of};
+
+use crate::record::field_at;
+use csv::ByteRecord;
+use daq_table::{Names, Text};
+use std::alloc::{AllocError, Global};
+use std::collections::BTreeSet;
+
+/// The names, in order.
+pub(crate) fn sorted_names(alloc: Global, names: &BTreeSet<Vec<u8>>) -> Result<Names, AllocError>
+    ensures same { IfOk result (λ n. n ≡ map vec_items names.now.keys) }
+    ensures sorted { IfOk result (λ n. IsStrictlySortedBy (slice_cmp nat_cmp) n) }
+{
+    let mut texts = Vec::new(alloc);
+    for name in names.iter() {
+        texts.push(Text::new(Vec::from_slice(alloc, name)?))?;
+    }
+    Ok(Names::new(texts))
+}
+
+// The place of the text among the names.
+fn rank(names: &[Text], text: &[u8]) -> usize
+    requires sorted { IsStrictlySortedBy (slice_cmp nat_cmp) names.now }
+    requires known { IsTrue (list_any (bytes_eq text.now) names.now) }
+    ensures rank { result ≡ rank_of names.now text.now }
+    ensures within { result < length names.now }
+{
+    match names.binary_search_by(|name| name.as_slice().cmp(text)) {
+        Ok(rank) => rank,
+        Err(_) => unreachable!(),
+    }
+}
+
+/// The ranks of the texts.
+pub(crate) fn ranks(
+    alloc: Global,
+    texts: &ByteRecord,
+    names: &[Text],
+) -> Result<Vec<i64>, AllocError>
+    requires sorted { IsStrictlySortedBy (slice_cmp nat_cmp) names.now }
+    requires known { All (λ text. IsTrue (list_any (bytes_eq text) names.now)) (fields_of texts.now) }
+    ensures { IfOk result (λ ranks. ranks.items ≡ map (λ text. pos (rank_of names.now text)) (fields_of texts.now)) }
+{
+    let mut ranks = Vec::new(alloc);
+    for place in 0..texts.len() {
+        ranks.push(rank(names, field_at(texts, place)) as i64)?;
+    }
+    Ok(ranks)
+}
