@@ -1,12 +1,12 @@
 -- Blocks of a report, written one after the other.
-use Rattle.std.proofs.Common.{◌≡◌, ℕ, zero, suc, ◌+◌, ◌-◌, ◌*◌, ◌/◌, ◌^◌, ◌<◌, ◌≤◌, List, [], ◌∷◌, ◌++◌, length, map, slice_index, get_or, All, refl, sym, ap, ◌∙◌, subst, arith, append_assoc, append-nil, IsTrue, IsFalse, Some, Option, zero-add}
+use Rattle.std.proofs.Common.{◌≡◌, ℕ, zero, suc, ◌+◌, ◌-◌, ◌*◌, ◌/◌, ◌^◌, ◌<◌, ◌≤◌, List, [], ◌∷◌, ◌++◌, length, map, slice_index, slice_index_or, get_or, All, refl, sym, ap, ◌∙◌, subst, arith, append_assoc, append-nil, IsTrue, IsFalse, Some, Option, zero-add}
 use Rattle.std.proofs.lemmas.Bool.{false≢true}
 use Rattle.std.proofs.lemmas.List.{get_or-map, length-map}
 use Rattle.std.proofs.lemmas.Nat.{div-add-mod'}
 use Rattle.std.proofs.KnownBytes.{Appends-trans}
 use Rattle.std.specs.Io.KnownBytes.{Appends}
 use Rattle.std.specs.List.{cons_option, filter_map, range_with_len}
-use Rattle.daq_table.specs.Tables.{Cells, Frame, IsTable, planes, spread}
+use Rattle.daq_table.specs.Tables.{Cells, Frame, IsTable, ends_at, planes, spread}
 use Rattle.daq_table.specs.declared.head.Ends.{Ends}
 use Rattle.outer_world.specs.Whole.{AppendsPrefix}
 use Rattle.query_model.specs.Bounds.{Pair, bound_of, pair_of}
@@ -15,7 +15,7 @@ use Rattle.query_model.specs.declared.bounds.Bound.{Bound}
 use Rattle.query_model.specs.declared.query.ItemKind.TheVariants.{Sum}
 use Rattle.daq_cli.specs.Headline.{FullRoundsAreNarrow}
 use Rattle.daq_cli.specs.Prefixes.{FitsColumn, column_frame, sure_pair, sure_pairs}
-use Rattle.daq_cli.specs.Report.{block, block_of, blocks_below}
+use Rattle.daq_cli.specs.Report.{Shown, block, block_of, blocks_below}
 use Rattle.daq_cli.specs.Rounds.{IsLastRound, bound_after, is_narrow, known_after, sum_item, sum_query}
 
 -- ---- the bound of a round
@@ -31,25 +31,25 @@ pairs_of_rows f g a (x ∷ xs) h =
     ap (λ o. cons_option o (filter_map f (range_with_len (a + 1) (length xs)))) first ∙ ap (λ l. g x ∷ l) next
 
 pub bound_of_prefixes : (ends : Ends) (cells : List ℕ) (round : ℕ) →
-    bound_after (column_frame (length cells) ends) (cells ∷ []) round ≡ bound_of Sum (sure_pairs ends (2 ^ (planes ends - round)) (map (λ cell. cell / 2 ^ (planes ends - round)) cells))
+    bound_after 0 (column_frame (length cells) ends) (cells ∷ []) round ≡ bound_of Sum (sure_pairs ends (2 ^ (planes ends - round)) (map (λ cell. cell / 2 ^ (planes ends - round)) cells))
 bound_of_prefixes ends cells round =
     let frame = column_frame (length cells) ends in
     let b = 2 ^ (planes ends - round) in
     let ps = map (λ cell. cell / b) cells in
-    let f = λ (r : ℕ). pair_of sum_query sum_item [] (ranges_of frame (known_after frame (cells ∷ []) round) r) in
+    let f = λ (r : ℕ). pair_of (sum_query 0) sum_item [] (ranges_of frame (known_after 0 frame (cells ∷ []) round) r) in
     let long : length ps ≡ length cells = length-map cells (λ cell. cell / b) in
     let rows : filter_map f (range_with_len 0 (length ps)) ≡ sure_pairs ends b ps = pairs_of_rows f (sure_pair ends b) 0 ps (λ r h. ap f (zero-add r)) in
     ap (bound_of Sum) (ap (λ n. filter_map f (range_with_len 0 n)) (sym long) ∙ rows)
 
 -- what is computed of the prefixes is the bound of the round, and the block that is written is the round's
-pub block_written : (name : List ℕ) (ends : Ends) (width round : ℕ) (cells prefixes : List ℕ) (bound : Bound) → width ≡ planes ends →
+pub block_written : (shown : Shown) (ends : Ends) (width round : ℕ) (cells prefixes : List ℕ) (bound : Bound) → width ≡ planes ends →
     prefixes ≡ map (λ cell. cell / 2 ^ (width - round)) cells → bound ≡ bound_of Sum (sure_pairs ends (2 ^ (width - round)) prefixes) →
-    (bound ≡ bound_after (column_frame (length cells) ends) (cells ∷ []) round) × (block name width round bound ≡ block_of name (column_frame (length cells) ends) (cells ∷ []) round)
-block_written name ends width round cells prefixes bound wide before is =
+    (bound ≡ bound_after 0 (column_frame (length cells) ends) (cells ∷ []) round) × (block shown width round bound ≡ block_of shown 0 (column_frame (length cells) ends) (cells ∷ []) round)
+block_written shown ends width round cells prefixes bound wide before is =
     let computed = λ (w : ℕ). bound_of Sum (sure_pairs ends (2 ^ (w - round)) (map (λ cell. cell / 2 ^ (w - round)) cells)) in
-    let same : bound ≡ bound_after (column_frame (length cells) ends) (cells ∷ []) round =
+    let same : bound ≡ bound_after 0 (column_frame (length cells) ends) (cells ∷ []) round =
     is ∙ ap (λ ps. bound_of Sum (sure_pairs ends (2 ^ (width - round)) ps)) before ∙ ap computed wide ∙ sym (bound_of_prefixes ends cells round) in
-    (same, ap (λ b. block name width round b) same ∙ ap (λ w. block name w round (bound_after (column_frame (length cells) ends) (cells ∷ []) round)) wide)
+    (same, ap (λ b. block shown width round b) same ∙ ap (λ w. block shown w round (bound_after 0 (column_frame (length cells) ends) (cells ∷ []) round)) wide)
 
 -- each prefix is one of the column
 pub prefixes_fit : (ends : Ends) (unread : ℕ) (cells prefixes : List ℕ) → IsTable (column_frame (length cells) ends) (cells ∷ []) →
@@ -65,23 +65,23 @@ prefixes_fit ends unread cells prefixes table is = λ k d h.
 
 -- ---- the last round
 
-pub last_is_here : (frame : Frame) (cells : Cells) (round : ℕ) → ((k : ℕ) → k < round → IsFalse (is_narrow 0 (bound_after frame cells k))) →
-    IsTrue (is_narrow 0 (bound_after frame cells round)) → IsLastRound frame cells round
-last_is_here frame cells round before narrow = record { narrow = narrow; first = before }
+pub last_is_here : (column : ℕ) (frame : Frame) (cells : Cells) (round : ℕ) → ((k : ℕ) → k < round → IsFalse (is_narrow 0 (bound_after column frame cells k))) →
+    IsTrue (is_narrow 0 (bound_after column frame cells round)) → IsLastRound column frame cells round
+last_is_here column frame cells round before narrow = record { narrow = narrow; first = before }
 
-pub last_is_later : (frame : Frame) (cells : Cells) (round last : ℕ) → ((k : ℕ) → k < round → IsFalse (is_narrow 0 (bound_after frame cells k))) →
-    IsLastRound frame cells last → round ≤ last
-last_is_later frame cells round last before is_last =
+pub last_is_later : (column : ℕ) (frame : Frame) (cells : Cells) (round last : ℕ) → ((k : ℕ) → k < round → IsFalse (is_narrow 0 (bound_after column frame cells k))) →
+    IsLastRound column frame cells last → round ≤ last
+last_is_later column frame cells round last before is_last =
     let not_earlier : last < round → ⊥ = λ h. false≢true (sym (before last h) ∙ is_last.narrow) in
     omega (arith, not_earlier)
 
 -- a round that is not the last has a plane left
 pub plane_left : FullRoundsAreNarrow → (ends : Ends) (cells : List ℕ) (width round : ℕ) → width ≡ planes ends → round ≤ width → IsTable (column_frame (length cells) ends) (cells ∷ []) →
-    IsFalse (is_narrow 0 (bound_after (column_frame (length cells) ends) (cells ∷ []) round)) → round < width
+    IsFalse (is_narrow 0 (bound_after 0 (column_frame (length cells) ends) (cells ∷ []) round)) → round < width
 plane_left full ends cells width round wide within table wider =
     let frame = column_frame (length cells) ends in
     let not_full : round ≡ width → ⊥ = λ e.
-    false≢true (sym wider ∙ subst (λ n. IsTrue (is_narrow 0 (bound_after frame (cells ∷ []) n))) (sym (e ∙ wide)) (full frame ends (cells ∷ []) refl table)) in
+    false≢true (sym wider ∙ subst (λ n. IsTrue (is_narrow 0 (bound_after 0 frame (cells ∷ []) n))) (sym (e ∙ wide)) (full 0 frame (cells ∷ []) (omega arith) table)) in
     omega (arith, within, not_full)
 
 -- ---- prefixes of the text
@@ -105,29 +105,41 @@ prefix_more a c xs zs q = record {
 }
 
 -- the blocks go on from each of them
-blocks_go_on : (name : List ℕ) (frame : Frame) (cells : Cells) (i d : ℕ) → (rest : List ℕ) × (blocks_below name frame cells (i + d) ≡ blocks_below name frame cells i ++ rest)
+blocks_go_on : (shown : Shown) (column : ℕ) (frame : Frame) (cells : Cells) (i d : ℕ) → (rest : List ℕ) × (blocks_below shown column frame cells (i + d) ≡ blocks_below shown column frame cells i ++ rest)
 unfolding blocks_below
-blocks_go_on name frame cells i zero = let same : i + 0 ≡ i = omega arith in ([], ap (blocks_below name frame cells) same ∙ sym (append-nil (blocks_below name frame cells i)))
-blocks_go_on name frame cells i (suc d) =
-    let (rest, e) = blocks_go_on name frame cells i d in
+blocks_go_on shown column frame cells i zero = let same : i + 0 ≡ i = omega arith in ([], ap (blocks_below shown column frame cells) same ∙ sym (append-nil (blocks_below shown column frame cells i)))
+blocks_go_on shown column frame cells i (suc d) =
+    let (rest, e) = blocks_go_on shown column frame cells i d in
     let grown : i + suc d ≡ suc (i + d) = omega arith in (
-      rest ++ block_of name frame cells (i + d),
-      ap (blocks_below name frame cells) grown ∙ ap (λ l. l ++ block_of name frame cells (i + d)) e ∙ append_assoc (blocks_below name frame cells i) rest (block_of name frame cells (i + d)),
+      rest ++ block_of shown column frame cells (i + d),
+      ap (blocks_below shown column frame cells) grown ∙ ap (λ l. l ++ block_of shown column frame cells (i + d)) e ∙ append_assoc (blocks_below shown column frame cells i) rest (block_of shown column frame cells (i + d)),
     )
 
 -- a prefix of some blocks is one of more blocks and what follows them
-pub prefix_of_blocks : (name : List ℕ) (frame : Frame) (cells : Cells) (a c : Option (List ℕ)) (i n : ℕ) (end : List ℕ) → i ≤ n →
-    AppendsPrefix a c (blocks_below name frame cells i) → AppendsPrefix a c (blocks_below name frame cells n ++ end)
-prefix_of_blocks name frame cells a c i n end le p =
-    let (rest, e) = blocks_go_on name frame cells i (n - i) in
+pub prefix_of_blocks : (shown : Shown) (column : ℕ) (frame : Frame) (cells : Cells) (a c : Option (List ℕ)) (i n : ℕ) (end : List ℕ) → i ≤ n →
+    AppendsPrefix a c (blocks_below shown column frame cells i) → AppendsPrefix a c (blocks_below shown column frame cells n ++ end)
+prefix_of_blocks shown column frame cells a c i n end le p =
+    let (rest, e) = blocks_go_on shown column frame cells i (n - i) in
     let whole : i + (n - i) ≡ n = omega arith in
-    prefix_more a c (blocks_below name frame cells n) end
-    (subst (AppendsPrefix a c) (sym e ∙ ap (blocks_below name frame cells) whole) (prefix_more a c (blocks_below name frame cells i) rest p))
+    prefix_more a c (blocks_below shown column frame cells n) end
+    (subst (AppendsPrefix a c) (sym e ∙ ap (blocks_below shown column frame cells) whole) (prefix_more a c (blocks_below shown column frame cells i) rest p))
 
-pub no_blocks : (name : List ℕ) (frame : Frame) (cells : Cells) → blocks_below name frame cells 0 ≡ []
+pub no_blocks : (shown : Shown) (column : ℕ) (frame : Frame) (cells : Cells) → blocks_below shown column frame cells 0 ≡ []
 unfolding blocks_below
-no_blocks name frame cells = refl
+no_blocks shown column frame cells = refl
 
-pub next_block : (name : List ℕ) (frame : Frame) (cells : Cells) (round : ℕ) → blocks_below name frame cells (round + 1) ≡ blocks_below name frame cells round ++ block_of name frame cells round
+pub next_block : (shown : Shown) (column : ℕ) (frame : Frame) (cells : Cells) (round : ℕ) → blocks_below shown column frame cells (round + 1) ≡ blocks_below shown column frame cells round ++ block_of shown column frame cells round
 unfolding blocks_below
-next_block name frame cells round = let same : round + 1 ≡ suc round = omega arith in ap (blocks_below name frame cells) same
+next_block shown column frame cells round = let same : round + 1 ≡ suc round = omega arith in ap (blocks_below shown column frame cells) same
+
+-- the blocks of a column of a table are those of the column alone
+pub blocks_alone : (shown : Shown) (column : ℕ) (frame : Frame) (cells : Cells) (n : ℕ) →
+    blocks_below shown 0 (column_frame frame.rows (ends_at frame column)) (slice_index_or cells column [] ∷ []) n ≡ blocks_below shown column frame cells n
+unfolding blocks_below
+blocks_alone shown column frame cells zero = refl
+blocks_alone shown column frame cells (suc n) = ap (λ l. l ++ block_of shown column frame cells n) (blocks_alone shown column frame cells n)
+
+-- and so is the last round
+pub last_alone : (column : ℕ) (frame : Frame) (cells : Cells) (last : ℕ) → IsLastRound 0 (column_frame frame.rows (ends_at frame column)) (slice_index_or cells column [] ∷ []) last →
+    IsLastRound column frame cells last
+last_alone column frame cells last is_last = record { narrow = is_last.narrow; first = is_last.first }

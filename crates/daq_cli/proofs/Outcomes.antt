@@ -1,5 +1,5 @@
 -- What a run comes to, from what its steps come to.
-use Rattle.std.proofs.Common.{◌≡◌, ◌↔◌, ◌⊎◌, ◌∙◌, ℕ, ◌<◌, ◌≤◌, List, length, map, ap, sym, subst, refl, slice_get, Some, inl, inr, Ok, Err, IfErr}
+use Rattle.std.proofs.Common.{[], ◌∷◌, ◌≡◌, ◌↔◌, ◌⊎◌, ◌∙◌, ℕ, ◌<◌, ◌≤◌, List, length, map, ap, sym, subst, refl, slice_get, Some, inl, inr, Ok, Err, IfErr, arith}
 use Rattle.std.proofs.lemmas.Bool.{cases_lt}
 use Rattle.std.specs.declared.result.Result.{Result}
 use Rattle.daq_table.specs.Tables.{Cells, ends_of, frame_of}
@@ -21,9 +21,10 @@ on_error T E (Err e) P Q f p = f e p
 
 -- the rounds of the table that the bytes stand for are certain
 pub certain_of_bytes : LastRoundsAreCertain → (name bytes : List ℕ) (head : Head) (cells : Cells) (last : ℕ) → StandsFor name bytes head cells →
-    IsLastRound (frame_of head) cells last → IsCertain (frame_of head) cells last
+    IsLastRound 0 (frame_of head) cells last → IsCertain 0 (frame_of head) cells last
 certain_of_bytes law name bytes head cells last stands is_last =
-    law (frame_of head) (ends_of stands.table.column) cells last (ap (map ends_of) stands.table.columns) stands.table.table is_last
+    let one : (frame_of head).columns ≡ ends_of stands.table.column ∷ [] = ap (map ends_of) stands.table.columns in
+    law 0 (frame_of head) cells last (subst (λ l. 0 < length l) (sym one) (omega arith)) stands.table.table is_last
 
 -- accepted words hold a text that is short enough
 pub memory_of : (words : List (List ℕ)) (name : List ℕ) → Accepts words name → MemoryCause words

@@ -1,38 +1,46 @@
--- The report of a table with one column.
-use Rattle.std.proofs.Common.{◌≡◌, ℕ, ◌-◌, ◌/◌, ◌^◌, List, [], ◌∷◌, ◌<◌, length, map, replicate, slice_index_or, refl, sym, ap, ◌∙◌, subst, arith, Ok, Err, OnOk, OnErr}
+-- The report of a column of a table.
+use Rattle.std.proofs.Common.{◌≡◌, ℕ, zero, suc, ◌≤◌, ◌-◌, ◌/◌, ◌^◌, List, [], ◌∷◌, ◌<◌, length, map, replicate, slice_index_or, refl, sym, ap, ◌∙◌, subst, arith, Ok, Err, OnOk, OnErr}
+use Rattle.std.proofs.lemmas.List.{get_or-map}
 use Rattle.std.specs.declared.result.Result.{Result}
-use Rattle.daq_table.specs.Tables.{Cells, Frame, IsTable, ends_of, frame_of, planes}
+use Rattle.daq_table.specs.Tables.{Cells, Frame, IsTable, cell_at, ends_at, ends_of, no_ends, planes, spread}
 use Rattle.daq_table.specs.declared.head.ColumnHead.{ColumnHead}
 use Rattle.daq_table.specs.declared.head.Ends.{Ends}
-use Rattle.daq_table.specs.declared.table_head.Head.{Head}
 use Rattle.query_model.specs.Knowledge.{known_at}
 use Rattle.query_model.specs.Laws.{StartIsKnown}
 use Rattle.daq_cli.specs.Prefixes.{column_frame}
 
--- a list of one column is that column
-one_list : (cells : Cells) → length cells ≡ 1 → slice_index_or cells 0 [] ∷ [] ≡ cells
-one_list [] e = absurd (omega arith)
-one_list (us ∷ []) e = refl
-one_list (us ∷ vs ∷ more) e = absurd (omega arith)
+-- the ends of a column are those of its head
+pub ends_there : (heads : List ColumnHead) (column : ℕ) (d : ColumnHead) → column < length heads → ends_of (slice_index_or heads column d) ≡ slice_index_or (map ends_of heads) column no_ends
+ends_there heads column d h = sym (get_or-map ends_of heads column d no_ends h)
 
--- a table with one column is what its column says: what holds of the column holds of the table
-pub of_column : (P : Frame → Cells → Type 0) (head : Head) (cells : Cells) (column : ColumnHead) (ends : Ends) (numbers : List ℕ) → head.columns ≡ column ∷ [] → IsTable (frame_of head) cells →
-    ends ≡ ends_of column → numbers ≡ slice_index_or cells 0 [] → P (column_frame (length numbers) ends) (numbers ∷ []) → P (frame_of head) cells
-of_column P head cells column ends numbers heads table same first p =
-    let columns : (frame_of head).columns ≡ ends_of column ∷ [] = ap (map ends_of) heads in
-    let count : length cells ≡ 1 = table.columns ∙ ap length columns in
-    let rows : length (slice_index_or cells 0 []) ≡ head.rows = table.rows 0 (subst (λ cs. 0 < length cs) (sym columns) (omega arith)) in
-    let in_cells = subst (λ us. P (column_frame (length us) ends) (us ∷ [])) first p in
-    let in_ends = subst (λ e. P (column_frame (length (slice_index_or cells 0 [])) e) (slice_index_or cells 0 [] ∷ [])) same in_cells in
-    let in_table = subst (P (column_frame (length (slice_index_or cells 0 [])) (ends_of column))) (one_list cells count) in_ends in
-    let in_rows = subst (λ n. P (column_frame n (ends_of column)) cells) rows in_table in
-    subst (λ cs. P (record { rows = head.rows; columns = cs }) cells) (sym columns) in_rows
+-- a column of a table, alone, is a table
+pub column_alone : (frame : Frame) (cells : Cells) (column : ℕ) → column < length frame.columns → IsTable frame cells →
+    IsTable (column_frame frame.rows (ends_at frame column)) (slice_index_or cells column [] ∷ [])
+column_alone frame cells column named table = record { columns = refl; rows = rows; within = within }
+  where
+    rows : (c : ℕ) → c < 1 → length (slice_index_or (slice_index_or cells column [] ∷ []) c []) ≡ frame.rows
+    rows zero h = table.rows column named
+    rows (suc c) h = absurd (omega arith)
+
+    within : (c r : ℕ) → c < 1 → r < frame.rows → cell_at (slice_index_or cells column [] ∷ []) c r ≤ spread (ends_at (column_frame frame.rows (ends_at frame column)) c)
+    within zero r h k = table.within column r named k
+    within (suc c) r h k = absurd (omega arith)
+
+-- what is read of a table's column, and the column alone
+pub of_column : (P : Frame → Cells → Type 0) (frame : Frame) (cells : Cells) (column : ℕ) (ends : Ends) (numbers : List ℕ) → column < length frame.columns → IsTable frame cells →
+    ends ≡ ends_at frame column → numbers ≡ slice_index_or cells column [] → P (column_frame (length numbers) ends) (numbers ∷ []) →
+    P (column_frame frame.rows (ends_at frame column)) (slice_index_or cells column [] ∷ [])
+of_column P frame cells column ends numbers named table same first p =
+    let rows : length numbers ≡ frame.rows = ap length first ∙ table.rows column named in
+    subst (λ us. P (column_frame frame.rows (ends_at frame column)) (us ∷ [])) first
+    (subst (λ e. P (column_frame frame.rows e) (numbers ∷ [])) same (subst (λ n. P (column_frame n ends) (numbers ∷ [])) rows p))
 
 -- the same the other way
-pub to_column : (P : Frame → Cells → Type 0) (head : Head) (cells : Cells) (column : ColumnHead) (ends : Ends) (numbers : List ℕ) → head.columns ≡ column ∷ [] → IsTable (frame_of head) cells →
-    ends ≡ ends_of column → numbers ≡ slice_index_or cells 0 [] → P (frame_of head) cells → P (column_frame (length numbers) ends) (numbers ∷ [])
-to_column P head cells column ends numbers heads table same first p =
-    of_column (λ f cs. P f cs → P (column_frame (length numbers) ends) (numbers ∷ [])) head cells column ends numbers heads table same first (λ q. q) p
+pub to_column : (P : Frame → Cells → Type 0) (frame : Frame) (cells : Cells) (column : ℕ) (ends : Ends) (numbers : List ℕ) → column < length frame.columns → IsTable frame cells →
+    ends ≡ ends_at frame column → numbers ≡ slice_index_or cells column [] → P (column_frame frame.rows (ends_at frame column)) (slice_index_or cells column [] ∷ []) →
+    P (column_frame (length numbers) ends) (numbers ∷ [])
+to_column P frame cells column ends numbers named table same first p =
+    of_column (λ f cs. P f cs → P (column_frame (length numbers) ends) (numbers ∷ [])) frame cells column ends numbers named table same first (λ q. q) p
 
 -- with nothing read each prefix is 0
 pub zeros : StartIsKnown → (ends : Ends) (numbers : List ℕ) (width : ℕ) → width ≡ planes ends → IsTable (column_frame (length numbers) ends) (numbers ∷ []) →

@@ -1,8 +1,7 @@
 -- What the intervals of a report say of the answer.
-use Rattle.std.specs.Prelude.{◌≡◌, ◌≢◌, ℕ, ◌+◌, ◌<◌, ◌≤◌, List, [], ◌∷◌, IsTrue}
+use Rattle.std.specs.Prelude.{◌≡◌, ◌≢◌, ℕ, ◌+◌, ◌<◌, ◌≤◌, List, length, IsTrue}
 use Rattle.std.specs.declared.option.Option.TheVariants.{Some}
 use Rattle.daq_table.specs.Tables.{Frame, Cells, IsTable, ends_at, planes}
-use Rattle.daq_table.specs.declared.head.Ends.{Ends}
 use Rattle.query_model.specs.Bounds.{Admits, IsExtremes, IsNested}
 use Rattle.query_model.specs.Worlds.{AgreesWith}
 use Rattle.query_model.specs.declared.bounds.Presence.TheVariants.{Always}
@@ -12,40 +11,40 @@ use Rattle.daq_cli.specs.Forms.{SumsColumn, sum_text}
 use Rattle.daq_cli.specs.Rounds.{IsLastRound, bound_after, is_narrow, known_after, sum_on, sum_query}
 
 -- a table with this frame agrees with the planes that are read of the table after a round: it may be the table, for all that is known
-abbrev pub MayBe : Frame → Cells → ℕ → Cells → Type 0
-MayBe frame cells round world = AgreesWith sum_query frame (known_after frame cells round) world
+abbrev pub MayBe : ℕ → Frame → Cells → ℕ → Cells → Type 0
+MayBe column frame cells round world = AgreesWith (sum_query column) frame (known_after column frame cells round) world
 
 -- what holds of each round up to the last
-pub record IsCertain (frame : Frame) (cells : Cells) (last : ℕ) : Type 0 where
+pub record IsCertain (column : ℕ) (frame : Frame) (cells : Cells) (last : ℕ) : Type 0 where
   -- the table itself is among those that it may be
-  pub itself : (round : ℕ) → round ≤ last → MayBe frame cells round cells
+  pub itself : (round : ℕ) → round ≤ last → MayBe column frame cells round cells
   -- the bound admits the answer on each table that it may be
-  pub contains : (round : ℕ) → round ≤ last → (world : Cells) → MayBe frame cells round world → Admits (bound_after frame cells round) (sum_on frame world)
+  pub contains : (round : ℕ) → round ≤ last → (world : Cells) → MayBe column frame cells round world → Admits (bound_after column frame cells round) (sum_on column frame world)
   -- the bound is as narrow as it can be: its ends are answers on such tables
-  pub tight : (round : ℕ) → round ≤ last → IsExtremes (MayBe frame cells round) (sum_on frame) (bound_after frame cells round)
+  pub tight : (round : ℕ) → round ≤ last → IsExtremes (MayBe column frame cells round) (sum_on column frame) (bound_after column frame cells round)
   -- the bound lies within the one before
-  pub nested : (round : ℕ) → round < last → IsNested (bound_after frame cells round) (bound_after frame cells (round + 1))
+  pub nested : (round : ℕ) → round < last → IsNested (bound_after column frame cells round) (bound_after column frame cells (round + 1))
   -- where all planes are read, the ends are the answer
-  pub exact : (round : ℕ) → round ≤ last → round ≡ planes (ends_at frame 0) → (bound_after frame cells round).empty ≢ Always →
-      (sum_on frame cells ≡ Some (bound_after frame cells round).lo) × (sum_on frame cells ≡ Some (bound_after frame cells round).hi)
+  pub exact : (round : ℕ) → round ≤ last → round ≡ planes (ends_at frame column) → (bound_after column frame cells round).empty ≢ Always →
+      (sum_on column frame cells ≡ Some (bound_after column frame cells round).lo) × (sum_on column frame cells ≡ Some (bound_after column frame cells round).hi)
   -- no more rounds read a plane than the column has
-  pub few : last ≤ planes (ends_at frame 0)
+  pub few : last ≤ planes (ends_at frame column)
 
 -- ---- laws of rounds, each the contract of a function that does nothing
 
 -- with all planes read, the bound is one number, or surely none
 abbrev pub FullRoundsAreNarrow : Type 0
 FullRoundsAreNarrow =
-    (frame : Frame) (ends : Ends) (cells : Cells) → frame.columns ≡ ends ∷ [] → IsTable frame cells → IsTrue (is_narrow 0 (bound_after frame cells (planes ends)))
+    (column : ℕ) (frame : Frame) (cells : Cells) → column < length frame.columns → IsTable frame cells → IsTrue (is_narrow 0 (bound_after column frame cells (planes (ends_at frame column))))
 
--- a table of one column has a last round
+-- each column of a table has a last round
 abbrev pub TablesHaveLastRounds : Type 0
-TablesHaveLastRounds = (frame : Frame) (ends : Ends) (cells : Cells) → frame.columns ≡ ends ∷ [] → IsTable frame cells → (last : ℕ) × IsLastRound frame cells last
+TablesHaveLastRounds = (column : ℕ) (frame : Frame) (cells : Cells) → column < length frame.columns → IsTable frame cells → (last : ℕ) × IsLastRound column frame cells last
 
 -- and up to it each round is certain
 abbrev pub LastRoundsAreCertain : Type 0
 LastRoundsAreCertain =
-    (frame : Frame) (ends : Ends) (cells : Cells) (last : ℕ) → frame.columns ≡ ends ∷ [] → IsTable frame cells → IsLastRound frame cells last → IsCertain frame cells last
+    (column : ℕ) (frame : Frame) (cells : Cells) (last : ℕ) → column < length frame.columns → IsTable frame cells → IsLastRound column frame cells last → IsCertain column frame cells last
 
 -- the first line of a report shows the printed form of the query
 abbrev pub SumsArePrinted : Type 0

@@ -12,7 +12,7 @@ use Rattle.sql_text.specs.Tree as sql
 use Rattle.daq_cli.specs.Forms.{HasNoCells, IsColumnText, IsQueryFault, IsSumOf, StandsFor, schema_text}
 use Rattle.daq_cli.specs.Headline.{IsCertain}
 use Rattle.daq_cli.specs.Refusals.{fault_line, status_of}
-use Rattle.daq_cli.specs.Report.{WritesPart, report}
+use Rattle.daq_cli.specs.Report.{WritesPart, report, shown_as}
 use Rattle.daq_cli.specs.Rounds.{IsLastRound}
 use Rattle.daq_cli.specs.declared.refusal.QueryFault.{QueryFault}
 use Rattle.daq_cli.specs.declared.refusal.Refusal.{Refusal}
@@ -100,9 +100,9 @@ pub record IsAnswered (words : List (List ℕ)) (input input' : SourceState) (ou
   pub cells : Cells
   pub read : ReadsTable name input input' head cells
   pub last : ℕ
-  pub rounds : IsLastRound (frame_of head) cells last
-  pub report : Appends out.written out'.written (report name (frame_of head) cells last)
-  pub headline : IsCertain (frame_of head) cells last
+  pub rounds : IsLastRound 0 (frame_of head) cells last
+  pub report : Appends out.written out'.written (report (shown_as name 0) 0 (frame_of head) cells last)
+  pub headline : IsCertain 0 (frame_of head) cells last
 
 -- ---- refusals
 
@@ -153,8 +153,8 @@ pub record WriteCause (words : List (List ℕ)) (input input' : SourceState) (ou
   pub cells : Cells
   pub read : ReadsTable name input input' head cells
   pub last : ℕ
-  pub rounds : IsLastRound (frame_of head) cells last
-  pub report : AppendsPrefix out.written out'.written (report name (frame_of head) cells last)
+  pub rounds : IsLastRound 0 (frame_of head) cells last
+  pub report : AppendsPrefix out.written out'.written (report (shown_as name 0) 0 (frame_of head) cells last)
   pub rose : Rose out.faults out'.faults
 
 -- why a table is refused
@@ -228,5 +228,5 @@ IsOutputCause name head cells out out' TableNotBuilt = ⊥
 IsOutputCause name head cells out out' (TooLong limit) = ⊥
 IsOutputCause name head cells out out' ReadFault = ⊥
 IsOutputCause name head cells out out' WriteFault =
-    Rose out.faults out'.faults × WritesPart (report name) (frame_of head) cells out.written out'.written
+    Rose out.faults out'.faults × WritesPart (report (shown_as name 0)) 0 (frame_of head) cells out.written out'.written
 IsOutputCause name head cells out out' NoMemory = out' ≡ out

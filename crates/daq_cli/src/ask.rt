@@ -8,7 +8,7 @@ ghost use Rattle.sql_text.specs.Tree.{query_of};
 ghost use Rattle.sql_text.specs.declared.fault.SqlFault.{SqlFault};
 ghost use Rattle.daq_cli.specs.Forms.{IsColumnName};
 ghost use Rattle.daq_cli.specs.Outcome.{Accepts, AsksQuery, IsInputCause, IsOutputCause, IsRequestCause, IsTextCause, ReadsTable, sink_of, source_of};
-ghost use Rattle.daq_cli.specs.Report.{WritesAll, report};
+ghost use Rattle.daq_cli.specs.Report.{WritesAll, report, shown_as};
 
 use crate::form::{declares, summed_column};
 use crate::load::{LoadFault, load};
@@ -100,7 +100,7 @@ pub(crate) fn report_table<K: Sink>(
     requires name { IsColumnName name.now }
     requires column { (column : ColumnHead) × (table.now.head.columns ≡ column ∷ []) }
     requires table { IsTable (frame_of table.now.head) table.now.cells }
-    ensures ok { OnOk result (WritesAll (report name.now) (frame_of table.now.head) table.now.cells
+    ensures ok { OnOk result (WritesAll (report (shown_as name.now 0)) 0 (frame_of table.now.head) table.now.cells
         (K.written out.old) (K.written out.new)) }
     ensures refused { IfErr result (IsOutputCause name.now table.now.head table.now.cells
         (sink_of K.written K.faults out.old) (sink_of K.written K.faults out.new)) }
@@ -111,7 +111,7 @@ pub(crate) fn report_table<K: Sink>(
     let Ok(mut prefixes) = vec![in alloc; 0u64; rows] else {
         return Err(Refusal::NoMemory);
     };
-    match write_report(name, table, &mut prefixes, out) {
+    match write_report(name, 0, 0, table, &mut prefixes, out) {
         Ok(()) => Ok(()),
         Err(Failed) => Err(Refusal::WriteFault),
     }

@@ -130,7 +130,7 @@ fn with_number(front: &[u8], number: usize, back: &[u8]) -> TextBuf
 {
     let mut text = TextBuf::new();
     text.append(front);
-    text.append(written_number(number as i128).bytes());
+    text.append(written_number(number as i128, 0).bytes());
     text.append(back);
     text
 }
