@@ -8,7 +8,7 @@ runs=10000
 "$here/daq" ask "$csv" price:int "SELECT SUM(price) FROM t" >/dev/null || exit 1
 
 # Nanoseconds of all runs with a text.
-times() {
+nanoseconds() {
     begun=$(date +%s%N)
     run=0
     while [ "$run" -lt "$runs" ]; do
@@ -19,4 +19,4 @@ times() {
 }
 
 long=$(awk 'BEGIN { printf "SELECT SUM(a"; for (i = 0; i < 2038; i++) printf "+a"; printf ") FROM t" }')
-echo "${#long} bytes: $((($(times "$long") - $(times "SELECT SUM(a+a) FROM t")) / runs / 1000)) microseconds"
+echo "${#long} bytes: $((($(nanoseconds "$long") - $(nanoseconds "SELECT SUM(a+a) FROM t")) / runs / 1000)) microseconds"
