@@ -6,3 +6,4 @@ pub mod CellTexts
 pub mod ValueTexts
 pub mod Schemas
 pub mod SchemaFaults
+pub mod SchemaLaws

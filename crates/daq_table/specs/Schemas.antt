@@ -1,5 +1,5 @@
 -- The text of a schema: items parted by `,`, each a name, `:` and a kind.
-use Rattle.std.specs.Prelude.{◌≡◌, ℕ, ◌+◌, ◌-◌, ◌<◌, ◌==◌, nat_eq, nat_le, Bool, true, not, ◌&&◌, if◌then◌else◌, IsTrue, Option, Some, None, is_some, List, [], ◌∷◌, length, map, take, codes, slice_get, slice_index}
+use Rattle.std.specs.Prelude.{◌≡◌, ℕ, ◌+◌, ◌-◌, ◌<◌, ◌≤◌, ◌==◌, nat_eq, nat_le, Bool, true, not, ◌&&◌, if◌then◌else◌, IsTrue, Option, Some, None, is_some, List, [], ◌∷◌, length, map, take, codes, slice_get, slice_index}
 use Rattle.std.specs.Char.{is_ascii_digit}
 use Rattle.std.specs.List.{after_first, before_first, filter_map, list_all, slice_split, starts_with}
 use Rattle.std.specs.Str.{bytes_eq}
@@ -53,9 +53,15 @@ abbrev pub names_of : List SchemaColumn → List (List ℕ)
 names_of columns = map (λ c. c.name) columns
 
 -- each item declares a column, and these are all
-pub record Declares (text : List ℕ) (columns : List SchemaColumn) : Type 0 where
+pub record AreColumnsOf (text : List ℕ) (columns : List SchemaColumn) : Type 0 where
   pub good : bad_place 0 (items_of text) ≡ None
   pub columns_are : columns ≡ columns_of (items_of text)
+
+-- each item declares a column, these are all, there are at most 64, and their names differ
+pub record Declares (text : List ℕ) (columns : List SchemaColumn) : Type 0 where
+  pub items : AreColumnsOf text columns
+  pub few : length columns ≤ 64
+  pub differ : IsTrue (all_differ (names_of columns))
 
 -- the names before the second differ, and it repeats the first
 pub record IsFirstRepeat (names : List (List ℕ)) (first second : ℕ) : Type 0 where

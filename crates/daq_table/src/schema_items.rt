@@ -3,7 +3,7 @@
 ghost use Rattle.std.specs.Prelude.{◌≡◌, ◌==◌, ◌≤◌, drop, length, IfOk, IfErr};
 ghost use Rattle.std.specs.List.{before_first, list_all};
 ghost use Rattle.daq_table.specs.SchemaFaults.{Refuses};
-ghost use Rattle.daq_table.specs.Schemas.{Declares, column_of, is_dec_word, is_name_byte, is_schema_name, kind_of};
+ghost use Rattle.daq_table.specs.Schemas.{AreColumnsOf, column_of, is_dec_word, is_name_byte, is_schema_name, kind_of};
 
 use crate::head::Kind;
 use crate::names::Name;
@@ -85,7 +85,7 @@ fn item_at(text: &[u8], at: usize) -> &[u8]
 
 // The columns that the items of a text declare, or the first item that declares none.
 pub(crate) fn read_items(alloc: Global, text: &[u8]) -> Result<Vec<SchemaColumn>, SchemaFault>
-    ensures ok { IfOk result (λ columns. Declares text.now columns.items) }
+    ensures ok { IfOk result (λ columns. AreColumnsOf text.now columns.items) }
     ensures err { IfErr result (Refuses text.now) }
 {
     let mut columns = Vec::new(alloc);

@@ -1,13 +1,13 @@
 use Rattle.std.proofs.Common.{ℕ, List, length, ◌∙◌, ap, subst, arith}
 use Rattle.daq_table.proofs.Items.{length-columns, scales_fit}
-use Rattle.daq_table.specs.Schemas.{Declares, IsFirstRepeat, items_of, names_of}
+use Rattle.daq_table.specs.Schemas.{AreColumnsOf, IsFirstRepeat, items_of, names_of}
 use Rattle.daq_table.specs.declared.schema_column.SchemaColumn.{SchemaColumn}
 use Rattle.daq_table.proofs.schema.Schema.parse.Goals as goal
 
 pub returns-then-len-gt64-clause-err : goal.returns-then-len-gt64-clause-err
 returns-then-len-gt64-clause-err c =
     let columns = c.in_ok-columns.columns in
-    let declared = subst (λ (t : List ℕ). Declares t columns.items) c.as_bytes.ensures.value c.in_ok-columns.ensures.ok in
+    let declared = subst (λ (t : List ℕ). AreColumnsOf t columns.items) c.as_bytes.ensures.value c.in_ok-columns.ensures.ok in
     record {
       good = declared.good;
       count_is = omega (arith, c.len-then-len-gt64.ensures, columns.ok.0, ap length declared.columns_are, length-columns 0 (items_of c.args.text.now) declared.good);
@@ -17,7 +17,7 @@ returns-then-len-gt64-clause-err c =
 pub returns-in-Some-clause-err : goal.returns-in-Some-clause-err
 returns-in-Some-clause-err c =
     let columns = c.in_ok-columns.columns in
-    let declared = subst (λ (t : List ℕ). Declares t columns.items) c.as_bytes.ensures.value c.in_ok-columns.ensures.ok in
+    let declared = subst (λ (t : List ℕ). AreColumnsOf t columns.items) c.as_bytes.ensures.value c.in_ok-columns.ensures.ok in
     record {
       good = declared.good;
       few = omega (arith, c.len.ensures, columns.ok.0, ap length declared.columns_are, length-columns 0 (items_of c.args.text.now) declared.good);

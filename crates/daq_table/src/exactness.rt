@@ -1,0 +1,11 @@
+//! What holds of the texts of all schemas.
+
+ghost use Rattle.daq_table.specs.SchemaLaws.{DeclaresOnce, HasOneFault, IsFaultless};
+
+/// The answers of `Schema::parse` are exact: no text has two faults, a text that declares columns has none, and it declares
+/// one list of them, want of memory left aside.
+pub fn schemas_are_exact()
+    ensures one { HasOneFault }
+    ensures none { IsFaultless }
+    ensures same { DeclaresOnce }
+{}
