@@ -5,6 +5,7 @@ ghost use Rattle.std.specs.Prelude.{◌≤◌};
 use crate::{Limits, TableFault, load};
 use daq_table::Schema;
 use std::alloc::Global;
+use std::process::Abort;
 use std::test::Fail;
 
 const TRADES: &str = "price,qty,city\n5,2,Oslo\n9,1,Rome\n12,4,Oslo\n3,3,Bern\n";
@@ -98,9 +99,17 @@ fn marks_are_left_out(rt: HostRuntime) -> Result<(), Fail> {
     Ok(())
 }
 
+// Each text has that fault under that schema.
+fn faults_are(rt: &impl Abort, alloc: Global, table: &[(&str, &str, TableFault)]) {
+    for (text, schema, want) in table {
+        let found = fault(alloc, text.as_bytes(), schema);
+        assert_eq!(rt; found.as_ref(), Some(want), "at {text}");
+    }
+}
+
 #[test]
-fn faults(rt: HostRuntime) {
-    for (text, schema, want) in [
+fn header_faults(rt: HostRuntime) {
+    let table: [(&str, &str, TableFault); 4] = [
         ("", "v:int", TableFault::NoHeader),
         (
             "a,b,c\n",
@@ -113,30 +122,21 @@ fn faults(rt: HostRuntime) {
             TableFault::HeaderDiffers { column: 1 },
         ),
         ("a,b\n", "a:int", TableFault::HeaderDiffers { column: 1 }),
-        (
-            "v\n2024-02-30\n",
-            "v:date",
-            TableFault::BadCell {
-                entry: 1,
-                column: 0,
-            },
-        ),
-        (
-            "v\n7 \n",
-            "v:int",
-            TableFault::BadCell {
-                entry: 1,
-                column: 0,
-            },
-        ),
-        (
-            "a,b\n1,2\nx,y\n1\n",
-            "a:int,b:int",
-            TableFault::BadCell {
-                entry: 2,
-                column: 0,
-            },
-        ),
+    ];
+    faults_are(&rt, rt.alloc(), &table);
+}
+
+// A bad cell.
+fn bad(entry: usize, column: usize) -> TableFault {
+    TableFault::BadCell { entry, column }
+}
+
+#[test]
+fn row_faults(rt: HostRuntime) {
+    let table: [(&str, &str, TableFault); 4] = [
+        ("v\n2024-02-30\n", "v:date", bad(1, 0)),
+        ("v\n7 \n", "v:int", bad(1, 0)),
+        ("a,b\n1,2\nx,y\n1\n", "a:int,b:int", bad(2, 0)),
         (
             "name,v\r\n\"a,b\",1\r\nc\r\n",
             "name:text,v:int",
@@ -146,13 +146,8 @@ fn faults(rt: HostRuntime) {
                 want: 2,
             },
         ),
-    ] {
-        assert_eq!(rt;
-            fault(rt.alloc(), text.as_bytes(), schema),
-            Some(want),
-            "at {text}"
-        );
-    }
+    ];
+    faults_are(&rt, rt.alloc(), &table);
 }
 
 // The fault of the trades within the limits.
