@@ -23,3 +23,4 @@ pub mod TokenFacts
 pub mod TreeTexts
 pub mod Utf8
 pub mod TreeUtf8
+pub mod TreeSize

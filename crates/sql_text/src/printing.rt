@@ -6,7 +6,8 @@ ghost use Rattle.sql_tokens.specs.Spelling.{doubled, is_plain_name};
 ghost use Rattle.sql_text.specs.Tree.{Query, name_of, operand_of, expr_of, item_of, head_of, pred_of, pred_option, ending_of, query_of};
 ghost use Rattle.sql_text.specs.Bare.{bare};
 ghost use Rattle.sql_text.specs.Answer.{IsText};
-ghost use Rattle.sql_text.specs.Printed.{name_text, string_text, sign_text, size_of, digits_of, pointed, num_text, operand_text, listed_text, opening, closing, wraps_loose, wraps_tight, expr_text, call_text, item_text, head_text, cmp_text, between_word, in_word, between_text, members_text, pred_text, filter_text, direction_text, ending_text, printed};
+ghost use Rattle.sql_text.specs.declared.printing.Side.TheVariants.{Right};
+ghost use Rattle.sql_text.specs.Printed.{name_text, string_text, sign_text, size_of, digits_of, pointed, num_text, operand_text, listed_text, opening, closing, wraps_loose, wraps_tight, expr_text, call_text, item_text, head_text, cmp_text, between_word, in_word, between_text, members_text, negated_text, pred_text, filter_text, direction_text, ending_text, printed};
 
 use crate::tree::{
     CallKind, Cmp, ExprTree, ItemTree, Named, Num, PredTree, Select, Tail, Tree, Value,
@@ -312,42 +313,63 @@ fn put_members(
     put(out, b")")
 }
 
+fn put_compare(
+    alloc: Global,
+    out: &mut Vec<u8>,
+    column: &Named,
+    op: Cmp,
+    value: &Value,
+) -> Result<(), AllocError>
+    ensures { OnOk result (out.new.items ≡ out.old.items ++ (name_text (name_of column.now).name ++ (cmp_text op ++ operand_text (operand_of value.now)))) }
+{
+    put_name(out, column.name.as_slice())?;
+    put_cmp(out, op)?;
+    put_value(alloc, out, value)
+}
+
+fn put_columns(out: &mut Vec<u8>, left: &Named, op: Cmp, right: &Named) -> Result<(), AllocError>
+    ensures { OnOk result (out.new.items ≡ out.old.items ++ (name_text (name_of left.now).name ++ (cmp_text op ++ name_text (name_of right.now).name))) }
+{
+    put_name(out, left.name.as_slice())?;
+    put_cmp(out, op)?;
+    put_name(out, right.name.as_slice())
+}
+
+/// The condition that NOT stands before.
+#[cycle(put_pred)]
+fn put_negated(alloc: Global, out: &mut Vec<u8>, pred: &PredTree) -> Result<(), AllocError>
+    ensures { OnOk result (out.new.items ≡ out.old.items ++ negated_text (pred_of pred.now) (pred_text Right (pred_of pred.now))) }
+{
+    match pred {
+        PredTree::Between { column, low, high } => put_between(alloc, out, true, column, low, high),
+        PredTree::OneOf { column, values } => {
+            put_members(alloc, out, true, column, values.as_slice())
+        }
+        PredTree::Compare { .. }
+        | PredTree::Columns { .. }
+        | PredTree::Not(_)
+        | PredTree::And(_, _)
+        | PredTree::Or(_, _) => {
+            put(out, b"NOT ")?;
+            put_pred(alloc, out, Side::Right, pred)
+        }
+    }
+}
+
+#[cycle(put_pred)]
 fn put_pred(alloc: Global, out: &mut Vec<u8>, side: Side, pred: &PredTree) -> Result<(), AllocError>
     ensures { OnOk result (out.new.items ≡ out.old.items ++ pred_text side (pred_of pred.now)) }
 {
     match pred {
-        PredTree::Compare { column, op, value } => {
-            put_name(out, column.name.as_slice())?;
-            put_cmp(out, *op)?;
-            put_value(alloc, out, value)
-        }
-        PredTree::Columns { left, op, right } => {
-            put_name(out, left.name.as_slice())?;
-            put_cmp(out, *op)?;
-            put_name(out, right.name.as_slice())
-        }
+        PredTree::Compare { column, op, value } => put_compare(alloc, out, column, *op, value),
+        PredTree::Columns { left, op, right } => put_columns(out, left, *op, right),
         PredTree::Between { column, low, high } => {
             put_between(alloc, out, false, column, low, high)
         }
         PredTree::OneOf { column, values } => {
             put_members(alloc, out, false, column, values.as_slice())
         }
-        PredTree::Not(inner) => match &**inner {
-            PredTree::Between { column, low, high } => {
-                put_between(alloc, out, true, column, low, high)
-            }
-            PredTree::OneOf { column, values } => {
-                put_members(alloc, out, true, column, values.as_slice())
-            }
-            PredTree::Compare { .. }
-            | PredTree::Columns { .. }
-            | PredTree::Not(_)
-            | PredTree::And(_, _)
-            | PredTree::Or(_, _) => {
-                put(out, b"NOT ")?;
-                put_pred(alloc, out, Side::Right, inner)
-            }
-        },
+        PredTree::Not(inner) => put_negated(alloc, out, inner),
         PredTree::And(left, right) => {
             put_opening(out, side.wraps_tight())?;
             put_pred(alloc, out, Side::Middle, left)?;

@@ -22,12 +22,11 @@ fn all_are(rt: &impl Abort, alloc: Global, table: &[(&str, &str)]) -> Result<(),
 }
 
 #[test]
-fn sentences(rt: HostRuntime) -> Result<(), Fail> {
-    let table: [(&str, &str); 22] = [
+fn items(rt: HostRuntime) -> Result<(), Fail> {
+    let table: [(&str, &str); 8] = [
         ("SELECT a FROM t", ""),
         ("select a, b from t;", ""),
         ("SELECT COUNT(*) FROM t", ""),
-        ("SELECT SUM(a + b * -2) FROM t WHERE a = 1", ""),
         (
             "SELECT SUM(- 5), AVG(a - -5), MIN((a)), max(1.50) FROM t",
             "",
@@ -35,10 +34,15 @@ fn sentences(rt: HostRuntime) -> Result<(), Fail> {
         ("SELECT SUM(-9223372036854775808) FROM t", ""),
         ("SELECT SUM(9223372036854775807) FROM t", ""),
         ("SELECT SUM(922337203685477580.70) FROM t", ""),
-        ("SELECT * FROM t ORDER BY a LIMIT 3", ""),
-        ("SELECT * FROM t WHERE a < b ORDER BY a DESC LIMIT 3;", ""),
-        ("SELECT * FROM t ORDER BY a ASC LIMIT 2.5", ""),
-        ("SELECT a FROM t GROUP BY a, b;", ""),
+        ("SELECT \"a b\", \"from\" FROM \"t\"", ""),
+    ];
+    all_are(&rt, rt.alloc(), &table)
+}
+
+#[test]
+fn conditions(rt: HostRuntime) -> Result<(), Fail> {
+    let table: [(&str, &str); 8] = [
+        ("SELECT SUM(a + b * -2) FROM t WHERE a = 1", ""),
         ("SELECT a FROM t WHERE NOT NOT a = 1", ""),
         ("SELECT a FROM t WHERE NOT v IN (1)", ""),
         (
@@ -46,22 +50,37 @@ fn sentences(rt: HostRuntime) -> Result<(), Fail> {
             "",
         ),
         (
-            "SELECT a FROM t WHERE d >= DATE '2020-01-01' GROUP BY d",
-            "",
-        ),
-        (
             "SELECT selected, order_by, nota FROM fromage WHERE inn = ory",
             "",
         ),
-        (
-            "SELECT \"a b\", \"from\" FROM \"t\" WHERE \"is\" <> 'it''s'",
-            "",
-        ),
+        ("SELECT a FROM t WHERE \"is\" <> 'it''s'", ""),
         (
             "SELECT a FROM t WHERE (a = 1 OR b != 2) AND (NOT (c <= 3))",
             "",
         ),
         ("SELECT a FROM t WHERE c = ''", ""),
+    ];
+    all_are(&rt, rt.alloc(), &table)
+}
+
+#[test]
+fn endings(rt: HostRuntime) -> Result<(), Fail> {
+    let table: [(&str, &str); 5] = [
+        ("SELECT * FROM t ORDER BY a LIMIT 3", ""),
+        ("SELECT * FROM t WHERE a < b ORDER BY a DESC LIMIT 3;", ""),
+        ("SELECT * FROM t ORDER BY a ASC LIMIT 2.5", ""),
+        ("SELECT a FROM t GROUP BY a, b;", ""),
+        (
+            "SELECT a FROM t WHERE d >= DATE '2020-01-01' GROUP BY d",
+            "",
+        ),
+    ];
+    all_are(&rt, rt.alloc(), &table)
+}
+
+#[test]
+fn deepest(rt: HostRuntime) -> Result<(), Fail> {
+    let table: [(&str, &str); 2] = [
         (
             "SELECT SUM(((((((((((((((((((((((((((((((((a))))))))))))))))))))))))))))))))) FROM t",
             "",
@@ -264,9 +283,20 @@ fn printed(alloc: Global, text: &str) -> Result<String, Fail> {
     }
 }
 
+/// Each text's query prints so, and what is printed is printed the same again.
+fn all_print(rt: &impl Abort, alloc: Global, table: &[(&str, &str)]) -> Result<(), Fail> {
+    for (text, wanted) in table {
+        let found = printed(alloc, text)?;
+        assert!(rt; found.as_str() == *wanted, "{text}: {found}");
+        let again = printed(alloc, found.as_str())?;
+        assert!(rt; again.as_str() == *wanted, "{text}: {again}");
+    }
+    Ok(())
+}
+
 #[test]
-fn printed_forms(rt: HostRuntime) -> Result<(), Fail> {
-    let table: [(&str, &str); 18] = [
+fn printed_conditions(rt: HostRuntime) -> Result<(), Fail> {
+    let table: [(&str, &str); 9] = [
         (
             "select sum( price ) from t where not (price<1 or price>2) and qty=1",
             "SELECT SUM(price) FROM t WHERE NOT (price < 1 OR price > 2) AND qty = 1",
@@ -303,6 +333,13 @@ fn printed_forms(rt: HostRuntime) -> Result<(), Fail> {
             "select a from t where not (a = 1 and b = 2)",
             "SELECT a FROM t WHERE NOT (a = 1 AND b = 2)",
         ),
+    ];
+    all_print(&rt, rt.alloc(), &table)
+}
+
+#[test]
+fn printed_expressions(rt: HostRuntime) -> Result<(), Fail> {
+    let table: [(&str, &str); 5] = [
         (
             "select sum((a - b) - c), avg(a - (b - c)) from t",
             "SELECT SUM(a - b - c), AVG(a - (b - c)) FROM t",
@@ -323,6 +360,13 @@ fn printed_forms(rt: HostRuntime) -> Result<(), Fail> {
             "select sum(-9223372036854775808) from t",
             "SELECT SUM(-9223372036854775808) FROM t",
         ),
+    ];
+    all_print(&rt, rt.alloc(), &table)
+}
+
+#[test]
+fn printed_words(rt: HostRuntime) -> Result<(), Fail> {
+    let table: [(&str, &str); 4] = [
         (
             "select \"from\", \"abc\", \"a b\", min((city)) from \"t\" group by a,\"1\"",
             "SELECT \"from\", abc, \"a b\", MIN(city) FROM t GROUP BY a, \"1\"",
@@ -340,11 +384,5 @@ fn printed_forms(rt: HostRuntime) -> Result<(), Fail> {
             "SELECT * FROM t WHERE c >= 'é' ORDER BY a DESC LIMIT 1.5",
         ),
     ];
-    for (text, wanted) in table {
-        let found = printed(rt.alloc(), text)?;
-        assert!(rt; found.as_str() == wanted, "{text}: {found}");
-        let again = printed(rt.alloc(), found.as_str())?;
-        assert!(rt; again.as_str() == wanted, "{text}: {again}");
-    }
-    Ok(())
+    all_print(&rt, rt.alloc(), &table)
 }

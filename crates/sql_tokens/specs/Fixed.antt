@@ -1,5 +1,5 @@
 -- How keywords and signs are written.
-use Rattle.std.specs.Prelude.{ℕ, List, codes}
+use Rattle.std.specs.Prelude.{ℕ, List, Bool, true, false, codes}
 use Rattle.sql_tokens.specs.declared.token.Fixed.{Fixed}
 use Rattle.sql_tokens.specs.declared.token.Fixed.TheVariants.{Select, From, Where, Group, By, Order, Asc, Desc, Limit, And, Or, Not, Between, In, Date, Count, Sum, Avg, Min, Max, Is, Null, Open, Close, Comma, Star, Plus, Minus, Semicolon, Equal, NotEqual, Less, LessEqual, Greater, GreaterEqual}
 
@@ -39,3 +39,20 @@ spelling Less = codes "<"
 spelling LessEqual = codes "<="
 spelling Greater = codes ">"
 spelling GreaterEqual = codes ">="
+
+-- every other is a keyword
+abbrev pub is_sign : Fixed → Bool
+is_sign Open = true
+is_sign Close = true
+is_sign Comma = true
+is_sign Star = true
+is_sign Plus = true
+is_sign Minus = true
+is_sign Semicolon = true
+is_sign Equal = true
+is_sign NotEqual = true
+is_sign Less = true
+is_sign LessEqual = true
+is_sign Greater = true
+is_sign GreaterEqual = true
+is_sign _ = false

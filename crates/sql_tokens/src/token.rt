@@ -1,7 +1,7 @@
 //! Tokens, each with its place in the text.
 
-ghost use Rattle.std.specs.Prelude.{◌≡◌};
-ghost use Rattle.sql_tokens.specs.Fixed.{spelling};
+ghost use Rattle.std.specs.Prelude.{◌≡◌, true, MatchOption};
+ghost use Rattle.sql_tokens.specs.Fixed.{is_sign, spelling};
 
 /// Keywords and signs.
 #[derive(Clone, Copy, Debug, PartialEq, Eq)]
@@ -74,29 +74,49 @@ impl Fixed {
     pub fn spelling(self) -> &'static [u8]
         ensures { result.now ≡ spelling self }
     {
+        match self.keyword() {
+            Some(word) => word,
+            None => self.sign(),
+        }
+    }
+
+    // The letters of a keyword.
+    fn keyword(self) -> Option<&'static [u8]>
+        ensures { MatchOption result (is_sign self ≡ true) (λ word. word.now ≡ spelling self) }
+    {
         match self {
-            Fixed::Select => b"SELECT",
-            Fixed::From => b"FROM",
-            Fixed::Where => b"WHERE",
-            Fixed::Group => b"GROUP",
-            Fixed::By => b"BY",
-            Fixed::Order => b"ORDER",
-            Fixed::Asc => b"ASC",
-            Fixed::Desc => b"DESC",
-            Fixed::Limit => b"LIMIT",
-            Fixed::And => b"AND",
-            Fixed::Or => b"OR",
-            Fixed::Not => b"NOT",
-            Fixed::Between => b"BETWEEN",
-            Fixed::In => b"IN",
-            Fixed::Date => b"DATE",
-            Fixed::Count => b"COUNT",
-            Fixed::Sum => b"SUM",
-            Fixed::Avg => b"AVG",
-            Fixed::Min => b"MIN",
-            Fixed::Max => b"MAX",
-            Fixed::Is => b"IS",
-            Fixed::Null => b"NULL",
+            Fixed::Select => Some(b"SELECT"),
+            Fixed::From => Some(b"FROM"),
+            Fixed::Where => Some(b"WHERE"),
+            Fixed::Group => Some(b"GROUP"),
+            Fixed::By => Some(b"BY"),
+            Fixed::Order => Some(b"ORDER"),
+            Fixed::Asc => Some(b"ASC"),
+            Fixed::Desc => Some(b"DESC"),
+            Fixed::Limit => Some(b"LIMIT"),
+            Fixed::And => Some(b"AND"),
+            Fixed::Or => Some(b"OR"),
+            Fixed::Not => Some(b"NOT"),
+            Fixed::Between => Some(b"BETWEEN"),
+            Fixed::In => Some(b"IN"),
+            Fixed::Date => Some(b"DATE"),
+            Fixed::Count => Some(b"COUNT"),
+            Fixed::Sum => Some(b"SUM"),
+            Fixed::Avg => Some(b"AVG"),
+            Fixed::Min => Some(b"MIN"),
+            Fixed::Max => Some(b"MAX"),
+            Fixed::Is => Some(b"IS"),
+            Fixed::Null => Some(b"NULL"),
+            _ => None,
+        }
+    }
+
+    // The bytes of a sign.
+    fn sign(self) -> &'static [u8]
+        requires { is_sign self ≡ true }
+        ensures { result.now ≡ spelling self }
+    {
+        match self {
             Fixed::Open => b"(",
             Fixed::Close => b")",
             Fixed::Comma => b",",
@@ -110,6 +130,7 @@ impl Fixed {
             Fixed::LessEqual => b"<=",
             Fixed::Greater => b">",
             Fixed::GreaterEqual => b">=",
+            _ => unreachable!(),
         }
     }
 }
