@@ -1,0 +1,2 @@
+pub mod TestsByEnds
+pub mod Masks
