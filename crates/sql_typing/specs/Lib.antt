@@ -1,0 +1,7 @@
+pub mod Names
+pub mod Kinds
+pub mod Terms
+pub mod Typing
+pub mod Faults
+pub mod Refusals
+pub mod Laws
