@@ -1,0 +1,5 @@
+pub mod Adding
+pub mod Appending
+pub mod BoundFacts
+pub mod Selecting
+pub mod Small

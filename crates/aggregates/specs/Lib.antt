@@ -1,0 +1,3 @@
+pub mod Runnings
+pub mod Selections
+pub mod Tallies

@@ -1,0 +1,38 @@
+-- The rows of a mask, and the ends of their ranges in a column.
+use Rattle.std.specs.Prelude.{ℕ, ℤ, Bool, false, ◌&&◌, List, length, map, slice_index_or}
+use Rattle.std.specs.List.{filter, range_with_len}
+use Rattle.known_column.specs.Columns.{KnownColumn, range_at}
+use Rattle.aggregates.specs.declared.ends.End.{End}
+use Rattle.aggregates.specs.declared.ends.End.TheVariants.{Low, High}
+use Rattle.interval_calc.specs.Intervals.{Interval}
+
+-- the mask has this row
+abbrev pub has_row : List Bool → ℕ → Bool
+has_row mask row = slice_index_or mask row false
+
+-- the numbers of the mask's rows
+abbrev pub rows_in : List Bool → List ℕ
+rows_in mask = filter (has_row mask) (range_with_len 0 (length mask))
+
+-- one of an interval's ends
+abbrev pub end_of : End → Interval → ℤ
+end_of Low i = i.low
+end_of High i = i.high
+
+-- an end of a row's range
+abbrev pub end_at : End → KnownColumn → ℕ → ℤ
+end_at end column row = end_of end (range_at column row)
+
+-- that end at each of the mask's rows
+abbrev pub ends_in : End → KnownColumn → List Bool → List ℤ
+ends_in end column mask = map (end_at end column) (rows_in mask)
+
+abbrev pub lows_in : KnownColumn → List Bool → List ℤ
+lows_in column mask = map (λ row. (range_at column row).low) (rows_in mask)
+
+abbrev pub highs_in : KnownColumn → List Bool → List ℤ
+highs_in column mask = map (λ row. (range_at column row).high) (rows_in mask)
+
+-- the mask with those of its rows that meet a test
+abbrev pub those_of : List Bool → (ℕ → Bool) → List Bool
+those_of mask test = map (λ row. has_row mask row && test row) (range_with_len 0 (length mask))

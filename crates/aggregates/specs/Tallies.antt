@@ -1,0 +1,45 @@
+-- What is kept of a list of pairs. The bound of the list can be told from it, and it can be told of the list with one pair more.
+use Rattle.std.specs.Prelude.{◌<◌, ℤ, pos, ◌≤ℤ◌, Bool, List, [], ◌∷◌, ◌++◌, length, map}
+use Rattle.interval_calc.specs.declared.Span.{Span}
+use Rattle.query_model.specs.declared.query.ItemKind.{ItemKind}
+use Rattle.query_model.specs.declared.query.ItemKind.TheVariants.{Count, Sum, Min, Max, Avg}
+use Rattle.query_model.specs.Answers.{total, answer}
+use Rattle.query_model.specs.Bounds.{Pair, certain_count, lows, highs, certain_lows, certain_highs, low_share, high_share}
+use Rattle.query_model.specs.Laws.{SumsFit}
+use Rattle.query_model.specs.Validity.{IsSumKind}
+use Rattle.aggregates.specs.declared.tally.Tally.{Tally}
+
+-- a row that counts for certain or perhaps, with the span of its value
+abbrev pub pair_with : Bool → Span → Pair
+pair_with certain span = record { certain = certain; low = span.lo; high = span.hi }
+
+-- no span of these pairs is empty
+abbrev pub AreOrdered : List Pair → Type 0
+AreOrdered [] = Unit {0}
+AreOrdered (p ∷ ps) = (p.low ≤ℤ p.high) × AreOrdered ps
+
+-- a sum is kept for sums and averages alone, since that of other items may not fit
+abbrev pub if_summed : ItemKind → ℤ → ℤ
+if_summed Count sum = pos 0
+if_summed Sum sum = sum
+if_summed Min sum = pos 0
+if_summed Max sum = pos 0
+if_summed Avg sum = sum
+
+-- what is kept of a list of pairs
+abbrev pub tally_of : ItemKind → List Pair → Tally
+tally_of kind ps = record {
+  certain = certain_count ps;
+  all = length ps;
+  least_low = answer Min (lows ps);
+  greatest_high = answer Max (highs ps);
+  least_certain_high = answer Min (certain_highs ps);
+  greatest_certain_low = answer Max (certain_lows ps);
+  low_sum = if_summed kind (total (map low_share ps));
+  high_sum = if_summed kind (total (map high_share ps));
+}
+
+-- the list may get this pair too: it is not full, and where values are added up, the sums of all spans, each widened to hold 0, fit
+pub record MayGet (kind : ItemKind) (ps : List Pair) (p : Pair) : Type 0 where
+  pub few : length ps < 16777216
+  pub fits : IsSumKind kind → SumsFit (ps ++ p ∷ [])

@@ -1,0 +1,16 @@
+//! Bounds of aggregates, from counts, sums and ends.
+#![tactic(auto)]
+
+mod ends;
+mod extremes;
+mod running;
+mod tally;
+
+pub use ends::{
+    greatest_high, greatest_low, least_high, least_low, negative_lows, positive_highs, sum_highs,
+    sum_lows,
+};
+pub use running::Running;
+
+#[cfg(test)]
+mod tests;

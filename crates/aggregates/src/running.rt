@@ -1,0 +1,85 @@
+//! Bounds of cells, to which rows are added one by one.
+
+ghost use Rattle.std.specs.Prelude.{◌≡◌, ◌≢◌, ◌≤◌, ◌<◌, List, length, IfOk};
+ghost use Rattle.query_model.specs.declared.query.ItemKind.TheVariants.{Avg};
+ghost use Rattle.query_model.specs.Bounds.{average_bound_of, bound_of, ratios_of, Pair};
+ghost use Rattle.aggregates.specs.Tallies.{pair_with};
+ghost use Rattle.aggregates.specs.Runnings.{IsAdded, IsBlank, MayAdd, StandsFor};
+
+use crate::tally::Tally;
+use interval_calc::Span;
+use query_model::{AvgBound, Bound, ItemKind};
+use std::alloc::{AllocError, Global};
+use std::marker::Model;
+
+/// For each cell what an item's bound is computed from. A cell stands for the list of the rows that were added to it, each
+/// with whether it counts for certain, and its span; the list itself is not kept.
+#[derive(Drop)]
+pub struct Running {
+    kind: ItemKind,
+    cells: usize,
+    tallies: Vec<Tally>,
+}
+
+impl Model for Running {
+    ghost use Rattle.std.specs.Prelude.{◌≤◌, length, take};
+    ghost use Rattle.aggregates.specs.Runnings.{Tallies};
+
+    ghost Value = { Tallies };
+
+    ghost view = { λ r. record { kind = r.kind; room = length r.tallies.items; cells = take r.cells r.tallies.items } };
+
+    ghost invariant = { λ r. r.cells ≤ length r.tallies.items };
+}
+
+impl Running {
+    /// So many cells without a row, for an item of this kind. All room is taken here.
+    pub fn open(alloc: Global, kind: ItemKind, cells: usize) -> Result<Running, AllocError>
+        ensures { IfOk result (λ running. IsBlank running kind cells cells) }
+    {
+        let tallies = vec![in alloc; Tally::none(); cells]?;
+        Ok(Running {
+            kind,
+            cells,
+            tallies,
+        })
+    }
+
+    /// So many cells without a row.
+    pub fn begin(&mut self, cells: usize)
+        requires { cells ≤ self.old.room }
+        ensures { IsBlank self.new self.old.kind self.old.room cells }
+    {
+        for cell in 0..cells {
+            self.tallies[cell] = Tally::none();
+        }
+        self.cells = cells;
+    }
+
+    /// Adds a row to a cell.
+    pub fn add(&mut self, cell: u32, certain: bool, span: Span)
+        requires { MayAdd self.old cell (pair_with certain span) }
+        ensures { IsAdded self.old self.new cell (pair_with certain span) }
+    {
+        let cell = cell as usize;
+        self.tallies[cell] = self.tallies[cell].with(self.kind, certain, span);
+    }
+
+    /// The bound of an item that is no average.
+    pub fn bound(&self, cell: u32) -> Bound
+        requires cell { cell < length self.now.cells }
+        requires kind { self.now.kind ≢ Avg }
+        ensures { (ps : List Pair) → StandsFor self.now cell ps → result ≡ bound_of self.now.kind ps }
+    {
+        self.tallies[cell as usize].bound(self.kind)
+    }
+
+    /// The bound of an average.
+    pub fn average(&self, cell: u32) -> AvgBound
+        requires cell { cell < length self.now.cells }
+        requires kind { self.now.kind ≡ Avg }
+        ensures { (ps : List Pair) → StandsFor self.now cell ps → ratios_of result ≡ average_bound_of ps }
+    {
+        self.tallies[cell as usize].average()
+    }
+}

@@ -1,0 +1,197 @@
+// What is kept of a list of rows that may count, and the bound that follows from it.
+ghost use Rattle.std.specs.Prelude.{◌≡◌, ◌<◌, ℕ, ℤ, pos, ◌+ℤ◌, ◌≤ℤ◌, List, [], ◌∷◌, ◌++◌, if◌then◌else◌, int_le, FitsSigned};
+ghost use Rattle.std.specs.Int.{w128};
+ghost use Rattle.query_model.specs.declared.query.ItemKind.TheVariants.{Sum};
+ghost use Rattle.query_model.specs.Bounds.{average_bound_of, bound_of, emptiness, greatest_sum, high_of_least, high_share, least_sum, low_of_greatest, low_share, ratios_of, Pair};
+ghost use Rattle.query_model.specs.Validity.{IsSumKind};
+ghost use Rattle.aggregates.specs.Tallies.{if_summed, pair_with, tally_of};
+
+use crate::extremes::{greater, lesser};
+use interval_calc::{Frac, Span};
+use query_model::{AvgBound, Bound, ItemKind, Presence};
+
+// Counts, sums and ends of a list of pairs: how many rows count for certain and how many may count, their ends, and what
+// they add to the least and to the greatest sum.
+#[derive(Clone, Copy)]
+pub(crate) struct Tally {
+    certain: u64,
+    all: u64,
+    least_low: Option<i128>,
+    greatest_high: Option<i128>,
+    least_certain_high: Option<i128>,
+    greatest_certain_low: Option<i128>,
+    low_sum: i128,
+    high_sum: i128,
+}
+
+// What a row adds to the least sum: one that may not count only what lowers it.
+fn low_share(certain: bool, span: Span) -> i128
+    ensures { result ≡ low_share (pair_with certain span) }
+{
+    if certain { span.lo } else { span.lo.min(0) }
+}
+
+// What a row adds to the greatest sum.
+fn high_share(certain: bool, span: Span) -> i128
+    ensures { result ≡ high_share (pair_with certain span) }
+{
+    if certain { span.hi } else { span.hi.max(0) }
+}
+
+// A sum with one number more, where sums are kept.
+fn sum_with(kind: ItemKind, sum: i128, share: i128) -> i128
+    requires { IsSumKind kind → FitsSigned w128 (sum +ℤ share) }
+    ensures { (earlier : ℤ) → sum ≡ if_summed kind earlier → result ≡ if_summed kind (earlier +ℤ share) }
+{
+    match kind {
+        ItemKind::Sum | ItemKind::Avg => sum + share,
+        ItemKind::Count | ItemKind::Min | ItemKind::Max => sum,
+    }
+}
+
+// A sum divided by one number where it is not negative, else by another.
+fn quotient(sum: i128, most: u64, least: u64) -> Frac
+    requires most { 0 < most }
+    requires least { 0 < least }
+    ensures num { result.num ≡ sum }
+    ensures den { result.den ≡ if int_le (pos 0) sum then most else least }
+{
+    Frac {
+        num: sum,
+        den: if sum >= 0 { most } else { least },
+    }
+}
+
+impl Tally {
+    // That of no pairs.
+    pub(crate) fn none() -> Tally
+        ensures { (kind : ItemKind) → result ≡ tally_of kind [] }
+    {
+        Tally {
+            certain: 0,
+            all: 0,
+            least_low: None,
+            greatest_high: None,
+            least_certain_high: None,
+            greatest_certain_low: None,
+            low_sum: 0,
+            high_sum: 0,
+        }
+    }
+
+    // That of the pairs with one more at their end.
+    pub(crate) fn with(self, kind: ItemKind, certain: bool, span: Span) -> Tally
+        requires few { self.all < 16777216 }
+        requires few_certain { self.certain < 16777216 }
+        requires low { IsSumKind kind → FitsSigned w128 (self.low_sum +ℤ low_share (pair_with certain span)) }
+        requires high { IsSumKind kind → FitsSigned w128 (self.high_sum +ℤ high_share (pair_with certain span)) }
+        ensures { (ps : List Pair) → self ≡ tally_of kind ps → result ≡ tally_of kind (ps ++ pair_with certain span ∷ []) }
+    {
+        let next = Tally {
+            all: self.all + 1,
+            least_low: Some(lesser(self.least_low, span.lo)),
+            greatest_high: Some(greater(self.greatest_high, span.hi)),
+            low_sum: sum_with(kind, self.low_sum, low_share(certain, span)),
+            high_sum: sum_with(kind, self.high_sum, high_share(certain, span)),
+            ..self
+        };
+        if !certain {
+            return next;
+        }
+        Tally {
+            certain: self.certain + 1,
+            least_certain_high: Some(lesser(self.least_certain_high, span.hi)),
+            greatest_certain_low: Some(greater(self.greatest_certain_low, span.lo)),
+            ..next
+        }
+    }
+
+    // Whether no row counts.
+    fn emptiness(self) -> Presence
+        ensures { (kind : ItemKind) (ps : List Pair) → self ≡ tally_of kind ps → result ≡ emptiness ps }
+    {
+        if self.all == 0 {
+            Presence::Always
+        } else if self.certain > 0 {
+            Presence::Never
+        } else {
+            Presence::Possibly
+        }
+    }
+
+    // Where no row is certain and each low is above 0, the least low stands alone: a sum of no row would be no sum.
+    fn least_sum(self) -> i128
+        ensures { (ps : List Pair) → self ≡ tally_of Sum ps → result ≡ least_sum ps }
+    {
+        match self.least_low {
+            Some(low) if self.certain == 0 && low > 0 => low,
+            _ => self.low_sum,
+        }
+    }
+
+    // In the same way, for highs below 0.
+    fn greatest_sum(self) -> i128
+        ensures { (ps : List Pair) → self ≡ tally_of Sum ps → result ≡ greatest_sum ps }
+    {
+        match self.greatest_high {
+            Some(high) if self.certain == 0 && high < 0 => high,
+            _ => self.high_sum,
+        }
+    }
+
+    // The greatest that the least value can be.
+    fn high_of_least(self) -> i128
+        ensures { (kind : ItemKind) (ps : List Pair) → self ≡ tally_of kind ps → result ≡ high_of_least ps }
+    {
+        self.least_certain_high.or(self.greatest_high).unwrap_or(0)
+    }
+
+    // The least that the greatest value can be.
+    fn low_of_greatest(self) -> i128
+        ensures { (kind : ItemKind) (ps : List Pair) → self ≡ tally_of kind ps → result ≡ low_of_greatest ps }
+    {
+        self.greatest_certain_low.or(self.least_low).unwrap_or(0)
+    }
+
+    // The bound of an item that is no average.
+    pub(crate) fn bound(self, kind: ItemKind) -> Bound
+        ensures { (ps : List Pair) → self ≡ tally_of kind ps → result ≡ bound_of kind ps }
+    {
+        match kind {
+            ItemKind::Count => Bound {
+                empty: Presence::Never,
+                lo: i128::from(self.certain),
+                hi: i128::from(self.all),
+            },
+            ItemKind::Sum | ItemKind::Avg => Bound {
+                empty: self.emptiness(),
+                lo: self.least_sum(),
+                hi: self.greatest_sum(),
+            },
+            ItemKind::Min => Bound {
+                empty: self.emptiness(),
+                lo: self.least_low.unwrap_or(0),
+                hi: self.high_of_least(),
+            },
+            ItemKind::Max => Bound {
+                empty: self.emptiness(),
+                lo: self.low_of_greatest(),
+                hi: self.greatest_high.unwrap_or(0),
+            },
+        }
+    }
+
+    // The bound of an average: a sum that is not negative is divided by as many rows as may count for the low end, and
+    // by as few as may count for the high end.
+    pub(crate) fn average(self) -> AvgBound
+        ensures { (ps : List Pair) → self ≡ tally_of Sum ps → ratios_of result ≡ average_bound_of ps }
+    {
+        let most = self.all.max(1);
+        let fewest = self.certain.max(1);
+        AvgBound {
+            empty: self.emptiness(),
+            lo: quotient(self.least_sum(), most, fewest),
+            hi: quotient(self.greatest_sum(), fewest, most),
+        }
+    }
+}

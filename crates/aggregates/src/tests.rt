@@ -1,0 +1,393 @@
+// Bounds of lists of rows by kind, worked out by hand, and ends of the ranges of a column.
+ghost use Rattle.std.specs.Prelude.{◌≡◌, ◌≢◌, ◌≤◌, ◌<◌, ◌≤ℤ◌, length, FitsSigned, IfOk};
+ghost use Rattle.std.specs.Int.{w16};
+ghost use Rattle.query_model.specs.declared.query.ItemKind.TheVariants.{Avg};
+
+use super::*;
+use daq_table::{ColumnHead, Kind, Name, Names};
+use interval_calc::{Frac, Span};
+use known_column::Known;
+use plane_kernels::{Mask, Plane, transpose};
+use query_model::{AvgBound, Bound, ItemKind, Presence};
+use std::alloc::{AllocError, Global};
+use std::test::Fail;
+
+// A row that may count: whether it does so for certain, and the ends of its span.
+#[derive(Clone, Copy)]
+struct Row {
+    certain: bool,
+    lo: i16,
+    hi: i16,
+}
+
+fn certain(lo: i16, hi: i16) -> Row {
+    Row {
+        certain: true,
+        lo,
+        hi,
+    }
+}
+
+fn unknown(lo: i16, hi: i16) -> Row {
+    Row {
+        certain: false,
+        lo,
+        hi,
+    }
+}
+
+fn span(row: Row) -> Span
+    ensures low { FitsSigned w16 result.lo }
+    ensures high { FitsSigned w16 result.hi }
+{
+    Span {
+        lo: i128::from(row.lo),
+        hi: i128::from(row.hi.max(row.lo)),
+    }
+}
+
+// One cell with these rows.
+fn filled(alloc: Global, kind: ItemKind, rows: &[Row]) -> Result<Running, AllocError>
+    requires { length rows.now ≤ 1000 }
+    ensures kind { IfOk result (λ running. running.kind ≡ kind) }
+    ensures cell { IfOk result (λ running. 0 < length running.cells) }
+{
+    let mut running = Running::open(alloc, kind, 1)?;
+    for row in rows {
+        running.add(0, row.certain, span(*row));
+    }
+    Ok(running)
+}
+
+fn bound_of(alloc: Global, kind: ItemKind, rows: &[Row]) -> Result<Bound, AllocError>
+    requires few { length rows.now ≤ 1000 }
+    requires kind { kind ≢ Avg }
+{
+    Ok(filled(alloc, kind, rows)?.bound(0))
+}
+
+// The bounds of COUNT, SUM, MIN and MAX.
+fn bounds_of(alloc: Global, rows: &[Row]) -> Result<[Bound; 4], AllocError>
+    requires { length rows.now ≤ 1000 }
+{
+    Ok([
+        bound_of(alloc, ItemKind::Count, rows)?,
+        bound_of(alloc, ItemKind::Sum, rows)?,
+        bound_of(alloc, ItemKind::Min, rows)?,
+        bound_of(alloc, ItemKind::Max, rows)?,
+    ])
+}
+
+fn average_of(alloc: Global, rows: &[Row]) -> Result<AvgBound, AllocError>
+    requires { length rows.now ≤ 1000 }
+{
+    Ok(filled(alloc, ItemKind::Avg, rows)?.average(0))
+}
+
+fn never(lo: i128, hi: i128) -> Bound {
+    Bound {
+        empty: Presence::Never,
+        lo,
+        hi,
+    }
+}
+
+fn possibly(lo: i128, hi: i128) -> Bound {
+    Bound {
+        empty: Presence::Possibly,
+        lo,
+        hi,
+    }
+}
+
+fn fraction(num: i128, den: u64) -> Frac
+    requires { 0 < den }
+{
+    Frac { num, den }
+}
+
+#[test]
+fn no_row_counts(rt: HostRuntime) -> Result<(), Fail> {
+    let alloc = rt.alloc();
+    let none = Bound {
+        empty: Presence::Always,
+        lo: 0,
+        hi: 0,
+    };
+    let zero = fraction(0, 1);
+    assert_eq!(rt;
+        bounds_of(alloc, &[])?.as_slice(),
+        [never(0, 0), none, none, none].as_slice()
+    );
+    assert_eq!(rt;
+        average_of(alloc, &[])?,
+        AvgBound {
+            empty: Presence::Always,
+            lo: zero,
+            hi: zero
+        }
+    );
+    Ok(())
+}
+
+#[test]
+fn all_count(rt: HostRuntime) -> Result<(), Fail> {
+    let alloc = rt.alloc();
+    let rows = [certain(5, 9), certain(-3, -1)];
+    assert_eq!(rt;
+        bounds_of(alloc, &rows)?.as_slice(),
+        [never(2, 2), never(2, 8), never(-3, -1), never(5, 9)].as_slice()
+    );
+    assert_eq!(rt;
+        average_of(alloc, &rows)?,
+        AvgBound {
+            empty: Presence::Never,
+            lo: fraction(2, 2),
+            hi: fraction(8, 2)
+        }
+    );
+    Ok(())
+}
+
+#[test]
+fn one_unknown_row_stands_alone(rt: HostRuntime) -> Result<(), Fail> {
+    let alloc = rt.alloc();
+    let above = [unknown(3, 12), unknown(5, 8)];
+    assert_eq!(rt;
+        bounds_of(alloc, &above)?.as_slice(),
+        [
+            never(0, 2),
+            possibly(3, 20),
+            possibly(3, 12),
+            possibly(3, 12)
+        ]
+        .as_slice()
+    );
+    assert_eq!(rt;
+        average_of(alloc, &above)?,
+        AvgBound {
+            empty: Presence::Possibly,
+            lo: fraction(3, 2),
+            hi: fraction(20, 1)
+        }
+    );
+    let below = [unknown(-8, -5), unknown(-12, -3)];
+    assert_eq!(rt;
+        bounds_of(alloc, &below)?.as_slice(),
+        [
+            never(0, 2),
+            possibly(-20, -3),
+            possibly(-12, -3),
+            possibly(-12, -3)
+        ]
+        .as_slice()
+    );
+    assert_eq!(rt;
+        average_of(alloc, &below)?,
+        AvgBound {
+            empty: Presence::Possibly,
+            lo: fraction(-20, 1),
+            hi: fraction(-3, 2)
+        }
+    );
+    Ok(())
+}
+
+#[test]
+fn zero_is_no_further(rt: HostRuntime) -> Result<(), Fail> {
+    let alloc = rt.alloc();
+    assert_eq!(rt;
+        bounds_of(alloc, &[unknown(0, 4), unknown(2, 3)])?.as_slice(),
+        [never(0, 2), possibly(0, 7), possibly(0, 4), possibly(0, 4)].as_slice()
+    );
+    assert_eq!(rt;
+        bounds_of(alloc, &[unknown(-4, 0), unknown(-3, -2)])?.as_slice(),
+        [
+            never(0, 2),
+            possibly(-7, 0),
+            possibly(-4, 0),
+            possibly(-4, 0)
+        ]
+        .as_slice()
+    );
+    Ok(())
+}
+
+#[test]
+fn some_count(rt: HostRuntime) -> Result<(), Fail> {
+    let alloc = rt.alloc();
+    let rows = [unknown(-2, 5), certain(4, 6), unknown(1, 3)];
+    assert_eq!(rt;
+        bounds_of(alloc, &rows)?.as_slice(),
+        [never(1, 3), never(2, 14), never(-2, 6), never(4, 6)].as_slice()
+    );
+    assert_eq!(rt;
+        average_of(alloc, &rows)?,
+        AvgBound {
+            empty: Presence::Never,
+            lo: fraction(2, 3),
+            hi: fraction(14, 1)
+        }
+    );
+    let low = [
+        certain(-9, -4),
+        unknown(-5, 2),
+        unknown(3, 3),
+        certain(-7, -6),
+    ];
+    assert_eq!(rt;
+        bounds_of(alloc, &low)?.as_slice(),
+        [never(2, 4), never(-21, -5), never(-9, -6), never(-7, 3)].as_slice()
+    );
+    assert_eq!(rt;
+        average_of(alloc, &low)?,
+        AvgBound {
+            empty: Presence::Never,
+            lo: fraction(-21, 2),
+            hi: fraction(-5, 4)
+        }
+    );
+    Ok(())
+}
+
+// Adds a row to the second of two cells, and says the bounds of both, and that of the first after a new start.
+fn second_of_two(alloc: Global, row: Row) -> Result<[Bound; 3], AllocError> {
+    let mut running = Running::open(alloc, ItemKind::Min, 2)?;
+    running.add(1, row.certain, span(row));
+    let first = running.bound(0);
+    let second = running.bound(1);
+    running.begin(2);
+    Ok([first, second, running.bound(1)])
+}
+
+#[test]
+fn cells_are_apart(rt: HostRuntime) -> Result<(), Fail> {
+    let none = Bound {
+        empty: Presence::Always,
+        lo: 0,
+        hi: 0,
+    };
+    assert_eq!(rt;
+        second_of_two(rt.alloc(), certain(3, 5))?.as_slice(),
+        [none, never(3, 5), none].as_slice()
+    );
+    Ok(())
+}
+
+// A column of whole numbers of which the first so many planes of these cells are read, where none is refused.
+fn partly_read(
+    alloc: Global,
+    base: i64,
+    top: i64,
+    cells: &[u64],
+    planes: u8,
+) -> Result<Known, AllocError>
+    requires ordered { base ≤ℤ top }
+    requires few { length cells.now ≤ 1000 }
+{
+    let name = Name::new(b"v".to_vec(alloc)?);
+    let names = Names::new(Vec::new(alloc));
+    let head = ColumnHead {
+        name,
+        kind: Kind::Int,
+        base,
+        top,
+        names,
+    };
+    let mut known = Known::open(alloc, &head, cells.len())?;
+    for _ in 0..planes {
+        read_next(alloc, &mut known, cells)?;
+    }
+    Ok(known)
+}
+
+// Reads the next plane of these cells, where there is one.
+fn read_next(alloc: Global, known: &mut Known, cells: &[u64]) -> Result<(), AllocError> {
+    let mut plane = Plane::blank(alloc, known.rows())?;
+    let unread = known.unread();
+    if unread > 0 && cells.len() == plane.rows() {
+        let width = known.width();
+        transpose(cells, width, width - unread, &mut plane);
+        let _ = known.take(&plane);
+    }
+    Ok(())
+}
+
+// The mask of some rows.
+fn mask_of(alloc: Global, rows: usize, chosen: &[usize]) -> Result<Mask, AllocError> {
+    let mut mask = Mask::none(alloc, rows)?;
+    for row in chosen {
+        if *row < mask.rows() {
+            mask.set(*row, true);
+        }
+    }
+    Ok(mask)
+}
+
+fn sums(known: &Known, mask: &Mask) -> Option<(i128, i128)> {
+    if mask.rows() != known.rows() {
+        return None;
+    }
+    Some((sum_lows(known, mask), sum_highs(known, mask)))
+}
+
+// The least and the greatest low end, and the least and the greatest high end.
+fn extremes(known: &Known, mask: &Mask) -> [Option<i128>; 4] {
+    if mask.rows() != known.rows() {
+        return [None; 4];
+    }
+    [
+        least_low(known, mask),
+        greatest_low(known, mask),
+        least_high(known, mask),
+        greatest_high(known, mask),
+    ]
+}
+
+// The first row and the number of rows whose low is below 0, and of those whose high is above 0.
+fn signs(
+    alloc: Global,
+    known: &Known,
+    mask: &Mask,
+) -> Result<(Option<usize>, u64, Option<usize>, u64), AllocError> {
+    let mut negative = Mask::all(alloc, mask.rows())?;
+    let mut positive = Mask::all(alloc, mask.rows())?;
+    if mask.rows() == known.rows() {
+        negative_lows(known, mask, &mut negative);
+        positive_highs(known, mask, &mut positive);
+    }
+    Ok((
+        negative.first_one(),
+        negative.count(),
+        positive.first_one(),
+        positive.count(),
+    ))
+}
+
+#[test]
+fn ends_of_prices(rt: HostRuntime) -> Result<(), Fail> {
+    let alloc = rt.alloc();
+    let prices = partly_read(alloc, 3, 12, &[2, 6, 9, 0], 1)?;
+    let some = mask_of(alloc, 4, &[0, 2])?;
+    assert_eq!(rt; sums(&prices, &some), Some((14, 22)));
+    assert_eq!(rt;
+        extremes(&prices, &some).as_slice(),
+        [Some(3), Some(11), Some(10), Some(12)].as_slice()
+    );
+    let none = mask_of(alloc, 4, &[])?;
+    assert_eq!(rt; sums(&prices, &none), Some((0, 0)));
+    assert_eq!(rt; extremes(&prices, &none).as_slice(), [None; 4].as_slice());
+    Ok(())
+}
+
+#[test]
+fn signs_of_ends(rt: HostRuntime) -> Result<(), Fail> {
+    let alloc = rt.alloc();
+    let cells = [0, 4, 7, 0];
+    let some = mask_of(alloc, 4, &[0, 1, 2])?;
+    let one_plane = partly_read(alloc, -5, 2, &cells, 1)?;
+    assert_eq!(rt; signs(alloc, &one_plane, &some)?, (Some(0), 3, Some(1), 2));
+    let two_planes = partly_read(alloc, -5, 2, &cells, 2)?;
+    assert_eq!(rt; signs(alloc, &two_planes, &some)?, (Some(0), 2, Some(2), 1));
+    Ok(())
+}
