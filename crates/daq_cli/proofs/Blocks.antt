@@ -1,20 +1,21 @@
 -- Blocks of a report, written one after the other.
-use Rattle.std.proofs.Common.{◌≡◌, ℕ, zero, suc, ◌+◌, ◌-◌, ◌*◌, ◌/◌, ◌^◌, ◌<◌, ◌≤◌, List, [], ◌∷◌, ◌++◌, length, map, slice_index, slice_index_or, get_or, All, refl, sym, ap, ◌∙◌, subst, arith, append_assoc, append-nil, IsTrue, IsFalse, Some, Option, zero-add}
+use Rattle.std.proofs.Common.{◌≡◌, ℕ, zero, suc, ◌+◌, ◌-◌, ◌/◌, ◌%◌, ◌==◌, ◌^◌, ◌<◌, ◌≤◌, Bool, List, [], ◌∷◌, ◌++◌, length, map, slice_index, slice_index_or, refl, sym, ap, ◌∙◌, subst, arith, append_assoc, append-nil, IsTrue, IsFalse, Some, Option, zero-add}
 use Rattle.std.proofs.lemmas.Bool.{false≢true}
-use Rattle.std.proofs.lemmas.List.{get_or-map, length-map}
-use Rattle.std.proofs.lemmas.Nat.{div-add-mod'}
+use Rattle.std.proofs.lemmas.List.{length-map}
 use Rattle.std.proofs.KnownBytes.{Appends-trans}
 use Rattle.std.specs.Io.KnownBytes.{Appends}
 use Rattle.std.specs.List.{cons_option, filter_map, range_with_len}
-use Rattle.daq_table.specs.Tables.{Cells, Frame, IsTable, ends_at, planes, spread}
+use Rattle.daq_table.specs.Tables.{Cells, Frame, IsTable, ends_at, planes}
 use Rattle.daq_table.specs.declared.head.Ends.{Ends}
+use Rattle.known_column.specs.Columns.{KnownColumn, StaysLegal, read_further}
 use Rattle.outer_world.specs.Whole.{AppendsPrefix}
 use Rattle.query_model.specs.Bounds.{Pair, bound_of, pair_of}
-use Rattle.query_model.specs.Knowledge.{ranges_of}
+use Rattle.query_model.specs.Knowledge.{Knowledge, known_at, known_of, plane_of, prefix_of, ranges_of}
+use Rattle.query_model.specs.Laws.{PlanesAreTaken}
 use Rattle.query_model.specs.declared.bounds.Bound.{Bound}
 use Rattle.query_model.specs.declared.query.ItemKind.TheVariants.{Sum}
 use Rattle.daq_cli.specs.Headline.{FullRoundsAreNarrow}
-use Rattle.daq_cli.specs.Prefixes.{FitsColumn, column_frame, sure_pair, sure_pairs}
+use Rattle.daq_cli.specs.Prefixes.{column_after, column_frame, range_in, sure_pair, sure_pairs}
 use Rattle.daq_cli.specs.Report.{Shown, block, block_of, blocks_below}
 use Rattle.daq_cli.specs.Rounds.{IsLastRound, bound_after, is_narrow, known_after, sum_item, sum_query}
 
@@ -30,38 +31,50 @@ pairs_of_rows f g a (x ∷ xs) h =
     let next = pairs_of_rows f g (a + 1) xs (λ r k. let there : a + 1 + r ≡ a + suc r = omega arith in ap f there ∙ h (suc r) (omega arith)) in
     ap (λ o. cons_option o (filter_map f (range_with_len (a + 1) (length xs)))) first ∙ ap (λ l. g x ∷ l) next
 
-pub bound_of_prefixes : (ends : Ends) (cells : List ℕ) (round : ℕ) →
-    bound_after 0 (column_frame (length cells) ends) (cells ∷ []) round ≡ bound_of Sum (sure_pairs ends (2 ^ (planes ends - round)) (map (λ cell. cell / 2 ^ (planes ends - round)) cells))
-bound_of_prefixes ends cells round =
+pub bound_of_column : (ends : Ends) (cells : List ℕ) (round : ℕ) →
+    bound_after 0 (column_frame (length cells) ends) (cells ∷ []) round ≡ bound_of Sum (sure_pairs (column_after ends cells round))
+bound_of_column ends cells round =
     let frame = column_frame (length cells) ends in
-    let b = 2 ^ (planes ends - round) in
-    let ps = map (λ cell. cell / b) cells in
+    let column = column_after ends cells round in
+    let ps = column.known.prefixes in
     let f = λ (r : ℕ). pair_of (sum_query 0) sum_item [] (ranges_of frame (known_after 0 frame (cells ∷ []) round) r) in
-    let long : length ps ≡ length cells = length-map cells (λ cell. cell / b) in
-    let rows : filter_map f (range_with_len 0 (length ps)) ≡ sure_pairs ends b ps = pairs_of_rows f (sure_pair ends b) 0 ps (λ r h. ap f (zero-add r)) in
+    let long : length ps ≡ length cells = length-map cells (prefix_of ends round) in
+    let rows : filter_map f (range_with_len 0 (length ps)) ≡ sure_pairs column = pairs_of_rows f (λ p. sure_pair (range_in column p)) 0 ps (λ r h. ap f (zero-add r)) in
     ap (bound_of Sum) (ap (λ n. filter_map f (range_with_len 0 n)) (sym long) ∙ rows)
 
--- what is computed of the prefixes is the bound of the round, and the block that is written is the round's
-pub block_written : (shown : Shown) (ends : Ends) (width round : ℕ) (cells prefixes : List ℕ) (bound : Bound) → width ≡ planes ends →
-    prefixes ≡ map (λ cell. cell / 2 ^ (width - round)) cells → bound ≡ bound_of Sum (sure_pairs ends (2 ^ (width - round)) prefixes) →
+-- what is computed of the column is the bound of the round, and the block that is written is the round's
+pub block_written : (shown : Shown) (ends : Ends) (width round : ℕ) (cells : List ℕ) (known : KnownColumn) (bound : Bound) → width ≡ planes ends →
+    known ≡ column_after ends cells round → bound ≡ bound_of Sum (sure_pairs known) →
     (bound ≡ bound_after 0 (column_frame (length cells) ends) (cells ∷ []) round) × (block shown width round bound ≡ block_of shown 0 (column_frame (length cells) ends) (cells ∷ []) round)
-block_written shown ends width round cells prefixes bound wide before is =
-    let computed = λ (w : ℕ). bound_of Sum (sure_pairs ends (2 ^ (w - round)) (map (λ cell. cell / 2 ^ (w - round)) cells)) in
-    let same : bound ≡ bound_after 0 (column_frame (length cells) ends) (cells ∷ []) round =
-    is ∙ ap (λ ps. bound_of Sum (sure_pairs ends (2 ^ (width - round)) ps)) before ∙ ap computed wide ∙ sym (bound_of_prefixes ends cells round) in
+block_written shown ends width round cells known bound wide before is =
+    let same : bound ≡ bound_after 0 (column_frame (length cells) ends) (cells ∷ []) round = is ∙ ap (λ k. bound_of Sum (sure_pairs k)) before ∙ sym (bound_of_column ends cells round) in
     (same, ap (λ b. block shown width round b) same ∙ ap (λ w. block shown w round (bound_after 0 (column_frame (length cells) ends) (cells ∷ []) round)) wide)
 
--- each prefix is one of the column
-pub prefixes_fit : (ends : Ends) (unread : ℕ) (cells prefixes : List ℕ) → IsTable (column_frame (length cells) ends) (cells ∷ []) →
-    prefixes ≡ map (λ cell. cell / 2 ^ unread) cells → All (FitsColumn ends (2 ^ unread)) prefixes
-prefixes_fit ends unread cells prefixes table is = λ k d h.
-    let b = 2 ^ unread in
-    let long : length prefixes ≡ length cells = ap length is ∙ length-map cells (λ cell. cell / b) in
-    let within : k < length cells = omega (arith, h, long) in
-    let at : get_or prefixes k d ≡ get_or cells k 0 / b = ap (λ ps. get_or ps k d) is ∙ get_or-map (λ cell. cell / b) cells k 0 d within in
-    let fits : get_or cells k 0 ≤ spread ends = table.within 0 k (omega arith) within in
-    let below : get_or cells k 0 / b * b ≤ spread ends = omega (arith, fits, div-add-mod' (get_or cells k 0) b) in
-    subst (λ p. p * b ≤ spread ends) (sym at) below
+-- ---- the next plane
+
+-- the knowledge of one column
+abbrev alone : Ends → List ℕ → ℕ → Knowledge
+alone ends cells round = known_of (column_frame (length cells) ends) (cells ∷ []) (round ∷ [])
+
+-- the digits of the next plane
+abbrev pub digits_of : ℕ → ℕ → List ℕ → List Bool
+digits_of width round cells = map (λ cell. (cell / 2 ^ (width - (round + 1))) % 2 == 1) cells
+
+-- the column's next plane is taken
+pub plane_is_taken : PlanesAreTaken → (ends : Ends) (cells : List ℕ) (width round : ℕ) (bits : List Bool) → width ≡ planes ends → round < width →
+    IsTable (column_frame (length cells) ends) (cells ∷ []) → bits ≡ digits_of width round cells →
+    ((row : ℕ) → row < length cells → StaysLegal (column_after ends cells round) bits row) × (read_further (column_after ends cells round) bits ≡ column_after ends cells (round + 1))
+plane_is_taken taking ends cells width round bits wide left table is =
+    let frame = column_frame (length cells) ends in
+    let here : bits ≡ plane_of frame (cells ∷ []) 0 round = is ∙ ap (λ w. digits_of w round cells) wide in
+    let (can, same, reads) = taking frame (cells ∷ []) (round ∷ []) 0 table (record { columns = refl; few = few }) (omega arith) (omega (arith, left, wide)) in
+    let column = column_after ends cells round in
+    let next : read_further column (plane_of frame (cells ∷ []) 0 round) ≡ column_after ends cells (round + 1) = ap (λ k. record { ends = ends; known = known_at k 0 }) same in
+    (subst (λ b. (row : ℕ) → row < length cells → StaysLegal column b row) (sym here) can.legal, ap (read_further column) here ∙ next)
+  where
+    few : (c : ℕ) → c < 1 → slice_index (round ∷ []) c ≤ planes (ends_at (column_frame (length cells) ends) c)
+    few zero k = omega (arith, left, wide)
+    few (suc c) k = absurd (omega arith)
 
 -- ---- the last round
 

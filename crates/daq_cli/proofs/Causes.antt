@@ -1,72 +1,87 @@
 -- Causes exclude one another, so each status comes exactly where its cause is shown.
-use Rattle.std.proofs.Common.{◌≡◌, ℕ, ◌≤◌, List, ◌++◌, length, sym, ap, ◌∙◌, subst, arith, [], ◌∷◌, Option, Some, None, inl, inr, ◌⊎◌, length-append, append-nil}
+use Rattle.std.proofs.Common.{◌≡◌, ◌≢◌, ℕ, ◌≤◌, ◌<◌, List, ◌++◌, length, sym, ap, ◌∙◌, subst, arith, Option, Some, None, inl, inr, ◌⊎◌, length-append, append-nil}
 use Rattle.std.specs.Io.KnownBytes.{Consumes, IsAtEnd}
-use Rattle.daq_table.specs.Tables.{Cells}
-use Rattle.daq_table.specs.declared.table_head.Head.{Head}
+use Rattle.csv_load.specs.Faults as tables
+use Rattle.csv_load.specs.Laws.{IsFaultless}
+use Rattle.csv_load.specs.TableOf.{IsTableOf}
+use Rattle.csv_load.specs.declared.fault.TableFault.{TableFault}
+use Rattle.csv_load.specs.declared.fault.TableFault.TheVariants as tf
+use Rattle.daq_table.specs.SchemaLaws as schema_laws
+use Rattle.daq_table.specs.Schemas.{Declares}
+use Rattle.daq_table.specs.Tables.{Contents}
+use Rattle.daq_table.specs.declared.schema_column.SchemaColumn.{SchemaColumn}
+use Rattle.daq_table.specs.declared.schema_fault.SchemaFault.{SchemaFault}
 use Rattle.outer_world.specs.Device.{Rose}
-use Rattle.daq_cli.specs.Command.{Ask, IsNoCommand, words_of}
 use Rattle.sql_text.specs.Answer.{Breaks, IsText}
 use Rattle.sql_text.specs.Tree as sql
 use Rattle.sql_text.specs.declared.fault.Cause.{Cause}
-use Rattle.daq_cli.specs.Forms.{IsColumnText, IsQueryFault, IsSumOf, SumsColumn, schema_text}
-use Rattle.daq_cli.specs.Outcome.{Accepts, AsksSum, EndsOrLacksMemory, EndsWith, Tells, IsAnswered, IsCause, IsNoTable, IsTableText, IsTold, QueryCause, ReadsTable, SchemaCause, SinkState, SourceState, TableCause, most_bytes}
+use Rattle.sql_typing.specs.Laws as typing_laws
+use Rattle.query_model.specs.declared.query.TypedQuery.{TypedQuery}
+use Rattle.daq_table.specs.declared.table_head.Head.{Head}
+use Rattle.sql_typing.specs.Refusals.{IsTyped}
+use Rattle.daq_cli.specs.Command.{Ask, IsNoCommand, words_of}
+use Rattle.daq_cli.specs.Forms.{IsSum, IsUnanswered, SumsShown}
+use Rattle.daq_cli.specs.Outcome.{Accepts, EndsOrFails, EndsOrLacksMemory, EndsWith, IsAnswered, IsCause, IsNoTable, IsTableText, IsTextFault, IsTold, NoQueryCause, NoTableCause, QueryCause, ReadsAll, ReadsTable, SchemaCause, SinkState, SourceState, Tells, TextCause, limits, most_bytes}
 use Rattle.daq_cli.specs.Refusals.{status_of}
+use Rattle.daq_cli.specs.Report.{Shown}
 use Rattle.daq_cli.specs.declared.refusal.QueryFault.{QueryFault}
-use Rattle.daq_cli.specs.declared.refusal.QueryFault.TheVariants as faults
+use Rattle.daq_cli.specs.declared.refusal.QueryFault.TheVariants as q
 use Rattle.daq_cli.specs.declared.refusal.Refusal.{Refusal}
-use Rattle.daq_cli.specs.declared.refusal.Refusal.TheVariants.{Usage, Query, TableNotBuilt, TooLong, ReadFault, WriteFault, NoMemory}
+use Rattle.daq_cli.specs.declared.refusal.Refusal.TheVariants.{Usage, Query, Schema, Table, Typing, TooLong, ReadFault, WriteFault, NoMemory}
 use Rattle.daq_cli.specs.declared.refusal.Status.{Status}
 use Rattle.daq_cli.specs.declared.refusal.Status.TheVariants as s
 
--- a text is one query at most, and none where it is refused
-pub record OneAnswer : Type 0 where
-  pub queries : (text : List ℕ) (p q : sql.Query) → IsText text p → IsText text q → p ≡ q
-  pub apart : (text : List ℕ) (c : Cause) (at : ℕ) (q : sql.Query) → Breaks text c at → IsText text q → ⊥
+-- A text is one query at most, and none where it is refused; so too a schema and the columns that it declares. A text that stands for a table is not refused, and a query is typed in one way at most, and not where it has a fault.
+pub record Laws : Type 0 where
+  pub queries : (text : List ℕ) (a b : sql.Query) → IsText text a → IsText text b → a ≡ b
+  pub apart : (text : List ℕ) (c : Cause) (at : ℕ) (a : sql.Query) → Breaks text c at → IsText text a → ⊥
+  pub columns : schema_laws.DeclaresOnce
+  pub schemas : schema_laws.IsFaultless
+  pub tables : IsFaultless
+  pub types : typing_laws.IsFaultless
+  pub typed : typing_laws.IsTypedOnce
 
--- ---- words ask for one column
+-- ---- what the words ask for is one
 
 same_ask : (words : List (List ℕ)) (a b : Ask) → words ≡ words_of a → words ≡ words_of b → (a.schema ≡ b.schema) × (a.sql ≡ b.sql)
 same_ask words a b e f = (cc, cc)
 
-same_query : OneAnswer → (text other : List ℕ) (p q : sql.Query) → text ≡ other → IsText text p → IsText other q → p ≡ q
-same_query law text other p q same a b = law.queries text p q a (subst (λ t. IsText t q) (sym same) b)
+same_query : Laws → (words : List (List ℕ)) (p r : sql.Query) (a b : List SchemaColumn) → Accepts words p a → Accepts words r b → p ≡ r
+same_query law words p r a b one other =
+    let (schemas, texts) = same_ask words one.ask other.ask one.command other.command in
+    law.queries one.ask.sql p r one.text (subst (λ t. IsText t r) (sym texts) other.text)
 
--- the name in the head of a sum
-abbrev name_in : sql.Head → List ℕ
-name_in (sql.Items (sql.Call kind (sql.Column column) ∷ [])) = column.name
-name_in _ = []
+same_columns : Laws → (words : List (List ℕ)) (p r : sql.Query) (a b : List SchemaColumn) → Accepts words p a → Accepts words r b → a ≡ b
+same_columns law words p r a b one other =
+    let (schemas, texts) = same_ask words one.ask other.ask one.command other.command in
+    law.columns one.ask.schema a b one.schema (subst (λ t. Declares t b) (sym schemas) other.schema)
 
-same_sum : (p q : sql.Query) (name next : List ℕ) → p ≡ q → SumsColumn p name → SumsColumn q next → name ≡ next
-same_sum p q name next same a b = ap name_in (sym a.head ∙ ap (λ r. r.head) same ∙ b.head)
+-- ---- causes before the input
 
-same_name : OneAnswer → (text other name next : List ℕ) → text ≡ other → IsSumOf text name → IsSumOf other next → name ≡ next
-same_name law text other name next same a b = same_sum a.query b.query name next (same_query law text other a.query b.query same a.text b.text) a.sum b.sum
+no_command_accepts : (words : List (List ℕ)) (p : sql.Query) (a : List SchemaColumn) → IsNoCommand words → Accepts words p a → ⊥
+no_command_accepts words p a none accepted = none accepted.ask accepted.command
 
-asks_one : OneAnswer → (words : List (List ℕ)) (schema other name next : List ℕ) → AsksSum words schema name → AsksSum words other next → (schema ≡ other) × (name ≡ next)
-asks_one law words schema other name next a b =
-    let (schemas, sqls) = same_ask words _ _ a.command b.command in
-    (schemas, same_name law a.sql b.sql name next sqls a.query b.query)
+no_fault_of : Laws → (text : List ℕ) (p : sql.Query) (why : QueryFault) → IsTextFault text why → IsText text p → ⊥
+no_fault_of law text p q.TooLong long is = let few = is.short in omega (arith, few, long)
+no_fault_of law text p (q.Syntax at) breaks is = law.apart text _ at p breaks is
+no_fault_of law text p (q.TooDeep at) breaks is = law.apart text _ at p breaks is
+no_fault_of law text p (q.NumberTooLarge at) breaks is = law.apart text _ at p breaks is
+no_fault_of law text p q.NotBuilt none is = none
 
-no_command_asks : (words : List (List ℕ)) (schema name : List ℕ) → IsNoCommand words → AsksSum words schema name → ⊥
-no_command_asks words schema name none asks = none _ asks.command
+no_text_accepts : Laws → (words : List (List ℕ)) (p : sql.Query) (a : List SchemaColumn) (why : QueryFault) → TextCause words why → Accepts words p a → ⊥
+no_text_accepts law words p a why cause accepted =
+    let (schemas, texts) = same_ask words cause.ask accepted.ask cause.command accepted.command in
+    no_fault_of law cause.ask.sql p why cause.is_fault (subst (λ t. IsText t p) (sym texts) accepted.text)
 
-no_fault_sums : OneAnswer → (text name : List ℕ) (fault : QueryFault) → IsQueryFault text fault → IsSumOf text name → ⊥
-no_fault_sums law text name faults.TooLong long sum = let few = sum.text.short in omega (arith, few, long)
-no_fault_sums law text name (faults.Syntax at) breaks sum = law.apart text _ at sum.query breaks sum.text
-no_fault_sums law text name (faults.TooDeep at) breaks sum = law.apart text _ at sum.query breaks sum.text
-no_fault_sums law text name (faults.NumberTooLarge at) breaks sum = law.apart text _ at sum.query breaks sum.text
-no_fault_sums law text name faults.NotBuilt other sum =
-    other.other name (subst (λ q. SumsColumn q name) (law.queries text sum.query other.query sum.text other.text) sum.sum)
+no_text_schema : Laws → (words : List (List ℕ)) (why : QueryFault) (other : SchemaFault) → TextCause words why → SchemaCause words other → ⊥
+no_text_schema law words why other cause schema =
+    let (schemas, texts) = same_ask words cause.ask schema.ask cause.command schema.command in
+    no_fault_of law cause.ask.sql schema.query why cause.is_fault (subst (λ t. IsText t schema.query) (sym texts) schema.text)
 
-no_sum_asks : OneAnswer → (words : List (List ℕ)) (schema name : List ℕ) (fault : QueryFault) → QueryCause words fault → AsksSum words schema name → ⊥
-no_sum_asks law words schema name fault cause asks =
-    let (schemas, sqls) = same_ask words cause.ask _ cause.command asks.command in
-    no_fault_sums law cause.ask.sql name fault cause.is_fault (subst (λ t. IsSumOf t name) (sym sqls) asks.query)
-
-other_schema_asks : OneAnswer → (words : List (List ℕ)) (name : List ℕ) → SchemaCause words → Accepts words name → ⊥
-other_schema_asks law words name cause accepted =
-    let (schemas, names) = asks_one law words cause.schema (schema_text name) cause.name name cause.asks accepted in
-    cause.other (schemas ∙ ap schema_text (sym names))
+no_schema_accepts : Laws → (words : List (List ℕ)) (p : sql.Query) (a : List SchemaColumn) (why : SchemaFault) → SchemaCause words why → Accepts words p a → ⊥
+no_schema_accepts law words p a why cause accepted =
+    let (schemas, texts) = same_ask words cause.ask accepted.ask cause.command accepted.command in
+    law.schemas cause.ask.schema a why cause.shown (subst (λ t. Declares t a) (sym schemas) accepted.schema) cause.refused
 
 -- ---- told bytes are read whole
 
@@ -85,33 +100,64 @@ few_bytes (Some xs) (Some ys) bytes read e c =
     let long : length bytes ≡ length (read ++ ys) = ap length (sym told ∙ c) in
     omega (arith, long, length-append read ys)
 
-no_table_is_read : OneAnswer → (words : List (List ℕ)) (input input' : SourceState) (name next bytes : List ℕ) (head : Head) (cells : Cells) → Accepts words name → Accepts words next →
-    input.left ≡ Some bytes → IsNoTable name bytes → ReadsTable next input input' head cells → ⊥
-no_table_is_read law words input input' name next bytes head cells a b told none read =
-    let (schemas, names) = asks_one law words (schema_text name) (schema_text next) name next a b in
-    let same = all_bytes input.left input'.left bytes read.bytes told read.whole.read read.whole.ended in
-    by none names same
+-- bytes that stand for no table are not read to one
+no_table_is_read : Laws → (words : List (List ℕ)) (input input' : SourceState) (p r : sql.Query) (a b : List SchemaColumn) (bytes : List ℕ) (contents : Contents) →
+    Tells words input p a bytes → IsNoTable a bytes → Accepts words r b → ReadsTable b input input' contents → ⊥
+no_table_is_read law words input input' p r a b bytes contents tells none accepted read =
+    by none (all_bytes input.left input'.left bytes read.bytes tells.left read.whole.read read.whole.ended) (same_columns law words p r a b tells.accepted accepted)
   where
-    by : IsNoTable name bytes → name ≡ next → bytes ≡ read.bytes → ⊥
-    by (inl long) names same = let small : length bytes ≤ most_bytes = subst (λ l. length l ≤ most_bytes) (sym same) read.whole.small in omega (arith, long, small)
-    by (inr other) names same =
-        other read.table.texts (subst (λ n. IsColumnText n bytes read.table.texts) (sym names) (subst (λ l. IsColumnText next l read.table.texts) (sym same) read.table.text))
+    by : IsNoTable a bytes → bytes ≡ read.bytes → a ≡ b → ⊥
+    by (inl long) bytes_are columns_are = let small : length bytes ≤ most_bytes = subst (λ l. length l ≤ most_bytes) (sym bytes_are) read.whole.small in omega (arith, long, small)
+    by (inr fault) bytes_are columns_are =
+        law.tables bytes a limits fault.fault contents fault.shown
+        (subst (λ cs. IsTableOf bytes cs limits contents) (sym columns_are) (subst (λ l. IsTableOf l b limits contents) (sym bytes_are) read.is_table)) fault.refused
+
+-- bytes that stand for a table are not refused
+table_is_faultless : Laws → (words : List (List ℕ)) (input input' : SourceState) (p r : sql.Query) (a b : List SchemaColumn) (bytes read : List ℕ) (fault : TableFault) →
+    Tells words input p a bytes → IsTableText a bytes → Accepts words r b → ReadsAll input input' read → fault ≢ tf.NoMemory → tables.Refuses read b limits fault → ⊥
+table_is_faultless law words input input' p r a b bytes read fault tells text accepted whole shown refused =
+    let bytes_are = all_bytes input.left input'.left bytes read tells.left whole.read whole.ended in
+    let columns_are = same_columns law words p r a b tells.accepted accepted in
+    law.tables read b limits fault text.contents shown
+    (subst (λ cs. IsTableOf read cs limits text.contents) columns_are (subst (λ l. IsTableOf l a limits text.contents) bytes_are text.is_table)) refused
+
+-- the table that is read is one of the told bytes
+told_table : Laws → (words : List (List ℕ)) (input input' : SourceState) (p r : sql.Query) (a b : List SchemaColumn) (bytes : List ℕ) (contents : Contents) →
+    Tells words input p a bytes → Accepts words r b → ReadsTable b input input' contents → IsTableOf bytes a limits contents
+told_table law words input input' p r a b bytes contents tells accepted read =
+    let bytes_are = all_bytes input.left input'.left bytes read.bytes tells.left read.whole.read read.whole.ended in
+    let columns_are = same_columns law words p r a b tells.accepted accepted in
+    subst (λ cs. IsTableOf bytes cs limits contents) (sym columns_are) (subst (λ l. IsTableOf l b limits contents) (sym bytes_are) read.is_table)
+
+-- a query that is typed as the sum of a column has an answer
+not_both : Laws → (p : sql.Query) (head : Head) (typed : TypedQuery) (column : ℕ) (shown : Shown) → IsTyped p head typed → SumsShown typed head column shown → IsUnanswered p head → ⊥
+not_both law p head typed column shown is_typed sums (inl fault) = law.types p head fault.why typed fault.shown is_typed fault.refused
+not_both law p head typed column shown is_typed sums (inr unbuilt) =
+    unbuilt.other column shown (record { sum = law.typed p head unbuilt.typed typed unbuilt.is_typed is_typed ∙ sums.sum; named = sums.named; there = sums.there; name = sums.name })
 
 -- ---- an answer shows no cause
 
 pub answered_command : (words : List (List ℕ)) (input input' : SourceState) (out out' : SinkState) → IsAnswered words input input' out out' → IsNoCommand words → ⊥
-answered_command words input input' out out' answered none = no_command_asks words _ _ none answered.accepted
+answered_command words input input' out out' answered none = no_command_accepts words _ _ none answered.accepted
 
-pub answered_query : OneAnswer → (words : List (List ℕ)) (input input' : SourceState) (out out' : SinkState) (fault : QueryFault) → IsAnswered words input input' out out' → QueryCause words fault → ⊥
-answered_query law words input input' out out' fault answered cause = no_sum_asks law words _ _ fault cause answered.accepted
+pub answered_text : Laws → (words : List (List ℕ)) (input input' : SourceState) (out out' : SinkState) (why : QueryFault) → IsAnswered words input input' out out' → TextCause words why → ⊥
+answered_text law words input input' out out' why answered cause = no_text_accepts law words _ _ why cause answered.accepted
 
-pub answered_schema : OneAnswer → (words : List (List ℕ)) (input input' : SourceState) (out out' : SinkState) → IsAnswered words input input' out out' → SchemaCause words → ⊥
-answered_schema law words input input' out out' answered cause = other_schema_asks law words answered.name cause answered.accepted
+pub answered_schema : Laws → (words : List (List ℕ)) (input input' : SourceState) (out out' : SinkState) (why : SchemaFault) → IsAnswered words input input' out out' → SchemaCause words why → ⊥
+answered_schema law words input input' out out' why answered cause = no_schema_accepts law words _ _ why cause answered.accepted
 
-pub answered_table : OneAnswer → (words : List (List ℕ)) (input input' : SourceState) (out out' : SinkState) → IsAnswered words input input' out out' →
-    (name bytes : List ℕ) → Tells words input name bytes → IsNoTable name bytes → ⊥
-answered_table law words input input' out out' answered name bytes tells none =
-    no_table_is_read law words input input' name answered.name bytes answered.head answered.cells tells.accepted answered.accepted tells.left none answered.read
+pub answered_table : Laws → (words : List (List ℕ)) (input input' : SourceState) (out out' : SinkState) → IsAnswered words input input' out out' →
+    (p : sql.Query) (a : List SchemaColumn) (bytes : List ℕ) → Tells words input p a bytes → IsNoTable a bytes → ⊥
+answered_table law words input input' out out' answered p a bytes tells none =
+    no_table_is_read law words input input' p answered.query a answered.columns bytes answered.contents tells none answered.accepted answered.read
+
+pub answered_other : Laws → (words : List (List ℕ)) (input input' : SourceState) (out out' : SinkState) → IsAnswered words input input' out out' →
+    (p : sql.Query) (a : List SchemaColumn) (bytes : List ℕ) → Tells words input p a bytes → ((contents : Contents) → IsTableOf bytes a limits contents → IsUnanswered p contents.head) → ⊥
+answered_other law words input input' out out' answered p a bytes tells other =
+    let same = same_query law words p answered.query a answered.columns tells.accepted answered.accepted in
+    let table = told_table law words input input' p answered.query a answered.columns bytes answered.contents tells answered.accepted answered.read in
+    let r = answered.reported in
+    not_both law p answered.contents.head r.typed r.column r.shown (subst (λ x. IsTyped x answered.contents.head r.typed) (sym same) r.is_typed) r.sum (other answered.contents table)
 
 -- ---- a cause is told
 
@@ -123,75 +169,189 @@ lacks_memory : (wanted status : Status) (err err' : SinkState) → IsTold NoMemo
 lacks_memory wanted status err err' (inl t) = inl t.0
 lacks_memory wanted status err err' (inr t) = inr (inr (t.0, t.1))
 
+ends : (why : Refusal) (status : Status) (input input' : SourceState) (err err' : SinkState) → IsTold why status err err' → EndsOrFails (status_of why) status input input' err err'
+ends why status input input' err err' (inl t) = inl t.0
+ends why status input input' err err' (inr t) = inr (inr (inr t.1))
+
+ends_without_memory : (wanted status : Status) (input input' : SourceState) (err err' : SinkState) → IsTold NoMemory status err err' → EndsOrFails wanted status input input' err err'
+ends_without_memory wanted status input input' err err' (inl t) = inr (inl t.0)
+ends_without_memory wanted status input input' err err' (inr t) = inr (inr (inr t.1))
+
+-- the words of each cause but Usage are a command
+no_command_cause : (words : List (List ℕ)) (input input' : SourceState) (why : QueryFault) → IsNoCommand words → QueryCause words input input' why → ⊥
+no_command_cause words input input' q.TooLong none cause = none cause.0.ask cause.0.command
+no_command_cause words input input' (q.Syntax at) none cause = none cause.0.ask cause.0.command
+no_command_cause words input input' (q.TooDeep at) none cause = none cause.0.ask cause.0.command
+no_command_cause words input input' (q.NumberTooLarge at) none cause = none cause.0.ask cause.0.command
+no_command_cause words input input' q.NotBuilt none cause = no_command_accepts words _ _ none cause.accepted
+
 pub usage_is_told : (words : List (List ℕ)) (input input' : SourceState) (out out' err err' : SinkState) (why : Refusal) (status : Status) → IsNoCommand words →
     IsCause words input input' out out' why → IsTold why status err err' → EndsWith s.Usage status err err'
 usage_is_told words input input' out out' err err' (Usage place) status none cause t = told (Usage place) status err err' t
-usage_is_told words input input' out out' err err' (Query fault) status none cause t = absurd (none cause.0.ask cause.0.command)
-usage_is_told words input input' out out' err err' TableNotBuilt status none cause t = absurd (by cause.0)
-  where
-    by : ((SchemaCause words × (input' ≡ input)) ⊎ TableCause words input input') → ⊥
-    by (inl c) = no_command_asks words _ _ none c.0.asks
-    by (inr c) = no_command_asks words _ _ none c.accepted
-usage_is_told words input input' out out' err err' (TooLong limit) status none cause t = absurd (no_command_asks words _ _ none cause.0.accepted)
-usage_is_told words input input' out out' err err' ReadFault status none cause t = absurd (no_command_asks words _ _ none cause.0.accepted)
-usage_is_told words input input' out out' err err' WriteFault status none cause t = absurd (no_command_asks words _ _ none cause.accepted)
+usage_is_told words input input' out out' err err' (Query why) status none cause t = absurd (no_command_cause words input input' why none cause.0)
+usage_is_told words input input' out out' err err' (Schema why) status none cause t = absurd (none cause.0.ask cause.0.command)
+usage_is_told words input input' out out' err err' (Table why) status none cause t = absurd (no_command_accepts words _ _ none cause.0.accepted)
+usage_is_told words input input' out out' err err' (Typing why) status none cause t = absurd (no_command_accepts words _ _ none cause.0.accepted)
+usage_is_told words input input' out out' err err' (TooLong limit) status none cause t = absurd (no_command_accepts words _ _ none cause.0.accepted)
+usage_is_told words input input' out out' err err' ReadFault status none cause t = absurd (no_command_accepts words _ _ none cause.0.accepted)
+usage_is_told words input input' out out' err err' WriteFault status none cause t = absurd (no_command_accepts words _ _ none cause.accepted)
 usage_is_told words input input' out out' err err' NoMemory status none cause t = absurd (none cause.0.ask cause.0.command)
 
-pub query_is_told : OneAnswer → (words : List (List ℕ)) (input input' : SourceState) (out out' err err' : SinkState) (why : Refusal) (status : Status) (fault : QueryFault) →
-    QueryCause words fault → IsCause words input input' out out' why → IsTold why status err err' → EndsOrLacksMemory s.QueryRefused status err err'
-query_is_told law words input input' out out' err err' (Usage place) status fault query cause t = absurd (cause.0 query.ask query.command)
-query_is_told law words input input' out out' err err' (Query other) status fault query cause t = inr (told (Query other) status err err' t)
-query_is_told law words input input' out out' err err' TableNotBuilt status fault query cause t = absurd (by cause.0)
-  where
-    by : ((SchemaCause words × (input' ≡ input)) ⊎ TableCause words input input') → ⊥
-    by (inl c) = no_sum_asks law words _ _ fault query c.0.asks
-    by (inr c) = no_sum_asks law words _ _ fault query c.accepted
-query_is_told law words input input' out out' err err' (TooLong limit) status fault query cause t = absurd (no_sum_asks law words _ _ fault query cause.0.accepted)
-query_is_told law words input input' out out' err err' ReadFault status fault query cause t = absurd (no_sum_asks law words _ _ fault query cause.0.accepted)
-query_is_told law words input input' out out' err err' WriteFault status fault query cause t = absurd (no_sum_asks law words _ _ fault query cause.accepted)
-query_is_told law words input input' out out' err err' NoMemory status fault query cause t = lacks_memory s.QueryRefused status err err' t
+pub text_is_told : Laws → (words : List (List ℕ)) (input input' : SourceState) (out out' err err' : SinkState) (why : Refusal) (status : Status) (fault : QueryFault) →
+    TextCause words fault → IsCause words input input' out out' why → IsTold why status err err' → EndsOrLacksMemory s.QueryRefused status err err'
+text_is_told law words input input' out out' err err' (Usage place) status fault text cause t = absurd (cause.0 text.ask text.command)
+text_is_told law words input input' out out' err err' (Query other) status fault text cause t = inr (told (Query other) status err err' t)
+text_is_told law words input input' out out' err err' (Schema other) status fault text cause t = absurd (no_text_schema law words fault other text cause.0)
+text_is_told law words input input' out out' err err' (Table other) status fault text cause t = absurd (no_text_accepts law words _ _ fault text cause.0.accepted)
+text_is_told law words input input' out out' err err' (Typing other) status fault text cause t = absurd (no_text_accepts law words _ _ fault text cause.0.accepted)
+text_is_told law words input input' out out' err err' (TooLong limit) status fault text cause t = absurd (no_text_accepts law words _ _ fault text cause.0.accepted)
+text_is_told law words input input' out out' err err' ReadFault status fault text cause t = absurd (no_text_accepts law words _ _ fault text cause.0.accepted)
+text_is_told law words input input' out out' err err' WriteFault status fault text cause t = absurd (no_text_accepts law words _ _ fault text cause.accepted)
+text_is_told law words input input' out out' err err' NoMemory status fault text cause t = lacks_memory s.QueryRefused status err err' t
 
-pub schema_is_told : OneAnswer → (words : List (List ℕ)) (input input' : SourceState) (out out' err err' : SinkState) (why : Refusal) (status : Status) → SchemaCause words →
+-- a schema that is refused is no cause to refuse a query
+no_schema_query : Laws → (words : List (List ℕ)) (input input' : SourceState) (why : QueryFault) (other : SchemaFault) → SchemaCause words other → QueryCause words input input' why → ⊥
+no_schema_query law words input input' q.TooLong other schema cause = no_text_schema law words _ other cause.0 schema
+no_schema_query law words input input' (q.Syntax at) other schema cause = no_text_schema law words _ other cause.0 schema
+no_schema_query law words input input' (q.TooDeep at) other schema cause = no_text_schema law words _ other cause.0 schema
+no_schema_query law words input input' (q.NumberTooLarge at) other schema cause = no_text_schema law words _ other cause.0 schema
+no_schema_query law words input input' q.NotBuilt other schema cause = no_schema_accepts law words _ _ other schema cause.accepted
+
+pub schema_is_told : Laws → (words : List (List ℕ)) (input input' : SourceState) (out out' err err' : SinkState) (why : Refusal) (status : Status) (fault : SchemaFault) → SchemaCause words fault →
     IsCause words input input' out out' why → IsTold why status err err' → EndsOrLacksMemory s.TableRefused status err err'
-schema_is_told law words input input' out out' err err' (Usage place) status other cause t = absurd (no_command_asks words _ _ cause.0 other.asks)
-schema_is_told law words input input' out out' err err' (Query fault) status other cause t = absurd (no_sum_asks law words _ _ fault cause.0 other.asks)
-schema_is_told law words input input' out out' err err' TableNotBuilt status other cause t = inr (told TableNotBuilt status err err' t)
-schema_is_told law words input input' out out' err err' (TooLong limit) status other cause t = inr (told (TooLong limit) status err err' t)
-schema_is_told law words input input' out out' err err' ReadFault status other cause t = absurd (other_schema_asks law words _ other cause.0.accepted)
-schema_is_told law words input input' out out' err err' WriteFault status other cause t = absurd (other_schema_asks law words _ other cause.accepted)
-schema_is_told law words input input' out out' err err' NoMemory status other cause t = lacks_memory s.TableRefused status err err' t
+schema_is_told law words input input' out out' err err' (Usage place) status fault schema cause t = absurd (cause.0 schema.ask schema.command)
+schema_is_told law words input input' out out' err err' (Query other) status fault schema cause t = absurd (no_schema_query law words input input' other fault schema cause.0)
+schema_is_told law words input input' out out' err err' (Schema other) status fault schema cause t = inr (told (Schema other) status err err' t)
+schema_is_told law words input input' out out' err err' (Table other) status fault schema cause t = absurd (no_schema_accepts law words _ _ fault schema cause.0.accepted)
+schema_is_told law words input input' out out' err err' (Typing other) status fault schema cause t = absurd (no_schema_accepts law words _ _ fault schema cause.0.accepted)
+schema_is_told law words input input' out out' err err' (TooLong limit) status fault schema cause t = absurd (no_schema_accepts law words _ _ fault schema cause.0.accepted)
+schema_is_told law words input input' out out' err err' ReadFault status fault schema cause t = absurd (no_schema_accepts law words _ _ fault schema cause.0.accepted)
+schema_is_told law words input input' out out' err err' WriteFault status fault schema cause t = absurd (no_schema_accepts law words _ _ fault schema cause.accepted)
+schema_is_told law words input input' out out' err err' NoMemory status fault schema cause t = lacks_memory s.TableRefused status err err' t
 
-pub table_is_told : OneAnswer → (words : List (List ℕ)) (input input' : SourceState) (out out' err err' : SinkState) (why : Refusal) (status : Status) (name bytes : List ℕ) → Tells words input name bytes →
-    IsNoTable name bytes → IsCause words input input' out out' why → IsTold why status err err' →
-    (status ≡ s.TableRefused) ⊎ (status ≡ s.NoMemory) ⊎ Rose input.faults input'.faults ⊎ Rose err.faults err'.faults
-table_is_told law words input input' out out' err err' (Usage place) status name bytes tells none cause t = absurd (no_command_asks words _ _ cause.0 tells.accepted)
-table_is_told law words input input' out out' err err' (Query fault) status name bytes tells none cause t = absurd (no_sum_asks law words _ _ fault cause.0 tells.accepted)
-table_is_told law words input input' out out' err err' TableNotBuilt status name bytes tells none cause (inl t) = inl t.0
-table_is_told law words input input' out out' err err' TableNotBuilt status name bytes tells none cause (inr t) = inr (inr (inr t.1))
-table_is_told law words input input' out out' err err' (TooLong limit) status name bytes tells none cause (inl t) = inl t.0
-table_is_told law words input input' out out' err err' (TooLong limit) status name bytes tells none cause (inr t) = inr (inr (inr t.1))
-table_is_told law words input input' out out' err err' ReadFault status name bytes tells none cause t = inr (inr (inl cause.0.rose))
-table_is_told law words input input' out out' err err' WriteFault status name bytes tells none cause t =
-    absurd (no_table_is_read law words input input' name cause.name bytes cause.head cause.cells tells.accepted cause.accepted tells.left none cause.read)
-table_is_told law words input input' out out' err err' NoMemory status name bytes tells none cause (inl t) = inr (inl t.0)
-table_is_told law words input input' out out' err err' NoMemory status name bytes tells none cause (inr t) = inr (inr (inr t.1))
+-- what is accepted, and stands for no table, is no cause to refuse a query
+no_table_query : Laws → (words : List (List ℕ)) (input input' : SourceState) (p : sql.Query) (a : List SchemaColumn) (bytes : List ℕ) (why : QueryFault) →
+    Tells words input p a bytes → IsNoTable a bytes → QueryCause words input input' why → ⊥
+no_table_query law words input input' p a bytes q.TooLong tells none cause = no_text_accepts law words p a _ cause.0 tells.accepted
+no_table_query law words input input' p a bytes (q.Syntax at) tells none cause = no_text_accepts law words p a _ cause.0 tells.accepted
+no_table_query law words input input' p a bytes (q.TooDeep at) tells none cause = no_text_accepts law words p a _ cause.0 tells.accepted
+no_table_query law words input input' p a bytes (q.NumberTooLarge at) tells none cause = no_text_accepts law words p a _ cause.0 tells.accepted
+no_table_query law words input input' p a bytes q.NotBuilt tells none cause =
+    no_table_is_read law words input input' p cause.query a cause.columns bytes cause.contents tells none cause.accepted cause.read
 
-pub table_is_read : OneAnswer → (words : List (List ℕ)) (input input' : SourceState) (out out' err err' : SinkState) (why : Refusal) (status : Status) (name bytes : List ℕ) → Tells words input name bytes →
-    IsTableText name bytes → IsCause words input input' out out' why → IsTold why status err err' →
+pub table_is_told : Laws → (words : List (List ℕ)) (input input' : SourceState) (out out' err err' : SinkState) (why : Refusal) (status : Status) (p : sql.Query) (a : List SchemaColumn) (bytes : List ℕ) →
+    Tells words input p a bytes → IsNoTable a bytes → IsCause words input input' out out' why → IsTold why status err err' → EndsOrFails s.TableRefused status input input' err err'
+table_is_told law words input input' out out' err err' (Usage place) status p a bytes tells none cause t = absurd (no_command_accepts words p a cause.0 tells.accepted)
+table_is_told law words input input' out out' err err' (Query why) status p a bytes tells none cause t = absurd (no_table_query law words input input' p a bytes why tells none cause.0)
+table_is_told law words input input' out out' err err' (Schema why) status p a bytes tells none cause t = absurd (no_schema_accepts law words p a why cause.0 tells.accepted)
+table_is_told law words input input' out out' err err' (Table why) status p a bytes tells none cause t = ends (Table why) status input input' err err' t
+table_is_told law words input input' out out' err err' (Typing why) status p a bytes tells none cause t =
+    absurd (no_table_is_read law words input input' p cause.0.query a cause.0.columns bytes cause.0.contents tells none cause.0.accepted cause.0.read)
+table_is_told law words input input' out out' err err' (TooLong limit) status p a bytes tells none cause t = ends (TooLong limit) status input input' err err' t
+table_is_told law words input input' out out' err err' ReadFault status p a bytes tells none cause t = inr (inr (inl cause.0.rose))
+table_is_told law words input input' out out' err err' WriteFault status p a bytes tells none cause t =
+    absurd (no_table_is_read law words input input' p cause.query a cause.columns bytes cause.contents tells none cause.accepted cause.read)
+table_is_told law words input input' out out' err err' NoMemory status p a bytes tells none cause t = ends_without_memory s.TableRefused status input input' err err' t
+
+-- the table of an input that is short enough is read
+not_too_long : (words : List (List ℕ)) (input input' : SourceState) (p : sql.Query) (a : List SchemaColumn) (bytes read : List ℕ) → Tells words input p a bytes → IsTableText a bytes →
+    most_bytes < length read → Consumes input.left input'.left read → ⊥
+not_too_long words input input' p a bytes read tells text longer consumed =
+    let few = few_bytes input.left input'.left bytes read tells.left consumed in
+    omega (arith, few, longer, text.small)
+
+pub other_is_told : Laws → (words : List (List ℕ)) (input input' : SourceState) (out out' err err' : SinkState) (why : Refusal) (status : Status) (p : sql.Query) (a : List SchemaColumn) (bytes : List ℕ) →
+    Tells words input p a bytes → IsTableText a bytes → ((contents : Contents) → IsTableOf bytes a limits contents → IsUnanswered p contents.head) →
+    IsCause words input input' out out' why → IsTold why status err err' → EndsOrFails s.QueryRefused status input input' err err'
+other_is_told law words input input' out out' err err' (Usage place) status p a bytes tells text other cause t = absurd (no_command_accepts words p a cause.0 tells.accepted)
+other_is_told law words input input' out out' err err' (Query why) status p a bytes tells text other cause t = ends (Query why) status input input' err err' t
+other_is_told law words input input' out out' err err' (Schema why) status p a bytes tells text other cause t = absurd (no_schema_accepts law words p a why cause.0 tells.accepted)
+other_is_told law words input input' out out' err err' (Table why) status p a bytes tells text other cause t = absurd
+    (let c = cause.0 in
+    table_is_faultless law words input input' p c.query a c.columns bytes c.faulty.bytes why tells text c.accepted c.faulty.whole c.faulty.shown c.faulty.refused)
+other_is_told law words input input' out out' err err' (Typing why) status p a bytes tells text other cause t = ends (Typing why) status input input' err err' t
+other_is_told law words input input' out out' err err' (TooLong limit) status p a bytes tells text other cause t =
+    absurd (not_too_long words input input' p a bytes cause.0.many.bytes tells text cause.0.many.longer cause.0.many.read)
+other_is_told law words input input' out out' err err' ReadFault status p a bytes tells text other cause t = inr (inr (inl cause.0.rose))
+other_is_told law words input input' out out' err err' WriteFault status p a bytes tells text other cause t = absurd
+    (let same = same_query law words p cause.query a cause.columns tells.accepted cause.accepted in
+    let table = told_table law words input input' p cause.query a cause.columns bytes cause.contents tells cause.accepted cause.read in
+    let r = cause.reported in
+    not_both law p cause.contents.head r.typed r.column r.shown (subst (λ x. IsTyped x cause.contents.head r.typed) (sym same) r.is_typed) r.sum (other cause.contents table))
+other_is_told law words input input' out out' err err' NoMemory status p a bytes tells text other cause t = ends_without_memory s.QueryRefused status input input' err err' t
+
+-- a query that is the sum of a column on each table of the bytes is not refused on the table that was read
+sum_is_answered : Laws → (words : List (List ℕ)) (input input' : SourceState) (p r : sql.Query) (a b : List SchemaColumn) (bytes : List ℕ) (contents : Contents) →
+    Tells words input p a bytes → ((other : Contents) → IsTableOf bytes a limits other → IsSum p other.head) → Accepts words r b → ReadsTable b input input' contents → IsUnanswered r contents.head → ⊥
+sum_is_answered law words input input' p r a b bytes contents tells sums accepted read none =
+    let same = same_query law words p r a b tells.accepted accepted in
+    let sum = sums contents (told_table law words input input' p r a b bytes contents tells accepted read) in
+    not_both law p contents.head sum.typed sum.column sum.shown sum.is_typed sum.sum (subst (λ x. IsUnanswered x contents.head) (sym same) none)
+
+no_sum_refused : Laws → (words : List (List ℕ)) (input input' : SourceState) (p : sql.Query) (a : List SchemaColumn) (bytes : List ℕ) (why : QueryFault) →
+    Tells words input p a bytes → ((contents : Contents) → IsTableOf bytes a limits contents → IsSum p contents.head) → QueryCause words input input' why → ⊥
+no_sum_refused law words input input' p a bytes q.TooLong tells sums cause = no_text_accepts law words p a _ cause.0 tells.accepted
+no_sum_refused law words input input' p a bytes (q.Syntax at) tells sums cause = no_text_accepts law words p a _ cause.0 tells.accepted
+no_sum_refused law words input input' p a bytes (q.TooDeep at) tells sums cause = no_text_accepts law words p a _ cause.0 tells.accepted
+no_sum_refused law words input input' p a bytes (q.NumberTooLarge at) tells sums cause = no_text_accepts law words p a _ cause.0 tells.accepted
+no_sum_refused law words input input' p a bytes q.NotBuilt tells sums cause =
+    sum_is_answered law words input input' p cause.query a cause.columns bytes cause.contents tells sums cause.accepted cause.read (inr cause.other)
+
+pub table_is_answered : Laws → (words : List (List ℕ)) (input input' : SourceState) (out out' err err' : SinkState) (why : Refusal) (status : Status) (p : sql.Query) (a : List SchemaColumn) (bytes : List ℕ) →
+    Tells words input p a bytes → IsTableText a bytes → ((contents : Contents) → IsTableOf bytes a limits contents → IsSum p contents.head) →
+    IsCause words input input' out out' why → IsTold why status err err' →
     (status ≡ s.Done) ⊎ (status ≡ s.NoMemory) ⊎ Rose input.faults input'.faults ⊎ Rose out.faults out'.faults ⊎ Rose err.faults err'.faults
-table_is_read law words input input' out out' err err' (Usage place) status name bytes tells text cause t = absurd (no_command_asks words _ _ cause.0 tells.accepted)
-table_is_read law words input input' out out' err err' (Query fault) status name bytes tells text cause t = absurd (no_sum_asks law words _ _ fault cause.0 tells.accepted)
-table_is_read law words input input' out out' err err' TableNotBuilt status name bytes tells text cause t = absurd (by cause.0)
-  where
-    by : ((SchemaCause words × (input' ≡ input)) ⊎ TableCause words input input') → ⊥
-    by (inl c) = other_schema_asks law words name c.0 tells.accepted
-    by (inr c) =
-        let (schemas, names) = asks_one law words (schema_text name) (schema_text c.name) name c.name tells.accepted c.accepted in
-        let same = all_bytes input.left input'.left bytes c.bytes tells.left c.whole.read c.whole.ended in
-        c.no_table text.texts (subst (λ n. IsColumnText n c.bytes text.texts) names (subst (λ l. IsColumnText name l text.texts) same text.text))
-table_is_read law words input input' out out' err err' (TooLong limit) status name bytes tells text cause t =
-    absurd (let few = few_bytes input.left input'.left bytes cause.0.bytes tells.left cause.0.read in omega (arith, few, cause.0.longer, text.small))
-table_is_read law words input input' out out' err err' ReadFault status name bytes tells text cause t = inr (inr (inl cause.0.rose))
-table_is_read law words input input' out out' err err' WriteFault status name bytes tells text cause t = inr (inr (inr (inl cause.rose)))
-table_is_read law words input input' out out' err err' NoMemory status name bytes tells text cause (inl t) = inr (inl t.0)
-table_is_read law words input input' out out' err err' NoMemory status name bytes tells text cause (inr t) = inr (inr (inr (inr t.1)))
+table_is_answered law words input input' out out' err err' (Usage place) status p a bytes tells text sums cause t = absurd (no_command_accepts words p a cause.0 tells.accepted)
+table_is_answered law words input input' out out' err err' (Query why) status p a bytes tells text sums cause t = absurd (no_sum_refused law words input input' p a bytes why tells sums cause.0)
+table_is_answered law words input input' out out' err err' (Schema why) status p a bytes tells text sums cause t = absurd (no_schema_accepts law words p a why cause.0 tells.accepted)
+table_is_answered law words input input' out out' err err' (Table why) status p a bytes tells text sums cause t = absurd
+    (let c = cause.0 in
+    table_is_faultless law words input input' p c.query a c.columns bytes c.faulty.bytes why tells text c.accepted c.faulty.whole c.faulty.shown c.faulty.refused)
+table_is_answered law words input input' out out' err err' (Typing why) status p a bytes tells text sums cause t = absurd
+    (let c = cause.0 in
+    sum_is_answered law words input input' p c.query a c.columns bytes c.contents tells sums c.accepted c.read (inl (record { why = why; shown = c.shown; refused = c.refused })))
+table_is_answered law words input input' out out' err err' (TooLong limit) status p a bytes tells text sums cause t =
+    absurd (not_too_long words input input' p a bytes cause.0.many.bytes tells text cause.0.many.longer cause.0.many.read)
+table_is_answered law words input input' out out' err err' ReadFault status p a bytes tells text sums cause t = inr (inr (inl cause.0.rose))
+table_is_answered law words input input' out out' err err' WriteFault status p a bytes tells text sums cause t = inr (inr (inr (inl cause.reported.rose)))
+table_is_answered law words input input' out out' err err' NoMemory status p a bytes tells text sums cause (inl t) = inr (inl t.0)
+table_is_answered law words input input' out out' err err' NoMemory status p a bytes tells text sums cause (inr t) = inr (inr (inr (inr t.1)))
+
+-- ---- which causes a status has
+
+-- the status is that of the refusal, or of a failed write
+status_is : (why : Refusal) (status wanted : Status) (err err' : SinkState) → IsTold why status err err' → status ≡ wanted → (s.WriteFault ≢ wanted) → status_of why ≡ wanted
+status_is why status wanted err err' (inl t) is apart = sym t.0 ∙ is
+status_is why status wanted err err' (inr t) is apart = absurd (apart (sym t.0 ∙ is))
+
+table_cause : (words : List (List ℕ)) (input input' : SourceState) (out out' : SinkState) (why : Refusal) → IsCause words input input' out out' why → status_of why ≡ s.TableRefused →
+    NoTableCause words input input'
+table_cause words input input' out out' (Usage place) cause is = absurd cc
+table_cause words input input' out out' (Query why) cause is = absurd cc
+table_cause words input input' out out' (Schema why) cause is = inl (why, cause.0)
+table_cause words input input' out out' (Table why) cause is = inr (inl (why, cause.0))
+table_cause words input input' out out' (Typing why) cause is = absurd cc
+table_cause words input input' out out' (TooLong limit) cause is = inr (inr (limit, cause.0))
+table_cause words input input' out out' ReadFault cause is = absurd cc
+table_cause words input input' out out' WriteFault cause is = absurd cc
+table_cause words input input' out out' NoMemory cause is = absurd cc
+
+pub table_only : (words : List (List ℕ)) (input input' : SourceState) (out out' err err' : SinkState) (why : Refusal) (status : Status) →
+    IsCause words input input' out out' why → IsTold why status err err' → status ≡ s.TableRefused → NoTableCause words input input'
+table_only words input input' out out' err err' why status cause t is = table_cause words input input' out out' why cause (status_is why status s.TableRefused err err' t is (λ e. cc))
+
+query_cause : (words : List (List ℕ)) (input input' : SourceState) (out out' : SinkState) (why : Refusal) → IsCause words input input' out out' why → status_of why ≡ s.QueryRefused →
+    NoQueryCause words input input'
+query_cause words input input' out out' (Usage place) cause is = absurd cc
+query_cause words input input' out out' (Query why) cause is = inl (why, cause.0)
+query_cause words input input' out out' (Schema why) cause is = absurd cc
+query_cause words input input' out out' (Table why) cause is = absurd cc
+query_cause words input input' out out' (Typing why) cause is = inr (why, cause.0)
+query_cause words input input' out out' (TooLong limit) cause is = absurd cc
+query_cause words input input' out out' ReadFault cause is = absurd cc
+query_cause words input input' out out' WriteFault cause is = absurd cc
+query_cause words input input' out out' NoMemory cause is = absurd cc
+
+pub query_only : (words : List (List ℕ)) (input input' : SourceState) (out out' err err' : SinkState) (why : Refusal) (status : Status) →
+    IsCause words input input' out out' why → IsTold why status err err' → status ≡ s.QueryRefused → NoQueryCause words input input'
+query_only words input input' out out' err err' why status cause t is = query_cause words input input' out out' why cause (status_is why status s.QueryRefused err err' t is (λ e. cc))

@@ -1,12 +1,9 @@
 pub mod Texts
-pub mod Printed
 pub mod Places
-pub mod Lines
-pub mod Values
-pub mod OneColumn
-pub mod Digits
+pub mod EndSums
 pub mod Certain
 pub mod Blocks
 pub mod Reports
+pub mod Sums
 pub mod Outcomes
 pub mod Causes

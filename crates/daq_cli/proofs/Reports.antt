@@ -1,13 +1,17 @@
 -- The report of a column of a table.
-use Rattle.std.proofs.Common.{◌≡◌, ℕ, zero, suc, ◌≤◌, ◌-◌, ◌/◌, ◌^◌, List, [], ◌∷◌, ◌<◌, length, map, replicate, slice_index_or, refl, sym, ap, ◌∙◌, subst, arith, Ok, Err, OnOk, OnErr}
+use Rattle.std.proofs.Common.{◌≡◌, ℕ, zero, suc, ◌≤◌, List, [], ◌∷◌, ◌<◌, length, map, slice_index_or, refl, sym, ap, ◌∙◌, subst, arith, Ok, Err, IfErr, OnOk, OnErr, Bool}
 use Rattle.std.proofs.lemmas.List.{get_or-map}
 use Rattle.std.specs.declared.result.Result.{Result}
-use Rattle.daq_table.specs.Tables.{Cells, Frame, IsTable, cell_at, ends_at, ends_of, no_ends, planes, spread}
+use Rattle.daq_table.specs.Tables.{Cells, Frame, IsTable, cell_at, ends_at, ends_of, no_ends, spread}
 use Rattle.daq_table.specs.declared.head.ColumnHead.{ColumnHead}
 use Rattle.daq_table.specs.declared.head.Ends.{Ends}
 use Rattle.query_model.specs.Knowledge.{known_at}
 use Rattle.query_model.specs.Laws.{StartIsKnown}
-use Rattle.daq_cli.specs.Prefixes.{column_frame}
+use Rattle.known_column.specs.Columns.{IsFirstOver, KnownColumn, StaysLegal, rows_of_column, unread_column}
+use Rattle.known_column.specs.declared.known.OverTop.{OverTop}
+use Rattle.std.proofs.lemmas.Bool.{false≢true}
+use Rattle.std.specs.Result.{IsOk}
+use Rattle.daq_cli.specs.Prefixes.{column_after, column_frame}
 
 -- the ends of a column are those of its head
 pub ends_there : (heads : List ColumnHead) (column : ℕ) (d : ColumnHead) → column < length heads → ends_of (slice_index_or heads column d) ≡ slice_index_or (map ends_of heads) column no_ends
@@ -43,12 +47,8 @@ to_column P frame cells column ends numbers named table same first p =
     of_column (λ f cs. P f cs → P (column_frame (length numbers) ends) (numbers ∷ [])) frame cells column ends numbers named table same first (λ q. q) p
 
 -- with nothing read each prefix is 0
-pub zeros : StartIsKnown → (ends : Ends) (numbers : List ℕ) (width : ℕ) → width ≡ planes ends → IsTable (column_frame (length numbers) ends) (numbers ∷ []) →
-    replicate (length numbers) 0 ≡ map (λ cell. cell / 2 ^ width) numbers
-zeros start ends numbers width wide table =
-    let known = ap (λ k. (known_at k 0).prefixes) (start (column_frame (length numbers) ends) (numbers ∷ []) table) in
-    let none : planes ends - 0 ≡ width = omega (arith, wide) in
-    sym (subst (λ n. map (λ cell. cell / 2 ^ n) numbers ≡ replicate (length numbers) 0) none known)
+pub nothing_read : StartIsKnown → (ends : Ends) (numbers : List ℕ) → IsTable (column_frame (length numbers) ends) (numbers ∷ []) → unread_column ends (length numbers) ≡ column_after ends numbers 0
+nothing_read start ends numbers table = sym (ap (λ k. record { ends = ends; known = known_at k 0 }) (start (column_frame (length numbers) ends) (numbers ∷ []) table))
 
 pub on_ok : (T E : Type 0) (r : Result T E) (P Q : Type 0) → (P → Q) → OnOk r P → OnOk r Q
 on_ok T E (Ok x) P Q f p = f p
@@ -57,3 +57,13 @@ on_ok T E (Err e) P Q f p = tt
 pub on_err : (T E : Type 0) (r : Result T E) (P Q : Type 0) → (P → Q) → OnErr r P → OnErr r Q
 on_err T E (Ok x) P Q f p = tt
 on_err T E (Err e) P Q f p = f p
+
+-- no row's prefix would pass the top, so the plane was taken
+pub is_taken : (r : Result (Unit {0}) OverTop) (column : KnownColumn) (bits : List Bool) → ((row : ℕ) → row < rows_of_column column → StaysLegal column bits row) →
+    IfErr r (λ e. IsFirstOver column bits e.row) → IsOk r
+is_taken (Ok x) column bits legal over = refl
+is_taken (Err e) column bits legal over = absurd (over.over (legal e.row over.in_range))
+
+pub of_ok : (T E : Type 0) (r : Result T E) (P : Type 0) → IsOk r → OnOk r P → P
+of_ok T E (Ok x) P is p = p
+of_ok T E (Err e) P is p = absurd (false≢true is)

@@ -1,10 +1,16 @@
 -- Texts that are put together from parts.
-use Rattle.std.proofs.Common.{◌≡◌, ◌≢◌, ◌++◌, ℕ, List, Bor, Option, None, Some, MatchOption, sym, ap, ◌∙◌}
-use Rattle.std.proofs.lemmas.List.{append_cancel_left}
+use Rattle.std.proofs.Common.{◌≡◌, ◌++◌, ◌∙◌, ℕ, List, [], pos, ap, append-nil}
+use Rattle.std.specs.Fmt.{signed_decimal}
 
--- what follows two fronts, one after the other
-pub rest_after : (text front next rest : List ℕ) (r : Option (Bor (List ℕ))) → text ≡ front ++ rest →
-    MatchOption r ((last : List ℕ) → rest ≢ next ++ last) (λ last. rest ≡ next ++ last.now) →
-    MatchOption r ((last : List ℕ) → text ≢ front ++ (next ++ last)) (λ last. text ≡ front ++ (next ++ last.now))
-rest_after text front next rest None e f = λ last g. f last (append_cancel_left front rest (next ++ last) (sym e ∙ g))
-rest_after text front next rest (Some last) e f = e ∙ ap (λ l. front ++ l) f
+abbrev number : ℕ → List ℕ
+number n = signed_decimal (pos n)
+
+-- three numbers between words, appended one after the other
+pub with_three : (a b c front lent middle next whole : List ℕ) (p q r x y z : ℕ) → p ≡ x → q ≡ y → r ≡ z → front ≡ (a ++ number p) ++ b → lent ≡ front →
+    middle ≡ (lent ++ number q) ++ c → next ≡ middle → whole ≡ (next ++ number r) ++ [] → whole ≡ ((((a ++ number x) ++ b) ++ number y) ++ c) ++ number z
+with_three a b c front lent middle next whole p q r x y z px qy rz f l m n w =
+    w ∙ append-nil (next ++ number r)
+    ∙ ap (λ t. t ++ number r) (n ∙ m ∙ ap (λ t. (t ++ number q) ++ c) (l ∙ f))
+    ∙ ap (λ i. ((((a ++ number i) ++ b) ++ number q) ++ c) ++ number r) px
+    ∙ ap (λ i. ((((a ++ number x) ++ b) ++ number i) ++ c) ++ number r) qy
+    ∙ ap (λ i. ((((a ++ number x) ++ b) ++ number y) ++ c) ++ number i) rz

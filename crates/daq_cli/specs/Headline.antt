@@ -1,13 +1,10 @@
 -- What the intervals of a report say of the answer.
-use Rattle.std.specs.Prelude.{◌≡◌, ◌≢◌, ℕ, ◌+◌, ◌<◌, ◌≤◌, List, length, IsTrue}
+use Rattle.std.specs.Prelude.{◌≡◌, ◌≢◌, ℕ, ◌+◌, ◌<◌, ◌≤◌, length, IsTrue}
 use Rattle.std.specs.declared.option.Option.TheVariants.{Some}
 use Rattle.daq_table.specs.Tables.{Frame, Cells, IsTable, ends_at, planes}
 use Rattle.query_model.specs.Bounds.{Admits, IsExtremes, IsNested}
 use Rattle.query_model.specs.Worlds.{AgreesWith}
 use Rattle.query_model.specs.declared.bounds.Presence.TheVariants.{Always}
-use Rattle.sql_text.specs.Printed.{printed}
-use Rattle.sql_text.specs.Tree.{Query}
-use Rattle.daq_cli.specs.Forms.{SumsColumn, sum_text}
 use Rattle.daq_cli.specs.Rounds.{IsLastRound, bound_after, is_narrow, known_after, sum_on, sum_query}
 
 -- a table with this frame agrees with the planes that are read of the table after a round: it may be the table, for all that is known
@@ -45,7 +42,3 @@ TablesHaveLastRounds = (column : ℕ) (frame : Frame) (cells : Cells) → column
 abbrev pub LastRoundsAreCertain : Type 0
 LastRoundsAreCertain =
     (column : ℕ) (frame : Frame) (cells : Cells) (last : ℕ) → column < length frame.columns → IsTable frame cells → IsLastRound column frame cells last → IsCertain column frame cells last
-
--- the first line of a report shows the printed form of the query
-abbrev pub SumsArePrinted : Type 0
-SumsArePrinted = (query : Query) (name : List ℕ) → SumsColumn query name → printed query ≡ sum_text name

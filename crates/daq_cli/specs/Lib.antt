@@ -1,7 +1,7 @@
 pub mod Command
-pub mod Forms
 pub mod Rounds
 pub mod Report
+pub mod Forms
 pub mod Headline
 pub mod Prefixes
 pub mod Refusals

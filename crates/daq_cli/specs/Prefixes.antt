@@ -1,27 +1,26 @@
--- The bound of a sum from the prefixes of its column.
-use Rattle.std.specs.Prelude.{ℕ, ◌+◌, ◌-◌, ◌*◌, ◌≤◌, min, pos, ◌+ℤ◌, true, List, [], ◌∷◌, map}
+-- The bound of a sum from what is known of its column.
+use Rattle.std.specs.Prelude.{ℕ, true, List, [], ◌∷◌, map}
 use Rattle.interval_calc.specs.Intervals.{Interval}
 use Rattle.daq_table.specs.declared.head.Ends.{Ends}
-use Rattle.daq_table.specs.Tables.{Frame, spread}
+use Rattle.daq_table.specs.Tables.{Frame}
 use Rattle.query_model.specs.Bounds.{Pair}
+use Rattle.query_model.specs.Knowledge.{prefix_of, range_of}
+use Rattle.known_column.specs.Columns.{KnownColumn}
 
--- the numbers from the first cell with a prefix to the last, where so many cells share it
-abbrev pub range_in : Ends → ℕ → ℕ → Interval
-range_in ends block prefix = record {
-  low = ends.base +ℤ pos (prefix * block);
-  high = ends.base +ℤ pos (min ((prefix + 1) * block - 1) (spread ends));
-}
+-- what is known of a column with these cells after so many of its planes
+abbrev pub column_after : Ends → List ℕ → ℕ → KnownColumn
+column_after ends cells read = record { ends = ends; known = record { read = read; prefixes = map (prefix_of ends read) cells } }
 
--- some cell of the column has the prefix
-abbrev pub FitsColumn : Ends → ℕ → ℕ → Type 0
-FitsColumn ends block prefix = prefix * block ≤ spread ends
+-- the numbers that a row's prefix leaves
+abbrev pub range_in : KnownColumn → ℕ → Interval
+range_in column prefix = range_of column.ends column.known.read prefix
 
 -- each row counts for certain
-abbrev pub sure_pair : Ends → ℕ → ℕ → Pair
-sure_pair ends block prefix = record { certain = true; low = (range_in ends block prefix).low; high = (range_in ends block prefix).high }
+abbrev pub sure_pair : Interval → Pair
+sure_pair range = record { certain = true; low = range.low; high = range.high }
 
-abbrev pub sure_pairs : Ends → ℕ → List ℕ → List Pair
-sure_pairs ends block prefixes = map (sure_pair ends block) prefixes
+abbrev pub sure_pairs : KnownColumn → List Pair
+sure_pairs column = map (λ prefix. sure_pair (range_in column prefix)) column.known.prefixes
 
 -- what is declared of a table with one column
 abbrev pub column_frame : ℕ → Ends → Frame

@@ -9,7 +9,6 @@ use Rattle.query_model.specs.declared.bounds.Bound.{Bound}
 use Rattle.query_model.specs.declared.bounds.Presence.{Presence}
 use Rattle.query_model.specs.declared.bounds.Presence.TheVariants.{Never, Possibly, Always}
 use Rattle.outer_world.specs.Whole.{AppendsPrefix}
-use Rattle.daq_cli.specs.Forms.{sum_text}
 use Rattle.daq_cli.specs.Rounds.{IsLastRound, bound_after}
 
 -- how a column is shown: its name, and how many decimals its numbers have
@@ -53,8 +52,9 @@ unfoldable pub blocks_below : Shown → ℕ → Frame → Cells → ℕ → List
 blocks_below shown column frame cells zero = []
 blocks_below shown column frame cells (suc round) = blocks_below shown column frame cells round ++ block_of shown column frame cells round
 
+-- the first line of a report shows the printed form of the query
 abbrev pub query_line : List ℕ → List ℕ
-query_line name = codes "query " ++ sum_text name ++ codes "\n"
+query_line sql = codes "query " ++ sql ++ codes "\n"
 
 abbrev pub end_line : List ℕ
 end_line = codes "end narrow\n"
@@ -63,9 +63,9 @@ end_line = codes "end narrow\n"
 abbrev pub rounds_text : Shown → ℕ → Frame → Cells → ℕ → List ℕ
 rounds_text shown column frame cells last = blocks_below shown column frame cells (last + 1) ++ end_line
 
--- the whole report, of which this is the last round
-abbrev pub report : Shown → ℕ → Frame → Cells → ℕ → List ℕ
-report shown column frame cells last = query_line shown.name ++ rounds_text shown column frame cells last
+-- the whole report of the query with that printed form, of which this is the last round
+abbrev pub report : List ℕ → Shown → ℕ → Frame → Cells → ℕ → List ℕ
+report sql shown column frame cells last = query_line sql ++ rounds_text shown column frame cells last
 
 -- what was written is such a text up to the column's last round, or a prefix of it
 abbrev pub WritesAll : (ℕ → Frame → Cells → ℕ → List ℕ) → ℕ → Frame → Cells → Option (List ℕ) → Option (List ℕ) → Type 0

@@ -1,6 +1,6 @@
 //! What a report says: of the query, and of the answer in each round. Each law stands on a function that does nothing.
 
-ghost use Rattle.daq_cli.specs.Headline.{FullRoundsAreNarrow, LastRoundsAreCertain, SumsArePrinted, TablesHaveLastRounds};
+ghost use Rattle.daq_cli.specs.Headline.{FullRoundsAreNarrow, LastRoundsAreCertain, TablesHaveLastRounds};
 
 use query_model::{
     bounds_are_extremes_on_tables, bounds_become_exact_on_tables, bounds_contain_on_tables,
@@ -20,11 +20,6 @@ pub fn last_rounds_are_certain()
     bounds_become_exact_on_tables();
     full_rounds_are_narrow();
 }
-
-/// The first line of a report shows the printed form of its query.
-pub fn sums_are_printed()
-    ensures { SumsArePrinted }
-{}
 
 // With all planes read the bound is one number, or surely none.
 pub(crate) fn full_rounds_are_narrow()

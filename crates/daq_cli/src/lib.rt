@@ -2,18 +2,17 @@
 #![tactic(auto)]
 
 mod ask;
-mod form;
+mod fault_lines;
 mod headline;
-mod load;
 mod refusal;
 mod report;
 mod rounds;
-mod table;
+mod summed;
 mod top;
 mod words;
 mod writing;
 
-pub use headline::{last_rounds_are_certain, sums_are_printed};
+pub use headline::last_rounds_are_certain;
 pub use refusal::Status;
 pub use top::{World, run};
 pub use words::Words;

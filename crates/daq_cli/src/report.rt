@@ -2,22 +2,10 @@
 
 ghost use Rattle.std.specs.Prelude.{◌≡◌, ◌≤◌, ℕ, ℤ, length};
 ghost use Rattle.daq_table.specs.Numbers.{scaled_text};
-ghost use Rattle.daq_cli.specs.Report.{block, ends_text, interval_text, query_line, round_line, shown_as};
+ghost use Rattle.daq_cli.specs.Report.{block, ends_text, interval_text, round_line, shown_as};
 
 use daq_table::{NoRoom, TextBuf, number_text};
 use query_model::{Bound, Presence};
-
-// The line of the query.
-pub(crate) fn written_query(name: &[u8]) -> TextBuf
-    requires { length name.now ≤ 64 }
-    ensures { result ≡ query_line name.now }
-{
-    let mut text = TextBuf::new();
-    text.append(b"query SELECT SUM(");
-    text.append(name);
-    text.append(b") FROM t\n");
-    text
-}
 
 // The block of a round.
 pub(crate) fn written_block(name: &[u8], scale: u8, width: u8, round: u8, bound: &Bound) -> TextBuf

@@ -1,19 +1,27 @@
 //! The one call of the program: does what the words ask for, over the devices of a world.
 
-ghost use Rattle.std.specs.Prelude.{◌≡◌, ◌≢◌, ◌≤◌, ◌<◌, ◌⊎◌, ◌∷◌, ℕ, List, OnOk, IfErr, Some, length};
+ghost use Rattle.std.specs.Prelude.{◌≡◌, ◌≢◌, ◌≤◌, ◌⊎◌, ℕ, List, OnOk, IfErr, IsUtf8};
+ghost use Rattle.daq_table.specs.declared.schema_column.SchemaColumn.{SchemaColumn};
+ghost use Rattle.daq_table.specs.declared.schema_fault.SchemaFault.{SchemaFault};
 ghost use Rattle.outer_world.specs.Device.{Rose};
-ghost use Rattle.sql_text.specs.Tree.{query_of};
+ghost use Rattle.sql_text.specs.Printed.{printed};
+ghost use Rattle.sql_text.specs.Tree.{Query, query_of};
 ghost use Rattle.daq_cli.specs.Command.{IsNoCommand};
-ghost use Rattle.daq_cli.specs.Outcome.{AsksQuery, EndsOrLacksMemory, EndsWith, IsAnswered, IsCause, IsNoTable, IsRefused, IsTableText, IsTold, MemoryCause, NoTableCause, QueryCause, SchemaCause, Tells, sink_of, source_of};
+ghost use Rattle.daq_table.specs.Tables.{Contents};
+ghost use Rattle.csv_load.specs.TableOf.{IsTableOf};
+ghost use Rattle.daq_cli.specs.Forms.{IsSum, IsUnanswered};
+ghost use Rattle.daq_cli.specs.Outcome.{AsksQuery, EndsOrFails, EndsOrLacksMemory, EndsWith, IsAnswered, IsCause, IsNoTable, IsRefused, IsTableText, IsTold, MemoryCause, NoQueryCause, NoTableCause, SchemaCause, Tells, TextCause, limits, sink_of, source_of};
 ghost use Rattle.daq_cli.specs.declared.refusal.QueryFault.{QueryFault};
 ghost use Rattle.daq_cli.specs.declared.refusal.Refusal.{Refusal};
 
-use crate::ask::{read_table, report_table, requested_column, requested_query};
-use crate::headline::last_rounds_are_certain;
+use crate::ask::{read_table, report_table, requested_query, requested_schema};
 use crate::refusal::{Refusal, Status, refuse};
 use crate::words::Words;
+use csv_load::faults_are_exact;
+use daq_table::schemas_are_exact;
 use outer_world::{Sink, Source, Store};
 use sql_text::{Tree, one_answer};
+use sql_typing::{texts_are_well_formed, typing_is_exact};
 use std::alloc::Global;
 
 /// The devices of a run: an input, one beside it, a plane file, a file to be made, and where output and errors go.
@@ -35,7 +43,8 @@ fn answer<S: Source, K: Sink>(
     input: &mut S,
     out: &mut K,
 ) -> Result<(), Refusal>
-    requires { AsksQuery words.now (query_of query.now) }
+    requires asks { AsksQuery words.now (query_of query.now) }
+    requires printable { IsUtf8 (printed (query_of query.now)) }
     ensures answered { OnOk result (IsAnswered words.now
         (source_of S.left S.faults input.old) (source_of S.left S.faults input.new)
         (sink_of K.written K.faults out.old) (sink_of K.written K.faults out.new)) }
@@ -45,13 +54,13 @@ fn answer<S: Source, K: Sink>(
     ensures early { IfErr result (λ why. why ≢ Refusal.WriteFault → out.new ≡ out.old) }
     ensures untouched { IsRefused words.now → (input.new ≡ input.old) × (out.new ≡ out.old) }
 {
-    last_rounds_are_certain();
-    let name = match requested_column(words, query) {
-        Ok(name) => name,
+    texts_are_well_formed();
+    let schema = match requested_schema(alloc, words, query) {
+        Ok(schema) => schema,
         Err(why) => return Err(why),
     };
-    match read_table(alloc, name, input) {
-        Ok(table) => report_table(alloc, name, &table, out),
+    match read_table(alloc, &schema, input) {
+        Ok(table) => report_table(alloc, query, &table, out),
         Err(why) => Err(why),
     }
 }
@@ -99,17 +108,24 @@ pub fn run<S: Source, P: Store, K: Sink>(
     ensures usage { IsNoCommand words.now → EndsWith Status.Usage result
         (sink_of K.written K.faults world.old.err) (sink_of K.written K.faults world.new.err) }
     ensures usage_only { result ≡ Status.Usage → IsNoCommand words.now }
-    ensures query { (fault : QueryFault) → QueryCause words.now fault → EndsOrLacksMemory Status.QueryRefused result
+    ensures text { (why : QueryFault) → TextCause words.now why → EndsOrLacksMemory Status.QueryRefused result
         (sink_of K.written K.faults world.old.err) (sink_of K.written K.faults world.new.err) }
-    ensures query_only { result ≡ Status.QueryRefused → (fault : QueryFault) × QueryCause words.now fault }
-    ensures schema { SchemaCause words.now → EndsOrLacksMemory Status.TableRefused result
+    ensures schema { (why : SchemaFault) → SchemaCause words.now why → EndsOrLacksMemory Status.TableRefused result
         (sink_of K.written K.faults world.old.err) (sink_of K.written K.faults world.new.err) }
-    ensures table { (name bytes : List ℕ)
-        → Tells words.now (source_of S.left S.faults world.old.input) name bytes → IsNoTable name bytes
-        → (result ≡ Status.TableRefused) ⊎ (result ≡ Status.NoMemory)
-        ⊎ Rose (S.faults world.old.input) (S.faults world.new.input)
-        ⊎ Rose (K.faults world.old.err) (K.faults world.new.err) }
+    ensures table { (query : Query) (columns : List SchemaColumn) (bytes : List ℕ)
+        → Tells words.now (source_of S.left S.faults world.old.input) query columns bytes → IsNoTable columns bytes
+        → EndsOrFails Status.TableRefused result
+        (source_of S.left S.faults world.old.input) (source_of S.left S.faults world.new.input)
+        (sink_of K.written K.faults world.old.err) (sink_of K.written K.faults world.new.err) }
     ensures table_only { result ≡ Status.TableRefused → NoTableCause words.now
+        (source_of S.left S.faults world.old.input) (source_of S.left S.faults world.new.input) }
+    ensures query { (query : Query) (columns : List SchemaColumn) (bytes : List ℕ)
+        → Tells words.now (source_of S.left S.faults world.old.input) query columns bytes → IsTableText columns bytes
+        → ((contents : Contents) → IsTableOf bytes columns limits contents → IsUnanswered query contents.head)
+        → EndsOrFails Status.QueryRefused result
+        (source_of S.left S.faults world.old.input) (source_of S.left S.faults world.new.input)
+        (sink_of K.written K.faults world.old.err) (sink_of K.written K.faults world.new.err) }
+    ensures query_only { result ≡ Status.QueryRefused → NoQueryCause words.now
         (source_of S.left S.faults world.old.input) (source_of S.left S.faults world.new.input) }
     ensures no_file { result ≢ Status.FileRefused }
     ensures read_fault { result ≡ Status.ReadFault
@@ -119,8 +135,9 @@ pub fn run<S: Source, P: Store, K: Sink>(
         ⊎ Rose (K.faults world.old.err) (K.faults world.new.err) }
     ensures no_memory { result ≡ Status.NoMemory
         → MemoryCause words.now × (world.new.out ≡ world.old.out) }
-    ensures complete { (name bytes : List ℕ)
-        → Tells words.now (source_of S.left S.faults world.old.input) name bytes → IsTableText name bytes
+    ensures complete { (query : Query) (columns : List SchemaColumn) (bytes : List ℕ)
+        → Tells words.now (source_of S.left S.faults world.old.input) query columns bytes → IsTableText columns bytes
+        → ((contents : Contents) → IsTableOf bytes columns limits contents → IsSum query contents.head)
         → (result ≡ Status.Done) ⊎ (result ≡ Status.NoMemory)
         ⊎ Rose (S.faults world.old.input) (S.faults world.new.input)
         ⊎ Rose (K.faults world.old.out) (K.faults world.new.out)
@@ -135,9 +152,12 @@ pub fn run<S: Source, P: Store, K: Sink>(
         × (world.new.made ≡ world.old.made) }
 {
     one_answer();
+    schemas_are_exact();
+    faults_are_exact();
+    typing_is_exact();
     match ask(alloc, words, &mut world.input, &mut world.out) {
         Ok(()) => Status::Done,
-        Err(why) => refuse(why, &mut world.err),
+        Err(why) => refuse(&why, &mut world.err),
     }
 }
 

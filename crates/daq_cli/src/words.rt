@@ -1,6 +1,6 @@
 //! The words of a command line.
 
-ghost use Rattle.std.specs.Prelude.{◌≡◌, ◌≢◌, ◌==◌, ◌<◌, [], ◌∷◌, ◌++◌, length, OnOk, OnErr, MatchOption, slice_get, Some, ℕ, List, codes};
+ghost use Rattle.std.specs.Prelude.{◌≡◌, ◌≢◌, ◌==◌, ◌<◌, [], ◌∷◌, ◌++◌, length, OnOk, OnErr, MatchOption, slice_get, Some, ℕ, List, codes, IsUtf8};
 ghost use Rattle.std.specs.Bool.{MatchBool};
 ghost use Rattle.daq_cli.specs.Command.{IsNoCommand, IsUsagePlace, Ask, words_of};
 
@@ -60,7 +60,8 @@ impl Words {
     /// The word at a place, counted from 0.
     pub fn word(&self, at: usize) -> &str
         requires { at < length self.now }
-        ensures { slice_get self.now at ≡ Some result.now }
+        ensures word { slice_get self.now at ≡ Some result.now }
+        ensures utf8 { IsUtf8 result.now }
     {
         self.words[at].as_str()
     }

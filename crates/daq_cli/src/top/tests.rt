@@ -5,6 +5,8 @@ use outer_world::{MemSink, MemSource, MemStore};
 use std::alloc::AllocError;
 use std::test::Fail;
 
+mod tables;
+
 const SUM: [&str; 4] = ["ask", "p.csv", "price:int", "SELECT SUM(price) FROM t"];
 
 type MemWorld = World<MemSource, MemStore, MemSink>;
@@ -84,19 +86,6 @@ fn stops_so(alloc: Global, texts: &[&str], status: Status, err: &[u8]) -> Result
     Ok(ended == status && world.out.contents().is_empty() && world.err.contents() == err)
 }
 
-#[test]
-fn other_tables_are_not_built(rt: HostRuntime) -> Result<(), Fail> {
-    let alloc = rt.alloc();
-    let line = b"daq: table refused: not built\n";
-    let refused = Status::TableRefused;
-    assert!(rt; ends_so(alloc, &SUM, b"price\n5,2\n", refused, b"", line)?);
-    assert!(rt; ends_so(alloc, &SUM, b"price\n5", refused, b"", line)?);
-    assert!(rt; ends_so(alloc, &SUM, b"cost\n5\n", refused, b"", line)?);
-    let decimals = ["ask", "p.csv", "price:dec2", "SELECT SUM(price) FROM t"];
-    assert!(rt; stops_so(alloc, &decimals, refused, line)?);
-    Ok(())
-}
-
 fn query_refused(alloc: Global, sql: &str, line: &[u8]) -> Result<bool, AllocError> {
     stops_so(
         alloc,
@@ -104,20 +93,6 @@ fn query_refused(alloc: Global, sql: &str, line: &[u8]) -> Result<bool, AllocErr
         Status::QueryRefused,
         line,
     )
-}
-
-#[test]
-fn other_queries_are_not_built(rt: HostRuntime) -> Result<(), Fail> {
-    let alloc = rt.alloc();
-    let line = b"daq: query refused: not built\n";
-    assert!(rt; query_refused(alloc, "SELECT COUNT(*) FROM t", line)?);
-    assert!(rt; query_refused(alloc, "SELECT SUM(price), SUM(price) FROM t", line)?);
-    assert!(rt; query_refused(alloc, "SELECT SUM(price) FROM u", line)?);
-    assert!(rt; query_refused(alloc, "SELECT MIN(price) FROM t", line)?);
-    assert!(rt; query_refused(alloc, "SELECT SUM(price) FROM t GROUP BY price", line)?);
-    let filtered = "select sum( price ) from t where not (price<1 or price>2) and qty=1";
-    assert!(rt; query_refused(alloc, filtered, line)?);
-    Ok(())
 }
 
 #[test]
@@ -157,20 +132,6 @@ fn a_text_of_4097_bytes_is_too_long(rt: HostRuntime) -> Result<(), Fail> {
     }
     let line = b"daq: query refused: longer than 4096 bytes\n";
     assert!(rt; query_refused(alloc, blanks.as_str(), line)?);
-    Ok(())
-}
-
-#[test]
-fn a_query_is_shown_in_its_printed_form(rt: HostRuntime) -> Result<(), Fail> {
-    let alloc = rt.alloc();
-    let words = [
-        "ask",
-        "p.csv",
-        "price:int",
-        "select  sum(\"price\")\tfrom t ;",
-    ];
-    let report = b"query SELECT SUM(price) FROM t\nround 0\n1 5\nend narrow\n";
-    assert!(rt; ends_so(alloc, &words, b"price\n5\n", Status::Done, report, b"")?);
     Ok(())
 }
 

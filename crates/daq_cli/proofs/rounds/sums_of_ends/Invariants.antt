@@ -1,14 +1,13 @@
-use Rattle.std.proofs.Common.{◌≡◌, ◌*◌, ◌^◌, map, take, pos, neg_ℤ, ◌≤ℤ◌}
-use Rattle.query_model.specs.Answers.{total}
-use Rattle.daq_cli.specs.Prefixes.{range_in}
+use Rattle.std.proofs.Common.{◌≡◌, ◌*◌, take, pos, neg_ℤ, ◌≤ℤ◌}
+use Rattle.daq_cli.proofs.EndSums.{high_sum, low_sum}
 use Rattle.daq_cli.proofs.rounds.sums_of_ends.Given as goal
 
-abbrev pub invariant-loop-prefix : goal.invariant-loop-prefix
-invariant-loop-prefix l = record {
-  lo : l.lo ≡ total (map (λ p. (range_in l.ends (2 ^ l.unread) p).low) (take l.prefix-index l.prefixes));
-  hi : l.hi ≡ total (map (λ p. (range_in l.ends (2 ^ l.unread) p).high) (take l.prefix-index l.prefixes));
-  lo_low : neg_ℤ (pos (9223372036854775808 * l.prefix-index)) ≤ℤ l.lo;
-  lo_high : l.lo ≤ℤ pos (9223372036854775808 * l.prefix-index);
-  hi_low : neg_ℤ (pos (9223372036854775808 * l.prefix-index)) ≤ℤ l.hi;
-  hi_high : l.hi ≤ℤ pos (9223372036854775808 * l.prefix-index);
+abbrev pub invariant-loop-row : goal.invariant-loop-row
+invariant-loop-row l = record {
+  lo : l.lo ≡ low_sum l.known (take l.row l.known.known.prefixes);
+  hi : l.hi ≡ high_sum l.known (take l.row l.known.known.prefixes);
+  lo_low : neg_ℤ (pos (9223372036854775808 * l.row)) ≤ℤ l.lo;
+  lo_high : l.lo ≤ℤ pos (9223372036854775808 * l.row);
+  hi_low : neg_ℤ (pos (9223372036854775808 * l.row)) ≤ℤ l.hi;
+  hi_high : l.hi ≤ℤ pos (9223372036854775808 * l.row);
 }

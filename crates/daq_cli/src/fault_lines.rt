@@ -1,0 +1,160 @@
+//! What the line of each fault of a query, a schema and a table says.
+
+ghost use Rattle.std.specs.Prelude.{◌≡◌, ◌≤◌, ◌+◌, ◌++◌, length, pos};
+ghost use Rattle.std.specs.Fmt.{signed_decimal};
+ghost use Rattle.daq_cli.specs.Refusals.{query_fault_text, schema_fault_text, table_fault_text, type_fault_text};
+
+use crate::refusal::QueryFault;
+use crate::report::written_number;
+use csv_load::TableFault;
+use daq_table::{SchemaFault, TextBuf};
+use sql_typing::TypeFault;
+
+pub(crate) fn written_query_fault(fault: &QueryFault) -> TextBuf
+    ensures text { result ≡ query_fault_text fault.now }
+    ensures short { length result ≤ 500 }
+{
+    match fault {
+        QueryFault::TooLong => plain(b"query refused: longer than 4096 bytes"),
+        QueryFault::Syntax { at } => with_number(b"query refused: syntax at ", counted(*at), b""),
+        QueryFault::TooDeep { at } => {
+            with_number(b"query refused: nested too deep at ", counted(*at), b"")
+        }
+        QueryFault::NumberTooLarge { at } => {
+            with_number(b"query refused: number too large at ", counted(*at), b"")
+        }
+        QueryFault::NotBuilt => plain(b"query refused: not built"),
+    }
+}
+
+pub(crate) fn written_schema_fault(fault: &SchemaFault) -> TextBuf
+    ensures text { result ≡ schema_fault_text fault.now }
+    ensures short { length result ≤ 500 }
+{
+    match fault {
+        SchemaFault::BadItem { at } => {
+            with_number(b"table refused: schema item at ", counted(*at), b"")
+        }
+        SchemaFault::TooMany { count } => {
+            with_number(b"table refused: ", counted(*count), b" schema items")
+        }
+        SchemaFault::RepeatedName { first, second } => {
+            let front = with_number(b"table refused: schema items ", after(*first), b" and ");
+            with_number(front.bytes(), after(*second), b" have one name")
+        }
+        SchemaFault::NoMemory => plain(b"no memory"),
+    }
+}
+
+pub(crate) fn written_table_fault(fault: &TableFault) -> TextBuf
+    ensures text { result ≡ table_fault_text fault.now }
+    ensures short { length result ≤ 500 }
+{
+    match fault {
+        TableFault::NoHeader => plain(b"table refused: no header"),
+        TableFault::HeaderDiffers { column } => with_number(
+            b"table refused: header differs at column ",
+            after(*column),
+            b"",
+        ),
+        TableFault::TooManyRows { limit } => {
+            with_number(b"table refused: more than ", u128::from(*limit), b" rows")
+        }
+        TableFault::TooManyCells { count } => {
+            with_number(b"table refused: ", u128::from(*count), b" cells")
+        }
+        TableFault::UnequalLength { entry, got, want } => written_lengths(*entry, *got, *want),
+        TableFault::BadCell { entry, column } => {
+            let front = with_number(b"table refused: record ", after(*entry), b" column ");
+            with_number(front.bytes(), after(*column), b" is no value of its kind")
+        }
+        TableFault::TooManyNames { column } => with_number(
+            b"table refused: column ",
+            after(*column),
+            b" has too many names",
+        ),
+        TableFault::NoMemory => plain(b"no memory"),
+    }
+}
+
+pub(crate) fn written_type_fault(fault: &TypeFault) -> TextBuf
+    ensures text { result ≡ type_fault_text fault.now }
+    ensures short { length result ≤ 500 }
+{
+    match fault {
+        TypeFault::UnknownTable { at } => placed(b"query refused: unknown table at ", *at),
+        TypeFault::UnknownColumn { at } => placed(b"query refused: unknown column at ", *at),
+        TypeFault::TooManyColumns => plain(b"query refused: more than 16 columns"),
+        TypeFault::TooManyItems => plain(b"query refused: more than 16 aggregates"),
+        TypeFault::KindsDiffer { at } => placed(b"query refused: kinds differ at ", *at),
+        TypeFault::ScaleTooFine { at } => placed(b"query refused: scale too fine at ", *at),
+        TypeFault::NotGrouped { at } => placed(b"query refused: not grouped at ", *at),
+        TypeFault::TooManyValues { at } => placed(b"query refused: too many values at ", *at),
+        TypeFault::LimitOutOfRange { at } => placed(b"query refused: limit out of range at ", *at),
+        TypeFault::GroupTooWide { bits } => {
+            with_number(b"query refused: group of ", u128::from(*bits), b" bits")
+        }
+        TypeFault::TooWide { item } => {
+            with_number(b"query refused: item ", after(*item), b" too wide")
+        }
+        TypeFault::NoMemory => plain(b"no memory"),
+    }
+}
+
+// Words and a place of the text.
+fn placed(words: &[u8], at: usize) -> TextBuf
+    requires { length words.now ≤ 60 }
+    ensures text { result ≡ words.now ++ signed_decimal (pos at) }
+    ensures short { length result ≤ 160 }
+{
+    with_number(words, counted(at), b"")
+}
+
+// That a record has so many fields, and not so many.
+fn written_lengths(entry: usize, got: usize, want: usize) -> TextBuf
+    ensures text { result ≡ table_fault_text (TableFault.UnequalLength entry got want) }
+    ensures short { length result ≤ 500 }
+{
+    let front = with_number(b"table refused: record ", after(entry), b" has ");
+    let middle = with_number(front.bytes(), counted(got), b" fields, not ");
+    with_number(middle.bytes(), counted(want), b"")
+}
+
+// A count as a number.
+fn counted(count: usize) -> u128
+    ensures { result ≡ count }
+{
+    count as u128
+}
+
+// The place of what stands behind so many, counted from 1.
+fn after(count: usize) -> u128
+    ensures { result ≡ count + 1 }
+{
+    count as u128 + 1
+}
+
+pub(crate) fn plain(words: &[u8]) -> TextBuf
+    requires { length words.now ≤ 60 }
+    ensures text { result ≡ words.now }
+    ensures short { length result ≤ 60 }
+{
+    let mut text = TextBuf::new();
+    text.append(words);
+    text
+}
+
+// A number between two texts.
+pub(crate) fn with_number(front: &[u8], number: u128, back: &[u8]) -> TextBuf
+    requires front { length front.now ≤ 340 }
+    requires number { number ≤ 18446744073709551616 }
+    requires back { length back.now ≤ 30 }
+    ensures text { result ≡ front.now ++ signed_decimal (pos number) ++ back.now }
+    ensures short { length result ≤ length front.now + length back.now + 100 }
+{
+    let mut text = TextBuf::new();
+    text.append(front);
+    text.append(written_number(number as i128, 0).bytes());
+    text.append(back);
+    text
+}
