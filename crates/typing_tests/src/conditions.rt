@@ -32,6 +32,16 @@ fn kinds_of_values(rt: HostRuntime) -> Result<(), Fail> {
                 "SELECT COUNT(*) FROM t WHERE day >= ^'2020/01/01'",
                 "kinds differ",
             ),
+        ],
+    )
+}
+
+#[test]
+fn kinds_of_ends_and_lists(rt: HostRuntime) -> Result<(), Fail> {
+    all_trades_say(
+        &rt,
+        rt.alloc(),
+        &[
             (
                 "SELECT COUNT(*) FROM t WHERE day BETWEEN ^'x' AND 'y'",
                 "kinds differ",

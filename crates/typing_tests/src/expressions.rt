@@ -43,6 +43,16 @@ fn scales_of_arguments(rt: HostRuntime) -> Result<(), Fail> {
                 "SELECT MIN(rate ^* 0.0000000000000000001) FROM t",
                 "scale too fine",
             ),
+        ],
+    )
+}
+
+#[test]
+fn scales_of_products(rt: HostRuntime) -> Result<(), Fail> {
+    all_trades_say(
+        &rt,
+        rt.alloc(),
+        &[
             (
                 "SELECT MIN(paid*paid*paid*paid*paid*paid*paid*paid*paid) FROM t",
                 "",

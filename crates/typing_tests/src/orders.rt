@@ -31,6 +31,16 @@ fn earlier_checks_come_first(rt: HostRuntime) -> Result<(), Fail> {
                 "SELECT ^qty, SUM(city) FROM t WHERE price < 7.5",
                 "not grouped",
             ),
+        ],
+    )
+}
+
+#[test]
+fn earlier_places_come_first(rt: HostRuntime) -> Result<(), Fail> {
+    all_trades_say(
+        &rt,
+        rt.alloc(),
+        &[
             (
                 "SELECT COUNT(*) FROM t WHERE price < ^7.5 AND city < 7",
                 "scale too fine",
