@@ -31,7 +31,7 @@ pub ends_ordered : (zs : List ℤ) → least zs ≤ℤ greatest zs
 ends_ordered [] = omega (arith, ints)
 ends_ordered (z ∷ zs) = between (least (z ∷ zs)) z (greatest (z ∷ zs)) (fold-int_min_bounds z zs (least (z ∷ zs)) refl).0 (fold-int_max_bounds z zs (greatest (z ∷ zs)) refl).0
 
-least_has : (P : ℤ → Type 0) (zs : List ℤ) → P (pos 0) → All P zs → P (least zs)
+pub least_has : (P : ℤ → Type 0) (zs : List ℤ) → P (pos 0) → All P zs → P (least zs)
 least_has P [] h all = h
 least_has P (z ∷ zs) h all =
     elim (fold-int_min_reached z zs (least (z ∷ zs)) refl) [
@@ -39,7 +39,7 @@ least_has P (z ∷ zs) h all =
       | inr later ↦ subst P later.2 (All-tail P z zs all later.0 (least (z ∷ zs)) later.1)
     ]
 
-greatest_has : (P : ℤ → Type 0) (zs : List ℤ) → P (pos 0) → All P zs → P (greatest zs)
+pub greatest_has : (P : ℤ → Type 0) (zs : List ℤ) → P (pos 0) → All P zs → P (greatest zs)
 greatest_has P [] h all = h
 greatest_has P (z ∷ zs) h all =
     elim (fold-int_max_reached z zs (greatest (z ∷ zs)) refl) [

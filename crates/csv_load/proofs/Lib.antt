@@ -9,3 +9,4 @@ pub mod EndFacts
 pub mod TableFacts
 pub mod LoadFacts
 pub mod OneFault
+pub mod HeadTexts

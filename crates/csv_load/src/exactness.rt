@@ -1,10 +1,16 @@
 //! What holds of all texts.
 
-ghost use Rattle.csv_load.specs.Laws.{HasOneFault, IsFaultless};
+ghost use Rattle.csv_load.specs.Laws.{HasOneFault, HeadsHaveTexts, IsFaultless};
 
 /// The faults that `load` tells are exact: no text has two of them, and a text that stands for a table has none, want of
 /// memory left aside. So `load` answers a fault where the text has it, or `NoMemory`.
 pub fn faults_are_exact()
     ensures one { HasOneFault }
     ensures none { IsFaultless }
+{}
+
+/// In each table that a text stands for, every value of every column can be shown: dates lie in the years 0000 to 9999, and
+/// names have at most 255 bytes.
+pub fn heads_have_texts()
+    ensures { HeadsHaveTexts }
 {}

@@ -1,0 +1,106 @@
+-- The values of a column have texts: its cells are values of its kind, and its least and greatest number are theirs.
+use Rattle.std.proofs.Common.{◌≡◌, ℕ, zero, suc, ◌≤◌, ℤ, pos, ◌≤ℤ◌, All, Some, List, [], ◌∷◌, fold, slice_get, length, get_or, refl, inl, inr, arith}
+use Rattle.std.proofs.lemmas.Int.{ints}
+use Rattle.std.proofs.lemmas.List.Elements.{All-from_get_or, All-head, All-map, All-nil, All-tail}
+use Rattle.std.proofs.lemmas.Map.Views.{All-insert_key}
+use Rattle.std.proofs.lemmas.Option.{slice_get-get_or, slice_get_cases, slice_get_within}
+use Rattle.std.specs.BTreeSet.{insert_key}
+use Rattle.std.specs.Cmp.Lexicographic.{slice_cmp}
+use Rattle.std.specs.Ordering.{nat_cmp}
+use Rattle.jiff_core.specs.Calendar.{IsCivilDate, day_count, days_from_civil}
+use Rattle.jiff_core.proofs.CalendarLemmas.{day_count-day_of_year, day_count-later_year, day_count_bounds, days_from_civil-day_count}
+use Rattle.jiff_core.proofs.MarchLemmas.{day_count-early}
+use Rattle.jiff_core.proofs.SignedLemmas.{signed_arith}
+use Rattle.daq_table.specs.CellTexts.{date_value}
+use Rattle.daq_table.specs.ValueTexts.{HasText, IsDay}
+use Rattle.daq_table.specs.declared.head.ColumnHead.{ColumnHead}
+use Rattle.daq_table.specs.declared.head.Kind.{Kind}
+use Rattle.daq_table.specs.declared.head.Kind.TheVariants.{Int, Dec, Date, Text}
+use Rattle.daq_table.specs.declared.schema_column.SchemaColumn.{SchemaColumn}
+use Rattle.csv_load.specs.Columns.{IsValue, column_texts, dictionary, numbers_of}
+use Rattle.csv_load.specs.Laws.{HasTexts, HeadsHaveTexts}
+use Rattle.csv_load.specs.Records.{Fields}
+use Rattle.csv_load.specs.Rows.{AreGoodRows}
+use Rattle.csv_load.specs.TableOf.{IsColumnOf}
+use Rattle.csv_load.specs.declared.limits.Limits.{Limits}
+use Rattle.csv_load.proofs.EndFacts.{greatest_has, least_has}
+
+first_day : day_count (pos 0) 1 1 ≡ 3652425
+first_day = day_count-early (pos 0) 9999 1 1 refl (omega arith) (omega arith) (omega arith)
+
+-- no year from 0000 on begins before it
+begins_later : (year : ℕ) → 3652425 ≤ day_count (pos year) 1 1
+begins_later zero = omega (arith, first_day)
+begins_later (suc year) = omega (arith, first_day, day_count-later_year (pos 0) (pos (suc year)) (omega (arith, signed_arith)) (omega (arith, signed_arith)))
+
+-- a date of the years from 0000 on has a day number of these years
+civil_is_day : (year month day : ℕ) → IsCivilDate (pos year) month day → IsDay (days_from_civil (pos year) month day)
+civil_is_day year month day h =
+    omega (arith, signed_arith, days_from_civil-day_count, begins_later year, day_count_bounds (pos year) month day h, day_count-day_of_year (pos year) month day h.2.0, h.2.0)
+
+zero_has : (kind : Kind) → HasText kind (pos 0)
+zero_has Int = tt
+zero_has (Dec scale) = tt
+zero_has Date = omega (arith, ints)
+zero_has Text = tt
+
+-- between two numbers with texts each has one
+between_has : (kind : Kind) (base top value : ℤ) → HasText kind base → HasText kind top → base ≤ℤ value → value ≤ℤ top → HasText kind value
+between_has Int base top value low high h k = tt
+between_has (Dec scale) base top value low high h k = tt
+between_has Date base top value low high h k = (omega (arith, ints, low, h), omega (arith, ints, high, k))
+between_has Text base top value low high h k = tt
+
+numbers_have : (kind : Kind) (texts : List (List ℕ)) → All (IsValue kind) texts → All (HasText kind) (numbers_of kind texts)
+numbers_have Int texts all = λ k d lt. tt
+numbers_have (Dec scale) texts all = λ k d lt. tt
+numbers_have Date texts all = All-map IsDay date_value texts (λ k d lt. let cell = all k d lt in civil_is_day _ _ _ cell.civil)
+numbers_have Text texts all = λ k d lt. tt
+
+distinct_has : (P : List ℕ → Type 0) (texts names : List (List ℕ)) → All P names → All P texts → All P (fold (insert_key (slice_cmp nat_cmp)) names texts)
+distinct_has P [] names known all = known
+distinct_has P (text ∷ texts) names known all =
+    distinct_has P texts (insert_key (slice_cmp nat_cmp) names text) (All-insert_key (slice_cmp nat_cmp) text P names known (All-head P text texts all)) (All-tail P text texts all)
+
+abbrev IsShort : List ℕ → Type 0
+IsShort name = length name ≤ 255
+
+names_short : (kind : Kind) (texts : List (List ℕ)) → All (IsValue kind) texts → All IsShort (dictionary kind texts)
+names_short Int texts all = All-nil IsShort
+names_short (Dec scale) texts all = All-nil IsShort
+names_short Date texts all = All-nil IsShort
+names_short Text texts all = distinct_has IsShort texts [] (All-nil IsShort) (λ k d lt. let text = all k d lt in text.short)
+
+-- the cells of good rows are values
+good_values : (columns : List SchemaColumn) (limits : Limits) (rows : List Fields) (c : ℕ) (column : SchemaColumn) → AreGoodRows columns limits rows → slice_get columns c ≡ Some column
+    → All (IsValue column.kind) (column_texts c rows)
+good_values columns limits rows c column good e =
+    let P = IsValue column.kind in
+    All-map P (λ (row : Fields). get_or row c []) rows
+    (All-from_get_or (λ (row : Fields). P (get_or row c [])) rows [] (λ r lt. ((good r lt).cells c column (slice_get_within columns c column e) e).value))
+
+column_has : (column : SchemaColumn) (texts : List (List ℕ)) (head : ColumnHead) (cells : List ℕ) → IsColumnOf column texts head cells → All (IsValue column.kind) texts → HasTexts head
+column_has column texts head cells is all =
+    let kind = column.kind in
+    let numbers = numbers_of kind texts in
+    let each = numbers_have kind texts all in
+    let base : HasText head.kind head.base = rw (is.kind, is.base) (least_has (HasText kind) numbers (zero_has kind) each) in
+    let top : HasText head.kind head.top = rw (is.kind, is.top) (greatest_has (HasText kind) numbers (zero_has kind) each) in
+    record {
+      base = base;
+      top = top;
+      between = λ value low high. between_has head.kind head.base head.top value base top low high;
+      names = rw is.names (names_short kind texts all);
+    }
+
+pub have_texts : HeadsHaveTexts
+have_texts bytes columns limits table t c head e =
+    let lt = slice_get_within table.head.columns c head e in
+    let cells = get_or table.cells c [] in
+    let cells_are : slice_get table.cells c ≡ Some cells = slice_get-get_or table.cells c [] (omega (arith, lt, t.heads, t.lists)) in
+    elim (slice_get_cases columns c).1 [
+      | inl found ↦
+          column_has found.0 (column_texts c t.rows) head cells (t.each c found.0 head cells found.2 e cells_are)
+          (good_values columns limits t.rows c found.0 t.good found.2)
+      | inr past ↦ absurd (omega (arith, lt, past.0, t.heads))
+    ]
