@@ -1,0 +1,11 @@
+pub mod RowPairs
+pub mod Openings
+pub mod ColumnSteps
+pub mod KeptItems
+pub mod Kept
+pub mod Certain
+pub mod Shown
+pub mod Ratios
+pub mod Interleaved
+pub mod Counted
+pub mod Ends

@@ -1,0 +1,5 @@
+pub mod Stages
+pub mod Narrowness
+pub mod Promises
+pub mod Progresses
+pub mod Engines

@@ -1,0 +1,45 @@
+-- When a round is narrow: whether each item has an answer is known, and where it has one, its ends are near enough.
+use Rattle.std.specs.Prelude.{ℕ, ◌*◌, pos, ◌-ℤ◌, ◌*ℤ◌, int_le, Bool, true, false, List, [], FitsSigned}
+use Rattle.std.specs.Int.{w128}
+use Rattle.std.specs.List.{list_all}
+use Rattle.query_model.specs.declared.bounds.Bound.{Bound}
+use Rattle.query_model.specs.declared.bounds.Presence.{Presence}
+use Rattle.query_model.specs.declared.bounds.Presence.TheVariants.{Never, Possibly, Always}
+use Rattle.query_model.specs.declared.query.ItemKind.{ItemKind}
+use Rattle.query_model.specs.declared.query.ItemKind.TheVariants.{Count, Sum, Min, Max, Avg}
+use Rattle.query_model.specs.Bounds.{AverageBound, Pair, average_bound_of, bound_of, pairs}
+use Rattle.round_engine.specs.Stages.{Stage}
+
+-- whether there is an answer is known, and where there is one, its ends are near
+abbrev pub is_told : Presence → Bool → Bool
+is_told Never near = near
+is_told Possibly near = false
+is_told Always near = true
+
+-- the ends are at most so far apart
+abbrev pub is_narrow_bound : ℕ → Bound → Bool
+is_narrow_bound width bound = is_told bound.empty (int_le (bound.hi -ℤ bound.lo) (pos width))
+
+-- the difference of two fractions is compared by cross products
+abbrev pub is_narrow_average : ℕ → AverageBound → Bool
+is_narrow_average width bound =
+    is_told bound.empty (int_le ((bound.hi.num *ℤ pos bound.lo.den) -ℤ (bound.lo.num *ℤ pos bound.hi.den)) (pos (width * bound.lo.den * bound.hi.den)))
+
+-- the bound of an item over a list of pairs is narrow
+abbrev pub is_narrow_item : ℕ → ItemKind → List Pair → Bool
+is_narrow_item width Count ps = is_narrow_bound width (bound_of Count ps)
+is_narrow_item width Sum ps = is_narrow_bound width (bound_of Sum ps)
+is_narrow_item width Min ps = is_narrow_bound width (bound_of Min ps)
+is_narrow_item width Max ps = is_narrow_bound width (bound_of Max ps)
+is_narrow_item width Avg ps = is_narrow_average width (average_bound_of ps)
+
+-- the bound of each item is narrow
+abbrev pub is_narrow : ℕ → Stage → Bool
+is_narrow width stage = list_all (λ item. is_narrow_item width item.kind (pairs stage.query item [] stage.frame stage.known)) stage.query.items
+
+-- the cross products by which the fractions of an average are compared are numbers of 128 bits
+pub record FitsNarrow (width : ℕ) (bound : AverageBound) : Type 0 where
+  pub high : FitsSigned w128 (bound.hi.num *ℤ pos bound.lo.den)
+  pub low : FitsSigned w128 (bound.lo.num *ℤ pos bound.hi.den)
+  pub difference : FitsSigned w128 ((bound.hi.num *ℤ pos bound.lo.den) -ℤ (bound.lo.num *ℤ pos bound.hi.den))
+  pub limit : FitsSigned w128 (pos (width * bound.lo.den * bound.hi.den))

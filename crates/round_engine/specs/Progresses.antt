@@ -1,0 +1,69 @@
+-- How far an engine has come, as a choice of the next column sees it; and lists of steps.
+use Rattle.std.specs.Prelude.{◌≡◌, ℕ, ◌+◌, ◌<◌, ◌==◌, Bool, true, false, List, [], ◌∷◌, length, map, slice_get, slice_index, count_by, if◌then◌else◌}
+use Rattle.std.specs.declared.option.Option.TheVariants.{Some}
+use Rattle.std.specs.List.{list_any, filter_map, sum}
+use Rattle.std.specs.declared.option.Option.TheVariants as option
+use Rattle.daq_table.specs.Tables.{ends_at, planes, rows_of}
+use Rattle.query_model.specs.declared.bounds.Truth.{Truth}
+use Rattle.query_model.specs.declared.bounds.Truth.TheVariants.{False, Unknown, True}
+use Rattle.query_model.specs.declared.query.TypedQuery.{TypedQuery}
+use Rattle.query_model.specs.Answers.{groups_of}
+use Rattle.query_model.specs.Knowledge.{Knowledge, known_at, ranges_of, taken}
+use Rattle.query_model.specs.Meaning.{columns_of_pred}
+use Rattle.query_model.specs.Truths.{truth_of}
+use Rattle.plane_schedule.specs.Choices.{IsSound}
+use Rattle.plane_schedule.specs.declared.progress.Progress.{Progress}
+use Rattle.plane_schedule.specs.declared.progress.Role.{Role}
+use Rattle.plane_schedule.specs.declared.progress.Role.TheVariants.{Filter, Group, Value}
+use Rattle.round_engine.specs.Stages.{Stage}
+
+-- the number stands in the list
+abbrev pub stands_in : List ℕ → ℕ → Bool
+stands_in numbers n = list_any (λ m. m == n) numbers
+
+-- what a column is read for: the condition, else the groups, else values
+abbrev pub role_of : TypedQuery → ℕ → Role
+role_of query c = if stands_in (columns_of_pred query.pred) c then Filter else (if stands_in (groups_of query.shape) c then Group else Value)
+
+abbrev pub is_unknown : Truth → Bool
+is_unknown False = false
+is_unknown Unknown = true
+is_unknown True = false
+
+-- at how many rows it is not known whether the condition holds
+abbrev pub unknown_rows : Stage → ℕ
+unknown_rows stage = count_by (λ r. is_unknown (truth_of stage.query.pred (ranges_of stage.frame stage.known r))) (rows_of stage.frame)
+
+-- how many planes were read, of all columns: one in each step
+abbrev pub planes_read : Knowledge → ℕ
+planes_read known = sum (map (λ column. column.read) known)
+
+-- the progress of a stage
+pub record IsProgress (stage : Stage) (p : Progress) : Type 0 where
+  pub sound : IsSound p
+  pub columns : p.columns ≡ length stage.frame.columns
+  pub unread : (c : ℕ) → c < length stage.frame.columns → slice_index p.unread c + (known_at stage.known c).read ≡ planes (ends_at stage.frame c)
+  pub role : (c : ℕ) → c < length stage.frame.columns → slice_get p.role c ≡ Some (role_of stage.query c)
+  pub unknown : p.unknown ≡ unknown_rows stage
+  pub done : p.done ≡ planes_read stage.known
+
+-- ---- lists of steps
+
+-- a step reads a plane of a column: these bits
+pub record Step : Type 0 where
+  pub column : ℕ
+  pub bits : List Bool
+
+-- what is known after some steps, in order
+abbrev pub known_after : Knowledge → List Step → Knowledge
+known_after known [] = known
+known_after known (step ∷ steps) = known_after (taken known step.column step.bits) steps
+
+-- the planes of one column among the steps, in order
+abbrev pub planes_of_column : ℕ → List Step → List (List Bool)
+planes_of_column c steps = filter_map (λ step. if step.column == c then option.Some step.bits else option.None) steps
+
+-- two lists of steps with the same planes of each column, however interleaved, leave the same knowledge, and so the same bounds
+abbrev pub OrdersAgree : Type 0
+OrdersAgree =
+    (known : Knowledge) (a b : List Step) → ((c : ℕ) → planes_of_column c a ≡ planes_of_column c b) → known_after known a ≡ known_after known b

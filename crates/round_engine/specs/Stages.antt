@@ -1,0 +1,56 @@
+-- What an engine stands for: a query, what is declared of its columns, and what is known of them. Nothing else decides what it answers.
+use Rattle.std.specs.Prelude.{◌≡◌, ℕ, ◌+◌, ◌<◌, ◌≤◌, Bool, List, [], length, slice_index}
+use Rattle.std.specs.List.{AllByRecursion}
+use Rattle.daq_table.specs.declared.table_head.Head.{Head}
+use Rattle.daq_table.specs.Tables.{Frame, ends_at, frame_of, planes}
+use Rattle.query_model.specs.declared.query.Item.{Item}
+use Rattle.query_model.specs.declared.query.Shape.TheVariants.{Plain}
+use Rattle.query_model.specs.declared.query.TypedQuery.{TypedQuery}
+use Rattle.query_model.specs.Knowledge.{Knowledge, IsLegal, known_at, longer, start, taken}
+use Rattle.query_model.specs.Meaning.{PredReadsBelow, ReadsBelow}
+use Rattle.query_model.specs.Projection.{projected_frame}
+use Rattle.query_model.specs.Validity.{FaceOf, FitsItem}
+
+-- a query, the rows and the ends of its columns, and what is known of these
+pub record Stage : Type 0 where
+  pub query : TypedQuery
+  pub frame : Frame
+  pub known : Knowledge
+
+-- nothing is read
+abbrev pub opened : TypedQuery → Head → Stage
+opened query head = record { query = query; frame = projected_frame query (frame_of head); known = start (projected_frame query (frame_of head)) }
+
+-- after the next plane of a column, with these bits
+abbrev pub stepped : Stage → ℕ → List Bool → Stage
+stepped stage c bits = record { query = stage.query; frame = stage.frame; known = taken stage.known c bits }
+
+-- a plane of the column is unread
+pub record HasPlane (stage : Stage) (c : ℕ) : Type 0 where
+  pub column : c < length stage.frame.columns
+  pub unread : (known_at stage.known c).read < planes (ends_at stage.frame c)
+
+-- with these bits as the column's next plane, the row's prefix stays that of some cell
+abbrev pub StaysLegal : Stage → ℕ → List Bool → ℕ → Type 0
+StaysLegal stage c bits row = IsLegal (ends_at stage.frame c) ((known_at stage.known c).read + 1) (slice_index (longer (known_at stage.known c).prefixes bits) row)
+
+-- the row is the first whose prefix would be that of no cell
+pub record IsFirstOver (stage : Stage) (c : ℕ) (bits : List Bool) (row : ℕ) : Type 0 where
+  pub in_range : row < stage.frame.rows
+  pub over : ¬ StaysLegal stage c bits row
+  pub first : (r : ℕ) → r < row → StaysLegal stage c bits r
+
+-- what an engine keeps of the validity of its query, for which it needs no head: numbers of columns are in range, and values and sums fit
+pub record IsOpenItem (frame : Frame) (item : Item) : Type 0 where
+  pub columns : ReadsBelow (length frame.columns) item.arg
+  pub face : FaceOf item.kind item.arg item.face
+  pub fits : FitsItem frame item
+
+pub record IsOpenQuery (query : TypedQuery) (frame : Frame) : Type 0 where
+  pub columns : length frame.columns ≡ length query.columns
+  pub few_columns : length query.columns ≤ 16
+  pub few_items : length query.items ≤ 16
+  pub few_rows : frame.rows ≤ 16777216
+  pub condition : PredReadsBelow (length frame.columns) query.pred
+  pub plain : query.shape ≡ Plain
+  pub items : AllByRecursion (IsOpenItem frame) query.items

@@ -1,0 +1,80 @@
+//! A query in progress.
+
+ghost use Rattle.std.specs.Prelude.{◌≡◌, length, IfOk, IfErr, OnOk, OnErr};
+ghost use Rattle.query_model.specs.declared.query.Shape.TheVariants.{Plain};
+ghost use Rattle.query_model.specs.Knowledge.{CanTake, IsKnowledge};
+ghost use Rattle.query_model.specs.Validity.{IsValid};
+ghost use Rattle.round_engine.specs.Promises.{LiesWithin};
+ghost use Rattle.round_engine.specs.Stages.{HasPlane, IsFirstOver, IsOpenQuery, opened, stepped};
+
+use crate::state::State;
+use daq_table::Head;
+use known_column::OverTop;
+use plane_kernels::Plane;
+use query_model::{TypedQuery, average_bounds_nest, bounds_nest};
+use std::alloc::{AllocError, Global};
+use std::marker::Model;
+
+/// A query, and what is known of its columns after some of their planes. What its items come to is kept along, so that a
+/// plane changes it in place and takes no memory.
+#[derive(Drop)]
+pub struct Engine {
+    pub(crate) query: TypedQuery,
+    pub(crate) state: State,
+}
+
+impl Model for Engine {
+    ghost use Rattle.known_column.specs.Columns.{frame_over, knowledge_of};
+    ghost use Rattle.round_engine.specs.Engines.{IsEngine};
+    ghost use Rattle.round_engine.specs.Stages.{Stage};
+    ghost use Rattle.query_model.specs.contracts.query.Expr as expr;
+    ghost use Rattle.query_model.specs.contracts.query.Pred as pred;
+    ghost use Rattle.std.specs.Coded.{codes};
+
+    ghost Value = { Stage };
+
+    ghost coded = { Prim.hlevel (codes, expr.the_row.coded, pred.the_row.coded) };
+
+    ghost view = { λ e. record { query = e.query; frame = frame_over e.state.rows e.state.knowns.items; known = knowledge_of e.state.knowns.items } };
+
+    ghost invariant = { λ e. IsEngine e.query e.state.rows e.state.knowns.items e.state.filter e.state.runnings.items e.state.roles };
+}
+
+impl Engine {
+    /// The query over tables with that head, of which nothing is read. All room is taken here.
+    pub fn open(alloc: Global, query: TypedQuery, head: &Head) -> Result<Engine, AllocError>
+        requires valid { IsValid head.now query }
+        requires plain { query.shape ≡ Plain }
+        ensures { IfOk result (λ engine. engine ≡ opened query head.now) }
+    {
+        match State::open(alloc, &query, head) {
+            Ok(state) => Ok(Engine { query, state }),
+            Err(error) => Err(error),
+        }
+    }
+
+    /// Takes the next plane of a column of the query. Refused, with nothing changed, where a row's prefix would then be that of no
+    /// cell.
+    pub fn step(&mut self, column: usize, plane: &Plane) -> Result<(), OverTop>
+        requires plane { HasPlane self.old column }
+        requires rows { length plane.now ≡ self.old.frame.rows }
+        ensures taken { OnOk result (self.new ≡ stepped self.old column plane.now) }
+        ensures legal { OnOk result (CanTake self.old.frame self.old.known column plane.now) }
+        ensures nested { OnOk result ((item : _) → LiesWithin self.old self.new item) }
+        ensures unchanged { OnErr result (self.new ≡ self.old) }
+        ensures over { IfErr result (λ e. IsFirstOver self.old column plane.now e.row) }
+    {
+        bounds_nest();
+        average_bounds_nest();
+        self.state.step(&self.query, column, plane)
+    }
+
+    /// The query.
+    pub fn query(&self) -> &TypedQuery
+        ensures query { result.now ≡ self.now.query }
+        ensures open_query { IsOpenQuery self.now.query self.now.frame }
+        ensures knowledge { IsKnowledge self.now.frame self.now.known }
+    {
+        &self.query
+    }
+}

@@ -1,0 +1,18 @@
+//! One query in progress: planes are taken one by one, and at each moment its readers tell what is known of the answers.
+#![tactic(auto)]
+
+mod columns;
+mod engine;
+mod filling;
+mod laws;
+mod narrowness;
+mod progress;
+mod readers;
+mod roles;
+mod state;
+
+pub use engine::Engine;
+pub use laws::orders_agree;
+
+#[cfg(test)]
+mod tests;

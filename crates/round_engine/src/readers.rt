@@ -1,0 +1,110 @@
+//! What an engine tells of rows, of items, and of how far it has come.
+
+ghost use Rattle.std.specs.Prelude.{◌≡◌, ◌≢◌, ◌≤◌, ◌<◌, ◌^◌, [], length, slice_get, IfSome};
+ghost use Rattle.interval_calc.specs.Intervals.{interval_of};
+ghost use Rattle.daq_table.specs.declared.table_head.Head.{Head};
+ghost use Rattle.daq_table.specs.Tables.{frame_of};
+ghost use Rattle.query_model.specs.declared.query.ItemKind.TheVariants.{Avg};
+ghost use Rattle.query_model.specs.Bounds.{average_under, bound_under, ratios_of};
+ghost use Rattle.query_model.specs.Knowledge.{ranges_of};
+ghost use Rattle.query_model.specs.Truths.{span_of, truth_of};
+ghost use Rattle.query_model.specs.Validity.{FitsHead};
+ghost use Rattle.round_engine.specs.Narrowness.{is_narrow};
+ghost use Rattle.round_engine.specs.Progresses.{IsProgress};
+ghost use Rattle.round_engine.specs.Promises.{IsCertainAverage, IsCertainBound, IsShownWithin};
+
+use crate::engine::Engine;
+use interval_calc::Span;
+use plane_schedule::Progress;
+use query_model::{
+    AvgBound, Bound, Truth, average_bounds_become_exact_on_tables,
+    average_bounds_contain_on_tables, bounds_are_extremes_on_tables, bounds_become_exact_on_tables,
+    bounds_contain_on_tables, fitting_heads_have_parts,
+};
+use row_values::span_of;
+
+impl Engine {
+    /// The bound of an item that is no average: what is computed from the prefixes alone, and what it says of the answer.
+    pub fn plain(&self, item: usize) -> Bound
+        requires item { item < length self.now.query.items }
+        requires kind { IfSome (slice_get self.now.query.items item) (λ i. i.kind ≢ Avg) }
+        ensures bound { IfSome (slice_get self.now.query.items item) (λ i. result ≡ bound_under self.now.query i [] self.now.frame self.now.known) }
+        ensures certain { IfSome (slice_get self.now.query.items item) (λ i. (head : Head) → FitsHead self.now.query self.now.frame head → IsCertainBound self.now i (frame_of head)) }
+        ensures shown { IfSome (slice_get self.now.query.items item) (λ i. IsShownWithin self.now.frame i.face result) }
+    {
+        bounds_contain_on_tables();
+        bounds_are_extremes_on_tables();
+        bounds_become_exact_on_tables();
+        fitting_heads_have_parts();
+        self.state.runnings[item].bound(0)
+    }
+
+    /// The bound of an average.
+    pub fn average(&self, item: usize) -> AvgBound
+        requires item { item < length self.now.query.items }
+        requires kind { IfSome (slice_get self.now.query.items item) (λ i. i.kind ≡ Avg) }
+        ensures bound { IfSome (slice_get self.now.query.items item) (λ i. ratios_of result ≡ average_under self.now.query i [] self.now.frame self.now.known) }
+        ensures certain { IfSome (slice_get self.now.query.items item) (λ i. (head : Head) → FitsHead self.now.query self.now.frame head → IsCertainAverage self.now i (frame_of head)) }
+    {
+        average_bounds_contain_on_tables();
+        average_bounds_become_exact_on_tables();
+        fitting_heads_have_parts();
+        self.state.runnings[item].average(0)
+    }
+
+    /// Whether each item's answer is known to be there or not, and where it is there, the ends of its bound are at most so far apart.
+    pub fn narrow(&self, width: u64) -> bool
+        requires { width < 2 ^ 63 }
+        ensures { result ≡ is_narrow width self.now }
+    {
+        for item in 0..self.state.runnings.len() {
+            if !self.state.is_narrow(&self.query, item, width) {
+                return false;
+            }
+        }
+        true
+    }
+
+    /// How far the query has come.
+    pub fn progress(&self) -> Progress
+        ensures { IsProgress self.now result }
+    {
+        self.state.progress(&self.query)
+    }
+
+    /// What is known of the condition at a row.
+    pub fn truth(&self, row: usize) -> Truth
+        requires { row < self.now.frame.rows }
+        ensures { result ≡ truth_of self.now.query.pred (ranges_of self.now.frame self.now.known row) }
+    {
+        if self.state.filter.must().get(row) {
+            Truth::True
+        } else if self.state.filter.may().get(row) {
+            Truth::Unknown
+        } else {
+            Truth::False
+        }
+    }
+
+    /// Where the argument of an item lies at a row.
+    pub fn span(&self, item: usize, row: usize) -> Span
+        requires item { item < length self.now.query.items }
+        requires row { row < self.now.frame.rows }
+        ensures { IfSome (slice_get self.now.query.items item) (λ i. interval_of result ≡ span_of i.arg (ranges_of self.now.frame self.now.known row)) }
+    {
+        span_of(
+            &self.query.items.as_slice()[item].arg,
+            row,
+            &self.state.knowns,
+        )
+    }
+
+    /// Where the value of a column lies at a row.
+    pub fn range(&self, column: usize, row: usize) -> Span
+        requires column { column < length self.now.query.columns }
+        requires row { row < self.now.frame.rows }
+        ensures { interval_of result ≡ ranges_of self.now.frame self.now.known row column }
+    {
+        self.state.knowns[column].range(row)
+    }
+}

@@ -1,0 +1,71 @@
+// What each column of a query is read for.
+
+ghost use Rattle.std.specs.Prelude.{◌≡◌, ◌≤◌, length};
+ghost use Rattle.query_model.specs.Answers.{groups_of};
+ghost use Rattle.query_model.specs.Meaning.{columns_of_atom, columns_of_pred};
+ghost use Rattle.round_engine.specs.Engines.{AreRoles};
+ghost use Rattle.round_engine.specs.Progresses.{role_of, stands_in};
+
+use plane_schedule::Role;
+use query_model::{Atom, Pred, Shape, TypedQuery};
+
+// Whether an atom reads the column.
+fn atom_reads(atom: &Atom, wanted: u8) -> bool
+    ensures { result ≡ stands_in (columns_of_atom atom.now) wanted }
+{
+    match atom {
+        Atom::Compare { column, .. } => *column == wanted,
+        Atom::CompareColumns { left, right, .. } => *left == wanted || *right == wanted,
+        Atom::Between { column, .. } => *column == wanted,
+        Atom::OneOf { column, .. } => *column == wanted,
+    }
+}
+
+// Whether a condition reads the column.
+fn pred_reads(pred: &Pred, wanted: u8) -> bool
+    ensures { result ≡ stands_in (columns_of_pred pred.now) wanted }
+{
+    match pred {
+        Pred::All => false,
+        Pred::Atom(atom) => atom_reads(atom, wanted),
+        Pred::And(a, b) => pred_reads(a, wanted) || pred_reads(b, wanted),
+        Pred::Or(a, b) => pred_reads(a, wanted) || pred_reads(b, wanted),
+        Pred::Not(a) => pred_reads(a, wanted),
+    }
+}
+
+// Whether the rows are grouped by the column.
+fn shape_reads(shape: &Shape, wanted: u8) -> bool
+    ensures { result ≡ stands_in (groups_of shape.now) wanted }
+{
+    match shape {
+        Shape::Plain => false,
+        Shape::Grouped(columns) => columns.as_slice().iter().any(|column| *column == wanted),
+        Shape::Top { .. } => false,
+    }
+}
+
+// What a column is read for.
+fn role_of(query: &TypedQuery, column: u8) -> Role
+    ensures { result ≡ role_of query.now column }
+{
+    if pred_reads(&query.pred, column) {
+        Role::Filter
+    } else if shape_reads(&query.shape, column) {
+        Role::Group
+    } else {
+        Role::Value
+    }
+}
+
+// What each column is read for.
+pub(crate) fn roles_of(query: &TypedQuery) -> [Role; 16]
+    requires { length query.now.columns ≤ 16 }
+    ensures { AreRoles query.now result }
+{
+    let mut roles = [Role::Value; 16];
+    for column in 0..16u8 {
+        roles[column as usize] = role_of(query, column);
+    }
+    roles
+}

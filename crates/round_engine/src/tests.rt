@@ -1,0 +1,3 @@
+// Engines over small tables.
+mod readers;
+mod steps;
