@@ -1,0 +1,130 @@
+-- The ends of the bound of an item can be shown under the item's face.
+use Rattle.std.proofs.Common.{◌≡◌, ◌≢◌, ℕ, zero, suc, ◌<◌, ◌≤◌, ℤ, List, [], ◌∷◌, length, map, get_or, slice_get, Some, IfSome, refl, sym, ap, subst, ◌∙◌, arith}
+use Rattle.std.proofs.lemmas.List.{get_or-map}
+use Rattle.std.specs.List.{AllByRecursion}
+use Rattle.interval_calc.specs.Intervals.{Within}
+use Rattle.daq_table.specs.declared.head.ColumnHead.{ColumnHead}
+use Rattle.daq_table.specs.declared.table_head.Head.{Head}
+use Rattle.daq_table.specs.Tables.{Frame, ends_at, ends_of, frame_of, no_ends}
+use Rattle.query_model.specs.Meaning.{ReadsBelow}
+use Rattle.query_model.specs.Validity.{FaceOf, FitsHead, declared_range}
+use Rattle.query_model.specs.declared.bounds.Bound.{Bound}
+use Rattle.query_model.specs.declared.bounds.Presence.{Presence}
+use Rattle.query_model.specs.declared.bounds.Presence.TheVariants.{Never, Possibly, Always}
+use Rattle.query_model.specs.declared.query.Expr.{Expr}
+use Rattle.query_model.specs.declared.query.Expr.TheVariants.{Column, Literal, Add', Sub', Mul'}
+use Rattle.query_model.specs.declared.query.Face.{Face}
+use Rattle.query_model.specs.declared.query.Face.TheVariants.{Number, OfColumn}
+use Rattle.query_model.specs.declared.query.Item.{Item}
+use Rattle.query_model.specs.declared.query.ItemKind.{ItemKind}
+use Rattle.query_model.specs.declared.query.ItemKind.TheVariants.{Count, Sum, Min, Max, Avg}
+use Rattle.query_model.specs.declared.query.TypedQuery.{TypedQuery}
+use Rattle.round_engine.specs.Promises.{IsShownWithin}
+use Rattle.round_engine.specs.Stages.{IsOpenItem, IsOpenQuery}
+use Rattle.daq_report.specs.Blocks.{HeadHasTexts, column_of}
+use Rattle.daq_report.specs.Ends.{CanShowBound, CanShowEnds, HasNumber, IfShown, IsThere}
+
+-- ---- the columns of the query
+
+all_at : (n : ℕ) (is : List ℕ) (k : ℕ) → AllByRecursion (λ i. i < n) is → k < length is → get_or is k 0 < n
+all_at n [] k h lt = absurd (omega arith)
+all_at n (i ∷ is) zero h lt = h.0
+all_at n (i ∷ is) (suc k) h lt = all_at n is k h.1 (omega arith)
+
+same_default : (is : List ℕ) (k d : ℕ) → k < length is → get_or is k d ≡ get_or is k 0
+same_default [] k d lt = absurd (omega arith)
+same_default (i ∷ is) zero d lt = refl
+same_default (i ∷ is) (suc k) d lt = same_default is k d (omega arith)
+
+found : (columns : List ColumnHead) (i : ℕ) → i < length columns → (column : ColumnHead) × (slice_get columns i ≡ Some column) × (get_or (map ends_of columns) i no_ends ≡ ends_of column)
+found [] i lt = absurd (omega arith)
+found (column ∷ columns) zero lt = (column, refl, refl)
+found (column ∷ columns) (suc i) lt = found columns i (omega arith)
+
+-- a column of the query: its head in the table, and its ends in the part
+pub record IsColumnOf (head : Head) (query : TypedQuery) (part : Frame) (c : ℕ) : Type 0 where
+  pub there : IsThere head query c
+  pub column : ColumnHead
+  pub place : ℕ
+  pub in_table : slice_get head.columns place ≡ Some column
+  pub is : column_of head query c ≡ Some column
+  pub ends : ends_at part c ≡ ends_of column
+
+column_there : (head : Head) (query : TypedQuery) (part : Frame) (c : ℕ) → FitsHead query part head → c < length query.columns → IsColumnOf head query part c
+column_there head query part c fits lt =
+    let i = get_or query.columns c 0 in
+    let below : i < length head.columns = all_at (length head.columns) query.columns c fits.valid.in_range lt in
+    let (column, at, ends) = found head.columns i below in
+    record {
+      there = record { in_query = lt; in_table = below };
+      column = column;
+      place = i;
+      in_table = at;
+      is = ap (slice_get head.columns) (same_default query.columns c (length head.columns) lt) ∙ at;
+      ends = ap (λ (f : Frame). ends_at f c) (sym fits.same) ∙ get_or-map (ends_at (frame_of head)) query.columns c 0 no_ends lt ∙ ends;
+    }
+
+-- ---- faces
+
+few_decimals : (kind : ItemKind) (arg : Expr) (scale : ℕ) → FaceOf kind arg (Number scale) → scale ≤ 18
+few_decimals Count arg scale (s, few, e) = subst (λ n. n ≤ 18) (cc) few
+few_decimals Sum arg scale (s, few, e) = subst (λ n. n ≤ 18) (cc) few
+few_decimals Avg arg scale (s, few, e) = subst (λ n. n ≤ 18) (cc) few
+few_decimals Min (Column c) scale e = absurd (cc)
+few_decimals Min (Literal n) scale (s, few, e) = subst (λ n. n ≤ 18) (cc) few
+few_decimals Min (Add' p a q b) scale (s, few, e) = subst (λ n. n ≤ 18) (cc) few
+few_decimals Min (Sub' p a q b) scale (s, few, e) = subst (λ n. n ≤ 18) (cc) few
+few_decimals Min (Mul' p a q b) scale (s, few, e) = subst (λ n. n ≤ 18) (cc) few
+few_decimals Max (Column c) scale e = absurd (cc)
+few_decimals Max (Literal n) scale (s, few, e) = subst (λ n. n ≤ 18) (cc) few
+few_decimals Max (Add' p a q b) scale (s, few, e) = subst (λ n. n ≤ 18) (cc) few
+few_decimals Max (Sub' p a q b) scale (s, few, e) = subst (λ n. n ≤ 18) (cc) few
+few_decimals Max (Mul' p a q b) scale (s, few, e) = subst (λ n. n ≤ 18) (cc) few
+
+-- a face of a column is that of the argument
+own_column : (n : ℕ) (kind : ItemKind) (arg : Expr) (c : ℕ) → FaceOf kind arg (OfColumn c) → ReadsBelow n arg → c < n
+own_column n Count arg c (s, few, e) h = absurd (cc)
+own_column n Sum arg c (s, few, e) h = absurd (cc)
+own_column n Avg arg c (s, few, e) h = absurd (cc)
+own_column n Min (Column d) c e h = subst (λ k. k < n) (cc) h
+own_column n Min (Literal m) c (s, few, e) h = absurd (cc)
+own_column n Min (Add' p a q b) c (s, few, e) h = absurd (cc)
+own_column n Min (Sub' p a q b) c (s, few, e) h = absurd (cc)
+own_column n Min (Mul' p a q b) c (s, few, e) h = absurd (cc)
+own_column n Max (Column d) c e h = subst (λ k. k < n) (cc) h
+own_column n Max (Literal m) c (s, few, e) h = absurd (cc)
+own_column n Max (Add' p a q b) c (s, few, e) h = absurd (cc)
+own_column n Max (Sub' p a q b) c (s, few, e) h = absurd (cc)
+own_column n Max (Mul' p a q b) c (s, few, e) h = absurd (cc)
+
+if_shown : (word : Presence) (P : Type 0) → (word ≢ Always → P) → IfShown word P
+if_shown Never P h = h (λ e. cc)
+if_shown Possibly P h = h (λ e. cc)
+if_shown Always P h = tt
+
+-- ---- the items
+
+open_at : (frame : Frame) (items : List Item) (place : ℕ) (item : Item) → AllByRecursion (IsOpenItem frame) items → slice_get items place ≡ Some item → IsOpenItem frame item
+open_at frame [] place item h e = absurd (cc)
+open_at frame (i ∷ is) zero item h e = subst (IsOpenItem frame) (cc) h.0
+open_at frame (i ∷ is) (suc place) item h e = open_at frame is place item h.1 e
+
+by_face : (head : Head) (query : TypedQuery) (part : Frame) (kind : ItemKind) (arg : Expr) (face : Face) (bound : Bound) → FitsHead query part head → HeadHasTexts head → FaceOf kind arg face →
+    ReadsBelow (length query.columns) arg → IsShownWithin part face bound → CanShowBound head query face bound
+by_face head query part kind arg (Number scale) bound fits texts face reads shown =
+    let few = few_decimals kind arg scale face in
+    if_shown bound.empty (CanShowEnds head query (Number scale) bound.lo bound.hi) (λ some. record { low_end = few; high_end = few })
+by_face head query part kind arg (OfColumn c) bound fits texts face reads shown =
+    let at = column_there head query part c fits (own_column (length query.columns) kind arg c face reads) in
+    let has = texts at.place at.column at.in_table in
+    let number : (value : ℤ) → Within (declared_range (ends_at part c)) value → IfSome (column_of head query c) (λ column. HasNumber column value) =
+    (λ value h. let w = subst (λ ends. Within (declared_range ends) value) at.ends h in
+    subst (λ o. IfSome o (λ column. HasNumber column value)) (sym at.is) (record { above = w.above; below = w.below; texts = has })) in
+    if_shown bound.empty (CanShowEnds head query (OfColumn c) bound.lo bound.hi)
+    (λ some. record { low_end = (at.there, number bound.lo (shown some).0); high_end = (at.there, number bound.hi (shown some).1) })
+
+pub bound_shows : (head : Head) (query : TypedQuery) (part : Frame) (place : ℕ) (item : Item) (bound : Bound) → FitsHead query part head → HeadHasTexts head → IsOpenQuery query part →
+    slice_get query.items place ≡ Some item → IsShownWithin part item.face bound → CanShowBound head query item.face bound
+bound_shows head query part place item bound fits texts opened there shown =
+    let own = open_at part query.items place item opened.items there in
+    by_face head query part item.kind item.arg item.face bound fits texts own.face (subst (λ n. ReadsBelow n item.arg) opened.columns own.columns) shown

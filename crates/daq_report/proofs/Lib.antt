@@ -1,0 +1,4 @@
+pub mod Faces
+pub mod Lengths
+pub mod Lines
+pub mod Prefixes

@@ -1,0 +1,16 @@
+-- The bound of an item can be shown under its face.
+use Rattle.std.proofs.Common.{Option, IfSome, sym, subst}
+use Rattle.query_model.specs.declared.query.Item.{Item}
+use Rattle.query_model.specs.declared.query.TypedQuery.{TypedQuery}
+use Rattle.round_engine.specs.Promises.{IsShownWithin}
+use Rattle.daq_report.specs.Ends.{CanShowBound}
+use Rattle.daq_report.proofs.Faces.{bound_shows}
+use Rattle.daq_report.proofs.block.write_answer.Goals as goal
+
+pub write_bound-requires : goal.write_bound-requires
+write_bound-requires g c =
+    let stage = c.args.engine.now in
+    let item = c.args.item.now in
+    let shown = subst (λ (o : Option Item). IfSome o (λ i. IsShownWithin stage.frame i.face c.plain.result)) c.requires.there c.plain.ensures.shown in
+    let can = bound_shows c.args.head.now stage.query stage.frame c.args.place item c.plain.result c.requires.fits c.requires.texts c.query-query.ensures.open_query c.requires.there shown in
+    subst (λ (q : TypedQuery). CanShowBound c.args.head.now q item.face c.plain.result) (sym c.query-query.ensures.query) can
