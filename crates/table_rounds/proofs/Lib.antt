@@ -1,0 +1,9 @@
+pub mod Counts
+pub mod Widest
+pub mod Narrow
+pub mod Reached
+pub mod Going
+pub mod Certain
+pub mod Choosing
+pub mod Taking
+pub mod Steps
