@@ -1,0 +1,47 @@
+-- The column is one of 32 planes, and its cells are those of all rows.
+use Rattle.std.proofs.Common.{◌≡◌, ◌+◌, ℕ, List, count_by, sym, ap, ◌∙◌, subst, arith}
+use Rattle.query_model.specs.declared.query.Pred.{Pred}
+use Rattle.kleene_filter.specs.Filters.{is_unknown}
+use Rattle.plane_bench.specs.declared.words.Work.{Work}
+use Rattle.plane_bench.specs.Planes.{below_limit, cells_of, truths_after, IsResult}
+use Rattle.plane_bench.proofs.WideCells.{fit_all, planes_left, start_all, wide_planes}
+use Rattle.plane_bench.proofs.do_work.Goals as goal
+
+pub read_planes-requires-clause-few : goal.read_planes-requires-clause-few
+read_planes-requires-clause-few c = omega (arith, wide_planes c.in_ok-known-in-Take.known.ends c.in_ok-known-in-Take.ensures.wide)
+
+pub read_planes-requires-clause-cells : goal.read_planes-requires-clause-cells
+read_planes-requires-clause-cells c =
+    fit_all c.in_ok-known-in-Take.known.ends c.args.rows c.deref-in-Take.result.now c.in_ok-known-in-Take.ensures.wide (c.deref-in-Take.ensures.value ∙ c.in_ok-cells.ensures)
+
+pub read_planes-requires-clause-start : goal.read_planes-requires-clause-start
+read_planes-requires-clause-start c =
+    start_all c.in_ok-known-in-Take.known.ends c.args.rows c.deref-in-Take.result.now c.in_ok-known-in-Take.known (c.deref-in-Take.ensures.value ∙ c.in_ok-cells.ensures) c.in_ok-known-in-Take.ensures.unread
+
+pub returns-in-Take : goal.returns-in-Take
+returns-in-Take c =
+    let left =
+    planes_left c.in_ok-known-in-Take.known.ends c.deref-in-Take.result.now c.args.rounds c.unread.result c.in_ok-read-in-Take.read c.in_ok-known-in-Take.ensures.wide c.in_ok-read-in-Take.ensures c.unread.ensures in
+    let number : c.from.result + c.args.rounds ≡ 32 = omega (arith, left, c.from.ensures) in
+    subst (λ (work : Work). IsResult work c.args.rows c.args.rounds c.from.result) (sym c.in-Take.is) number
+
+pub follow_planes-requires-clause-few : goal.follow_planes-requires-clause-few
+follow_planes-requires-clause-few c = omega (arith, wide_planes c.in_ok-known-in-Follow.known.ends c.in_ok-known-in-Follow.ensures.wide)
+
+pub follow_planes-requires-clause-cells : goal.follow_planes-requires-clause-cells
+follow_planes-requires-clause-cells c =
+    fit_all c.in_ok-known-in-Follow.known.ends c.args.rows c.deref-in-Follow.result.now c.in_ok-known-in-Follow.ensures.wide (c.deref-in-Follow.ensures.value ∙ c.in_ok-cells.ensures)
+
+pub follow_planes-requires-clause-start : goal.follow_planes-requires-clause-start
+follow_planes-requires-clause-start c =
+    start_all c.in_ok-known-in-Follow.known.ends c.args.rows c.deref-in-Follow.result.now c.in_ok-known-in-Follow.known (c.deref-in-Follow.ensures.value ∙ c.in_ok-cells.ensures) c.in_ok-known-in-Follow.ensures.unread
+
+pub returns : goal.returns
+returns c =
+    let ends = c.in_ok-known-in-Follow.known.ends in
+    let cells = c.deref-in-Follow.result.now in
+    let rounds = c.args.rounds in
+    let filter =
+    c.in_ok-filter-in-Follow.ensures ∙ ap (λ (pred : Pred). truths_after pred ends cells rounds) c.make_condition.ensures ∙ ap (λ (all : List ℕ). truths_after below_limit ends all rounds) (c.deref-in-Follow.ensures.value ∙ c.in_ok-cells.ensures) in
+    let number : c.unknown.result ≡ count_by is_unknown (truths_after below_limit ends (cells_of c.args.rows) rounds) = c.unknown.ensures ∙ ap (count_by is_unknown) filter in
+    subst (λ (work : Work). IsResult work c.args.rows rounds c.unknown.result) (sym c.in-Follow.is) (ends, c.in_ok-known-in-Follow.ensures.wide, number)

@@ -1,0 +1,50 @@
+-- Cells, and what is known of their column after some of its planes.
+use Rattle.std.specs.Prelude.{◌≡◌, ℕ, ◌+◌, ◌*◌, ◌/◌, ◌%◌, ◌==◌, pos, Bool, List, [], ◌∷◌, length, map, count_by}
+use Rattle.std.specs.List.{range_with_len}
+use Rattle.daq_table.specs.declared.head.Ends.{Ends}
+use Rattle.query_model.specs.declared.bounds.Truth.{Truth}
+use Rattle.query_model.specs.declared.query.Atom.TheVariants.{Compare}
+use Rattle.query_model.specs.declared.query.Op.TheVariants.{Lt}
+use Rattle.query_model.specs.declared.query.Pred.{Pred}
+use Rattle.query_model.specs.declared.query.Pred.TheVariants.{Atom as AtomOf}
+use Rattle.query_model.specs.Knowledge.{prefix_of}
+use Rattle.known_column.specs.Columns.{KnownColumn}
+use Rattle.kleene_filter.specs.Filters.{is_unknown, truths_under}
+use Rattle.plane_bench.specs.declared.TheConstants.{LIMIT}
+use Rattle.plane_bench.specs.declared.words.Work.{Work}
+use Rattle.plane_bench.specs.declared.words.Work.TheVariants.{Cut, Take, Follow}
+
+-- the cell of a row, of 32 binary digits
+abbrev pub cell_of : ℕ → ℕ
+cell_of row = (row * 2654435761) % 4294967296
+
+-- the cells of so many rows
+abbrev pub cells_of : ℕ → List ℕ
+cells_of rows = map cell_of (range_with_len 0 rows)
+
+-- the highest of 32 digits is 1
+abbrev pub is_high : ℕ → Bool
+is_high cell = (cell / 2147483648) % 2 == 1
+
+-- the ends of a column of all numbers of 32 digits
+pub record AreWide (ends : Ends) : Type 0 where
+  pub base : ends.base ≡ pos 0
+  pub top : ends.top ≡ pos 4294967295
+
+-- the column of these cells, of which so many planes are read
+abbrev pub column_after : Ends → List ℕ → ℕ → KnownColumn
+column_after ends cells read = record { ends = ends; known = record { read = read; prefixes = map (prefix_of ends read) cells } }
+
+-- what is known of a condition on the number at each row, after so many planes
+abbrev pub truths_after : Pred → Ends → List ℕ → ℕ → List Truth
+truths_after pred ends cells read = truths_under pred (length cells) (column_after ends cells read ∷ [])
+
+-- the condition that the number is below the limit
+abbrev pub below_limit : Pred
+below_limit = AtomOf (Compare 0 Lt LIMIT)
+
+-- the number that the work ends with: ones of the highest plane, planes left, or rows that are not known
+abbrev pub IsResult : Work → ℕ → ℕ → ℕ → Type 0
+IsResult Cut rows rounds number = number ≡ count_by is_high (cells_of rows)
+IsResult Take rows rounds number = number + rounds ≡ 32
+IsResult Follow rows rounds number = (ends : Ends) × AreWide ends × (number ≡ count_by is_unknown (truths_after below_limit ends (cells_of rows) rounds))

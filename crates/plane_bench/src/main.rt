@@ -1,0 +1,69 @@
+//! The program `plane_bench`: cuts planes from cells, takes them, or has a filter follow them, so often as its words say,
+//! for `bench/planes.sh`, which times it.
+#![tactic(auto)]
+
+mod cells;
+mod cutting;
+mod reading;
+mod words;
+
+ghost use Rattle.std.specs.Prelude.{◌≡◌, ◌≤◌, IfOk};
+ghost use Rattle.plane_bench.specs.Planes.{below_limit, IsResult};
+
+use cells::{make_cells, open_column};
+use cutting::count_highest;
+use query_model::{Atom, Op, Pred};
+use reading::{follow_planes, read_planes};
+use std::alloc::{AllocError, Global};
+use std::process::ExitCode;
+use words::{Work, read_words};
+
+// A third of the way up the numbers of 32 digits: no few planes decide of every row whether it is below.
+const LIMIT: i128 = 1_431_655_765;
+
+// The condition that the number is below the limit.
+fn make_condition() -> Pred
+    ensures { result ≡ below_limit }
+{
+    Pred::Atom(Atom::Compare {
+        column: 0,
+        op: Op::Lt,
+        value: LIMIT,
+    })
+}
+
+// Does the work, and gives the number that it ends with.
+fn do_work(alloc: Global, work: Work, rows: usize, rounds: u8) -> Result<u64, AllocError>
+    requires few { rows ≤ 16777216 }
+    requires some { 1 ≤ rounds }
+    requires planes { rounds ≤ 32 }
+    ensures { IfOk result (IsResult work rows rounds) }
+{
+    let cells = make_cells(alloc, rows)?;
+    match work {
+        Work::Cut => count_highest(alloc, &cells, rounds),
+        Work::Take => {
+            let known = open_column(alloc, rows)?;
+            let read = read_planes(alloc, known, &cells, rounds)?;
+            Ok(u64::from(read.unread()))
+        }
+        Work::Follow => {
+            let known = open_column(alloc, rows)?;
+            let filter = follow_planes(alloc, &make_condition(), known, &cells, rounds)?;
+            Ok(filter.unknown())
+        }
+    }
+}
+
+fn main(rt: HostRuntime) -> ExitCode {
+    let Some(job) = read_words(&rt) else {
+        return ExitCode::from(2);
+    };
+    let Ok(number) = do_work(rt.alloc(), job.work, job.rows, job.rounds) else {
+        return ExitCode::from(8);
+    };
+    match println!(rt; "{number}") {
+        Ok(()) => ExitCode::SUCCESS,
+        Err(_) => ExitCode::from(7),
+    }
+}
