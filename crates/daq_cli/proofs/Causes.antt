@@ -16,14 +16,14 @@ use Rattle.sql_text.specs.Answer.{Breaks, IsText}
 use Rattle.sql_text.specs.Tree as sql
 use Rattle.sql_text.specs.declared.fault.Cause.{Cause}
 use Rattle.sql_typing.specs.Laws as typing_laws
+use Rattle.query_model.specs.declared.query.Shape.TheVariants.{Plain}
 use Rattle.query_model.specs.declared.query.TypedQuery.{TypedQuery}
 use Rattle.daq_table.specs.declared.table_head.Head.{Head}
 use Rattle.sql_typing.specs.Refusals.{IsTyped}
 use Rattle.daq_cli.specs.Command.{Ask, IsNoCommand, words_of}
-use Rattle.daq_cli.specs.Forms.{IsSum, IsUnanswered, SumsShown}
+use Rattle.daq_cli.specs.Forms.{IsPlain, IsUnanswered}
 use Rattle.daq_cli.specs.Outcome.{Accepts, EndsOrFails, EndsOrLacksMemory, EndsWith, IsAnswered, IsCause, IsNoTable, IsTableText, IsTextFault, IsTold, NoQueryCause, NoTableCause, QueryCause, ReadsAll, ReadsTable, SchemaCause, SinkState, SourceState, Tells, TextCause, limits, most_bytes}
 use Rattle.daq_cli.specs.Refusals.{status_of}
-use Rattle.daq_cli.specs.Report.{Shown}
 use Rattle.daq_cli.specs.declared.refusal.QueryFault.{QueryFault}
 use Rattle.daq_cli.specs.declared.refusal.QueryFault.TheVariants as q
 use Rattle.daq_cli.specs.declared.refusal.Refusal.{Refusal}
@@ -129,11 +129,10 @@ told_table law words input input' p r a b bytes contents tells accepted read =
     let columns_are = same_columns law words p r a b tells.accepted accepted in
     subst (λ cs. IsTableOf bytes cs limits contents) (sym columns_are) (subst (λ l. IsTableOf l b limits contents) (sym bytes_are) read.is_table)
 
--- a query that is typed as the sum of a column has an answer
-not_both : Laws → (p : sql.Query) (head : Head) (typed : TypedQuery) (column : ℕ) (shown : Shown) → IsTyped p head typed → SumsShown typed head column shown → IsUnanswered p head → ⊥
-not_both law p head typed column shown is_typed sums (inl fault) = law.types p head fault.why typed fault.shown is_typed fault.refused
-not_both law p head typed column shown is_typed sums (inr unbuilt) =
-    unbuilt.other column shown (record { sum = law.typed p head unbuilt.typed typed unbuilt.is_typed is_typed ∙ sums.sum; named = sums.named; there = sums.there; name = sums.name })
+-- a query that is typed as one over all rows has an answer
+not_both : Laws → (p : sql.Query) (head : Head) (typed : TypedQuery) → IsTyped p head typed → typed.shape ≡ Plain → IsUnanswered p head → ⊥
+not_both law p head typed is_typed plain (inl fault) = law.types p head fault.why typed fault.shown is_typed fault.refused
+not_both law p head typed is_typed plain (inr unbuilt) = unbuilt.other (ap (λ m. m.shape) (law.typed p head unbuilt.typed typed unbuilt.is_typed is_typed) ∙ plain)
 
 -- ---- an answer shows no cause
 
@@ -157,7 +156,7 @@ answered_other law words input input' out out' answered p a bytes tells other =
     let same = same_query law words p answered.query a answered.columns tells.accepted answered.accepted in
     let table = told_table law words input input' p answered.query a answered.columns bytes answered.contents tells answered.accepted answered.read in
     let r = answered.reported in
-    not_both law p answered.contents.head r.typed r.column r.shown (subst (λ x. IsTyped x answered.contents.head r.typed) (sym same) r.is_typed) r.sum (other answered.contents table)
+    not_both law p answered.contents.head r.typed (subst (λ x. IsTyped x answered.contents.head r.typed) (sym same) r.is_typed) r.plain (other answered.contents table)
 
 -- ---- a cause is told
 
@@ -277,45 +276,45 @@ other_is_told law words input input' out out' err err' WriteFault status p a byt
     (let same = same_query law words p cause.query a cause.columns tells.accepted cause.accepted in
     let table = told_table law words input input' p cause.query a cause.columns bytes cause.contents tells cause.accepted cause.read in
     let r = cause.reported in
-    not_both law p cause.contents.head r.typed r.column r.shown (subst (λ x. IsTyped x cause.contents.head r.typed) (sym same) r.is_typed) r.sum (other cause.contents table))
+    not_both law p cause.contents.head r.typed (subst (λ x. IsTyped x cause.contents.head r.typed) (sym same) r.is_typed) r.plain (other cause.contents table))
 other_is_told law words input input' out out' err err' NoMemory status p a bytes tells text other cause t = ends_without_memory s.QueryRefused status input input' err err' t
 
--- a query that is the sum of a column on each table of the bytes is not refused on the table that was read
-sum_is_answered : Laws → (words : List (List ℕ)) (input input' : SourceState) (p r : sql.Query) (a b : List SchemaColumn) (bytes : List ℕ) (contents : Contents) →
-    Tells words input p a bytes → ((other : Contents) → IsTableOf bytes a limits other → IsSum p other.head) → Accepts words r b → ReadsTable b input input' contents → IsUnanswered r contents.head → ⊥
-sum_is_answered law words input input' p r a b bytes contents tells sums accepted read none =
+-- a query over all rows on each table of the bytes is not refused on the table that was read
+plain_is_answered : Laws → (words : List (List ℕ)) (input input' : SourceState) (p r : sql.Query) (a b : List SchemaColumn) (bytes : List ℕ) (contents : Contents) →
+    Tells words input p a bytes → ((other : Contents) → IsTableOf bytes a limits other → IsPlain p other.head) → Accepts words r b → ReadsTable b input input' contents → IsUnanswered r contents.head → ⊥
+plain_is_answered law words input input' p r a b bytes contents tells plain accepted read none =
     let same = same_query law words p r a b tells.accepted accepted in
-    let sum = sums contents (told_table law words input input' p r a b bytes contents tells accepted read) in
-    not_both law p contents.head sum.typed sum.column sum.shown sum.is_typed sum.sum (subst (λ x. IsUnanswered x contents.head) (sym same) none)
+    let one = plain contents (told_table law words input input' p r a b bytes contents tells accepted read) in
+    not_both law p contents.head one.typed one.is_typed one.plain (subst (λ x. IsUnanswered x contents.head) (sym same) none)
 
-no_sum_refused : Laws → (words : List (List ℕ)) (input input' : SourceState) (p : sql.Query) (a : List SchemaColumn) (bytes : List ℕ) (why : QueryFault) →
-    Tells words input p a bytes → ((contents : Contents) → IsTableOf bytes a limits contents → IsSum p contents.head) → QueryCause words input input' why → ⊥
-no_sum_refused law words input input' p a bytes q.TooLong tells sums cause = no_text_accepts law words p a _ cause.0 tells.accepted
-no_sum_refused law words input input' p a bytes (q.Syntax at) tells sums cause = no_text_accepts law words p a _ cause.0 tells.accepted
-no_sum_refused law words input input' p a bytes (q.TooDeep at) tells sums cause = no_text_accepts law words p a _ cause.0 tells.accepted
-no_sum_refused law words input input' p a bytes (q.NumberTooLarge at) tells sums cause = no_text_accepts law words p a _ cause.0 tells.accepted
-no_sum_refused law words input input' p a bytes q.NotBuilt tells sums cause =
-    sum_is_answered law words input input' p cause.query a cause.columns bytes cause.contents tells sums cause.accepted cause.read (inr cause.other)
+no_plain_refused : Laws → (words : List (List ℕ)) (input input' : SourceState) (p : sql.Query) (a : List SchemaColumn) (bytes : List ℕ) (why : QueryFault) →
+    Tells words input p a bytes → ((contents : Contents) → IsTableOf bytes a limits contents → IsPlain p contents.head) → QueryCause words input input' why → ⊥
+no_plain_refused law words input input' p a bytes q.TooLong tells plain cause = no_text_accepts law words p a _ cause.0 tells.accepted
+no_plain_refused law words input input' p a bytes (q.Syntax at) tells plain cause = no_text_accepts law words p a _ cause.0 tells.accepted
+no_plain_refused law words input input' p a bytes (q.TooDeep at) tells plain cause = no_text_accepts law words p a _ cause.0 tells.accepted
+no_plain_refused law words input input' p a bytes (q.NumberTooLarge at) tells plain cause = no_text_accepts law words p a _ cause.0 tells.accepted
+no_plain_refused law words input input' p a bytes q.NotBuilt tells plain cause =
+    plain_is_answered law words input input' p cause.query a cause.columns bytes cause.contents tells plain cause.accepted cause.read (inr cause.other)
 
 pub table_is_answered : Laws → (words : List (List ℕ)) (input input' : SourceState) (out out' err err' : SinkState) (why : Refusal) (status : Status) (p : sql.Query) (a : List SchemaColumn) (bytes : List ℕ) →
-    Tells words input p a bytes → IsTableText a bytes → ((contents : Contents) → IsTableOf bytes a limits contents → IsSum p contents.head) →
+    Tells words input p a bytes → IsTableText a bytes → ((contents : Contents) → IsTableOf bytes a limits contents → IsPlain p contents.head) →
     IsCause words input input' out out' why → IsTold why status err err' →
     (status ≡ s.Done) ⊎ (status ≡ s.NoMemory) ⊎ Rose input.faults input'.faults ⊎ Rose out.faults out'.faults ⊎ Rose err.faults err'.faults
-table_is_answered law words input input' out out' err err' (Usage place) status p a bytes tells text sums cause t = absurd (no_command_accepts words p a cause.0 tells.accepted)
-table_is_answered law words input input' out out' err err' (Query why) status p a bytes tells text sums cause t = absurd (no_sum_refused law words input input' p a bytes why tells sums cause.0)
-table_is_answered law words input input' out out' err err' (Schema why) status p a bytes tells text sums cause t = absurd (no_schema_accepts law words p a why cause.0 tells.accepted)
-table_is_answered law words input input' out out' err err' (Table why) status p a bytes tells text sums cause t = absurd
+table_is_answered law words input input' out out' err err' (Usage place) status p a bytes tells text plain cause t = absurd (no_command_accepts words p a cause.0 tells.accepted)
+table_is_answered law words input input' out out' err err' (Query why) status p a bytes tells text plain cause t = absurd (no_plain_refused law words input input' p a bytes why tells plain cause.0)
+table_is_answered law words input input' out out' err err' (Schema why) status p a bytes tells text plain cause t = absurd (no_schema_accepts law words p a why cause.0 tells.accepted)
+table_is_answered law words input input' out out' err err' (Table why) status p a bytes tells text plain cause t = absurd
     (let c = cause.0 in
     table_is_faultless law words input input' p c.query a c.columns bytes c.faulty.bytes why tells text c.accepted c.faulty.whole c.faulty.shown c.faulty.refused)
-table_is_answered law words input input' out out' err err' (Typing why) status p a bytes tells text sums cause t = absurd
+table_is_answered law words input input' out out' err err' (Typing why) status p a bytes tells text plain cause t = absurd
     (let c = cause.0 in
-    sum_is_answered law words input input' p c.query a c.columns bytes c.contents tells sums c.accepted c.read (inl (record { why = why; shown = c.shown; refused = c.refused })))
-table_is_answered law words input input' out out' err err' (TooLong limit) status p a bytes tells text sums cause t =
+    plain_is_answered law words input input' p c.query a c.columns bytes c.contents tells plain c.accepted c.read (inl (record { why = why; shown = c.shown; refused = c.refused })))
+table_is_answered law words input input' out out' err err' (TooLong limit) status p a bytes tells text plain cause t =
     absurd (not_too_long words input input' p a bytes cause.0.many.bytes tells text cause.0.many.longer cause.0.many.read)
-table_is_answered law words input input' out out' err err' ReadFault status p a bytes tells text sums cause t = inr (inr (inl cause.0.rose))
-table_is_answered law words input input' out out' err err' WriteFault status p a bytes tells text sums cause t = inr (inr (inr (inl cause.reported.rose)))
-table_is_answered law words input input' out out' err err' NoMemory status p a bytes tells text sums cause (inl t) = inr (inl t.0)
-table_is_answered law words input input' out out' err err' NoMemory status p a bytes tells text sums cause (inr t) = inr (inr (inr (inr t.1)))
+table_is_answered law words input input' out out' err err' ReadFault status p a bytes tells text plain cause t = inr (inr (inl cause.0.rose))
+table_is_answered law words input input' out out' err err' WriteFault status p a bytes tells text plain cause t = inr (inr (inr (inl cause.reported.rose)))
+table_is_answered law words input input' out out' err err' NoMemory status p a bytes tells text plain cause (inl t) = inr (inl t.0)
+table_is_answered law words input input' out out' err err' NoMemory status p a bytes tells text plain cause (inr t) = inr (inr (inr (inr t.1)))
 
 -- ---- which causes a status has
 

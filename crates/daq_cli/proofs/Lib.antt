@@ -1,9 +1,7 @@
-pub mod Texts
-pub mod Places
-pub mod EndSums
-pub mod Certain
 pub mod Blocks
-pub mod Reports
-pub mod Sums
-pub mod Outcomes
 pub mod Causes
+pub mod Outcomes
+pub mod Places
+pub mod Results
+pub mod Rounds
+pub mod Texts

@@ -1,5 +1,5 @@
 -- What a run comes to, from what its steps come to.
-use Rattle.std.proofs.Common.{◌≡◌, ◌≢◌, ◌↔◌, ◌⊎◌, ◌∙◌, ℕ, ◌<◌, ◌≤◌, List, length, map, ap, sym, subst, refl, slice_get, Some, inl, inr, Ok, Err, IfErr, arith}
+use Rattle.std.proofs.Common.{◌≡◌, ◌≢◌, ◌↔◌, ◌⊎◌, ◌∙◌, ℕ, ◌<◌, ◌≤◌, List, length, ap, sym, subst, refl, slice_get, Some, inl, inr, Ok, Err, IfErr}
 use Rattle.std.proofs.lemmas.Bool.{cases_lt}
 use Rattle.std.specs.declared.option.Option.{Option}
 use Rattle.std.specs.declared.result.Result.{Result}
@@ -8,9 +8,7 @@ use Rattle.csv_load.specs.declared.fault.TableFault.{TableFault}
 use Rattle.csv_load.specs.declared.fault.TableFault.TheVariants as tf
 use Rattle.daq_table.specs.SchemaFaults as schemas
 use Rattle.daq_table.specs.Schemas.{Declares}
-use Rattle.daq_table.specs.Tables.{Contents, IsTable, ends_of, frame_of}
-use Rattle.std.proofs.lemmas.List.{length-map}
-use Rattle.std.proofs.lemmas.Option.{slice_get_within}
+use Rattle.daq_table.specs.Tables.{Contents, IsTable, frame_of}
 use Rattle.std.specs.Io.KnownBytes.{Appends}
 use Rattle.outer_world.specs.Device.{Rose}
 use Rattle.outer_world.specs.Whole.{AppendsPrefix}
@@ -20,9 +18,11 @@ use Rattle.sql_typing.specs.Refusals as typing
 use Rattle.sql_typing.specs.Refusals.{IsTyped}
 use Rattle.sql_typing.specs.declared.fault.TypeFault.{TypeFault}
 use Rattle.sql_typing.specs.declared.fault.TypeFault.TheVariants as y
-use Rattle.daq_cli.specs.Forms.{IsOther, IsUnbuilt, SumsShown}
-use Rattle.daq_cli.specs.Headline.{LastRoundsAreCertain}
-use Rattle.daq_cli.specs.Report.{Shown, WritesAll, WritesPart, report}
+use Rattle.daq_cli.specs.Forms.{IsUnbuilt}
+use Rattle.daq_cli.specs.Report.{WritesAll, WritesPart, report}
+use Rattle.query_model.specs.Worlds.{NamesColumns}
+use Rattle.query_model.specs.declared.query.Shape.TheVariants.{Plain}
+use Rattle.table_rounds.specs.Headline.{RoundsAreCertain}
 use Rattle.daq_table.specs.declared.schema_column.SchemaColumn.{SchemaColumn}
 use Rattle.daq_table.specs.declared.schema_fault.SchemaFault.{SchemaFault}
 use Rattle.daq_table.specs.declared.schema_fault.SchemaFault.TheVariants as sf
@@ -31,7 +31,7 @@ use Rattle.sql_text.specs.declared.fault.SqlFault.{SqlFault}
 use Rattle.sql_text.specs.declared.fault.SqlFault.TheVariants as faults
 use Rattle.sql_text.specs.declared.tree.Tree.{Tree}
 use Rattle.daq_cli.specs.Command.{Ask, words_of}
-use Rattle.daq_cli.specs.Outcome.{Accepts, AsksQuery, IsCause, IsFormFault, IsInputCause, IsOutputCause, IsReported, IsRequestCause, IsSchemaCause, IsTextCause, IsTextFault, MemoryCause, QueryCause, ReadsAll, ReadsTable, SinkState, SourceState, TextCause, limits, sink_of}
+use Rattle.daq_cli.specs.Outcome.{Accepts, AsksQuery, IsCause, IsFormFault, IsInputCause, IsOutputCause, IsReported, IsReportedInPart, IsRequestCause, IsSchemaCause, IsTextCause, IsTextFault, MemoryCause, QueryCause, ReadsAll, ReadsTable, SinkState, SourceState, TextCause, limits, sink_of}
 use Rattle.daq_cli.specs.declared.refusal.QueryFault.{QueryFault}
 use Rattle.daq_cli.specs.declared.refusal.QueryFault.TheVariants as q
 use Rattle.daq_cli.specs.declared.refusal.Refusal.{Refusal}
@@ -235,51 +235,36 @@ typing_cause query contents out fault why refused memory other = by (wants_memor
     by (inl n) = subst (IsOutputCause query contents out out) (sym (memory n)) refl
     by (inr o) = subst (IsOutputCause query contents out out) (sym (other o)) (o, refused, refl)
 
-pub other_cause : (query : sql.Query) (contents : Contents) (typed : TypedQuery) → IsTyped query contents.head typed → IsOther typed contents.head → IsUnbuilt query contents.head
+pub other_cause : (query : sql.Query) (contents : Contents) (typed : TypedQuery) → IsTyped query contents.head typed → typed.shape ≢ Plain → IsUnbuilt query contents.head
 other_cause query contents typed is_typed other = record { typed = typed; is_typed = is_typed; other = other }
 
--- ---- a column of the table
+-- ---- the report of a typed query
 
--- its report was written
-pub reported : LastRoundsAreCertain → (query : sql.Query) (contents : Contents) (typed : TypedQuery) (column : ℕ) (shown : Shown) (text : List ℕ) (out out' : SinkState) →
-    IsTyped query contents.head typed → SumsShown typed contents.head column shown → IsTable (frame_of contents.head) contents.cells → text ≡ printed query →
-    WritesAll (report text shown) column (frame_of contents.head) contents.cells out.written out'.written → IsReported query contents out out'
-reported law query contents typed column shown text out out' is_typed sums table is (last, rounds, written) = record {
+-- it was written
+pub reported : RoundsAreCertain → (query : sql.Query) (contents : Contents) (typed : TypedQuery) (text : List ℕ) (out out' : SinkState) →
+    IsTyped query contents.head typed → typed.shape ≡ Plain → NamesColumns typed (frame_of contents.head) → IsTable (frame_of contents.head) contents.cells → text ≡ printed query →
+    WritesAll (report text contents.head typed contents.cells) contents.head typed contents.cells out.written out'.written → IsReported query contents out out'
+reported law query contents typed text out out' is_typed plain named table is written = record {
   typed = typed;
   is_typed = is_typed;
-  column = column;
-  shown = shown;
-  sum = sums;
-  last = last;
-  rounds = rounds;
-  text = subst (λ t. Appends out.written out'.written (report t shown column (frame_of contents.head) contents.cells last)) is written;
-  headline = law column (frame_of contents.head) contents.cells last within table rounds;
+  plain = plain;
+  reads = written.reads;
+  rounds = written.rounds;
+  text = subst (λ t. Appends out.written out'.written (report t contents.head typed contents.cells written.reads)) is written.whole;
+  headline = law typed (frame_of contents.head) contents.cells written.reads named table written.rounds.rounds;
 }
-  where
-    within : column < length (frame_of contents.head).columns
-    within =
-        let there = slice_get_within contents.head.columns column sums.named sums.there in
-        let ends : length (map ends_of contents.head.columns) ≡ length contents.head.columns = length-map contents.head.columns ends_of in
-        omega (arith, there, ends)
 
 -- it was not written whole
-pub output_cause : {X : Type 0} (written : X → Option (List ℕ)) (faults : X → ℕ) (query : sql.Query) (contents : Contents) (typed : TypedQuery) (column : ℕ) (shown : Shown)
-    (text : List ℕ) (out out' : X) (why : Refusal) → IsTyped query contents.head typed → SumsShown typed contents.head column shown → text ≡ printed query →
-    ((why ≡ NoMemory) × (out' ≡ out))
-    ⊎ ((why ≡ WriteFault) × Rose (faults out) (faults out') × WritesPart (report text shown) column (frame_of contents.head) contents.cells (written out) (written out')) →
-    IsOutputCause query contents (sink_of written faults out) (sink_of written faults out') why
-output_cause written faults query contents typed column shown text out out' why is_typed sums is (inl memory) =
-    subst (IsOutputCause query contents (sink_of written faults out) (sink_of written faults out')) (sym memory.0) (ap (sink_of written faults) memory.1)
-output_cause written faults query contents typed column shown text out out' why is_typed sums is (inr fault) =
-    let (last, rounds, part) = fault.2 in
-    subst (IsOutputCause query contents (sink_of written faults out) (sink_of written faults out')) (sym fault.0) (record {
-      typed = typed;
-      is_typed = is_typed;
-      column = column;
-      shown = shown;
-      sum = sums;
-      last = last;
-      rounds = rounds;
-      text = subst (λ t. AppendsPrefix (written out) (written out') (report t shown column (frame_of contents.head) contents.cells last)) is part;
-      rose = fault.1;
-    })
+pub output_cause : {X : Type 0} (written : X → Option (List ℕ)) (faults : X → ℕ) (query : sql.Query) (contents : Contents) (typed : TypedQuery)
+    (text : List ℕ) (out out' : X) → IsTyped query contents.head typed → typed.shape ≡ Plain → text ≡ printed query → Rose (faults out) (faults out') →
+    WritesPart (report text contents.head typed contents.cells) contents.head typed contents.cells (written out) (written out') →
+    IsReportedInPart query contents (sink_of written faults out) (sink_of written faults out')
+output_cause written faults query contents typed text out out' is_typed plain is rose part = record {
+  typed = typed;
+  is_typed = is_typed;
+  plain = plain;
+  reads = part.reads;
+  rounds = part.rounds;
+  text = subst (λ t. AppendsPrefix (written out) (written out') (report t contents.head typed contents.cells part.reads)) is part.part;
+  rose = rose;
+}

@@ -18,18 +18,19 @@ use Rattle.outer_world.specs.Whole.{AppendsPrefix}
 use Rattle.sql_text.specs.Answer.{IsFault, IsText}
 use Rattle.sql_text.specs.Printed.{printed}
 use Rattle.sql_text.specs.Tree as sql
+use Rattle.query_model.specs.declared.query.Shape.TheVariants.{Plain}
 use Rattle.query_model.specs.declared.query.TypedQuery.{TypedQuery}
+use Rattle.table_rounds.specs.Headline.{AreCertain}
+use Rattle.table_rounds.specs.Rounds.{AreAllRounds}
 use Rattle.sql_text.specs.declared.fault.SqlFault.TheVariants as f
 use Rattle.sql_typing.specs.Refusals as typing
 use Rattle.sql_typing.specs.Refusals.{IsTyped}
 use Rattle.sql_typing.specs.declared.fault.TypeFault.{TypeFault}
 use Rattle.sql_typing.specs.declared.fault.TypeFault.TheVariants as y
 use Rattle.daq_cli.specs.Command.{Ask, IsNoCommand, IsUsagePlace, words_of}
-use Rattle.daq_cli.specs.Forms.{IsUnbuilt, SumsShown}
-use Rattle.daq_cli.specs.Headline.{IsCertain}
+use Rattle.daq_cli.specs.Forms.{IsUnbuilt}
 use Rattle.daq_cli.specs.Refusals.{fault_line, status_of}
-use Rattle.daq_cli.specs.Report.{Shown, report}
-use Rattle.daq_cli.specs.Rounds.{IsLastRound}
+use Rattle.daq_cli.specs.Report.{report}
 use Rattle.daq_cli.specs.declared.refusal.QueryFault.{QueryFault}
 use Rattle.daq_cli.specs.declared.refusal.QueryFault.TheVariants as q
 use Rattle.daq_cli.specs.declared.refusal.Refusal.{Refusal}
@@ -129,17 +130,15 @@ IsNoTable columns bytes = (most_bytes < length bytes) ⊎ HasFault columns bytes
 
 -- ---- the answer
 
--- the report of the sum that the query asks for was written, and each interval in it is certain
+-- the report of the query was written, for the rounds that read the widest column each, up to the first that is narrow; and each interval in it is certain
 pub record IsReported (query : sql.Query) (contents : Contents) (out out' : SinkState) : Type 0 where
   pub typed : TypedQuery
   pub is_typed : IsTyped query contents.head typed
-  pub column : ℕ
-  pub shown : Shown
-  pub sum : SumsShown typed contents.head column shown
-  pub last : ℕ
-  pub rounds : IsLastRound column (frame_of contents.head) contents.cells last
-  pub text : Appends out.written out'.written (report (printed query) shown column (frame_of contents.head) contents.cells last)
-  pub headline : IsCertain column (frame_of contents.head) contents.cells last
+  pub plain : typed.shape ≡ Plain
+  pub reads : List ℕ
+  pub rounds : AreAllRounds typed (frame_of contents.head) contents.cells reads
+  pub text : Appends out.written out'.written (report (printed query) contents.head typed contents.cells reads)
+  pub headline : AreCertain typed (frame_of contents.head) contents.cells reads
 
 -- the input was read and the report of its table written
 pub record IsAnswered (words : List (List ℕ)) (input input' : SourceState) (out out' : SinkState) : Type 0 where
@@ -227,12 +226,10 @@ pub record ReadCause (words : List (List ℕ)) (input input' : SourceState) : Ty
 pub record IsReportedInPart (query : sql.Query) (contents : Contents) (out out' : SinkState) : Type 0 where
   pub typed : TypedQuery
   pub is_typed : IsTyped query contents.head typed
-  pub column : ℕ
-  pub shown : Shown
-  pub sum : SumsShown typed contents.head column shown
-  pub last : ℕ
-  pub rounds : IsLastRound column (frame_of contents.head) contents.cells last
-  pub text : AppendsPrefix out.written out'.written (report (printed query) shown column (frame_of contents.head) contents.cells last)
+  pub plain : typed.shape ≡ Plain
+  pub reads : List ℕ
+  pub rounds : AreAllRounds typed (frame_of contents.head) contents.cells reads
+  pub text : AppendsPrefix out.written out'.written (report (printed query) contents.head typed contents.cells reads)
   pub rose : Rose out.faults out'.faults
 
 pub record WriteCause (words : List (List ℕ)) (input input' : SourceState) (out out' : SinkState) : Type 0 where

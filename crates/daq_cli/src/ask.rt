@@ -1,34 +1,33 @@
 //! The steps of the command `ask`: query, schema, table and report.
 
-ghost use Rattle.std.specs.Prelude.{◌≡◌, ◌≢◌, ◌≤◌, ◌<◌, ◌⊎◌, ℕ, List, IfOk, IfErr, IsUtf8, OnOk, length};
-ghost use Rattle.daq_table.specs.Tables.{IsTable, frame_of};
+ghost use Rattle.std.specs.Prelude.{◌≡◌, ◌≢◌, ◌≤◌, ◌↔◌, ℕ, List, IfOk, IfErr, IsTrue, IsUtf8, OnOk};
+ghost use Rattle.daq_report.specs.Blocks.{HeadHasTexts};
 ghost use Rattle.daq_table.specs.declared.schema_fault.SchemaFault.{SchemaFault};
 ghost use Rattle.csv_load.specs.declared.fault.TableFault.{TableFault};
-ghost use Rattle.outer_world.specs.Device.{Rose};
 ghost use Rattle.sql_text.specs.Answer.{IsFault};
 ghost use Rattle.sql_text.specs.Printed.{printed};
 ghost use Rattle.sql_text.specs.Tree.{query_of};
 ghost use Rattle.query_model.specs.Validity.{IsValid};
+ghost use Rattle.query_model.specs.declared.query.Shape.TheVariants.{Plain};
+ghost use Rattle.round_engine.specs.Stages.{opened};
 ghost use Rattle.sql_text.specs.declared.fault.SqlFault.{SqlFault};
 ghost use Rattle.sql_typing.specs.Refusals.{IsTyped, IsWellFormed};
 ghost use Rattle.sql_typing.specs.declared.fault.TypeFault.{TypeFault};
 ghost use Rattle.daq_cli.specs.Outcome.{Accepts, AsksQuery, IsInputCause, IsOutputCause, IsReported, IsRequestCause, IsSchemaCause, IsTextCause, ReadsTable, sink_of, source_of};
-ghost use Rattle.daq_cli.specs.Report.{WritesAll, WritesPart, report, shown_as};
 
-use crate::headline::last_rounds_are_certain;
 use crate::refusal::{QueryFault, Refusal};
-use crate::summed::{NumberColumn, summed_column};
 use crate::words::{Words, usage_place};
 use crate::writing::write_report;
 use csv_load::{Limits, TableFault, load};
 use daq_table::{Schema, SchemaFault, Table};
-use known_column::Known;
 use outer_world::{Failed, ReadAll, Sink, Source, read_all};
 use plane_kernels::Plane;
-use query_model::TypedQuery;
+use query_model::{Shape, TypedQuery, valid_queries_name_columns};
+use round_engine::Engine;
 use sql_text::{SqlFault, Tree, parse, print, reads_back};
 use sql_typing::{TypeFault, type_query};
 use std::alloc::Global;
+use table_rounds::rounds_are_certain;
 
 // The most bytes of an input.
 const MOST_BYTES: usize = 1_073_741_824;
@@ -134,6 +133,7 @@ pub(crate) fn report_table<K: Sink>(
 ) -> Result<(), Refusal>
     requires printable { IsUtf8 (printed (query_of query.now)) }
     requires well_formed { IsWellFormed (query_of query.now) }
+    requires texts { HeadHasTexts table.now.head }
     ensures ok { OnOk result (IsReported (query_of query.now) table.now
         (sink_of K.written K.faults out.old) (sink_of K.written K.faults out.new)) }
     ensures refused { IfErr result (IsOutputCause (query_of query.now) table.now
@@ -142,7 +142,7 @@ pub(crate) fn report_table<K: Sink>(
     ensures faults { K.faults out.old ≤ K.faults out.new }
 {
     match type_query(alloc, query, table.head()) {
-        Ok(typed) => report_typed(alloc, query, &typed, table, out),
+        Ok(typed) => report_typed(alloc, query, typed, table, out),
         Err(fault) => Err(refusal_of_typing(fault)),
     }
 }
@@ -158,17 +158,25 @@ fn refusal_of_typing(fault: TypeFault) -> Refusal
     }
 }
 
+// Whether the query is one of aggregates over all rows.
+fn is_plain(typed: &TypedQuery) -> bool
+    ensures { IsTrue result ↔ (typed.now.shape ≡ Plain) }
+{
+    matches!(typed.shape, Shape::Plain)
+}
+
 // Writes the report of the typed query over the table.
 fn report_typed<K: Sink>(
     alloc: Global,
     query: &Tree,
-    typed: &TypedQuery,
+    typed: TypedQuery,
     table: &Table,
     out: &mut K,
 ) -> Result<(), Refusal>
     requires printable { IsUtf8 (printed (query_of query.now)) }
-    requires typed { IsTyped (query_of query.now) table.now.head typed.now }
-    requires valid { IsValid table.now.head typed.now }
+    requires typed { IsTyped (query_of query.now) table.now.head typed }
+    requires valid { IsValid table.now.head typed }
+    requires texts { HeadHasTexts table.now.head }
     ensures ok { OnOk result (IsReported (query_of query.now) table.now
         (sink_of K.written K.faults out.old) (sink_of K.written K.faults out.new)) }
     ensures refused { IfErr result (IsOutputCause (query_of query.now) table.now
@@ -176,45 +184,45 @@ fn report_typed<K: Sink>(
     ensures early { IfErr result (λ why. why ≢ Refusal.WriteFault → out.new ≡ out.old) }
     ensures faults { K.faults out.old ≤ K.faults out.new }
 {
-    last_rounds_are_certain();
-    let Some(column) = summed_column(typed, table.head()) else {
+    if !is_plain(&typed) {
         return Err(Refusal::Query(QueryFault::NotBuilt));
-    };
-    let Ok(sql) = print(alloc, query) else {
-        return Err(Refusal::NoMemory);
-    };
-    report_column(alloc, sql.as_bytes(), &column, table, out)
+    }
+    match Engine::open(alloc, typed, table.head()) {
+        Ok(mut engine) => report_rounds(alloc, query, &mut engine, table, out),
+        Err(_) => Err(Refusal::NoMemory),
+    }
 }
 
-// Writes the report of a column of the table, for the query with that printed form.
-fn report_column<K: Sink>(
+// Writes the report of a query that was opened on the table.
+fn report_rounds<K: Sink>(
     alloc: Global,
-    sql: &[u8],
-    column: &NumberColumn,
+    query: &Tree,
+    engine: &mut Engine,
     table: &Table,
     out: &mut K,
 ) -> Result<(), Refusal>
-    requires there { column.now.place < length table.now.head.columns }
-    requires name { length column.now.name.now ≤ 64 }
-    requires scale { column.now.scale ≤ 18 }
-    ensures table { IsTable (frame_of table.now.head) table.now.cells }
-    ensures ok { OnOk result (WritesAll (report sql.now (shown_as column.now.name.now column.now.scale)) column.now.place (frame_of table.now.head) table.now.cells
-        (K.written out.old) (K.written out.new)) }
-    ensures refused { IfErr result (λ why. (why ≡ Refusal.NoMemory) × (out.new ≡ out.old)
-        ⊎ (why ≡ Refusal.WriteFault) × Rose (K.faults out.old) (K.faults out.new)
-        × WritesPart (report sql.now (shown_as column.now.name.now column.now.scale)) column.now.place (frame_of table.now.head) table.now.cells
-        (K.written out.old) (K.written out.new)) }
+    requires printable { IsUtf8 (printed (query_of query.now)) }
+    requires typed { IsTyped (query_of query.now) table.now.head engine.old.query }
+    requires valid { IsValid table.now.head engine.old.query }
+    requires plain { engine.old.query.shape ≡ Plain }
+    requires opened { engine.old ≡ opened engine.old.query table.now.head }
+    requires texts { HeadHasTexts table.now.head }
+    ensures ok { OnOk result (IsReported (query_of query.now) table.now
+        (sink_of K.written K.faults out.old) (sink_of K.written K.faults out.new)) }
+    ensures refused { IfErr result (IsOutputCause (query_of query.now) table.now
+        (sink_of K.written K.faults out.old) (sink_of K.written K.faults out.new)) }
+    ensures early { IfErr result (λ why. why ≢ Refusal.WriteFault → out.new ≡ out.old) }
     ensures faults { K.faults out.old ≤ K.faults out.new }
 {
-    let head = table.head();
-    let rows = table.column(column.place).len();
-    let Ok(mut known) = Known::open(alloc, &head.columns.as_slice()[column.place], rows) else {
+    rounds_are_certain();
+    valid_queries_name_columns();
+    let Ok(sql) = print(alloc, query) else {
         return Err(Refusal::NoMemory);
     };
-    let Ok(mut plane) = Plane::blank(alloc, rows) else {
+    let Ok(mut plane) = Plane::blank(alloc, table.head().rows as usize) else {
         return Err(Refusal::NoMemory);
     };
-    match write_report(sql, column, table, &mut known, &mut plane, out) {
+    match write_report(sql.as_bytes(), table, engine, &mut plane, out) {
         Ok(()) => Ok(()),
         Err(Failed) => Err(Refusal::WriteFault),
     }

@@ -4,8 +4,8 @@ ghost use Rattle.std.specs.Prelude.{◌≡◌, ◌≤◌, ◌+◌, ◌++◌, len
 ghost use Rattle.std.specs.Fmt.{signed_decimal};
 ghost use Rattle.daq_cli.specs.Refusals.{query_fault_text, schema_fault_text, table_fault_text, type_fault_text};
 
+use crate::numbers::written_number;
 use crate::refusal::QueryFault;
-use crate::report::written_number;
 use csv_load::TableFault;
 use daq_table::{SchemaFault, TextBuf};
 use sql_typing::TypeFault;

@@ -9,7 +9,7 @@ ghost use Rattle.sql_text.specs.Tree.{Query, query_of};
 ghost use Rattle.daq_cli.specs.Command.{IsNoCommand};
 ghost use Rattle.daq_table.specs.Tables.{Contents};
 ghost use Rattle.csv_load.specs.TableOf.{IsTableOf};
-ghost use Rattle.daq_cli.specs.Forms.{IsSum, IsUnanswered};
+ghost use Rattle.daq_cli.specs.Forms.{IsPlain, IsUnanswered};
 ghost use Rattle.daq_cli.specs.Outcome.{AsksQuery, EndsOrFails, EndsOrLacksMemory, EndsWith, IsAnswered, IsCause, IsNoTable, IsRefused, IsTableText, IsTold, MemoryCause, NoQueryCause, NoTableCause, SchemaCause, Tells, TextCause, limits, sink_of, source_of};
 ghost use Rattle.daq_cli.specs.declared.refusal.QueryFault.{QueryFault};
 ghost use Rattle.daq_cli.specs.declared.refusal.Refusal.{Refusal};
@@ -17,7 +17,7 @@ ghost use Rattle.daq_cli.specs.declared.refusal.Refusal.{Refusal};
 use crate::ask::{read_table, report_table, requested_query, requested_schema};
 use crate::refusal::{Refusal, Status, refuse};
 use crate::words::Words;
-use csv_load::faults_are_exact;
+use csv_load::{faults_are_exact, heads_have_texts};
 use daq_table::schemas_are_exact;
 use outer_world::{Sink, Source, Store};
 use sql_text::{Tree, one_answer};
@@ -55,6 +55,7 @@ fn answer<S: Source, K: Sink>(
     ensures untouched { IsRefused words.now → (input.new ≡ input.old) × (out.new ≡ out.old) }
 {
     texts_are_well_formed();
+    heads_have_texts();
     let schema = match requested_schema(alloc, words, query) {
         Ok(schema) => schema,
         Err(why) => return Err(why),
@@ -137,7 +138,7 @@ pub fn run<S: Source, P: Store, K: Sink>(
         → MemoryCause words.now × (world.new.out ≡ world.old.out) }
     ensures complete { (query : Query) (columns : List SchemaColumn) (bytes : List ℕ)
         → Tells words.now (source_of S.left S.faults world.old.input) query columns bytes → IsTableText columns bytes
-        → ((contents : Contents) → IsTableOf bytes columns limits contents → IsSum query contents.head)
+        → ((contents : Contents) → IsTableOf bytes columns limits contents → IsPlain query contents.head)
         → (result ≡ Status.Done) ⊎ (result ≡ Status.NoMemory)
         ⊎ Rose (S.faults world.old.input) (S.faults world.new.input)
         ⊎ Rose (K.faults world.old.out) (K.faults world.new.out)

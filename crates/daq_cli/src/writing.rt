@@ -1,23 +1,22 @@
-//! The rounds of a table's sum, written one after the other until the bound is one number, or surely none.
+//! The report of a query over a table: a block for each round, until a round is narrow.
 
-ghost use Rattle.std.specs.Prelude.{◌≡◌, ◌<◌, ◌≤◌, [], ◌∷◌, OnOk, OnErr, length};
+ghost use Rattle.std.specs.Prelude.{◌≡◌, ◌<◌, OnOk, OnErr, length};
 ghost use Rattle.std.specs.Io.KnownBytes.{Appends};
-ghost use Rattle.daq_table.specs.Tables.{IsTable, ends_at, frame_of};
-ghost use Rattle.known_column.specs.Columns.{unread_column};
+ghost use Rattle.daq_report.specs.Blocks.{HeadHasTexts};
+ghost use Rattle.daq_table.specs.Tables.{frame_of};
 ghost use Rattle.outer_world.specs.Device.{HasCause};
 ghost use Rattle.outer_world.specs.Whole.{AppendsPrefix};
-ghost use Rattle.daq_cli.specs.Prefixes.{column_after, column_frame};
-ghost use Rattle.daq_cli.specs.Report.{WritesAll, WritesPart, query_line, report, rounds_text, shown_as};
+ghost use Rattle.query_model.specs.Validity.{IsValid};
+ghost use Rattle.round_engine.specs.Stages.{opened};
+ghost use Rattle.daq_cli.specs.Report.{WritesAll, WritesPart, query_line, report, rounds_text};
 
-use crate::headline::{full_rounds_are_narrow, tables_have_last_rounds};
-use crate::report::written_block;
-use crate::rounds::{is_exact, sum_bound};
-use crate::summed::NumberColumn;
+use daq_report::write_block;
 use daq_table::Table;
-use known_column::Known;
 use outer_world::{Failed, Sink, write_whole};
-use plane_kernels::{Plane, transpose};
-use query_model::{planes_are_taken, start_is_known};
+use plane_kernels::Plane;
+use query_model::{start_is_known, tables_have_parts, valid_queries_name_columns};
+use round_engine::Engine;
+use table_rounds::{read_next, rounds_are_certain, rounds_are_counted, rounds_have_an_end};
 
 // Writes the line of the query with that printed form.
 pub(crate) fn write_query<K: Sink>(sql: &[u8], out: &mut K) -> Result<(), Failed>
@@ -31,69 +30,64 @@ pub(crate) fn write_query<K: Sink>(sql: &[u8], out: &mut K) -> Result<(), Failed
     Ok(())
 }
 
-// Writes the report of a column of a table, of which nothing is known at first.
+// Writes the report of a query that was opened on the table.
 pub(crate) fn write_report<K: Sink>(
     sql: &[u8],
-    column: &NumberColumn,
     table: &Table,
-    known: &mut Known,
+    engine: &mut Engine,
     plane: &mut Plane,
     out: &mut K,
 ) -> Result<(), Failed>
-    requires name { length column.now.name.now ≤ 64 }
-    requires scale { column.now.scale ≤ 18 }
-    requires column { column.now.place < length table.now.head.columns }
-    requires table { IsTable (frame_of table.now.head) table.now.cells }
-    requires start { known.old ≡ unread_column (ends_at (frame_of table.now.head) column.now.place) table.now.head.rows }
+    requires valid { IsValid table.now.head engine.old.query }
+    requires opened { engine.old ≡ opened engine.old.query table.now.head }
+    requires texts { HeadHasTexts table.now.head }
     requires rows { length plane.old ≡ table.now.head.rows }
-    ensures done { OnOk result (WritesAll (report sql.now (shown_as column.now.name.now column.now.scale))
-        column.now.place (frame_of table.now.head) table.now.cells (K.written out.old) (K.written out.new)) }
-    ensures part { OnErr result (WritesPart (report sql.now (shown_as column.now.name.now column.now.scale))
-        column.now.place (frame_of table.now.head) table.now.cells (K.written out.old) (K.written out.new)) }
+    ensures done { OnOk result (WritesAll (report sql.now table.now.head engine.old.query table.now.cells) table.now.head engine.old.query table.now.cells
+        (K.written out.old) (K.written out.new)) }
+    ensures part { OnErr result (WritesPart (report sql.now table.now.head engine.old.query table.now.cells) table.now.head engine.old.query table.now.cells
+        (K.written out.old) (K.written out.new)) }
     ensures cause { HasCause (K.faults out.old) (K.faults out.new) result }
 {
-    tables_have_last_rounds();
     start_is_known();
+    tables_have_parts();
+    valid_queries_name_columns();
+    rounds_have_an_end();
+    let _table = table.head();
     write_query(sql, out)?;
-    let cells = table.column(column.place);
-    write_rounds(column.name, column.scale, cells, known, plane, out)
+    write_rounds(table, engine, plane, out)
 }
 
-// Writes the blocks of the rounds and the end line. Nothing is known of the column at first.
+// Writes the blocks of the rounds and the end line. Nothing is read at first.
 fn write_rounds<K: Sink>(
-    name: &[u8],
-    scale: u8,
-    cells: &[u64],
-    known: &mut Known,
+    table: &Table,
+    engine: &mut Engine,
     plane: &mut Plane,
     out: &mut K,
 ) -> Result<(), Failed>
-    requires name { length name.now ≤ 64 }
-    requires scale { scale ≤ 18 }
-    requires table { IsTable (column_frame (length cells.now) known.old.ends) (cells.now ∷ []) }
-    requires start { known.old ≡ column_after known.old.ends cells.now 0 }
-    requires rows { length plane.old ≡ length cells.now }
-    ensures done { OnOk result (WritesAll (rounds_text (shown_as name.now scale)) 0 (column_frame (length cells.now) known.old.ends)
-        (cells.now ∷ []) (K.written out.old) (K.written out.new)) }
-    ensures part { OnErr result (WritesPart (rounds_text (shown_as name.now scale)) 0 (column_frame (length cells.now) known.old.ends)
-        (cells.now ∷ []) (K.written out.old) (K.written out.new)) }
+    requires valid { IsValid table.now.head engine.old.query }
+    requires opened { engine.old ≡ opened engine.old.query table.now.head }
+    requires texts { HeadHasTexts table.now.head }
+    requires rows { length plane.old ≡ table.now.head.rows }
+    ensures done { OnOk result (WritesAll (rounds_text table.now.head engine.old.query table.now.cells) table.now.head engine.old.query table.now.cells
+        (K.written out.old) (K.written out.new)) }
+    ensures part { OnErr result (WritesPart (rounds_text table.now.head engine.old.query table.now.cells) table.now.head engine.old.query table.now.cells
+        (K.written out.old) (K.written out.new)) }
     ensures cause { HasCause (K.faults out.old) (K.faults out.new) result }
 {
-    full_rounds_are_narrow();
-    tables_have_last_rounds();
-    planes_are_taken();
-    let width = known.width();
-    let mut round = 0u8;
-    loop {
-        let bound = sum_bound(known);
-        let block = written_block(name, scale, width, round, &bound);
-        write_whole(out, block.bytes())?;
-        if is_exact(&bound) {
+    start_is_known();
+    tables_have_parts();
+    valid_queries_name_columns();
+    rounds_have_an_end();
+    rounds_are_certain();
+    rounds_are_counted();
+    let head = table.head();
+    let mut last = None;
+    'rounds: loop {
+        write_block(engine, head, engine.progress().done, last, out)?;
+        if engine.narrow(0) {
             break;
         }
-        transpose(cells, width, round, plane);
-        known.take(plane).unwrap();
-        round += 1;
+        last = Some(read_next(engine, table, plane));
     }
     write_whole(out, b"end narrow\n")?;
     Ok(())

@@ -1,19 +1,19 @@
-use Rattle.std.proofs.Common.{◌≡◌, ◌≤◌, ◌<◌, ◌-◌, ℕ, [], ◌∷◌, length, IsFalse}
-use Rattle.std.specs.Io.KnownBytes.{Appends}
-use Rattle.daq_cli.specs.Prefixes.{column_after, column_frame}
-use Rattle.daq_cli.specs.Report.{blocks_below, shown_as}
-use Rattle.daq_cli.specs.Rounds.{bound_after, is_narrow}
+use Rattle.std.proofs.Common.{◌≡◌, ◌-◌, ◌≤◌, ◌<◌, length, IfSome}
+use Rattle.daq_table.specs.Tables.{frame_of}
+use Rattle.round_engine.specs.Progresses.{planes_read}
+use Rattle.table_rounds.specs.Headline.{all_planes}
+use Rattle.daq_cli.proofs.Rounds.{Reached}
 use Rattle.daq_cli.proofs.writing.write_rounds.Given as goal
 
-abbrev pub invariant-loop-bound : goal.invariant-loop-bound
-invariant-loop-bound g l = record {
-  within : l.round ≤ l.width;
-  known : l.known ≡ column_after l.initial.known.ends l.cells l.round;
-  rows : length l.plane ≡ length l.cells;
-  before : (k : ℕ) → k < l.round → IsFalse (is_narrow 0 (bound_after 0 (column_frame (length l.cells) l.initial.known.ends) (l.cells ∷ []) k));
+abbrev pub invariant-rounds : goal.invariant-rounds
+invariant-rounds g l = record {
+  reached : Reached l.table.head l.initial.engine.query l.table.cells l.engine l.last (g.K.Sink.written l.initial.out) (g.K.Sink.written l.out);
+  query : l.engine.query ≡ l.initial.engine.query;
+  frame : l.engine.frame ≡ l.initial.engine.frame;
+  rows : length l.plane ≡ l.table.head.rows;
+  last : IfSome l.last (λ c. c < length l.initial.engine.query.columns);
   faults : g.K.Sink.faults l.initial.out ≤ g.K.Sink.faults l.out;
-  text : Appends (g.K.Sink.written l.initial.out) (g.K.Sink.written l.out) (blocks_below (shown_as l.name l.scale) 0 (column_frame (length l.cells) l.initial.known.ends) (l.cells ∷ []) l.round);
 }
 
-abbrev pub decreases-loop-bound : goal.decreases-loop-bound
-decreases-loop-bound g l = l.width - l.round
+abbrev pub decreases-rounds : goal.decreases-rounds
+decreases-rounds g l = all_planes l.initial.engine.query (frame_of l.table.head) - planes_read l.engine.known

@@ -1,0 +1,17 @@
+//! Whole reports of queries over small tables.
+#![tactic(auto)]
+
+#[cfg(test)]
+mod averages;
+#[cfg(test)]
+mod counts;
+#[cfg(test)]
+mod expressions;
+#[cfg(test)]
+mod extremes;
+#[cfg(test)]
+mod sheets;
+#[cfg(test)]
+mod sums;
+#[cfg(test)]
+mod worked;

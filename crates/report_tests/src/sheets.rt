@@ -1,0 +1,104 @@
+//! The tables of these tests, and whether a report over one is as expected. The expected reports were worked out by the definitions of
+//! prefixes, ranges, truths and bounds, apart from the program.
+
+use daq_cli::{Status, Words, World, run};
+use outer_world::{MemSink, MemSource, MemStore};
+use std::alloc::{AllocError, Global};
+
+/// A CSV and its schema.
+#[derive(Clone, Copy)]
+pub(crate) struct Sheet {
+    csv: &'static str,
+    schema: &'static str,
+}
+
+/// A query over a sheet, and its whole report.
+#[derive(Clone, Copy)]
+pub(crate) struct Case {
+    pub(crate) sheet: Sheet,
+    pub(crate) sql: &'static str,
+    pub(crate) report: &'static str,
+}
+
+/// Six rows of all kinds.
+pub(crate) const SHOP: Sheet = Sheet {
+    csv: "price,qty,cost,day,city\n5,2,1.50,2024-02-28,Oslo\n9,1,-0.25,2024-03-01,Rome\n12,4,3.00,2024-02-29,Oslo\n3,3,0.10,2023-12-31,Bern\n-4,0,-2.75,2024-03-01,O'Hara\n7,4,2.25,2024-01-15,Rome\n",
+    schema: "price:int,qty:int,cost:dec2,day:date,city:text",
+};
+
+/// The same columns without a row.
+pub(crate) const EMPTY: Sheet = Sheet {
+    csv: "price,qty,cost,day,city\n",
+    schema: "price:int,qty:int,cost:dec2,day:date,city:text",
+};
+
+/// Numbers that are mostly negative.
+pub(crate) const LOSS: Sheet = Sheet {
+    csv: "gain,fee\n-7,-0.5\n-3,0.5\n-12,-1.5\n-3,-0.25\n",
+    schema: "gain:int,fee:dec3",
+};
+
+/// Three equal rows, whose columns have no plane.
+pub(crate) const SAME: Sheet = Sheet {
+    csv: "n,word,day\n4,a,1999-12-31\n4,a,1999-12-31\n4,a,1999-12-31\n",
+    schema: "n:int,word:text,day:date",
+};
+
+/// Four rows of whole numbers and a text.
+pub(crate) const TOWNS: Sheet = Sheet {
+    csv: "price,qty,city\n5,2,Oslo\n9,1,Rome\n12,4,Oslo\n3,3,Bern\n",
+    schema: "price:int,qty:int,city:text",
+};
+
+/// The same columns without a row.
+pub(crate) const NOBODY: Sheet = Sheet {
+    csv: "price,qty,city\n",
+    schema: "price:int,qty:int,city:text",
+};
+
+/// One number twice.
+pub(crate) const SEVENS: Sheet = Sheet {
+    csv: "v\n7\n7\n",
+    schema: "v:int",
+};
+
+/// Two numbers.
+pub(crate) const PAIR: Sheet = Sheet {
+    csv: "v\n3\n11\n",
+    schema: "v:int",
+};
+
+type MemWorld = World<MemSource, MemStore, MemSink>;
+
+// Devices that work, with the sheet as input.
+fn world_of(alloc: Global, csv: &str) -> Result<MemWorld, AllocError> {
+    Ok(World {
+        input: MemSource::new(csv.as_bytes().to_vec(alloc)?, 50, Vec::new(alloc)),
+        side: MemSource::new(Vec::new(alloc), 1, Vec::new(alloc)),
+        planes: MemStore::new(alloc, Vec::new(alloc), 1, Vec::new(alloc), 0)?,
+        made: MemSink::with_room(alloc, 0, 1, Vec::new(alloc))?,
+        out: MemSink::with_room(alloc, 4000, 100, Vec::new(alloc))?,
+        err: MemSink::with_room(alloc, 200, 100, Vec::new(alloc))?,
+    })
+}
+
+// Whether the command writes this report.
+fn is_reported(alloc: Global, case: &Case) -> Result<bool, AllocError> {
+    let mut words = Words::new(alloc);
+    for word in ["ask", "t.csv", case.sheet.schema, case.sql] {
+        words.push(word)?;
+    }
+    let mut world = world_of(alloc, case.sheet.csv)?;
+    let ended = run(alloc, &words, &mut world);
+    Ok(ended == Status::Done && world.out.contents() == case.report.as_bytes())
+}
+
+/// Whether each query has its report.
+pub(crate) fn are_reported(alloc: Global, cases: &[Case]) -> Result<bool, AllocError> {
+    for case in cases {
+        if !is_reported(alloc, case)? {
+            return Ok(false);
+        }
+    }
+    Ok(true)
+}
