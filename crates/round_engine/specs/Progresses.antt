@@ -1,11 +1,10 @@
 -- How far an engine has come, as a choice of the next column sees it; and lists of steps.
-use Rattle.std.specs.Prelude.{◌≡◌, ℕ, ◌+◌, ◌<◌, ◌==◌, Bool, true, false, List, [], ◌∷◌, length, map, slice_get, slice_index, count_by, if◌then◌else◌}
+use Rattle.std.specs.Prelude.{◌≡◌, ℕ, ◌+◌, ◌<◌, ◌==◌, Bool, List, [], ◌∷◌, length, map, slice_get, slice_index, count_by, if◌then◌else◌}
 use Rattle.std.specs.declared.option.Option.TheVariants.{Some}
 use Rattle.std.specs.List.{list_any, filter_map, sum}
 use Rattle.std.specs.declared.option.Option.TheVariants as option
 use Rattle.daq_table.specs.Tables.{ends_at, planes, rows_of}
-use Rattle.query_model.specs.declared.bounds.Truth.{Truth}
-use Rattle.query_model.specs.declared.bounds.Truth.TheVariants.{False, Unknown, True}
+use Rattle.kleene_filter.specs.Filters.{is_unknown}
 use Rattle.query_model.specs.declared.query.TypedQuery.{TypedQuery}
 use Rattle.query_model.specs.Answers.{groups_of}
 use Rattle.query_model.specs.Knowledge.{Knowledge, known_at, ranges_of, taken}
@@ -24,11 +23,6 @@ stands_in numbers n = list_any (λ m. m == n) numbers
 -- what a column is read for: the condition, else the groups, else values
 abbrev pub role_of : TypedQuery → ℕ → Role
 role_of query c = if stands_in (columns_of_pred query.pred) c then Filter else (if stands_in (groups_of query.shape) c then Group else Value)
-
-abbrev pub is_unknown : Truth → Bool
-is_unknown False = false
-is_unknown Unknown = true
-is_unknown True = false
 
 -- at how many rows it is not known whether the condition holds
 abbrev pub unknown_rows : Stage → ℕ

@@ -1,5 +1,5 @@
 -- What an engine stands for: a query, what is declared of its columns, and what is known of them. Nothing else decides what it answers.
-use Rattle.std.specs.Prelude.{◌≡◌, ℕ, ◌+◌, ◌<◌, ◌≤◌, Bool, List, [], length, slice_index}
+use Rattle.std.specs.Prelude.{◌≡◌, ℕ, ◌+◌, ◌<◌, ◌≤◌, Bool, List, length, slice_index}
 use Rattle.std.specs.List.{AllByRecursion}
 use Rattle.daq_table.specs.declared.table_head.Head.{Head}
 use Rattle.daq_table.specs.Tables.{Frame, ends_at, frame_of, planes}

@@ -8,9 +8,7 @@ ghost use Rattle.round_engine.specs.Narrowness.{FitsNarrow, is_narrow_average, i
 
 use crate::state::State;
 use interval_calc::narrow;
-use query_model::{
-    AvgBound, Bound, ItemKind, Presence, TypedQuery, pairs_are_few, sums_of_items_fit,
-};
+use query_model::{AvgBound, Bound, ItemKind, Presence, TypedQuery, pairs_are_few};
 
 // Whether it is known that there is an answer, and its ends are near, or that there is none.
 fn is_told(empty: Presence, near: bool) -> bool
@@ -40,7 +38,6 @@ impl State {
         ensures { IfSome (slice_get query.now.items item)
             (λ i. result ≡ is_narrow_item width i.kind (pairs query.now i [] (frame_over self.now.rows self.now.knowns.items) (knowledge_of self.now.knowns.items))) }
     {
-        sums_of_items_fit();
         pairs_are_few();
         let running = &self.runnings[item];
         match query.items.as_slice()[item].kind {
