@@ -7,3 +7,4 @@ pub mod Certain
 pub mod Choosing
 pub mod Taking
 pub mod Steps
+pub mod One

@@ -54,3 +54,8 @@ abbrev pub RoundsAreCounted : Type 0
 RoundsAreCounted =
     (query : TypedQuery) (frame : Frame) (cells : Cells) (reads : List ℕ) (stage : Stage) → NamesColumns query frame → IsTable frame cells →
     IsAfter query frame cells reads stage → planes_read stage.known ≡ length reads
+
+-- the rounds of a query over a table are one: there is one list of columns that they read
+abbrev pub RoundsAreOne : Type 0
+RoundsAreOne =
+    (query : TypedQuery) (frame : Frame) (cells : Cells) (a b : List ℕ) → AreAllRounds query frame cells a → AreAllRounds query frame cells b → a ≡ b

@@ -1,6 +1,6 @@
 //! What holds of rounds. Each law stands on a function that does nothing.
 
-ghost use Rattle.table_rounds.specs.Headline.{FullStagesAreNarrow, RoundsAreCertain, RoundsAreCounted, RoundsHaveAnEnd};
+ghost use Rattle.table_rounds.specs.Headline.{FullStagesAreNarrow, RoundsAreCertain, RoundsAreCounted, RoundsAreOne, RoundsHaveAnEnd};
 
 use query_model::{
     average_bounds_become_exact_on_tables, average_bounds_contain_on_tables, average_bounds_nest,
@@ -27,9 +27,9 @@ pub fn rounds_have_an_end()
     full_stages_are_narrow();
 }
 
-/// In each round each bound admits the answer on every table that agrees with the planes read, is as narrow as it can be
-/// where its item reads no column twice and is no average, and lies within the one before; with all planes read its ends are
-/// the answer.
+/// In each round the table agrees with the planes read; each bound admits the answer on every table that does, is as narrow as it
+/// can be where its item reads no column twice and is no average, and lies within the one before; with all planes read its ends are the
+/// answer. There are no more reads than planes.
 pub fn rounds_are_certain()
     ensures { RoundsAreCertain }
 {
@@ -51,3 +51,8 @@ pub fn rounds_are_counted()
     tables_agree();
     planes_are_taken();
 }
+
+/// There is one list of columns that the rounds read.
+pub fn rounds_are_one()
+    ensures { RoundsAreOne }
+{}

@@ -5,6 +5,7 @@ mod laws;
 mod reading;
 
 pub use laws::{
-    full_stages_are_narrow, rounds_are_certain, rounds_are_counted, rounds_have_an_end,
+    full_stages_are_narrow, rounds_are_certain, rounds_are_counted, rounds_are_one,
+    rounds_have_an_end,
 };
 pub use reading::read_next;

@@ -53,6 +53,7 @@ pub fn read_next(engine: &mut Engine, table: &Table, plane: &mut Plane) -> usize
     tables_agree();
     valid_queries_name_columns();
     full_stages_are_narrow();
+    // The head's clause says that the cells fit it.
     let _head = table.head();
     let column = widest(&engine.progress());
     take_plane(engine, table, column, plane);
