@@ -1,35 +1,14 @@
 -- Blocks of a report, written one after the other.
 use Rattle.std.proofs.Common.{◌≡◌, ℕ, zero, suc, ◌+◌, ◌-◌, ◌<◌, ◌≤◌, List, [], ◌∷◌, ◌++◌, length, refl, sym, ap, ◌∙◌, subst, arith, append_assoc, append-nil, slice_get, Some, Option}
-use Rattle.std.proofs.KnownBytes.{Appends-trans}
-use Rattle.std.specs.Io.KnownBytes.{Appends}
 use Rattle.daq_table.specs.Tables.{Cells, frame_of}
 use Rattle.daq_table.specs.declared.table_head.Head.{Head}
+use Rattle.daq_report.proofs.Prefixes.{prefix_more}
 use Rattle.daq_report.specs.Blocks.{block_text}
 use Rattle.outer_world.specs.Whole.{AppendsPrefix}
 use Rattle.query_model.specs.declared.query.TypedQuery.{TypedQuery}
 use Rattle.table_rounds.proofs.Going.{same_before}
 use Rattle.table_rounds.specs.Rounds.{column_read, stage_after}
 use Rattle.daq_cli.specs.Report.{block_of, blocks_below}
-
--- ---- prefixes of the text
-
--- all of xs and then a prefix of ys is a prefix of both
-pub prefix_after : (a b c : Option (List ℕ)) (xs ys : List ℕ) → Appends a b xs → AppendsPrefix b c ys → AppendsPrefix a c (xs ++ ys)
-prefix_after a b c xs ys p q = record {
-  done = xs ++ q.done;
-  rest = q.rest;
-  split = ap (λ l. xs ++ l) q.split ∙ sym (append_assoc xs q.done q.rest);
-  appended = Appends-trans a b c xs q.done p q.appended;
-}
-
--- a prefix of xs is one of any longer text
-pub prefix_more : (a c : Option (List ℕ)) (xs zs : List ℕ) → AppendsPrefix a c xs → AppendsPrefix a c (xs ++ zs)
-prefix_more a c xs zs q = record {
-  done = q.done;
-  rest = q.rest ++ zs;
-  split = ap (λ l. l ++ zs) q.split ∙ append_assoc q.done q.rest zs;
-  appended = q.appended;
-}
 
 -- ---- the blocks of rounds
 

@@ -255,16 +255,18 @@ reported law query contents typed text out out' is_typed plain named table is wr
 }
 
 -- it was not written whole
-pub output_cause : {X : Type 0} (written : X → Option (List ℕ)) (faults : X → ℕ) (query : sql.Query) (contents : Contents) (typed : TypedQuery)
-    (text : List ℕ) (out out' : X) → IsTyped query contents.head typed → typed.shape ≡ Plain → text ≡ printed query → Rose (faults out) (faults out') →
+pub output_cause : RoundsAreCertain → {X : Type 0} (written : X → Option (List ℕ)) (faults : X → ℕ) (query : sql.Query) (contents : Contents) (typed : TypedQuery)
+    (text : List ℕ) (out out' : X) → IsTyped query contents.head typed → typed.shape ≡ Plain → NamesColumns typed (frame_of contents.head) → IsTable (frame_of contents.head) contents.cells → text ≡ printed query →
+    Rose (faults out) (faults out') →
     WritesPart (report text contents.head typed contents.cells) contents.head typed contents.cells (written out) (written out') →
     IsReportedInPart query contents (sink_of written faults out) (sink_of written faults out')
-output_cause written faults query contents typed text out out' is_typed plain is rose part = record {
+output_cause law written faults query contents typed text out out' is_typed plain named table is rose part = record {
   typed = typed;
   is_typed = is_typed;
   plain = plain;
   reads = part.reads;
   rounds = part.rounds;
   text = subst (λ t. AppendsPrefix (written out) (written out') (report t contents.head typed contents.cells part.reads)) is part.part;
+  headline = law typed (frame_of contents.head) contents.cells part.reads named table part.rounds.rounds;
   rose = rose;
 }

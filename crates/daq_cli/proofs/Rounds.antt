@@ -4,6 +4,7 @@ use Rattle.std.proofs.KnownBytes.{Appends-nil, Appends-trans}
 use Rattle.std.proofs.lemmas.List.{length-map}
 use Rattle.std.specs.List.{range_with_len}
 use Rattle.std.specs.Io.KnownBytes.{Appends}
+use Rattle.daq_report.proofs.Prefixes.{prefix_after, prefix_more}
 use Rattle.daq_report.specs.Blocks.{block_text}
 use Rattle.daq_table.specs.Tables.{Cells, IsTable, ends_at, frame_of}
 use Rattle.daq_table.specs.declared.table_head.Head.{Head}
@@ -19,7 +20,7 @@ use Rattle.round_engine.specs.Stages.{Stage, opened}
 use Rattle.table_rounds.specs.Headline.{RoundsAreCertain, RoundsAreCounted, RoundsHaveAnEnd, all_planes}
 use Rattle.table_rounds.specs.Rounds.{AreAllRounds, IsAfter, column_read, counts_after}
 use Rattle.daq_cli.specs.Report.{WritesAll, WritesPart, block_of, blocks_below, end_line, query_line, report, rounds_text}
-use Rattle.daq_cli.proofs.Blocks.{blocks_before, column_last, next_block, no_blocks, prefix_after, prefix_more, prefix_of_blocks}
+use Rattle.daq_cli.proofs.Blocks.{blocks_before, column_last, next_block, no_blocks, prefix_of_blocks}
 
 -- the blocks of the rounds so far but for the last are written: these columns were read, and that is what is known
 pub record Reached (head : Head) (query : TypedQuery) (cells : Cells) (stage : Stage) (last : Option ℕ) (old new : Option (List ℕ)) : Type 0 where

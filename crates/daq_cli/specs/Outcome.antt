@@ -222,7 +222,7 @@ pub record ReadCause (words : List (List ℕ)) (input input' : SourceState) : Ty
   pub accepted : Accepts words query columns
   pub rose : Rose input.faults input'.faults
 
--- a write of the report failed: a prefix of it was written
+-- a write of the report failed: a prefix of it was written, and each interval in the report is certain
 pub record IsReportedInPart (query : sql.Query) (contents : Contents) (out out' : SinkState) : Type 0 where
   pub typed : TypedQuery
   pub is_typed : IsTyped query contents.head typed
@@ -230,6 +230,7 @@ pub record IsReportedInPart (query : sql.Query) (contents : Contents) (out out' 
   pub reads : List ℕ
   pub rounds : AreAllRounds typed (frame_of contents.head) contents.cells reads
   pub text : AppendsPrefix out.written out'.written (report (printed query) contents.head typed contents.cells reads)
+  pub headline : AreCertain typed (frame_of contents.head) contents.cells reads
   pub rose : Rose out.faults out'.faults
 
 pub record WriteCause (words : List (List ℕ)) (input input' : SourceState) (out out' : SinkState) : Type 0 where

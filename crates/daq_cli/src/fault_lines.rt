@@ -10,6 +10,7 @@ use csv_load::TableFault;
 use daq_table::{SchemaFault, TextBuf};
 use sql_typing::TypeFault;
 
+// What is said of a text that is no query, or is not built.
 pub(crate) fn written_query_fault(fault: &QueryFault) -> TextBuf
     ensures text { result ≡ query_fault_text fault.now }
     ensures short { length result ≤ 500 }
@@ -27,6 +28,7 @@ pub(crate) fn written_query_fault(fault: &QueryFault) -> TextBuf
     }
 }
 
+// What is said of a schema.
 pub(crate) fn written_schema_fault(fault: &SchemaFault) -> TextBuf
     ensures text { result ≡ schema_fault_text fault.now }
     ensures short { length result ≤ 500 }
@@ -46,6 +48,7 @@ pub(crate) fn written_schema_fault(fault: &SchemaFault) -> TextBuf
     }
 }
 
+// What is said of a table.
 pub(crate) fn written_table_fault(fault: &TableFault) -> TextBuf
     ensures text { result ≡ table_fault_text fault.now }
     ensures short { length result ≤ 500 }
@@ -77,6 +80,7 @@ pub(crate) fn written_table_fault(fault: &TableFault) -> TextBuf
     }
 }
 
+// What is said of a query that cannot be typed.
 pub(crate) fn written_type_fault(fault: &TypeFault) -> TextBuf
     ensures text { result ≡ type_fault_text fault.now }
     ensures short { length result ≤ 500 }
@@ -134,6 +138,7 @@ fn after(count: usize) -> u128
     count as u128 + 1
 }
 
+// Words alone.
 pub(crate) fn plain(words: &[u8]) -> TextBuf
     requires { length words.now ≤ 60 }
     ensures text { result ≡ words.now }
@@ -154,7 +159,7 @@ pub(crate) fn with_number(front: &[u8], number: u128, back: &[u8]) -> TextBuf
 {
     let mut text = TextBuf::new();
     text.append(front);
-    text.append(written_number(number as i128, 0).bytes());
+    text.append(written_number(number as i128).bytes());
     text.append(back);
     text
 }

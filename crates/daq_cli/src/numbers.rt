@@ -1,18 +1,17 @@
-//! The text of a number.
+//! The text of a whole number.
 
 ghost use Rattle.std.specs.Prelude.{◌≡◌, ◌≤◌, length};
-ghost use Rattle.daq_table.specs.Numbers.{scaled_text};
+ghost use Rattle.std.specs.Fmt.{signed_decimal};
 
 use daq_table::{NoRoom, TextBuf, number_text};
 
-// A number with so many decimals.
-pub(crate) fn written_number(value: i128, scale: u8) -> TextBuf
-    requires { scale ≤ 18 }
-    ensures text { result ≡ scaled_text scale value }
+// The digits of a number, with its sign where it is negative.
+pub(crate) fn written_number(value: i128) -> TextBuf
+    ensures text { result ≡ signed_decimal value }
     ensures short { length result ≤ 100 }
 {
     let mut text = TextBuf::new();
-    match number_text(value, scale, &mut text) {
+    match number_text(value, 0, &mut text) {
         Ok(()) => text,
         Err(NoRoom) => unreachable!(),
     }

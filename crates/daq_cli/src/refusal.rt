@@ -65,6 +65,7 @@ pub(crate) fn refuse<K: Sink>(why: &Refusal, err: &mut K) -> Status
     own_status(why)
 }
 
+// The status that a refusal ends with.
 fn own_status(why: &Refusal) -> Status
     ensures { result ≡ status_of why.now }
 {
@@ -89,6 +90,7 @@ fn written_line(why: &Refusal) -> TextBuf
     text
 }
 
+// What the line says after the name of the program.
 fn written_cause(why: &Refusal) -> TextBuf
     ensures text { result ≡ fault_text why.now }
     ensures short { length result ≤ 500 }

@@ -52,6 +52,7 @@ pub(crate) fn write_report<K: Sink>(
     tables_have_parts();
     valid_queries_name_columns();
     rounds_have_an_end();
+    // The head's clause says that the cells fit it.
     let _table = table.head();
     write_query(sql, out)?;
     write_rounds(table, engine, plane, out)

@@ -18,5 +18,5 @@ pub returns-clause-refused : goal.returns-clause-refused
 returns-clause-refused g c =
     let query = c.args.engine.now.query in
     let text : c.as_bytes.result.now ≡ printed (query_of c.args.query.now) = c.as_bytes.ensures.value ∙ c.in-Ok.ensures.text c.requires.printable in
-    output_cause g.K.Sink.written g.K.Sink.faults (query_of c.args.query.now) c.args.table.now query c.as_bytes.result.now c.args.out.now c.write_report.new.out
-    c.requires.typed c.requires.plain text c.in-Err.ensures.cause.failed c.in-Err.ensures.part
+    output_cause c.rounds_are_certain.ensures g.K.Sink.written g.K.Sink.faults (query_of c.args.query.now) c.args.table.now query c.as_bytes.result.now c.args.out.now c.write_report.new.out
+    c.requires.typed c.requires.plain (c.valid_queries_name_columns.ensures c.args.table.now.head query c.requires.valid) c.head.ensures.is_table text c.in-Err.ensures.cause.failed c.in-Err.ensures.part

@@ -1,7 +1,7 @@
 -- A prefix of the line is written, whichever of its pieces fails.
 use Rattle.std.proofs.Common.{◌++◌, codes}
 use Rattle.std.proofs.lemmas.Result.{err_from_is_err_and}
-use Rattle.daq_cli.proofs.Blocks.{prefix_after, prefix_more}
+use Rattle.daq_report.proofs.Prefixes.{prefix_after, prefix_more}
 use Rattle.daq_cli.proofs.writing.write_query.Goals as goal
 
 pub returns-in_err-write_whole-clause-part : goal.returns-in_err-write_whole-clause-part
