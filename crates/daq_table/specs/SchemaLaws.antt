@@ -1,5 +1,5 @@
 -- That the text of a schema has one meaning: one list of columns, or one fault.
-use Rattle.std.specs.Prelude.{◌≡◌, ◌≢◌, ℕ, List}
+use Rattle.std.specs.Prelude.{◌≡◌, ◌≢◌, ◌⊎◌, ℕ, List}
 use Rattle.daq_table.specs.SchemaFaults.{Refuses}
 use Rattle.daq_table.specs.Schemas.{Declares}
 use Rattle.daq_table.specs.declared.schema_column.SchemaColumn.{SchemaColumn}
@@ -17,3 +17,7 @@ IsFaultless = (text : List ℕ) (columns : List SchemaColumn) (fault : SchemaFau
 -- a text declares one list of columns at most
 abbrev pub DeclaresOnce : Type 0
 DeclaresOnce = (text : List ℕ) (one other : List SchemaColumn) → Declares text one → Declares text other → one ≡ other
+
+-- a text declares columns or has a fault, want of memory left aside
+abbrev pub HasMeaning : Type 0
+HasMeaning = (text : List ℕ) → ((columns : List SchemaColumn) × Declares text columns) ⊎ ((fault : SchemaFault) × (fault ≢ NoMemory) × Refuses text fault)

@@ -1,11 +1,12 @@
 -- The texts of values.
-use Rattle.std.specs.Prelude.{ℕ, zero, suc, ◌==◌, ⊤, if◌then◌else◌, ℤ, pos, negsuc, neg_ℤ, int_le, nat_abs, ◌-ℤ◌, List, [], ◌∷◌, ◌++◌, codes, slice_get, Option, Some, None}
-use Rattle.std.specs.List.{flat_map}
+use Rattle.std.specs.Prelude.{◌≡◌, ℕ, zero, suc, ◌≤◌, ◌==◌, ⊤, if◌then◌else◌, ℤ, pos, negsuc, neg_ℤ, ◌≤ℤ◌, int_le, nat_abs, ◌-ℤ◌, List, [], ◌∷◌, ◌++◌, codes, length, slice_get, Option, Some, None}
+use Rattle.std.specs.List.{All, flat_map}
 use Rattle.jiff_core.specs.Calendar.{IsBetween, days_from_civil}
 use Rattle.daq_table.specs.Numbers.{digits_text, scaled_text}
 use Rattle.daq_table.specs.declared.head.ColumnHead.{ColumnHead}
 use Rattle.daq_table.specs.declared.head.Kind.{Kind}
 use Rattle.daq_table.specs.declared.head.Kind.TheVariants.{Int, Dec, Date, Text}
+use Rattle.daq_table.specs.declared.table_head.Head.{Head}
 
 -- the last year, up to a greatest one, that begins no later than the day
 unfoldable pub last_year : ℕ → ℤ → ℕ
@@ -72,3 +73,12 @@ HasText Int value = ⊤
 HasText (Dec scale) value = ⊤
 HasText Date value = IsDay value
 HasText Text value = ⊤
+
+-- each number that the column may have has a text, and its names have at most 255 bytes
+pub record HasTexts (column : ColumnHead) : Type 0 where
+  pub between : (value : ℤ) → column.base ≤ℤ value → value ≤ℤ column.top → HasText column.kind value
+  pub names : All (λ name. length name ≤ 255) column.names
+
+-- so has each column of the table
+abbrev pub HeadHasTexts : Head → Type 0
+HeadHasTexts head = (i : ℕ) (column : ColumnHead) → slice_get head.columns i ≡ Some column → HasTexts column

@@ -80,3 +80,16 @@ pub fn number_text(value: i128, scale: u8, out: &mut TextBuf) -> Result<(), NoRo
 {
     push_number(value, scale, out)
 }
+
+/// The number with that many decimals, as a text of its own.
+pub fn written_number(value: i128, scale: u8) -> TextBuf
+    requires { scale ≤ 18 }
+    ensures text { result ≡ scaled_text scale value }
+    ensures short { length result ≤ 100 }
+{
+    let mut text = TextBuf::new();
+    match number_text(value, scale, &mut text) {
+        Ok(()) => text,
+        Err(NoRoom) => unreachable!(),
+    }
+}

@@ -16,7 +16,7 @@ pub enum SchemaFault {
     #[error("{count} schema items")]
     TooMany { count: usize },
     /// Two items have one name. The second is the first that repeats an earlier one.
-    #[error("schema items {first} and {second} have one name")]
+    #[error("schema items {first} and {second}, counted from 0, have one name")]
     RepeatedName { first: usize, second: usize },
     /// Memory ran out.
     #[error("no memory")]

@@ -4,8 +4,8 @@ ghost use Rattle.std.specs.Prelude.{◌≡◌, IfOk};
 ghost use Rattle.daq_table.specs.declared.head.Kind.TheVariants.{Date};
 
 use crate::{
-    ColumnHead, Kind, Name, Names, NoRoom, Schema, SchemaFault, TextBuf, cell_value, number_text,
-    value_text,
+    ColumnHead, Dictionary, Kind, Name, NoRoom, Schema, SchemaFault, TextBuf, cell_value,
+    number_text, value_text,
 };
 use std::alloc::{AllocError, Global};
 use std::test::Fail;
@@ -18,7 +18,7 @@ fn date_head(alloc: Global) -> Result<ColumnHead, AllocError>
         kind: Kind::Date,
         base: -719_528,
         top: 2_932_896,
-        names: Names::new(Vec::new(alloc)),
+        names: Dictionary::new(Vec::new(alloc)),
     })
 }
 

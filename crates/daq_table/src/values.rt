@@ -6,7 +6,7 @@ ghost use Rattle.daq_table.specs.ValueTexts.{HasText, doubled, quoted_text, text
 use crate::buffer::{NoRoom, TextBuf};
 use crate::dates::date_text;
 use crate::head::{ColumnHead, Kind};
-use crate::names::Names;
+use crate::names::Dictionary;
 use crate::numbers::push_number;
 
 // Appends a byte of a name: a quote twice, and any other once.
@@ -36,7 +36,7 @@ fn quoted(name: &[u8]) -> Result<TextBuf, NoRoom>
 }
 
 // Appends the name of that rank in quotes, or `-` where there is none, or leaves the text as it was.
-fn push_rank(names: &Names, rank: i128, out: &mut TextBuf) -> Result<(), NoRoom>
+fn push_rank(names: &Dictionary, rank: i128, out: &mut TextBuf) -> Result<(), NoRoom>
     ensures ok { OnOk result (out.new ≡ out.old ++ text_of_rank names.now rank) }
     ensures err { OnErr result ((out.new ≡ out.old) × (640 < length out.old + length (text_of_rank names.now rank))) }
 {
