@@ -12,13 +12,13 @@ use Rattle.jiff_core.proofs.CalendarLemmas.{day_count-day_of_year, day_count-lat
 use Rattle.jiff_core.proofs.MarchLemmas.{day_count-early}
 use Rattle.jiff_core.proofs.SignedLemmas.{signed_arith}
 use Rattle.daq_table.specs.CellTexts.{date_value}
-use Rattle.daq_table.specs.ValueTexts.{HasText, IsDay}
+use Rattle.daq_table.specs.ValueTexts.{HasText, HasTexts, IsDay}
 use Rattle.daq_table.specs.declared.head.ColumnHead.{ColumnHead}
 use Rattle.daq_table.specs.declared.head.Kind.{Kind}
 use Rattle.daq_table.specs.declared.head.Kind.TheVariants.{Int, Dec, Date, Text}
 use Rattle.daq_table.specs.declared.schema_column.SchemaColumn.{SchemaColumn}
 use Rattle.csv_load.specs.Columns.{IsValue, column_texts, dictionary, numbers_of}
-use Rattle.csv_load.specs.Laws.{HasTexts, HeadsHaveTexts}
+use Rattle.csv_load.specs.Laws.{HeadsHaveTexts}
 use Rattle.csv_load.specs.Records.{Fields}
 use Rattle.csv_load.specs.Rows.{AreGoodRows}
 use Rattle.csv_load.specs.TableOf.{IsColumnOf}
@@ -87,8 +87,6 @@ column_has column texts head cells is all =
     let base : HasText head.kind head.base = rw (is.kind, is.base) (least_has (HasText kind) numbers (zero_has kind) each) in
     let top : HasText head.kind head.top = rw (is.kind, is.top) (greatest_has (HasText kind) numbers (zero_has kind) each) in
     record {
-      base = base;
-      top = top;
       between = λ value low high. between_has head.kind head.base head.top value base top low high;
       names = rw is.names (names_short kind texts all);
     }

@@ -10,3 +10,4 @@ pub mod TableFacts
 pub mod LoadFacts
 pub mod OneFault
 pub mod HeadTexts
+pub mod OneTable

@@ -25,7 +25,7 @@ use Rattle.csv_load.specs.declared.limits.Limits.{Limits}
 same_some : (a b : Read) → Some a ≡ Some b → a ≡ b
 same_some a b e = ap (λ o. unwrap_or o a) e
 
-agree : (cfg : Config) (s : State) (xs : List ℕ) (us vs : List Fields) (s1 s2 : State) (y1 y2 : List ℕ) → Reached cfg s xs us s1 y1 → Reached cfg s xs vs s2 y2
+pub agree : (cfg : Config) (s : State) (xs : List ℕ) (us vs : List Fields) (s1 s2 : State) (y1 y2 : List ℕ) → Reached cfg s xs us s1 y1 → Reached cfg s xs vs s2 y2
     → (k : ℕ) (d : Fields) → k < length us → k < length vs → get_or us k d ≡ get_or vs k d
 unfolding Reached
 agree cfg s xs [] vs s1 s2 y1 y2 h g k d lt lu = absurd (omega (arith, lt))
@@ -38,7 +38,7 @@ agree cfg s xs (a ∷ us) (b ∷ vs) s1 s2 y1 y2 h g (suc k) d lt lu =
 none_is : (a : Read) (o : Read) → Some a ≡ None → ⊥
 none_is a o e = absurd cc
 
-ended : (cfg : Config) (s : State) (xs : List ℕ) (us vs : List Fields) (s1 s2 : State) (y1 y2 : List ℕ) → Reached cfg s xs us s1 y1 → next_record cfg s1 [] [] y1 ≡ None → Reached cfg s xs vs s2 y2
+pub ended : (cfg : Config) (s : State) (xs : List ℕ) (us vs : List Fields) (s1 s2 : State) (y1 y2 : List ℕ) → Reached cfg s xs us s1 y1 → next_record cfg s1 [] [] y1 ≡ None → Reached cfg s xs vs s2 y2
     → length vs ≤ length us
 unfolding Reached
 ended cfg s xs us [] s1 s2 y1 y2 h e g = omega arith

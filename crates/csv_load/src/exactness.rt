@@ -1,6 +1,6 @@
 //! What holds of all texts.
 
-ghost use Rattle.csv_load.specs.Laws.{HasOneFault, HeadsHaveTexts, IsFaultless};
+ghost use Rattle.csv_load.specs.Laws.{HasOneFault, HeadsHaveTexts, IsFaultless, StandsOnce};
 
 /// The faults that `load` tells are exact: no text has two of them, and a text that stands for a table has none, want of
 /// memory left aside. So `load` answers a fault where the text has it, or `NoMemory`.
@@ -13,4 +13,9 @@ pub fn faults_are_exact()
 /// names have at most 255 bytes.
 pub fn heads_have_texts()
     ensures { HeadsHaveTexts }
+{}
+
+/// A text stands for one table at most.
+pub fn tables_are_one()
+    ensures { StandsOnce }
 {}

@@ -14,7 +14,7 @@ pub enum TableFault {
     #[error("no header")]
     NoHeader,
     /// The header and the schema's names differ first at that column.
-    #[error("header differs at column {column}")]
+    #[error("header differs at column {column}, counted from 0")]
     HeaderDiffers {
         column: usize,
     },
@@ -29,20 +29,20 @@ pub enum TableFault {
         count: u64,
     },
     /// The record has `got` fields, and the schema `want` columns.
-    #[error("record {entry} has {got} fields, not {want}")]
+    #[error("record {entry}, counted from 0, has {got} fields, not {want}")]
     UnequalLength {
         entry: usize,
         got: usize,
         want: usize,
     },
     /// The cell is no value of its column's kind.
-    #[error("record {entry} column {column} is no value of its kind")]
+    #[error("record {entry} column {column}, counted from 0, is no value of its kind")]
     BadCell {
         entry: usize,
         column: usize,
     },
     /// A cell brings the column a name past the limit of names.
-    #[error("column {column} has too many names")]
+    #[error("column {column}, counted from 0, has too many names")]
     TooManyNames {
         column: usize,
     },

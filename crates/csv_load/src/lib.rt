@@ -15,7 +15,7 @@ mod record;
 #[cfg(test)]
 mod tests;
 
-pub use exactness::{faults_are_exact, heads_have_texts};
+pub use exactness::{faults_are_exact, heads_have_texts, tables_are_one};
 pub use fault::TableFault;
 pub use limits::Limits;
 pub use loading::load;

@@ -11,12 +11,15 @@ ghost use Rattle.csv_load.specs.Columns.{rank_of};
 
 use crate::record::field_at;
 use csv::ByteRecord;
-use daq_table::{Names, Text};
+use daq_table::{Dictionary, Text};
 use std::alloc::{AllocError, Global};
 use std::collections::BTreeSet;
 
 /// The names, in order.
-pub(crate) fn sorted_names(alloc: Global, names: &BTreeSet<Vec<u8>>) -> Result<Names, AllocError>
+pub(crate) fn sorted_names(
+    alloc: Global,
+    names: &BTreeSet<Vec<u8>>,
+) -> Result<Dictionary, AllocError>
     ensures same { IfOk result (λ n. n ≡ map vec_items names.now.keys) }
     ensures sorted { IfOk result (λ n. IsStrictlySortedBy (slice_cmp nat_cmp) n) }
 {
@@ -24,7 +27,7 @@ pub(crate) fn sorted_names(alloc: Global, names: &BTreeSet<Vec<u8>>) -> Result<N
     for name in names.iter() {
         texts.push(Text::new(Vec::from_slice(alloc, name)?))?;
     }
-    Ok(Names::new(texts))
+    Ok(Dictionary::new(texts))
 }
 
 // The place of the text among the names.
