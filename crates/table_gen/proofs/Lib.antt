@@ -1,0 +1,5 @@
+pub mod Ends
+pub mod Dictionaries
+pub mod Columns
+pub mod Tables
+pub mod Laws

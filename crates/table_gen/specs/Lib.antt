@@ -1,0 +1,4 @@
+pub mod Draws
+pub mod Columns
+pub mod TableOf
+pub mod Laws

@@ -1,0 +1,17 @@
+//! The table that a seed stands for: so many rows of drawn numbers, days and names.
+#![tactic(auto)]
+
+mod column;
+mod draws;
+mod exactness;
+mod extremes;
+mod fault;
+mod making;
+mod names;
+mod rows;
+#[cfg(test)]
+mod tests;
+
+pub use exactness::{heads_have_texts, tables_are_one};
+pub use fault::GenFault;
+pub use making::{MOST_ROWS, make};
