@@ -1,0 +1,5 @@
+pub mod Numbers
+pub mod Steps
+pub mod Sound
+pub mod Whole
+pub mod Places

@@ -1,0 +1,296 @@
+-- What is read whole is a command of the grammar.
+use Rattle.command_line.specs.declared.reader.Flag.{Flag}
+use Rattle.command_line.specs.declared.reader.Flag.TheVariants as f
+use Rattle.std.proofs.Common.{◌≡◌, ℕ, zero, suc, ◌+◌, ◌≤◌, Bool, true, false, not, if◌then◌else◌, Option, Some, None, is_none, Ok, Err, List, [], ◌∷◌, length, option_map, refl, sym, ap, subst, ◌∙◌, codes, arith}
+use Rattle.std.specs.Option.{option_map_or}
+use Rattle.std.specs.Str.{bytes_eq}
+use Rattle.std.proofs.lemmas.Slice.Eq.{bytes_eq-Decides}
+use Rattle.command_line.specs.Commands.{ReadOrder, widest, in_order, filter_first, IsPolicy, IsNumber, Given, Gives, no_more, more_width, more_rounds, more_policy, more_reads, more_list, Options, Command, ask, demo, IsCommand, AreOptions, nothing_given, options_given, most_seed, most_rows, most_width, most_rounds}
+use Rattle.command_line.specs.Reading.{Next, name, word, number, policy, option, after, after_ask, after_demo, after_name, after_flag, behind, is_free, flag_of, flag_text, at_end, answer, number_of, policy_of}
+use Rattle.command_line.proofs.Numbers.{number_is}
+
+-- ---- cases on tests
+
+same_bytes : (w v : List ℕ) → bytes_eq w v ≡ true → w ≡ v
+same_bytes w v e = (bytes_eq-Decides w v).0 e
+
+if_cases : {A : Type 0} (P : A → Type 0) (b : Bool) (x y : A) → (b ≡ true → P x) → P y → P (if b then x else y)
+if_cases P true x y t f = t refl
+if_cases P false x y t f = f
+
+unset : {A : Type 0} (o : Option A) → is_none o ≡ true → o ≡ None
+unset None e = refl
+unset (Some x) e = cc
+
+not_set : (b : Bool) → not b ≡ true → b ≡ false
+not_set false e = refl
+not_set true e = cc
+
+-- ---- words that are read whole
+
+-- the words begin with one behind which the rest is read whole
+record Steps (next : Next) (at : ℕ) (ws : List (List ℕ)) (c : Command) : Type 0 where
+  first : List ℕ
+  tail : List (List ℕ)
+  behind : Next
+  words : ws ≡ first ∷ tail
+  leads : after next first ≡ Some behind
+  whole : answer behind (at + 1) tail ≡ Ok c
+
+steps_on : (next : Next) (at : ℕ) (w : List ℕ) (ws : List (List ℕ)) (c : Command) (o : Option Next) → after next w ≡ o →
+    option_map_or (λ n. answer n (at + 1) ws) o (Err (at + 1)) ≡ Ok c → Steps next at (w ∷ ws) c
+steps_on next at w ws c (Some n) leads e = record { first = w; tail = ws; behind = n; words = refl; leads = leads; whole = e }
+steps_on next at w ws c None leads e = cc
+
+steps : (next : Next) (at : ℕ) (ws : List (List ℕ)) (c : Command) → at_end next at ≡ Err (at + 1) → answer next at ws ≡ Ok c →
+    Steps next at ws c
+unfolding answer
+steps next at [] c e whole = let no : Err (at + 1) ≡ Ok c = sym e ∙ whole in cc
+steps next at (w ∷ ws) c e whole = steps_on next at w ws c (after next w) refl whole
+
+-- a word with some meaning, and the rest behind it
+record Reads {A : Type 0} (k : A → Next) (means : List ℕ → A → Type 0) (at : ℕ) (ws : List (List ℕ)) (c : Command) : Type 0 where
+  first : List ℕ
+  tail : List (List ℕ)
+  said : A
+  words : ws ≡ first ∷ tail
+  meant : means first said
+  whole : answer (k said) (at + 1) tail ≡ Ok c
+
+some_map : {A B : Type 0} (f : A → B) (o : Option A) (b : B) → option_map f o ≡ Some b → (a : A) × (o ≡ Some a) × (b ≡ f a)
+some_map f (Some a) b e = (a, refl, cc)
+some_map f None b e = cc
+
+read_word : (k : List ℕ → Next) (at : ℕ) (ws : List (List ℕ)) (c : Command) → answer (word k) at ws ≡ Ok c → Reads k (λ w v. w ≡ v) at ws c
+read_word k at ws c e =
+    let s = steps (word k) at ws c refl e in
+    let same : s.behind ≡ k s.first = cc in
+    record {
+      first = s.first;
+      tail = s.tail;
+      said = s.first;
+      words = s.words;
+      meant = refl;
+      whole = ap (λ n. answer n (at + 1) s.tail) (sym same) ∙ s.whole;
+    }
+
+read_number : (limit : ℕ) (k : ℕ → Next) (at : ℕ) (ws : List (List ℕ)) (c : Command) → answer (number limit k) at ws ≡ Ok c →
+    Reads k (IsNumber limit) at ws c
+read_number limit k at ws c e =
+    let s = steps (number limit k) at ws c refl e in
+    let (n, is, same) = some_map k (number_of limit s.first) s.behind s.leads in
+    record {
+      first = s.first;
+      tail = s.tail;
+      said = n;
+      words = s.words;
+      meant = number_is limit s.first n is;
+      whole = ap (λ n. answer n (at + 1) s.tail) (sym same) ∙ s.whole;
+    }
+
+policy_is : (w : List ℕ) (p : ReadOrder) → policy_of w ≡ Some p → IsPolicy w p
+unfolding policy_of
+policy_is w p e =
+    let P : Option ReadOrder → Type 0 = λ o. o ≡ Some p → IsPolicy w p in
+    if_cases P (bytes_eq w (codes "widest")) _ _ (λ t s. subst (IsPolicy w) (some_same widest p s) (same_bytes w _ t))
+    (if_cases P (bytes_eq w (codes "order")) _ _ (λ t s. subst (IsPolicy w) (some_same in_order p s) (same_bytes w _ t))
+    (if_cases P (bytes_eq w (codes "filter")) _ _ (λ t s. subst (IsPolicy w) (some_same filter_first p s) (same_bytes w _ t))
+    (λ s. cc))) e
+  where
+    some_same : (a b : ReadOrder) → Some a ≡ Some b → a ≡ b
+    some_same a b s = cc
+
+read_policy : (k : ReadOrder → Next) (at : ℕ) (ws : List (List ℕ)) (c : Command) → answer (policy k) at ws ≡ Ok c → Reads k IsPolicy at ws c
+read_policy k at ws c e =
+    let s = steps (policy k) at ws c refl e in
+    let (p, is, same) = some_map k (policy_of s.first) s.behind s.leads in
+    record {
+      first = s.first;
+      tail = s.tail;
+      said = p;
+      words = s.words;
+      meant = policy_is s.first p is;
+      whole = ap (λ n. answer n (at + 1) s.tail) (sym same) ∙ s.whole;
+    }
+
+-- ---- options
+
+-- what the words give, and the command with it
+record Given_by (g : Given) (k : Options → Command) (ws : List (List ℕ)) (c : Command) : Type 0 where
+  end : Given
+  gives : Gives g ws end
+  same : c ≡ k (options_given end)
+
+abbrev IsFlag : List ℕ → Option Flag → Type 0
+IsFlag w None = Unit {0}
+IsFlag w (Some flag) = w ≡ flag_text flag
+
+flag_is : (w : List ℕ) → IsFlag w (flag_of w)
+unfolding flag_of
+flag_is w =
+    let P = IsFlag w in
+    if_cases P (bytes_eq w (codes "--width")) _ _ (λ t. same_bytes w _ t)
+    (if_cases P (bytes_eq w (codes "--rounds")) _ _ (λ t. same_bytes w _ t)
+    (if_cases P (bytes_eq w (codes "--policy")) _ _ (λ t. same_bytes w _ t)
+    (if_cases P (bytes_eq w (codes "--reads")) _ _ (λ t. same_bytes w _ t)
+    (if_cases P (bytes_eq w (codes "--list")) _ _ (λ t. same_bytes w _ t) tt))))
+
+free_some : (b : Bool) (x : Next) (at : ℕ) (ws : List (List ℕ)) (c : Command) →
+    option_map_or (λ next. answer next (at + 1) ws) (if b then Some x else None) (Err (at + 1)) ≡ Ok c →
+    (b ≡ true) × (answer x (at + 1) ws ≡ Ok c)
+free_some true x at ws c e = (refl, e)
+free_some false x at ws c e = cc
+
+-- words shorter than so many that are read whole as options
+abbrev ReadBelow : ℕ → (Options → Command) → Type 0
+ReadBelow n k = (g : Given) (at : ℕ) (ws : List (List ℕ)) (c : Command) → length ws ≤ n → answer (option g k) at ws ≡ Ok c →
+    Given_by g k ws c
+
+-- the words behind an option that takes one word
+shorter : (n : ℕ) (w first : List ℕ) (ws tail : List (List ℕ)) → length (w ∷ ws) ≤ suc n → ws ≡ first ∷ tail → length tail ≤ n
+shorter n w first ws tail h e = let long : length ws ≡ suc (length tail) = ap length e in omega arith
+
+-- words under their own names
+moved : (g h : Given) (w flag first : List ℕ) (ws tail : List (List ℕ)) → w ≡ flag → ws ≡ first ∷ tail → Gives g (flag ∷ first ∷ tail) h →
+    Gives g (w ∷ ws) h
+moved g h w flag first ws tail a b gives = rw (a, b) gives
+
+read_flag : (n : ℕ) (k : Options → Command) → ReadBelow n k →
+    (g : Given) (at : ℕ) (w : List ℕ) (ws : List (List ℕ)) (c : Command) (flag : Flag) → length (w ∷ ws) ≤ suc n →
+    w ≡ flag_text flag → is_free flag g ≡ true → answer (behind flag g k) (at + 1) ws ≡ Ok c → Given_by g k (w ∷ ws) c
+read_flag n k ih g at w ws c f.Width h same free e =
+    let r = read_number most_width _ (at + 1) ws c e in
+    let b = ih _ (at + 1 + 1) r.tail c (shorter n w r.first ws r.tail h r.words) r.whole in
+    record {
+      end = b.end;
+      gives = moved g b.end w _ r.first ws r.tail same r.words (more_width (unset g.width free) r.meant b.gives);
+      same = b.same;
+    }
+read_flag n k ih g at w ws c f.Rounds h same free e =
+    let r = read_number most_rounds _ (at + 1) ws c e in
+    let b = ih _ (at + 1 + 1) r.tail c (shorter n w r.first ws r.tail h r.words) r.whole in
+    record {
+      end = b.end;
+      gives = moved g b.end w _ r.first ws r.tail same r.words (more_rounds (unset g.rounds free) r.meant b.gives);
+      same = b.same;
+    }
+read_flag n k ih g at w ws c f.Policy h same free e =
+    let r = read_policy _ (at + 1) ws c e in
+    let b = ih _ (at + 1 + 1) r.tail c (shorter n w r.first ws r.tail h r.words) r.whole in
+    record {
+      end = b.end;
+      gives = moved g b.end w _ r.first ws r.tail same r.words (more_policy (unset g.order free) r.meant b.gives);
+      same = b.same;
+    }
+read_flag n k ih g at w ws c f.Reads h same free e =
+    let r = read_word _ (at + 1) ws c e in
+    let b = ih _ (at + 1 + 1) r.tail c (shorter n w r.first ws r.tail h r.words) r.whole in
+    record {
+      end = b.end;
+      gives = moved g b.end w _ r.said ws r.tail same (r.words ∙ ap (λ v. v ∷ r.tail) r.meant)
+          (more_reads (unset g.order free) b.gives);
+      same = b.same;
+    }
+read_flag n k ih g at w ws c f.List h same free e =
+    let b = ih _ (at + 1) ws c (omega arith) e in
+    record { end = b.end; gives = subst (λ v. Gives g (v ∷ ws) b.end) (sym same) (more_list (not_set g.list free) b.gives); same = b.same }
+
+read_option : (n : ℕ) (k : Options → Command) → ReadBelow n k →
+    (g : Given) (at : ℕ) (w : List ℕ) (ws : List (List ℕ)) (c : Command) (o : Option Flag) → length (w ∷ ws) ≤ suc n →
+    IsFlag w o → option_map_or (λ next. answer next (at + 1) ws) (after_flag g k o) (Err (at + 1)) ≡ Ok c → Given_by g k (w ∷ ws) c
+read_option n k ih g at w ws c (Some flag) h same e =
+    let (free, whole) = free_some (is_free flag g) (behind flag g k) at ws c e in
+    read_flag n k ih g at w ws c flag h same free whole
+read_option n k ih g at w ws c None h same e = cc
+
+read_options : (k : Options → Command) (n : ℕ) → ReadBelow n k
+unfolding answer
+read_options k n g at [] c h e = record { end = g; gives = no_more; same = cc }
+read_options k zero g at (w ∷ ws) c h e = absurd (omega arith)
+read_options k (suc n) g at (w ∷ ws) c h e = read_option n k (read_options k n) g at w ws c (flag_of w) h (flag_is w) e
+
+-- ---- commands
+
+data IsName (w : List ℕ) : Option Next → Type 0 where
+  is_ask : w ≡ codes "ask" → IsName w (Some after_ask)
+  is_demo : w ≡ codes "demo" → IsName w (Some after_demo)
+  is_no_name : IsName w None
+
+name_is : (w : List ℕ) → IsName w (after_name w)
+unfolding after_name
+name_is w =
+    if_cases (IsName w) (bytes_eq w (codes "ask")) _ _ (λ t. is_ask (same_bytes w _ t))
+    (if_cases (IsName w) (bytes_eq w (codes "demo")) _ _ (λ t. is_demo (same_bytes w _ t)) is_no_name)
+
+said : (words : List (List ℕ)) (given : Given) → Gives nothing_given words given → AreOptions words (options_given given)
+said words given gives = record { given = given; gives = gives; say = refl }
+
+three_words : (a b c : List ℕ) (ws behind_a behind_b behind_c : List (List ℕ)) → ws ≡ a ∷ behind_a → behind_a ≡ b ∷ behind_b →
+    behind_b ≡ c ∷ behind_c → ws ≡ a ∷ b ∷ c ∷ behind_c
+three_words a b c ws behind_a behind_b behind_c first second third = first ∙ ap (λ v. a ∷ v) (second ∙ ap (λ v. b ∷ v) third)
+
+ask_is : (ws : List (List ℕ)) (c : Command) → answer after_ask 1 ws ≡ Ok c → IsCommand (codes "ask" ∷ ws) c
+ask_is ws c e =
+    let csv = read_word _ 1 ws c e in
+    let schema = read_word _ 2 csv.tail c csv.whole in
+    let sql = read_word _ 3 schema.tail c schema.whole in
+    let o = read_options _ (length sql.tail) _ 4 sql.tail c (omega arith) sql.whole in
+    let is : IsCommand (codes "ask" ∷ ws) (ask (record {
+      csv = csv.said;
+      schema = schema.said;
+      sql = sql.said;
+      options = options_given o.end;
+    })) =
+    record {
+      tail = sql.tail;
+      spelled = ap (λ v. codes "ask" ∷ v) (three_words csv.said schema.said sql.said ws csv.tail schema.tail sql.tail
+          (csv.words ∙ ap (λ v. v ∷ csv.tail) csv.meant) (schema.words ∙ ap (λ v. v ∷ schema.tail) schema.meant)
+          (sql.words ∙ ap (λ v. v ∷ sql.tail) sql.meant));
+      options = said sql.tail o.end o.gives;
+    } in
+    subst (IsCommand (codes "ask" ∷ ws)) (sym o.same) is
+
+demo_is : (ws : List (List ℕ)) (c : Command) → answer after_demo 1 ws ≡ Ok c → IsCommand (codes "demo" ∷ ws) c
+demo_is ws c e =
+    let seed = read_number most_seed _ 1 ws c e in
+    let rows = read_number most_rows _ 2 seed.tail c seed.whole in
+    let sql = read_word _ 3 rows.tail c rows.whole in
+    let o = read_options _ (length sql.tail) _ 4 sql.tail c (omega arith) sql.whole in
+    let is : IsCommand (codes "demo" ∷ ws) (demo (record {
+      seed = seed.said;
+      rows = rows.said;
+      sql = sql.said;
+      options = options_given o.end;
+    })) =
+    record {
+      seed = seed.first;
+      rows = rows.first;
+      tail = sql.tail;
+      spelled = ap (λ v. codes "demo" ∷ v) (three_words seed.first rows.first sql.said ws seed.tail rows.tail sql.tail
+          seed.words rows.words (sql.words ∙ ap (λ v. v ∷ sql.tail) sql.meant));
+      is_seed = seed.meant;
+      is_rows = rows.meant;
+      options = said sql.tail o.end o.gives;
+    } in
+    subst (IsCommand (codes "demo" ∷ ws)) (sym o.same) is
+
+named_is : (w : List ℕ) (ws : List (List ℕ)) (c : Command) (o : Option Next) → IsName w o →
+    option_map_or (λ next. answer next 1 ws) o (Err 1) ≡ Ok c → IsCommand (w ∷ ws) c
+named_is w ws c (Some _) (is_ask same) e = subst (λ v. IsCommand (v ∷ ws) c) (sym same) (ask_is ws c e)
+named_is w ws c (Some _) (is_demo same) e = subst (λ v. IsCommand (v ∷ ws) c) (sym same) (demo_is ws c e)
+named_is w ws c None is_no_name e = cc
+
+-- the command that words are read as is theirs
+pub command_is : (words : List (List ℕ)) (c : Command) → answer name 0 words ≡ Ok c → IsCommand words c
+unfolding answer
+command_is [] c e = cc
+command_is (w ∷ ws) c e = named_is w ws c (after_name w) (name_is w) e
+
+-- a word that names no command
+no_next : (w : List ℕ) (o : Option Next) → IsName w o → (w ≡ codes "ask" → ⊥) → (w ≡ codes "demo" → ⊥) → o ≡ None
+no_next w (Some _) (is_ask same) no_ask no_demo = absurd (no_ask same)
+no_next w (Some _) (is_demo same) no_ask no_demo = absurd (no_demo same)
+no_next w None is_no_name no_ask no_demo = refl
+
+pub no_name : (w : List ℕ) → (w ≡ codes "ask" → ⊥) → (w ≡ codes "demo" → ⊥) → after_name w ≡ None
+no_name w no_ask no_demo = no_next w (after_name w) (name_is w) no_ask no_demo

@@ -1,0 +1,60 @@
+use Rattle.std.proofs.Common.{◌≡◌, ◌+◌, ℕ, List, Err, refl, ap, sym, ◌∙◌, rules}
+use Rattle.command_line.specs.Commands.{ask, demo, GoesWrong}
+use Rattle.command_line.specs.Values.{ask_of, demo_of}
+use Rattle.command_line.specs.Reading.{Left, Lacks, name, after_ask, after_demo, after_name, answer, answers}
+use Rattle.command_line.proofs.Steps.{goes, stops, lacks}
+use Rattle.command_line.proofs.Whole.{after_name_ask, after_name_demo}
+use Rattle.command_line.proofs.Sound.{command_is, no_name}
+use Rattle.command_line.proofs.Places.{goes_wrong}
+use Rattle.command_line.proofs.command.Command.parse.Goals as goal
+
+-- at the first word
+start : (words : List (List ℕ)) (left : Left) → left.at ≡ 0 → left.words ≡ words → answer name 0 words ≡ answers name left
+start words left at all = ap (answer name 0) (sym all) ∙ ap (λ n. answer name n left.words) (sym at)
+
+pub returns-in_err-word-clause-usage : goal.returns-in_err-word-clause-usage
+returns-in_err-word-clause-usage c =
+    let first = start c.args.words.now c.new-reader.result c.new-reader.ensures.at c.new-reader.ensures.words in
+    let wrong : (place : ℕ) → Lacks c.new-reader.result place → GoesWrong c.args.words.now place = λ place l.
+    goes_wrong c.args.words.now place (first ∙ lacks name c.new-reader.result place refl l) in
+    search (rules, wrong)
+
+pub returns-in_err-ask-in-ask-clause-usage : goal.returns-in_err-ask-in-ask-clause-usage
+returns-in_err-ask-in-ask-clause-usage c =
+    let first = start c.args.words.now c.new-reader.result c.new-reader.ensures.at c.new-reader.ensures.words in
+    let named = goes name after_ask c.new-reader.result c.word.new.self c.in_ok-word.field-0.now c.in_ok-word.ensures.ok
+    (ap after_name c.in-ask.is ∙ after_name_ask) in
+    let wrong : (place : ℕ) → answers after_ask c.word.new.self ≡ Err place → GoesWrong c.args.words.now place = λ place e.
+    goes_wrong c.args.words.now place (first ∙ named ∙ e) in
+    search (rules, wrong)
+
+pub returns-in_err-demo-in-demo-clause-usage : goal.returns-in_err-demo-in-demo-clause-usage
+returns-in_err-demo-in-demo-clause-usage c =
+    let first = start c.args.words.now c.new-reader.result c.new-reader.ensures.at c.new-reader.ensures.words in
+    let named = goes name after_demo c.new-reader.result c.word.new.self c.in_ok-word.field-0.now c.in_ok-word.ensures.ok
+    (ap after_name c.in-demo.is ∙ after_name_demo) in
+    let wrong : (place : ℕ) → answers after_demo c.word.new.self ≡ Err place → GoesWrong c.args.words.now place = λ place e.
+    goes_wrong c.args.words.now place (first ∙ named ∙ e) in
+    search (rules, wrong)
+
+pub returns-in_ok-ask-in-ask-clause-ok : goal.returns-in_ok-ask-in-ask-clause-ok
+returns-in_ok-ask-in-ask-clause-ok c =
+    let first = start c.args.words.now c.new-reader.result c.new-reader.ensures.at c.new-reader.ensures.words in
+    let named = goes name after_ask c.new-reader.result c.word.new.self c.in_ok-word.field-0.now c.in_ok-word.ensures.ok
+    (ap after_name c.in-ask.is ∙ after_name_ask) in
+    command_is c.args.words.now (ask (ask_of c.in_ok-ask-in-ask.field-0)) (first ∙ named ∙ c.in_ok-ask-in-ask.ensures.ok)
+
+pub returns-in_ok-demo-in-demo-clause-ok : goal.returns-in_ok-demo-in-demo-clause-ok
+returns-in_ok-demo-in-demo-clause-ok c =
+    let first = start c.args.words.now c.new-reader.result c.new-reader.ensures.at c.new-reader.ensures.words in
+    let named = goes name after_demo c.new-reader.result c.word.new.self c.in_ok-word.field-0.now c.in_ok-word.ensures.ok
+    (ap after_name c.in-demo.is ∙ after_name_demo) in
+    command_is c.args.words.now (demo (demo_of c.in_ok-demo-in-demo.field-0)) (first ∙ named ∙ c.in_ok-demo-in-demo.ensures.ok)
+
+pub returns-in_default-clause-usage : goal.returns-in_default-clause-usage
+returns-in_default-clause-usage c =
+    let first = start c.args.words.now c.new-reader.result c.new-reader.ensures.at c.new-reader.ensures.words in
+    let none = no_name c.in_ok-word.field-0.now c.in_default.not-ask c.in_default.not-demo in
+    goes_wrong c.args.words.now 1
+    (first ∙ stops name c.new-reader.result c.word.new.self c.in_ok-word.field-0.now 1 c.in_ok-word.ensures.ok none
+    (ap (λ n. n + 1) (sym c.new-reader.ensures.at)))

@@ -1,0 +1,23 @@
+use Rattle.std.proofs.Common.{◌≡◌, ℕ, Some, None, option_map, refl, sym, ap, ◌∙◌, rules}
+use Rattle.command_line.specs.Reading.{Lacks, StopsAt, policy, policy_of}
+use Rattle.command_line.specs.Values.{order_of}
+use Rattle.command_line.proofs.Steps.{goes, stops, lacks}
+use Rattle.command_line.proofs.reader.Reader.policy.Goals as goal
+
+pub returns-in_err-word-clause-err : goal.returns-in_err-word-clause-err
+returns-in_err-word-clause-err c =
+    let stop : (place : ℕ) → Lacks c.args.self.now place → StopsAt policy c.args.self.now place = λ place l k.
+    lacks (policy k) c.args.self.now place refl l in
+    search (rules, stop)
+
+pub returns-in-Some-clause-ok : goal.returns-in-Some-clause-ok
+returns-in-Some-clause-ok c = λ k.
+    let is : policy_of c.in_ok-word.field-0.now ≡ Some (order_of c.in-Some.policy) = sym c.policy_of.ensures
+    ∙ ap (option_map order_of) c.in-Some.is in
+    goes (policy k) _ c.args.self.now c.word.new.self c.in_ok-word.field-0.now c.in_ok-word.ensures.ok (ap (option_map k) is)
+
+pub returns-in-None-clause-err : goal.returns-in-None-clause-err
+returns-in-None-clause-err c = λ k.
+    let none : policy_of c.in_ok-word.field-0.now ≡ None = sym c.policy_of.ensures ∙ ap (option_map order_of) c.in-None.is in
+    stops (policy k) c.args.self.now c.word.new.self c.in_ok-word.field-0.now _ c.in_ok-word.ensures.ok
+    (ap (option_map k) none) c.refusal-refusal.ensures

@@ -1,0 +1,146 @@
+-- The commands of a command line, rule by rule; which words are no command, and where they go wrong.
+use Rattle.std.specs.Prelude.{◌≡◌, ℕ, ◌+◌, ◌-◌, ◌^◌, ◌≤◌, Bool, true, false, Option, Some, None, unwrap_or, List, [], ◌∷◌, ◌++◌, length, take, codes}
+use Rattle.std.specs.Str.Parse.{IsNumeral, digits_value}
+
+-- ---- what a command says
+
+-- how the columns of a query are read: by a policy, or as a list of names says
+pub data ReadOrder : Type 0 where
+  widest : ReadOrder
+  in_order : ReadOrder
+  filter_first : ReadOrder
+  reads : List ℕ → ReadOrder
+
+pub record Options : Type 0 where
+  pub width : ℕ
+  pub rounds : Option ℕ
+  pub order : ReadOrder
+  pub list : Bool
+
+-- what follows the word `ask`
+pub record Ask : Type 0 where
+  pub csv : List ℕ
+  pub schema : List ℕ
+  pub sql : List ℕ
+  pub options : Options
+
+-- what follows the word `demo`
+pub record Demo : Type 0 where
+  pub seed : ℕ
+  pub rows : ℕ
+  pub sql : List ℕ
+  pub options : Options
+
+pub data Command : Type 0 where
+  ask : Ask → Command
+  demo : Demo → Command
+
+-- ---- numbers
+
+abbrev pub most_seed : ℕ
+most_seed = 2 ^ 64 - 1
+
+abbrev pub most_rows : ℕ
+most_rows = 2 ^ 64 - 1
+
+abbrev pub most_width : ℕ
+most_width = 2 ^ 63 - 1
+
+abbrev pub most_rounds : ℕ
+most_rounds = 2 ^ 32 - 1
+
+-- the word is digits, zeros in front allowed, that write the number; and this is at most the limit
+pub record IsNumber (limit : ℕ) (word : List ℕ) (number : ℕ) : Type 0 where
+  pub digits : IsNumeral 10 word
+  pub value : number ≡ digits_value 10 word
+  pub small : number ≤ limit
+
+-- ---- options
+
+-- policy = "widest" | "order" | "filter"
+abbrev pub IsPolicy : List ℕ → ReadOrder → Type 0
+IsPolicy word widest = word ≡ codes "widest"
+IsPolicy word in_order = word ≡ codes "order"
+IsPolicy word filter_first = word ≡ codes "filter"
+IsPolicy word (reads names) = ⊥
+
+-- what options say, where each says it once
+pub record Given : Type 0 where
+  pub width : Option ℕ
+  pub rounds : Option ℕ
+  pub order : Option ReadOrder
+  pub list : Bool
+
+-- {option}, each option giving what was not given before; --policy and --reads both give the order
+pub data Gives : Given → List (List ℕ) → Given → Type 0 where
+  no_more : {g : Given} → Gives g [] g
+  more_width : {g h : Given} {word : List ℕ} {words : List (List ℕ)} {number : ℕ} → g.width ≡ None → IsNumber most_width word number →
+      Gives (record g { width = Some number }) words h → Gives g (codes "--width" ∷ word ∷ words) h
+  more_rounds : {g h : Given} {word : List ℕ} {words : List (List ℕ)} {number : ℕ} → g.rounds ≡ None → IsNumber most_rounds word number →
+      Gives (record g { rounds = Some number }) words h → Gives g (codes "--rounds" ∷ word ∷ words) h
+  more_policy : {g h : Given} {word : List ℕ} {words : List (List ℕ)} {policy : ReadOrder} → g.order ≡ None → IsPolicy word policy →
+      Gives (record g { order = Some policy }) words h → Gives g (codes "--policy" ∷ word ∷ words) h
+  more_reads : {g h : Given} {names : List ℕ} {words : List (List ℕ)} → g.order ≡ None →
+      Gives (record g { order = Some (reads names) }) words h → Gives g (codes "--reads" ∷ names ∷ words) h
+  more_list : {g h : Given} {words : List (List ℕ)} → g.list ≡ false →
+      Gives (record g { list = true }) words h → Gives g (codes "--list" ∷ words) h
+
+abbrev pub nothing_given : Given
+nothing_given = record { width = None; rounds = None; order = None; list = false }
+
+-- what is not given is width 0, no number of rounds, the widest column first, and no list
+abbrev pub options_given : Given → Options
+options_given g = record { width = unwrap_or g.width 0; rounds = g.rounds; order = unwrap_or g.order widest; list = g.list }
+
+-- the words are options, and say this
+pub record AreOptions (words : List (List ℕ)) (options : Options) : Type 0 where
+  pub given : Given
+  pub gives : Gives nothing_given words given
+  pub say : options ≡ options_given given
+
+-- ---- commands
+
+-- "ask" csv schema sql {option}
+pub record IsAsk (words : List (List ℕ)) (a : Ask) : Type 0 where
+  pub tail : List (List ℕ)
+  pub spelled : words ≡ codes "ask" ∷ a.csv ∷ a.schema ∷ a.sql ∷ tail
+  pub options : AreOptions tail a.options
+
+-- "demo" number number sql {option}
+pub record IsDemo (words : List (List ℕ)) (d : Demo) : Type 0 where
+  pub seed : List ℕ
+  pub rows : List ℕ
+  pub tail : List (List ℕ)
+  pub spelled : words ≡ codes "demo" ∷ seed ∷ rows ∷ d.sql ∷ tail
+  pub is_seed : IsNumber most_seed seed d.seed
+  pub is_rows : IsNumber most_rows rows d.rows
+  pub options : AreOptions tail d.options
+
+-- the words ask for the command
+abbrev pub IsCommand : List (List ℕ) → Command → Type 0
+IsCommand words (ask a) = IsAsk words a
+IsCommand words (demo d) = IsDemo words d
+
+-- ---- where words go wrong
+
+abbrev pub IsNoCommand : List (List ℕ) → Type 0
+IsNoCommand words = (command : Command) → IsCommand words command → ⊥
+
+-- some command begins with these words
+pub record BeginsCommand (words : List (List ℕ)) : Type 0 where
+  pub rest : List (List ℕ)
+  pub command : Command
+  pub is_command : IsCommand (words ++ rest) command
+
+-- one past the longest list of first words that begins a command, so words count from 1
+pub record IsUsagePlace (words : List (List ℕ)) (place : ℕ) : Type 0 where
+  pub longest : ℕ
+  pub next : place ≡ longest + 1
+  pub within : longest ≤ length words
+  pub begins : BeginsCommand (take longest words)
+  pub most : (n : ℕ) → n ≤ length words → BeginsCommand (take n words) → n ≤ longest
+
+-- the words are no command, and go wrong there
+pub record GoesWrong (words : List (List ℕ)) (place : ℕ) : Type 0 where
+  pub no_command : IsNoCommand words
+  pub is_place : IsUsagePlace words place

@@ -1,0 +1,145 @@
+-- How words are read one by one: what may come next, and what a word leads to.
+use Rattle.std.specs.Prelude.{◌≡◌, ℕ, ◌+◌, nat_le, Bool, true, not, ◌&&◌, if◌then◌else◌, Option, Some, None, is_none, option_map, Result, Ok, Err, List, [], ◌∷◌, length, codes}
+use Rattle.std.specs.Option.{option_map_or}
+use Rattle.std.specs.Char.{is_ascii_digit}
+use Rattle.std.specs.List.{list_all}
+use Rattle.std.specs.Str.{bytes_eq}
+use Rattle.std.specs.Str.Parse.{digits_value}
+use Rattle.command_line.specs.declared.reader.Flag.{Flag}
+use Rattle.command_line.specs.declared.reader.Flag.TheVariants as f
+use Rattle.command_line.specs.Commands.{ReadOrder, widest, in_order, filter_first, reads, Given, Options, Command, ask, demo, nothing_given, options_given, most_seed, most_rows, most_width, most_rounds}
+
+-- what comes next, and for each such word what comes behind it
+pub data Next : Type 0 where
+  name : Next
+  word : (List ℕ → Next) → Next
+  number : ℕ → (ℕ → Next) → Next
+  policy : (ReadOrder → Next) → Next
+  option : Given → (Options → Command) → Next
+
+-- the number that the word writes, if it is one and at most the limit
+unfoldable pub number_of : ℕ → List ℕ → Option ℕ
+number_of limit w =
+    if list_all is_ascii_digit w && nat_le 1 (length w) && nat_le (digits_value 10 w) limit then Some (digits_value 10 w) else None
+
+unfoldable pub policy_of : List ℕ → Option ReadOrder
+policy_of w =
+    if bytes_eq w (codes "widest") then Some widest
+    else (if bytes_eq w (codes "order") then Some in_order
+    else (if bytes_eq w (codes "filter") then Some filter_first else None))
+
+abbrev pub options : (Options → Command) → Next
+options k = option nothing_given k
+
+abbrev pub after_ask : Next
+after_ask =
+    word (λ csv. word (λ schema. word (λ sql. options (λ o. ask (record { csv = csv; schema = schema; sql = sql; options = o })))))
+
+abbrev pub after_demo : Next
+after_demo =
+    number most_seed (λ seed. number most_rows (λ rows.
+    word (λ sql. options (λ o. demo (record { seed = seed; rows = rows; sql = sql; options = o })))))
+
+unfoldable pub after_name : List ℕ → Option Next
+after_name w = if bytes_eq w (codes "ask") then Some after_ask else (if bytes_eq w (codes "demo") then Some after_demo else None)
+
+-- ---- options
+
+abbrev pub flag_text : Flag → List ℕ
+flag_text f.Width = codes "--width"
+flag_text f.Rounds = codes "--rounds"
+flag_text f.Policy = codes "--policy"
+flag_text f.Reads = codes "--reads"
+flag_text f.List = codes "--list"
+
+unfoldable pub flag_of : List ℕ → Option Flag
+flag_of w =
+    if bytes_eq w (codes "--width") then Some f.Width
+    else (if bytes_eq w (codes "--rounds") then Some f.Rounds
+    else (if bytes_eq w (codes "--policy") then Some f.Policy
+    else (if bytes_eq w (codes "--reads") then Some f.Reads
+    else (if bytes_eq w (codes "--list") then Some f.List else None))))
+
+-- what it gives was not given yet
+abbrev pub is_free : Flag → Given → Bool
+is_free f.Width g = is_none g.width
+is_free f.Rounds g = is_none g.rounds
+is_free f.Policy g = is_none g.order
+is_free f.Reads g = is_none g.order
+is_free f.List g = not g.list
+
+-- what comes behind it
+abbrev pub behind : Flag → Given → (Options → Command) → Next
+behind f.Width g k = number most_width (λ n. option (record g { width = Some n }) k)
+behind f.Rounds g k = number most_rounds (λ n. option (record g { rounds = Some n }) k)
+behind f.Policy g k = policy (λ p. option (record g { order = Some p }) k)
+behind f.Reads g k = word (λ names. option (record g { order = Some (reads names) }) k)
+behind f.List g k = option (record g { list = true }) k
+
+abbrev pub after_flag : Given → (Options → Command) → Option Flag → Option Next
+after_flag g k None = None
+after_flag g k (Some flag) = if is_free flag g then Some (behind flag g k) else None
+
+-- ---- all that may come
+
+abbrev pub after : Next → List ℕ → Option Next
+after name w = after_name w
+after (word k) w = Some (k w)
+after (number limit k) w = option_map k (number_of limit w)
+after (policy k) w = option_map k (policy_of w)
+after (option g k) w = after_flag g k (flag_of w)
+
+-- what it is where no word is left: a command, or a word is missing at the next place
+abbrev pub at_end : Next → ℕ → Result Command ℕ
+at_end name at = Err (at + 1)
+at_end (word k) at = Err (at + 1)
+at_end (number limit k) at = Err (at + 1)
+at_end (policy k) at = Err (at + 1)
+at_end (option g k) at = Ok (k (options_given g))
+
+-- the command of the words, of which so many were read before, or the place of the first that may not come
+unfoldable pub answer : Next → ℕ → List (List ℕ) → Result Command ℕ
+answer next at [] = at_end next at
+answer next at (w ∷ ws) = option_map_or (λ n. answer n (at + 1) ws) (after next w) (Err (at + 1))
+
+-- the words that are left, and how many were read before them
+pub record Left : Type 0 where
+  pub at : ℕ
+  pub words : List (List ℕ)
+
+abbrev pub answers : Next → Left → Result Command ℕ
+answers next left = answer next left.at left.words
+
+-- the next word is this one, and these are left behind it
+pub record Takes (old : Left) (taken : List ℕ) (new : Left) : Type 0 where
+  pub words : old.words ≡ taken ∷ new.words
+  pub at : new.at ≡ old.at + 1
+
+-- no word is left, so the next one is missing at this place
+pub record Lacks (old : Left) (place : ℕ) : Type 0 where
+  pub words : old.words ≡ []
+  pub is_place : place ≡ old.at + 1
+
+-- the words left begin with such a part, which says this, and these are left behind it
+abbrev pub LeadsTo : {A : Type 0} → ((A → Next) → Next) → Left → A → Left → Type 0
+LeadsTo {A} part old said new = (k : A → Next) → answers (part k) old ≡ answers (k said) new
+
+-- they do not, and go wrong there
+abbrev pub StopsAt : {A : Type 0} → ((A → Next) → Next) → Left → ℕ → Type 0
+StopsAt {A} part old place = (k : A → Next) → answers (part k) old ≡ Err place
+
+-- the words left begin with an option, which makes `h` of what was given, and these are left behind it
+abbrev pub Adds : Given → Left → Given → Left → Type 0
+Adds g old h new = (k : Options → Command) → answers (option g k) old ≡ answers (option h k) new
+
+-- the words left begin with an option that was not given yet, and these are left behind its name
+abbrev pub Names : Given → Left → Flag → Left → Type 0
+Names g old flag new = (k : Options → Command) → answers (option g k) old ≡ answers (behind flag g k) new
+
+-- all words left are options, and these are theirs
+abbrev pub Says : Given → Left → Options → Type 0
+Says g old said = (k : Options → Command) → answers (option g k) old ≡ Ok (k said)
+
+-- an option goes wrong there
+abbrev pub Fails : Given → Left → ℕ → Type 0
+Fails g old place = (k : Options → Command) → answers (option g k) old ≡ Err place

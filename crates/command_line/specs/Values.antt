@@ -1,0 +1,33 @@
+-- The command that a value of the enum stands for.
+use Rattle.std.specs.Prelude.{option_map}
+use Rattle.command_line.specs.Commands as spec
+use Rattle.command_line.specs.declared.command.ReadOrder.{ReadOrder}
+use Rattle.command_line.specs.declared.command.ReadOrder.TheVariants.{Widest, InOrder, FilterFirst, Reads}
+use Rattle.command_line.specs.declared.command.Options.{Options}
+use Rattle.command_line.specs.declared.command.Ask.{Ask}
+use Rattle.command_line.specs.declared.command.Demo.{Demo}
+use Rattle.command_line.specs.declared.command.Command.{Command}
+use Rattle.command_line.specs.declared.command.Command.TheVariants as c
+use Rattle.command_line.specs.declared.reader.Given.{Given}
+
+abbrev pub order_of : ReadOrder → spec.ReadOrder
+order_of Widest = spec.widest
+order_of InOrder = spec.in_order
+order_of FilterFirst = spec.filter_first
+order_of (Reads names) = spec.reads names.now
+
+abbrev pub options_of : Options → spec.Options
+options_of o = record { width = o.width; rounds = o.rounds; order = order_of o.order; list = o.list }
+
+abbrev pub ask_of : Ask → spec.Ask
+ask_of a = record { csv = a.csv.now; schema = a.schema.now; sql = a.sql.now; options = options_of a.options }
+
+abbrev pub demo_of : Demo → spec.Demo
+demo_of d = record { seed = d.seed; rows = d.rows; sql = d.sql.now; options = options_of d.options }
+
+abbrev pub command_of : Command → spec.Command
+command_of (c.Ask a) = spec.ask (ask_of a)
+command_of (c.Demo d) = spec.demo (demo_of d)
+
+abbrev pub given_of : Given → spec.Given
+given_of g = record { width = g.width; rounds = g.rounds; order = option_map order_of g.order; list = g.list }

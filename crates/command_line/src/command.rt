@@ -1,0 +1,98 @@
+//! The commands that words may ask for.
+
+ghost use Rattle.std.specs.Prelude.{◌≡◌, ℕ, List, IfOk, IfErr};
+ghost use Rattle.command_line.specs.Commands as spec;
+ghost use Rattle.command_line.specs.Commands.{GoesWrong, IsCommand};
+ghost use Rattle.command_line.specs.Values.{command_of};
+
+use crate::reader::Reader;
+use crate::words::Words;
+
+/// How the columns of a query are read: by a policy, or as a list of names says.
+#[derive(Clone, Copy, Debug, PartialEq, Eq)]
+pub enum ReadOrder<'a> {
+    /// The column with the most unread planes first.
+    Widest,
+    /// The columns in their order.
+    InOrder,
+    /// The columns of the condition first.
+    FilterFirst,
+    /// The names that the word behind `--reads` lists.
+    Reads(&'a str),
+}
+
+/// The options of a command.
+#[derive(Clone, Copy, Debug, PartialEq, Eq)]
+pub struct Options<'a> {
+    /// How wide an interval may be that counts as narrow: 0 where it is not given.
+    pub width: u64,
+    /// The most rounds, if they are limited.
+    pub rounds: Option<u32>,
+    /// Which column is read next: the widest where it is not given.
+    pub order: ReadOrder<'a>,
+    /// Whether each row of a ranking is listed.
+    pub list: bool,
+}
+
+/// `ask`: a query over a CSV.
+#[derive(Clone, Copy, Debug, PartialEq, Eq)]
+pub struct Ask<'a> {
+    /// The path of the CSV.
+    pub csv: &'a str,
+    /// The text of its schema.
+    pub schema: &'a str,
+    /// The text of the query.
+    pub sql: &'a str,
+    /// How it is answered.
+    pub options: Options<'a>,
+}
+
+/// `demo`: a query over a generated table.
+#[derive(Clone, Copy, Debug, PartialEq, Eq)]
+pub struct Demo<'a> {
+    /// The seed of the table.
+    pub seed: u64,
+    /// The number of its rows.
+    pub rows: u64,
+    /// The text of the query.
+    pub sql: &'a str,
+    /// How it is answered.
+    pub options: Options<'a>,
+}
+
+/// What words ask for. Its texts are those of the words.
+#[derive(Clone, Copy, Debug, PartialEq, Eq)]
+pub enum Command<'a> {
+    /// A query over a CSV.
+    Ask(Ask<'a>),
+    /// A query over a generated table.
+    Demo(Demo<'a>),
+}
+
+/// Words are no command.
+#[derive(Clone, Copy, Debug, PartialEq, Eq)]
+pub struct Usage {
+    /// The place of the first word with which no command goes on, or of the word that is missing. Words count from 1.
+    pub place: usize,
+}
+
+impl<'a> Command<'a> {
+    /// The command of the words; where they are none, the place where they go wrong. It takes no memory.
+    pub fn parse(words: &'a Words) -> Result<Command<'a>, Usage>
+        ensures ok { IfOk result (λ command. IsCommand words.now (command_of command)) }
+        ensures usage { IfErr result (λ usage. GoesWrong words.now usage.place) }
+    {
+        let mut reader = Reader::new(words);
+        match reader.word()? {
+            "ask" => Ok(Command::Ask(reader.ask()?)),
+            "demo" => Ok(Command::Demo(reader.demo()?)),
+            _ => Err(Usage { place: 1 }),
+        }
+    }
+}
+
+/// A law: words ask for one command at most, and go wrong at one place at most.
+pub fn one_command()
+    ensures commands { (words : List (List ℕ)) (c d : spec.Command) → IsCommand words c → IsCommand words d → c ≡ d }
+    ensures places { (words : List (List ℕ)) (p q : ℕ) → GoesWrong words p → GoesWrong words q → p ≡ q }
+{}

@@ -1,0 +1,12 @@
+//! The commands of a command line: its words, and the command that they ask for.
+#![tactic(auto)]
+
+mod command;
+mod reader;
+mod words;
+
+pub use command::{Ask, Command, Demo, Options, ReadOrder, Usage, one_command};
+pub use words::Words;
+
+#[cfg(test)]
+mod tests;

@@ -1,0 +1,268 @@
+//! Reads the words of a command one by one.
+
+ghost use Rattle.std.specs.Prelude.{◌≡◌, ◌≢◌, ◌==◌, ◌+◌, ◌^◌, ◌<◌, ◌≤◌, [], length, Ok, Err, IfOk, IfErr, OnOk, option_map};
+ghost use Rattle.std.specs.Char.{is_ascii_digit};
+ghost use Rattle.std.specs.List.{list_all};
+ghost use Rattle.std.specs.Option.{SomeIff};
+ghost use Rattle.std.specs.Str.Parse.{IsNumeral, digits_value};
+ghost use Rattle.command_line.specs.Commands.{ask, demo, nothing_given, options_given};
+ghost use Rattle.command_line.specs.Reading.{Adds, Fails, Lacks, LeadsTo, Names, Says, StopsAt, Takes, after_ask, after_demo, answers, flag_of, is_free, number, policy, policy_of};
+ghost use Rattle.command_line.specs.Values.{ask_of, demo_of, given_of, options_of, order_of};
+
+use crate::command::{Ask, Demo, Options, ReadOrder, Usage};
+use crate::words::Words;
+use std::marker::Model;
+
+// The greatest width.
+const MOST_WIDTH: u64 = 9_223_372_036_854_775_807;
+
+// The options by their names.
+#[derive(Clone, Copy)]
+pub(crate) enum Flag {
+    Width,
+    Rounds,
+    Policy,
+    Reads,
+    List,
+}
+
+// What the options so far give.
+#[derive(Clone, Copy)]
+pub(crate) struct Given<'a> {
+    width: Option<u64>,
+    rounds: Option<u32>,
+    order: Option<ReadOrder<'a>>,
+    list: bool,
+}
+
+// The words from a place on.
+#[derive(Drop)]
+pub(crate) struct Reader<'a> {
+    words: &'a Words,
+    at: usize,
+}
+
+impl<'a> Model for Reader<'a> {
+    ghost use Rattle.std.specs.Prelude.{◌≤◌, ◌<◌, ◌^◌, length, drop};
+    ghost use Rattle.command_line.specs.Reading.{Left};
+
+    ghost Value = { Left };
+
+    ghost view = { λ r. record { at = r.at; words = drop r.at r.words.now } };
+
+    ghost invariant = { λ r. (r.at ≤ length r.words.now) × (r.at < 2 ^ 63) };
+}
+
+fn is_digits(word: &str) -> bool
+    ensures { result ≡ list_all is_ascii_digit word.now }
+{
+    word.as_bytes().iter().all(|byte| byte.is_ascii_digit())
+}
+
+// The number that the word writes in digits, if it is one of 64 bits.
+fn number_of(word: &str) -> Option<u64>
+    ensures { SomeIff result (IsNumeral 10 word.now × (digits_value 10 word.now < 2 ^ 64)) (digits_value 10 word.now) }
+{
+    if is_digits(word) {
+        word.parse::<u64>().ok()
+    } else {
+        None
+    }
+}
+
+// The option that the word names.
+#[tactic(auto, unfolding(crate::specs::Reading::flag_of))]
+fn flag_of(word: &str) -> Option<Flag>
+    ensures { result ≡ flag_of word.now }
+{
+    match word {
+        "--width" => Some(Flag::Width),
+        "--rounds" => Some(Flag::Rounds),
+        "--policy" => Some(Flag::Policy),
+        "--reads" => Some(Flag::Reads),
+        "--list" => Some(Flag::List),
+        _ => None,
+    }
+}
+
+// The policy that the word names.
+#[tactic(auto, unfolding(crate::specs::Reading::policy_of))]
+fn policy_of<'a>(word: &str) -> Option<ReadOrder<'a>>
+    ensures { option_map order_of result ≡ policy_of word.now }
+{
+    match word {
+        "widest" => Some(ReadOrder::Widest),
+        "order" => Some(ReadOrder::InOrder),
+        "filter" => Some(ReadOrder::FilterFirst),
+        _ => None,
+    }
+}
+
+impl<'a> Given<'a> {
+    fn nothing() -> Given<'a>
+        ensures { given_of result ≡ nothing_given }
+    {
+        Given {
+            width: None,
+            rounds: None,
+            order: None,
+            list: false,
+        }
+    }
+
+    // Whether what the option gives was not given yet.
+    fn is_free(&self, flag: Flag) -> bool
+        ensures { result ≡ is_free flag (given_of self.now) }
+    {
+        match flag {
+            Flag::Width => self.width.is_none(),
+            Flag::Rounds => self.rounds.is_none(),
+            Flag::Policy | Flag::Reads => self.order.is_none(),
+            Flag::List => !self.list,
+        }
+    }
+
+    // The options, where these are all.
+    fn options(self) -> Options<'a>
+        ensures { options_of result ≡ options_given (given_of self.entry) }
+    {
+        Options {
+            width: self.width.unwrap_or(0),
+            rounds: self.rounds,
+            order: self.order.unwrap_or(ReadOrder::Widest),
+            list: self.list,
+        }
+    }
+}
+
+impl<'a> Reader<'a> {
+    pub(crate) fn new(words: &'a Words) -> Reader<'a>
+        ensures at { result.at ≡ 0 }
+        ensures words { result.words ≡ words.now }
+    {
+        Reader { words, at: 0 }
+    }
+
+    // The next word may not come, or is missing.
+    fn refusal(&self) -> Usage
+        ensures { result.place ≡ self.now.at + 1 }
+    {
+        Usage { place: self.at + 1 }
+    }
+
+    // Whether no word is left.
+    fn is_done(&self) -> bool
+        ensures { result ≡ (length self.now.words == 0) }
+    {
+        self.at == self.words.len()
+    }
+
+    // Any word.
+    pub(crate) fn word(&mut self) -> Result<&'a str, Usage>
+        ensures ok { IfOk result (λ text. Takes self.old text.now self.new) }
+        ensures err { IfErr result (λ usage. Lacks self.old usage.place) }
+    {
+        if self.at == self.words.len() {
+            return Err(self.refusal());
+        }
+        let word = self.words.word(self.at);
+        self.at += 1;
+        Ok(word)
+    }
+
+    // A number of at most the limit.
+    fn number(&mut self, limit: u64) -> Result<u64, Usage>
+        ensures ok { IfOk result (λ n. LeadsTo (number limit) self.old n self.new) }
+        ensures small { IfOk result (λ n. n ≤ limit) }
+        ensures shorter { OnOk result (length self.new.words < length self.old.words) }
+        ensures err { IfErr result (λ usage. StopsAt (number limit) self.old usage.place) }
+    {
+        let refusal = self.refusal();
+        match number_of(self.word()?) {
+            Some(number) if number <= limit => Ok(number),
+            _ => Err(refusal),
+        }
+    }
+
+    // The name of a policy.
+    fn policy(&mut self) -> Result<ReadOrder<'a>, Usage>
+        ensures ok { IfOk result (λ order. LeadsTo policy self.old (order_of order) self.new) }
+        ensures shorter { OnOk result (length self.new.words < length self.old.words) }
+        ensures err { IfErr result (λ usage. StopsAt policy self.old usage.place) }
+    {
+        let refusal = self.refusal();
+        match policy_of(self.word()?) {
+            Some(policy) => Ok(policy),
+            None => Err(refusal),
+        }
+    }
+
+    // The name of an option that was not given yet.
+    fn flag(&mut self, given: &Given<'a>) -> Result<Flag, Usage>
+        requires { self.old.words ≢ [] }
+        ensures ok { IfOk result (λ flag. Names (given_of given.now) self.old flag self.new) }
+        ensures shorter { OnOk result (length self.new.words < length self.old.words) }
+        ensures err { IfErr result (λ usage. Fails (given_of given.now) self.old usage.place) }
+    {
+        let refusal = self.refusal();
+        match flag_of(self.word()?) {
+            Some(flag) if given.is_free(flag) => Ok(flag),
+            _ => Err(refusal),
+        }
+    }
+
+    // An option that was not given yet.
+    fn option(&mut self, given: &mut Given<'a>) -> Result<(), Usage>
+        requires { self.old.words ≢ [] }
+        ensures ok { OnOk result (Adds (given_of given.old) self.old (given_of given.new) self.new) }
+        ensures shorter { OnOk result (length self.new.words < length self.old.words) }
+        ensures err { IfErr result (λ usage. Fails (given_of given.old) self.old usage.place) }
+    {
+        match self.flag(given)? {
+            Flag::Width => given.width = Some(self.number(MOST_WIDTH)?),
+            Flag::Rounds => given.rounds = Some(self.number(u32::MAX as u64)? as u32),
+            Flag::Policy => given.order = Some(self.policy()?),
+            Flag::Reads => given.order = Some(ReadOrder::Reads(self.word()?)),
+            Flag::List => given.list = true,
+        }
+        Ok(())
+    }
+
+    // All words that are left, as options.
+    fn options(&mut self) -> Result<Options<'a>, Usage>
+        ensures ok { IfOk result (λ options. Says nothing_given self.old (options_of options)) }
+        ensures err { IfErr result (λ usage. Fails nothing_given self.old usage.place) }
+    {
+        let mut given = Given::nothing();
+        while !self.is_done() {
+            self.option(&mut given)?;
+        }
+        Ok(given.options())
+    }
+
+    // What follows the word `ask`.
+    pub(crate) fn ask(&mut self) -> Result<Ask<'a>, Usage>
+        ensures ok { IfOk result (λ a. answers after_ask self.old ≡ Ok (ask (ask_of a))) }
+        ensures err { IfErr result (λ usage. answers after_ask self.old ≡ Err usage.place) }
+    {
+        Ok(Ask {
+            csv: self.word()?,
+            schema: self.word()?,
+            sql: self.word()?,
+            options: self.options()?,
+        })
+    }
+
+    // What follows the word `demo`.
+    pub(crate) fn demo(&mut self) -> Result<Demo<'a>, Usage>
+        ensures ok { IfOk result (λ d. answers after_demo self.old ≡ Ok (demo (demo_of d))) }
+        ensures err { IfErr result (λ usage. answers after_demo self.old ≡ Err usage.place) }
+    {
+        Ok(Demo {
+            seed: self.number(u64::MAX)?,
+            rows: self.number(u64::MAX)?,
+            sql: self.word()?,
+            options: self.options()?,
+        })
+    }
+}

@@ -1,0 +1,93 @@
+//! Lists of words, and the place where they go wrong or the command that they ask for.
+
+use super::*;
+use std::alloc::{AllocError, Global};
+use std::test::Fail;
+
+// Words parted by blanks.
+fn words_of(alloc: Global, line: &str) -> Result<Words, AllocError> {
+    let mut words = Words::new(alloc);
+    for word in line.split_whitespace() {
+        words.push(word)?;
+    }
+    Ok(words)
+}
+
+// Words that are no command, and the place where they go wrong.
+const WRONG: [(&str, usize); 22] = [
+    ("", 1),
+    ("sum p.csv s q", 1),
+    ("Ask p.csv s q", 1),
+    ("--list ask p.csv s q", 1),
+    ("ask", 2),
+    ("ask p.csv s", 4),
+    ("ask p.csv s q more", 5),
+    ("ask p.csv s q --list --list", 6),
+    ("ask p.csv s q --width", 6),
+    ("ask p.csv s q --width x", 6),
+    ("ask p.csv s q --width -1", 6),
+    ("ask p.csv s q --width +1", 6),
+    ("ask p.csv s q --width 9223372036854775808", 6),
+    ("ask p.csv s q --rounds 4294967296", 6),
+    ("ask p.csv s q --width 1 --width 2", 7),
+    ("ask p.csv s q --policy first", 6),
+    ("ask p.csv s q --policy order --reads price", 7),
+    ("ask p.csv s q --reads price --policy order", 7),
+    ("demo x 5 q", 2),
+    ("demo 1 18446744073709551616 q", 3),
+    ("demo 1 5", 4),
+    ("demo 1 5 q --list p", 6),
+];
+
+#[test]
+fn words_that_are_no_command_go_wrong_at_a_word(rt: HostRuntime) -> Result<(), Fail> {
+    for (line, place) in WRONG {
+        let words = words_of(rt.alloc(), line)?;
+        assert_eq!(rt; Command::parse(&words), Err(Usage { place }));
+    }
+    Ok(())
+}
+
+#[test]
+fn a_query_over_a_csv(rt: HostRuntime) -> Result<(), Fail> {
+    let words = words_of(
+        rt.alloc(),
+        "ask --list s q --rounds 007 --reads a,b --width 9223372036854775807",
+    )?;
+    let options = Options {
+        width: 9_223_372_036_854_775_807,
+        rounds: Some(7),
+        order: ReadOrder::Reads("a,b"),
+        list: false,
+    };
+    let ask = Ask {
+        csv: "--list",
+        schema: "s",
+        sql: "q",
+        options,
+    };
+    assert_eq!(rt; Command::parse(&words), Ok(Command::Ask(ask)));
+    Ok(())
+}
+
+#[test]
+fn a_query_over_a_generated_table(rt: HostRuntime) -> Result<(), Fail> {
+    let words = words_of(
+        rt.alloc(),
+        "demo 18446744073709551615 0 q --list --policy filter",
+    )?;
+    let options = Options {
+        width: 0,
+        rounds: None,
+        order: ReadOrder::FilterFirst,
+        list: true,
+    };
+    let demo = Demo {
+        seed: 18_446_744_073_709_551_615,
+        rows: 0,
+        sql: "q",
+        options,
+    };
+    assert_eq!(rt; Command::parse(&words), Ok(Command::Demo(demo)));
+    Ok(())
+}
