@@ -4,7 +4,7 @@ use Rattle.sql_tokens.specs.declared.token.Fixed.{Fixed}
 use Rattle.sql_tokens.specs.declared.token.Fixed.TheVariants as fixed
 use Rattle.sql_tokens.specs.Lexeme.{Lexeme, token, FIXED, NAME, NUMBER, STRING}
 use Rattle.sql_text.specs.declared.fault.Cause.TheVariants.{TooDeep}
-use Rattle.sql_text.specs.declared.tree.Cmp.{Cmp}
+use Rattle.sql_text.specs.declared.tree.Comparison.{Comparison}
 use Rattle.sql_text.specs.declared.tree.CallKind.TheVariants as calls
 use Rattle.sql_text.specs.Tree.{Name}
 use Rattle.sql_text.specs.Tree as tree
@@ -207,7 +207,7 @@ value_no_name : (t : Lexeme) → First value t → is_name t ≡ None
 unfolding value is is_string is_number
 value_no_name t f = none_name t (λ p s e. or sees (or sees (or sees sees)) (subst (First value) e f))
 
-compared_clear : (c : Name) (op : Cmp) → Clear (compared c op)
+compared_clear : (c : Name) (op : Comparison) → Clear (compared c op)
 unfolding compared
 compared_clear c op = (λ _. tt, (value_clear, λ v. tt, λ b t f. absurd f), λ t f. no_name t f)
   where
@@ -215,7 +215,7 @@ compared_clear c op = (λ _. tt, (value_clear, λ v. tt, λ b t f. absurd f), λ
     no_name t (inl h) = value_no_name t h
     no_name t (inr h) = elim (value_some h.0) [ ]
 
-compared_ends : (c : Name) (op : Cmp) (t : Lexeme) → Ends (compared c op) t
+compared_ends : (c : Name) (op : Comparison) (t : Lexeme) → Ends (compared c op) t
 unfolding compared
 compared_ends c op t = (λ _. tt, (λ v. tt, λ v h. value_ends t), λ h. absurd (value_some h.0))
 
@@ -420,13 +420,13 @@ unfolding semicolon
 semicolon_begins a E f t (inl h) = subst E (sym (is_there fixed.Semicolon t h.0 h.1)) (f h.0)
 semicolon_begins a E f t (inr h) = elim h [ ]
 
--- a tail, and what follows it
-module _ (tail : Rule tree.Ending) (clear : Clear tail) (ends : (x : ℕ) → Ends tail (token x (FIXED fixed.Semicolon))) (behind : (t : Lexeme) → First tail t → Ends filter t) (closed : (x : ℕ) → Null tail → Ends filter (token x (FIXED fixed.Semicolon))) where
-  filter_then : (f : tree.Ending → tree.Query) (t : Lexeme) → First (next tail (λ e. semicolon (f e))) t → Ends filter t
+-- a ending, and what follows it
+module _ (ending : Rule tree.Ending) (clear : Clear ending) (ends : (x : ℕ) → Ends ending (token x (FIXED fixed.Semicolon))) (behind : (t : Lexeme) → First ending t → Ends filter t) (closed : (x : ℕ) → Null ending → Ends filter (token x (FIXED fixed.Semicolon))) where
+  filter_then : (f : tree.Ending → tree.Query) (t : Lexeme) → First (next ending (λ e. semicolon (f e))) t → Ends filter t
   filter_then f t (inl h) = behind t h
-  filter_then f t (inr h) = semicolon_begins (f h.1.0) (λ s. Null tail → Ends filter s) closed t h.1.1 h.0
+  filter_then f t (inr h) = semicolon_begins (f h.1.0) (λ s. Null ending → Ends filter s) closed t h.1.1 h.0
 
-  source_clear : (head : tree.Head) → Clear (source head tail)
+  source_clear : (head : tree.Head) → Clear (source head ending)
   unfolding source is is_name
   source_clear head = (
     (token 0 (FIXED fixed.From), 0, refl),
@@ -434,8 +434,8 @@ module _ (tail : Rule tree.Ending) (clear : Clear tail) (ends : (x : ℕ) → En
       (token 0 (NAME []), record { at = 0; name = [] }, refl),
       λ n. (
         filter_clear,
-        λ p. (clear, λ e. semicolon_clear (record { head = head; table = n; pred = p; tail = e }), λ e t f. semicolon_begins (record { head = head; table = n; pred = p; tail = e }) (Ends tail) ends t f),
-        λ p t f. filter_then (λ e. record { head = head; table = n; pred = p; tail = e }) t f,
+        λ p. (clear, λ e. semicolon_clear (record { head = head; table = n; pred = p; ending = e }), λ e t f. semicolon_begins (record { head = head; table = n; pred = p; ending = e }) (Ends ending) ends t f),
+        λ p t f. filter_then (λ e. record { head = head; table = n; pred = p; ending = e }) t f,
       ),
       λ _ _ _. tt,
     ),
@@ -472,10 +472,10 @@ from_ends : (x : ℕ) → Ends (listed item) (token x (FIXED fixed.From))
 unfolding is
 from_ends x = (item_ends (token x (FIXED fixed.From)), refl)
 
-source_begins : (head : tree.Head) (tail : Rule tree.Ending) (t : Lexeme) → First (source head tail) t → Ends (listed item) t
+source_begins : (head : tree.Head) (ending : Rule tree.Ending) (t : Lexeme) → First (source head ending) t → Ends (listed item) t
 unfolding source
-source_begins head tail t (inl h) = subst (Ends (listed item)) (sym (is_there fixed.From t h.0 h.1)) (from_ends h.0)
-source_begins head tail t (inr h) = elim h.0 [ ]
+source_begins head ending t (inl h) = subst (Ends (listed item)) (sym (is_there fixed.From t h.0 h.1)) (from_ends h.0)
+source_begins head ending t (inr h) = elim h.0 [ ]
 
 pub query_clear : Clear query
 unfolding query is

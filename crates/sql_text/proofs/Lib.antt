@@ -12,15 +12,4 @@ pub mod GrammarClear
 pub mod Sentence
 pub mod OneRefusal
 pub mod Answering
-pub mod Back
-pub mod ExprBack
-pub mod PredBack
-pub mod QueryBack
-pub mod Spelled
-pub mod Numerals
-pub mod Pieces
-pub mod TokenFacts
-pub mod TreeTexts
-pub mod Utf8
-pub mod TreeUtf8
-pub mod TreeSize
+pub mod SomeAnswer

@@ -1,7 +1,7 @@
 -- The grammar of queries, rule by rule.
 use Rattle.std.specs.Prelude.{ℕ, zero, suc, Bool, true, false, List, [], ◌∷◌, ◌++◌, Option, Some, None}
 use Rattle.sql_tokens.specs.declared.token.Fixed.TheVariants.{Select, From, Where, Group, By, Order, Asc, Desc, Limit, And, Or, Not, Between, In, Date, Count, Open, Close, Comma, Star, Minus, Semicolon}
-use Rattle.sql_text.specs.declared.tree.Cmp.{Cmp}
+use Rattle.sql_text.specs.declared.tree.Comparison.{Comparison}
 use Rattle.sql_text.specs.Tree as tree
 use Rattle.sql_text.specs.Tree.{Name, Expr, Item, Operand, Pred, Ending, Query}
 use Rattle.sql_text.specs.Number.{is, is_name, is_string, is_cmp, is_call, is_sum}
@@ -50,7 +50,7 @@ unfoldable pub ranged : Name → Rule Pred
 ranged c = either (is Between) (λ _. between c) (next (one (is In)) (λ _. members c))
 
 -- name | value
-unfoldable pub compared : Name → Cmp → Rule Pred
+unfoldable pub compared : Name → Comparison → Rule Pred
 compared c op = either is_name (λ d. give (tree.Columns c op d)) (next value (λ v. give (tree.Compare c op v)))
 
 -- NOT ranged | cmp (name | value) | ranged
@@ -108,10 +108,10 @@ ordering = next (one (is Order)) (λ _. next (one (is By)) (λ _. next (one is_n
 unfoldable pub semicolon : {A : Type 0} → A → Rule A
 semicolon a = either (is Semicolon) (λ _. give a) (give a)
 
--- FROM name [WHERE pred] tail [";"]
+-- FROM name [WHERE pred] ending [";"]
 unfoldable pub source : tree.Head → Rule Ending → Rule Query
-source head tail = next (one (is From)) (λ _. next (one is_name) (λ t. next filter (λ p. next tail (λ e.
-    semicolon (record { head = head; table = t; pred = p; tail = e })))))
+source head ending = next (one (is From)) (λ _. next (one is_name) (λ t. next filter (λ p. next ending (λ e.
+    semicolon (record { head = head; table = t; pred = p; ending = e })))))
 
 -- query = SELECT "*" FROM name [WHERE pred] ORDER BY .. | SELECT item {"," item} FROM name [WHERE pred] [GROUP BY ..]
 unfoldable pub query : Rule Query

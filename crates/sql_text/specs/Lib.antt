@@ -5,5 +5,4 @@ pub mod Grammar
 pub mod Reading
 pub mod Sentence
 pub mod Answer
-pub mod Bare
-pub mod Printed
+pub mod Laws

@@ -4,8 +4,8 @@ use Rattle.sql_tokens.specs.declared.token.Fixed.{Fixed}
 use Rattle.sql_tokens.specs.declared.token.Fixed.TheVariants as fixed
 use Rattle.sql_tokens.specs.Lexeme.{Lexeme, token, FIXED, NAME, NUMBER, STRING}
 use Rattle.sql_text.specs.declared.tree.Num.{Num}
-use Rattle.sql_text.specs.declared.tree.Cmp.{Cmp}
-use Rattle.sql_text.specs.declared.tree.Cmp.TheVariants as cmps
+use Rattle.sql_text.specs.declared.tree.Comparison.{Comparison}
+use Rattle.sql_text.specs.declared.tree.Comparison.TheVariants as cmps
 use Rattle.sql_text.specs.declared.tree.CallKind.{CallKind}
 use Rattle.sql_text.specs.declared.tree.CallKind.TheVariants as calls
 use Rattle.sql_text.specs.Tree.{Name}
@@ -108,7 +108,7 @@ fixed_test f (token p (NAME s)) = None
 fixed_test f (token p (NUMBER u c)) = None
 fixed_test f (token p (STRING s)) = None
 
-unfoldable pub cmp_of : Fixed → Option Cmp
+unfoldable pub cmp_of : Fixed → Option Comparison
 cmp_of fixed.Equal = Some cmps.Eq
 cmp_of fixed.NotEqual = Some cmps.Ne
 cmp_of fixed.Less = Some cmps.Lt
@@ -130,7 +130,7 @@ sum_of fixed.Plus = Some false
 sum_of fixed.Minus = Some true
 sum_of _ = None
 
-abbrev pub is_cmp : Lexeme → Option Cmp
+abbrev pub is_cmp : Lexeme → Option Comparison
 is_cmp = fixed_test cmp_of
 
 abbrev pub is_call : Lexeme → Option CallKind

@@ -2,7 +2,7 @@
 use Rattle.std.specs.Prelude.{ℕ, List, map, Bool, Option, Some, None}
 use Rattle.sql_text.specs.declared.tree.Named.{Named}
 use Rattle.sql_text.specs.declared.tree.Num.{Num}
-use Rattle.sql_text.specs.declared.tree.Cmp.{Cmp}
+use Rattle.sql_text.specs.declared.tree.Comparison.{Comparison}
 use Rattle.sql_text.specs.declared.tree.CallKind.{CallKind}
 use Rattle.sql_text.specs.declared.tree.ExprTree.{ExprTree}
 use Rattle.sql_text.specs.declared.tree.ExprTree.TheVariants as exprs
@@ -14,8 +14,8 @@ use Rattle.sql_text.specs.declared.tree.Value.{Value}
 use Rattle.sql_text.specs.declared.tree.Value.TheVariants as values
 use Rattle.sql_text.specs.declared.tree.PredTree.{PredTree}
 use Rattle.sql_text.specs.declared.tree.PredTree.TheVariants as preds
-use Rattle.sql_text.specs.declared.tree.Tail.{Tail}
-use Rattle.sql_text.specs.declared.tree.Tail.TheVariants as tails
+use Rattle.sql_text.specs.declared.tree.Ending as tree
+use Rattle.sql_text.specs.declared.tree.Ending.TheVariants as endings
 use Rattle.sql_text.specs.declared.tree.Tree.{Tree}
 
 pub record Name : Type 0 where
@@ -44,8 +44,8 @@ pub data Operand : Type 0 where
   Day : Name → Operand
 
 pub data Pred : Type 0 where
-  Compare : Name → Cmp → Operand → Pred
-  Columns : Name → Cmp → Name → Pred
+  Compare : Name → Comparison → Operand → Pred
+  Columns : Name → Comparison → Name → Pred
   Between : Name → (low high : Operand) → Pred
   OneOf : Name → List Operand → Pred
   Negation : Pred → Pred
@@ -61,7 +61,7 @@ pub record Query : Type 0 where
   pub head : Head
   pub table : Name
   pub pred : Option Pred
-  pub tail : Ending
+  pub ending : Ending
 
 -- ---- what a tree of the program says
 
@@ -102,10 +102,10 @@ abbrev pub pred_option : Option PredTree → Option Pred
 pred_option None = None
 pred_option (Some a) = Some (pred_of a)
 
-abbrev pub ending_of : Tail → Ending
-ending_of tails.Nothing = Nothing
-ending_of (tails.Group ns) = Grouped (map name_of ns.items)
-ending_of (tails.Order key down limit) = Ordered (name_of key) down limit
+abbrev pub ending_of : tree.Ending → Ending
+ending_of endings.Nothing = Nothing
+ending_of (endings.Group ns) = Grouped (map name_of ns.items)
+ending_of (endings.Order key down limit) = Ordered (name_of key) down limit
 
 abbrev pub query_of : Tree → Query
-query_of t = record { head = head_of t.head; table = name_of t.table; pred = pred_option t.pred; tail = ending_of t.tail }
+query_of t = record { head = head_of t.head; table = name_of t.table; pred = pred_option t.pred; ending = ending_of t.ending }

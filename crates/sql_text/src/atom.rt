@@ -12,7 +12,7 @@ use crate::fault::Refusal;
 use crate::look::{
     TURNS, after, comparison, expect, name, name_token, numeral, string, string_token,
 };
-use crate::tree::{Cmp, Named, PredTree, Value};
+use crate::tree::{Comparison, Named, PredTree, Value};
 use sql_tokens::{Fixed, Token};
 use std::alloc::Global;
 
@@ -97,7 +97,7 @@ fn ranged(alloc: Global, column: Named, tokens: &[Token]) -> Result<(PredTree, &
 fn compared(
     alloc: Global,
     column: Named,
-    op: Cmp,
+    op: Comparison,
     tokens: &[Token],
 ) -> Result<(PredTree, &[Token]), Refusal>
     ensures { Gives (seen pred_of) result (flat (compared (name_of column) op) (views tokens.now)) }

@@ -1,4 +1,4 @@
-//! Queries: a text to its tree, and a tree to its text.
+//! Queries: a text to its tree.
 #![tactic(auto)]
 
 mod atom;
@@ -6,7 +6,6 @@ mod expression;
 mod fault;
 mod look;
 mod predicate;
-mod printing;
 mod query;
 mod reading;
 #[cfg(test)]
@@ -14,8 +13,8 @@ mod tests;
 mod tree;
 
 pub use fault::SqlFault;
-pub use printing::{print, reads_back};
-pub use reading::{one_answer, parse};
+pub use reading::{one_answer, parse, some_answer};
 pub use tree::{
-    CallKind, Cmp, ExprTree, ItemTree, Named, Num, PredTree, Select, Tail, Text, Tree, Value,
+    CallKind, Comparison, Ending, ExprTree, ItemTree, Named, Num, PredTree, Select, Text, Tree,
+    Value,
 };

@@ -7,7 +7,7 @@ ghost use Rattle.sql_text.specs.Number.{same, is, is_name, is_string, is_cmp, is
 ghost use Rattle.sql_text.specs.Reading.{Finds, Gives, seen, look, expect, numeral};
 
 use crate::fault::{Cause, Refusal, stop_at};
-use crate::tree::{CallKind, Cmp, Named, Num};
+use crate::tree::{CallKind, Comparison, Named, Num};
 use sql_tokens::{Fixed, Kind, Token};
 use std::alloc::{AllocError, Global};
 
@@ -196,16 +196,16 @@ pub fn numeral(negative: bool, tokens: &[Token]) -> Result<(Num, &[Token]), Refu
 }
 
 #[tactic(auto, unfolding(crate::specs::Number::cmp_of))]
-fn cmp_of(k: Fixed) -> Option<Cmp>
+fn cmp_of(k: Fixed) -> Option<Comparison>
     ensures { result ≡ cmp_of k }
 {
     match k {
-        Fixed::Equal => Some(Cmp::Eq),
-        Fixed::NotEqual => Some(Cmp::Ne),
-        Fixed::Less => Some(Cmp::Lt),
-        Fixed::LessEqual => Some(Cmp::Le),
-        Fixed::Greater => Some(Cmp::Gt),
-        Fixed::GreaterEqual => Some(Cmp::Ge),
+        Fixed::Equal => Some(Comparison::Eq),
+        Fixed::NotEqual => Some(Comparison::Ne),
+        Fixed::Less => Some(Comparison::Lt),
+        Fixed::LessEqual => Some(Comparison::Le),
+        Fixed::Greater => Some(Comparison::Gt),
+        Fixed::GreaterEqual => Some(Comparison::Ge),
         _ => None,
     }
 }
@@ -237,7 +237,7 @@ fn sum_of(k: Fixed) -> Option<bool>
 
 /// A comparison that is there.
 #[tactic(auto, unfolding(crate::specs::Reading::look))]
-pub fn comparison(tokens: &[Token]) -> Option<(Cmp, &[Token])>
+pub fn comparison(tokens: &[Token]) -> Option<(Comparison, &[Token])>
     ensures { Finds (seen (λ x. x)) result (look is_cmp (views tokens.now)) }
 {
     match tokens {

@@ -13,7 +13,7 @@ use crate::expression::expr;
 use crate::fault::{Cause, Refusal, stop_at};
 use crate::look::{TURNS, after, call, expect, name, name_token, numeral};
 use crate::predicate::pred;
-use crate::tree::{ItemTree, Named, PredTree, Select, Tail, Tree};
+use crate::tree::{Ending, ItemTree, Named, PredTree, Select, Tree};
 use sql_tokens::{Fixed, Token};
 use std::alloc::Global;
 
@@ -100,16 +100,16 @@ fn filter(
 }
 
 #[tactic(auto, unfolding(crate::specs::Reading::reads, crate::specs::Grammar::grouping))]
-fn grouping(alloc: Global, tokens: &[Token]) -> Result<(Tail, &[Token]), Refusal>
+fn grouping(alloc: Global, tokens: &[Token]) -> Result<(Ending, &[Token]), Refusal>
     ensures { Gives (seen ending_of) result (flat grouping (views tokens.now)) }
 {
     match after(tokens, Fixed::Group) {
-        None => Ok((Tail::Nothing, tokens)),
+        None => Ok((Ending::Nothing, tokens)),
         Some((_, rest)) => {
             let (_, rest) = expect(rest, Fixed::By)?;
             let (first, rest) = name(alloc, rest)?;
             let (names, rest) = more_names(alloc, first, rest)?;
-            Ok((Tail::Group(names), rest))
+            Ok((Ending::Group(names), rest))
         }
     }
 }
@@ -129,7 +129,7 @@ fn direction(tokens: &[Token]) -> (bool, &[Token])
 }
 
 #[tactic(auto, unfolding(crate::specs::Reading::reads, crate::specs::Grammar::ordering))]
-fn ordering(alloc: Global, tokens: &[Token]) -> Result<(Tail, &[Token]), Refusal>
+fn ordering(alloc: Global, tokens: &[Token]) -> Result<(Ending, &[Token]), Refusal>
     ensures { Gives (seen ending_of) result (flat ordering (views tokens.now)) }
 {
     let (_, rest) = expect(tokens, Fixed::Order)?;
@@ -138,7 +138,7 @@ fn ordering(alloc: Global, tokens: &[Token]) -> Result<(Tail, &[Token]), Refusal
     let (down, rest) = direction(rest);
     let (_, rest) = expect(rest, Fixed::Limit)?;
     let (limit, rest) = numeral(false, rest)?;
-    Ok((Tail::Order { key, down, limit }, rest))
+    Ok((Ending::Order { key, down, limit }, rest))
 }
 
 /// A query, and what follows it and its semicolon.
@@ -160,14 +160,14 @@ fn rows(alloc: Global, levels: u8, tokens: &[Token]) -> Result<(Tree, &[Token]),
     let (_, rest) = expect(tokens, Fixed::From)?;
     let (table, rest) = name(alloc, rest)?;
     let (pred, rest) = filter(alloc, levels, rest)?;
-    let (tail, rest) = ordering(alloc, rest)?;
+    let (ending, rest) = ordering(alloc, rest)?;
     let head = Select::Star;
     Ok(closed(
         Tree {
             head,
             table,
             pred,
-            tail,
+            ending,
         },
         rest,
     ))
@@ -186,14 +186,14 @@ fn groups(
     let (_, rest) = expect(tokens, Fixed::From)?;
     let (table, rest) = name(alloc, rest)?;
     let (pred, rest) = filter(alloc, levels, rest)?;
-    let (tail, rest) = grouping(alloc, rest)?;
+    let (ending, rest) = grouping(alloc, rest)?;
     let head = Select::Items(items);
     Ok(closed(
         Tree {
             head,
             table,
             pred,
-            tail,
+            ending,
         },
         rest,
     ))

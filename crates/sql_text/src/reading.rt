@@ -5,6 +5,7 @@ ghost use Rattle.sql_tokens.specs.Lexeme.{views};
 ghost use Rattle.sql_text.specs.declared.fault.Cause.{Cause};
 ghost use Rattle.sql_text.specs.Tree.{Query, query_of};
 ghost use Rattle.sql_text.specs.Answer.{IsText, Breaks, IsFault, Answers, place, fault_of};
+ghost use Rattle.sql_text.specs.Laws.{IsAnswered};
 
 use crate::fault::{Cause, Refusal, SqlFault};
 use crate::query::sentence;
@@ -74,4 +75,9 @@ pub fn one_answer()
     ensures queries { (text : List ℕ) (p q : Query) → IsText text p → IsText text q → p ≡ q }
     ensures faults { (text : List ℕ) (c d : Cause) (i j : ℕ) → Breaks text c i → Breaks text d j → (c ≡ d) × (i ≡ j) }
     ensures apart { (text : List ℕ) (c : Cause) (i : ℕ) (q : Query) → Breaks text c i → IsText text q → ⊥ }
+{}
+
+/// `parse` has an answer for each text, want of memory left aside: its query, or a fault of it.
+pub fn some_answer()
+    ensures { IsAnswered }
 {}

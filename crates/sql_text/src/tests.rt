@@ -1,6 +1,6 @@
 //! Texts and their refusals, made by hand from the grammar.
 
-use crate::{parse, print};
+use crate::parse;
 use std::alloc::Global;
 use std::process::Abort;
 use std::test::Fail;
@@ -13,7 +13,15 @@ fn said(alloc: Global, text: &str) -> Result<String, Fail> {
     }
 }
 
-fn all_are(rt: &impl Abort, alloc: Global, table: &[(&str, &str)]) -> Result<(), Fail> {
+fn all_are_queries(rt: &impl Abort, alloc: Global, texts: &[&str]) -> Result<(), Fail> {
+    for text in texts {
+        let found = said(alloc, text)?;
+        assert!(rt; found.is_empty(), "{text}: {found}");
+    }
+    Ok(())
+}
+
+fn all_are_refused(rt: &impl Abort, alloc: Global, table: &[(&str, &str)]) -> Result<(), Fail> {
     for (text, wanted) in table {
         let found = said(alloc, text)?;
         assert!(rt; found.as_str() == *wanted, "{text}: {found}");
@@ -21,244 +29,192 @@ fn all_are(rt: &impl Abort, alloc: Global, table: &[(&str, &str)]) -> Result<(),
     Ok(())
 }
 
-#[test]
-fn items(rt: HostRuntime) -> Result<(), Fail> {
-    let table: [(&str, &str); 8] = [
-        ("SELECT a FROM t", ""),
-        ("select a, b from t;", ""),
-        ("SELECT COUNT(*) FROM t", ""),
-        (
-            "SELECT SUM(- 5), AVG(a - -5), MIN((a)), max(1.50) FROM t",
-            "",
-        ),
-        ("SELECT SUM(-9223372036854775808) FROM t", ""),
-        ("SELECT SUM(9223372036854775807) FROM t", ""),
-        ("SELECT SUM(922337203685477580.70) FROM t", ""),
-        ("SELECT \"a b\", \"from\" FROM \"t\"", ""),
-    ];
-    all_are(&rt, rt.alloc(), &table)
-}
+static QUERIES: [&str; 23] = [
+    "SELECT a FROM t",
+    "select a, b from t;",
+    "SELECT COUNT(*) FROM t",
+    "SELECT SUM(- 5), AVG(a - -5), MIN((a)), max(1.50) FROM t",
+    "SELECT SUM(-9223372036854775808) FROM t",
+    "SELECT SUM(9223372036854775807) FROM t",
+    "SELECT SUM(922337203685477580.70) FROM t",
+    "SELECT \"a b\", \"from\" FROM \"t\"",
+    "SELECT SUM(a + b * -2) FROM t WHERE a = 1",
+    "SELECT a FROM t WHERE NOT NOT a = 1",
+    "SELECT a FROM t WHERE NOT v IN (1)",
+    "SELECT a FROM t WHERE a NOT IN (1, 2) OR b NOT BETWEEN 1 AND 2 AND c IN ('x')",
+    "SELECT selected, order_by, nota FROM fromage WHERE inn = ory",
+    "SELECT a FROM t WHERE \"is\" <> 'it''s'",
+    "SELECT a FROM t WHERE (a = 1 OR b != 2) AND (NOT (c <= 3))",
+    "SELECT a FROM t WHERE c = ''",
+    "SELECT * FROM t ORDER BY a LIMIT 3",
+    "SELECT * FROM t WHERE a < b ORDER BY a DESC LIMIT 3;",
+    "SELECT * FROM t ORDER BY a ASC LIMIT 2.5",
+    "SELECT a FROM t GROUP BY a, b;",
+    "SELECT a FROM t WHERE d >= DATE '2020-01-01' GROUP BY d",
+    "SELECT SUM(((((((((((((((((((((((((((((((((a))))))))))))))))))))))))))))))))) FROM t",
+    "SELECT a FROM t WHERE NOT (NOT (NOT (NOT (NOT (NOT (NOT (NOT (NOT (NOT (NOT (NOT (NOT (NOT (NOT (NOT (a = 1))))))))))))))))",
+];
 
 #[test]
-fn conditions(rt: HostRuntime) -> Result<(), Fail> {
-    let table: [(&str, &str); 8] = [
-        ("SELECT SUM(a + b * -2) FROM t WHERE a = 1", ""),
-        ("SELECT a FROM t WHERE NOT NOT a = 1", ""),
-        ("SELECT a FROM t WHERE NOT v IN (1)", ""),
-        (
-            "SELECT a FROM t WHERE a NOT IN (1, 2) OR b NOT BETWEEN 1 AND 2 AND c IN ('x')",
-            "",
-        ),
-        (
-            "SELECT selected, order_by, nota FROM fromage WHERE inn = ory",
-            "",
-        ),
-        ("SELECT a FROM t WHERE \"is\" <> 'it''s'", ""),
-        (
-            "SELECT a FROM t WHERE (a = 1 OR b != 2) AND (NOT (c <= 3))",
-            "",
-        ),
-        ("SELECT a FROM t WHERE c = ''", ""),
-    ];
-    all_are(&rt, rt.alloc(), &table)
+fn texts_are_queries(rt: HostRuntime) -> Result<(), Fail> {
+    all_are_queries(&rt, rt.alloc(), &QUERIES)
 }
 
-#[test]
-fn endings(rt: HostRuntime) -> Result<(), Fail> {
-    let table: [(&str, &str); 5] = [
-        ("SELECT * FROM t ORDER BY a LIMIT 3", ""),
-        ("SELECT * FROM t WHERE a < b ORDER BY a DESC LIMIT 3;", ""),
-        ("SELECT * FROM t ORDER BY a ASC LIMIT 2.5", ""),
-        ("SELECT a FROM t GROUP BY a, b;", ""),
-        (
-            "SELECT a FROM t WHERE d >= DATE '2020-01-01' GROUP BY d",
-            "",
-        ),
-    ];
-    all_are(&rt, rt.alloc(), &table)
-}
+static UNFINISHED: [(&str, &str); 42] = [
+    ("", "syntax at 0"),
+    ("SELECT", "syntax at 6"),
+    ("SELECT a", "syntax at 8"),
+    ("SELECT a,", "syntax at 9"),
+    ("SELECT a FROM", "syntax at 13"),
+    ("SELECT a FROM t WHERE  ", "syntax at 23"),
+    ("SELECT a FROM t WHERE a", "syntax at 23"),
+    ("SELECT a FROM t WHERE a =", "syntax at 25"),
+    ("SELECT a FROM t WHERE a = -", "syntax at 27"),
+    ("SELECT a FROM t WHERE a = DATE", "syntax at 30"),
+    ("SELECT a FROM t WHERE a BETWEEN", "syntax at 31"),
+    ("SELECT a FROM t WHERE a BETWEEN 1", "syntax at 33"),
+    ("SELECT a FROM t WHERE a BETWEEN 1 AND", "syntax at 37"),
+    ("SELECT a FROM t WHERE a IN", "syntax at 26"),
+    ("SELECT a FROM t WHERE a IN (", "syntax at 28"),
+    ("SELECT a FROM t WHERE a IN (1", "syntax at 29"),
+    ("SELECT a FROM t WHERE a IN (1,", "syntax at 30"),
+    ("SELECT a FROM t WHERE a NOT", "syntax at 27"),
+    ("SELECT a FROM t WHERE NOT", "syntax at 25"),
+    ("SELECT a FROM t WHERE (", "syntax at 23"),
+    ("SELECT a FROM t WHERE (a = 1", "syntax at 28"),
+    ("SELECT a FROM t WHERE a = 1 AND", "syntax at 31"),
+    ("SELECT a FROM t WHERE a = 1 OR", "syntax at 30"),
+    ("SELECT a FROM t GROUP", "syntax at 21"),
+    ("SELECT a FROM t GROUP BY", "syntax at 24"),
+    ("SELECT a FROM t GROUP BY a,", "syntax at 27"),
+    ("SELECT *", "syntax at 8"),
+    ("SELECT * FROM t", "syntax at 15"),
+    ("SELECT * FROM t ORDER", "syntax at 21"),
+    ("SELECT * FROM t ORDER BY", "syntax at 24"),
+    ("SELECT * FROM t ORDER BY a", "syntax at 26"),
+    ("SELECT * FROM t ORDER BY a DESC", "syntax at 31"),
+    ("SELECT * FROM t ORDER BY a LIMIT", "syntax at 32"),
+    ("SELECT SUM", "syntax at 10"),
+    ("SELECT SUM(", "syntax at 11"),
+    ("SELECT SUM(-", "syntax at 12"),
+    ("SELECT SUM(a", "syntax at 12"),
+    ("SELECT SUM(a +", "syntax at 14"),
+    ("SELECT SUM(a *", "syntax at 14"),
+    ("SELECT SUM((a)", "syntax at 14"),
+    ("SELECT COUNT(", "syntax at 13"),
+    ("SELECT COUNT(*", "syntax at 14"),
+];
 
 #[test]
-fn deepest(rt: HostRuntime) -> Result<(), Fail> {
-    let table: [(&str, &str); 2] = [
-        (
-            "SELECT SUM(((((((((((((((((((((((((((((((((a))))))))))))))))))))))))))))))))) FROM t",
-            "",
-        ),
-        (
-            "SELECT a FROM t WHERE NOT (NOT (NOT (NOT (NOT (NOT (NOT (NOT (NOT (NOT (NOT (NOT (NOT (NOT (NOT (NOT (a = 1))))))))))))))))",
-            "",
-        ),
-    ];
-    all_are(&rt, rt.alloc(), &table)
+fn ends_are_missed(rt: HostRuntime) -> Result<(), Fail> {
+    all_are_refused(&rt, rt.alloc(), &UNFINISHED)
 }
 
-#[test]
-fn unfinished(rt: HostRuntime) -> Result<(), Fail> {
-    let table: [(&str, &str); 21] = [
-        ("", "syntax at 0"),
-        ("SELECT", "syntax at 6"),
-        ("SELECT a", "syntax at 8"),
-        ("SELECT a,", "syntax at 9"),
-        ("SELECT a FROM", "syntax at 13"),
-        ("SELECT a FROM t WHERE  ", "syntax at 23"),
-        ("SELECT a FROM t WHERE a", "syntax at 23"),
-        ("SELECT a FROM t WHERE a =", "syntax at 25"),
-        ("SELECT a FROM t WHERE a = -", "syntax at 27"),
-        ("SELECT a FROM t WHERE a = DATE", "syntax at 30"),
-        ("SELECT a FROM t WHERE a BETWEEN", "syntax at 31"),
-        ("SELECT a FROM t WHERE a BETWEEN 1", "syntax at 33"),
-        ("SELECT a FROM t WHERE a BETWEEN 1 AND", "syntax at 37"),
-        ("SELECT a FROM t WHERE a IN", "syntax at 26"),
-        ("SELECT a FROM t WHERE a IN (", "syntax at 28"),
-        ("SELECT a FROM t WHERE a IN (1", "syntax at 29"),
-        ("SELECT a FROM t WHERE a IN (1,", "syntax at 30"),
-        ("SELECT a FROM t WHERE a NOT", "syntax at 27"),
-        ("SELECT a FROM t WHERE NOT", "syntax at 25"),
-        ("SELECT a FROM t WHERE (", "syntax at 23"),
-        ("SELECT a FROM t WHERE (a = 1", "syntax at 28"),
-    ];
-    all_are(&rt, rt.alloc(), &table)
-}
+static WRONG_TOKENS: [(&str, &str); 59] = [
+    ("FROM t", "syntax at 0"),
+    ("SELECT FROM t", "syntax at 7"),
+    ("SELECT SELECT FROM t", "syntax at 7"),
+    ("SELECT a b FROM t", "syntax at 9"),
+    ("SELECT a, * FROM t", "syntax at 10"),
+    ("SELECT *, a FROM t", "syntax at 8"),
+    ("SELECT a FROM 1", "syntax at 14"),
+    ("SELECT a FROM WHERE", "syntax at 14"),
+    ("SELECT a FROM t AND", "syntax at 16"),
+    ("SELECT a FROM t ORDER BY a LIMIT 1", "syntax at 16"),
+    ("SELECT a FROM t;;", "syntax at 16"),
+    ("SELECT a FROM t; x", "syntax at 17"),
+    ("SELECT * FROM t GROUP BY a", "syntax at 16"),
+    ("SELECT * FROM t;", "syntax at 15"),
+    ("SELECT * FROM t ORDER a", "syntax at 22"),
+    ("SELECT * FROM t ORDER BY a b", "syntax at 27"),
+    ("SELECT * FROM t ORDER BY a DESC ASC", "syntax at 32"),
+    ("SELECT * FROM t ORDER BY a LIMIT -1", "syntax at 33"),
+    ("SELECT COUNT(a) FROM t", "syntax at 13"),
+    ("SELECT COUNT(*, FROM t", "syntax at 14"),
+    ("SELECT COUNT * FROM t", "syntax at 13"),
+    ("SELECT SUM(price FROM t", "syntax at 17"),
+    ("SELECT SUM(*) FROM t", "syntax at 11"),
+    ("SELECT SUM(- a) FROM t", "syntax at 13"),
+    ("SELECT SUM(a * / b) FROM t", "syntax at 15"),
+    ("SELECT SUM((a) FROM t", "syntax at 15"),
+    ("SELECT SUM('x') FROM t", "syntax at 11"),
+    ("SELECT a FROM t GROUP a", "syntax at 22"),
+    ("SELECT a FROM t GROUP BY 1", "syntax at 25"),
+    ("SELECT a FROM t WHERE 1 = a", "syntax at 22"),
+    ("SELECT a FROM t WHERE a == 1", "syntax at 25"),
+    ("SELECT a FROM t WHERE a IS NULL", "syntax at 24"),
+    ("SELECT a FROM t WHERE a = NULL", "syntax at 26"),
+    ("SELECT a FROM t WHERE a BETWEEN 1 OR 2", "syntax at 34"),
+    ("SELECT a FROM t WHERE a BETWEEN b AND 2", "syntax at 32"),
+    ("SELECT a FROM t WHERE a IN 1", "syntax at 27"),
+    ("SELECT a FROM t WHERE a IN ()", "syntax at 28"),
+    ("SELECT a FROM t WHERE a IN (1 2)", "syntax at 30"),
+    ("SELECT a FROM t WHERE a NOT = 1", "syntax at 28"),
+    ("SELECT a FROM t WHERE a NOT NOT IN (1)", "syntax at 28"),
+    ("SELECT a FROM t WHERE a = DATE 1", "syntax at 31"),
+    ("SELECT a FROM t WHERE a = - 'x'", "syntax at 28"),
+    ("SELECT a FROM t WHERE a = 1.", "syntax at 27"),
+    ("SELECT a FROM t WHERE a = .5", "syntax at 26"),
+    ("SELECT a FROM t WHERE a = 'x", "syntax at 26"),
+    ("SELECT a FROM t WHERE a = 'x''", "syntax at 29"),
+    ("SELECT a FROM t WHERE a = 'x''y'''z", "syntax at 34"),
+    ("SELECT a FROM t WHERE a = 'x''y''z", "syntax at 32"),
+    ("SELECT \"a FROM t", "syntax at 7"),
+    ("SELECT \"\" FROM t", "syntax at 7"),
+    ("SELECT a FROM t WHERE a ! b", "syntax at 24"),
+    ("SELECT a FROM t WHERE a ? 1", "syntax at 24"),
+    ("SELECT a.b FROM t", "syntax at 8"),
+    ("SELECT é FROM t", "syntax at 7"),
+    ("SELECT a FROM t WHERE (a = 1 , b = 2)", "syntax at 29"),
+    ("SELECT a FROM t WHERE ((a = 1) b", "syntax at 31"),
+    ("SELECT a FROM t WHERE a = 1 = 1", "syntax at 28"),
+    ("SELECT a FROM t WHEREa = 1", "syntax at 16"),
+    ("SELECT SUM( FROM 9223372036854775808", "syntax at 12"),
+];
 
 #[test]
-fn unfinished_at_the_tail(rt: HostRuntime) -> Result<(), Fail> {
-    let table: [(&str, &str); 21] = [
-        ("SELECT a FROM t WHERE a = 1 AND", "syntax at 31"),
-        ("SELECT a FROM t WHERE a = 1 OR", "syntax at 30"),
-        ("SELECT a FROM t GROUP", "syntax at 21"),
-        ("SELECT a FROM t GROUP BY", "syntax at 24"),
-        ("SELECT a FROM t GROUP BY a,", "syntax at 27"),
-        ("SELECT *", "syntax at 8"),
-        ("SELECT * FROM t", "syntax at 15"),
-        ("SELECT * FROM t ORDER", "syntax at 21"),
-        ("SELECT * FROM t ORDER BY", "syntax at 24"),
-        ("SELECT * FROM t ORDER BY a", "syntax at 26"),
-        ("SELECT * FROM t ORDER BY a DESC", "syntax at 31"),
-        ("SELECT * FROM t ORDER BY a LIMIT", "syntax at 32"),
-        ("SELECT SUM", "syntax at 10"),
-        ("SELECT SUM(", "syntax at 11"),
-        ("SELECT SUM(-", "syntax at 12"),
-        ("SELECT SUM(a", "syntax at 12"),
-        ("SELECT SUM(a +", "syntax at 14"),
-        ("SELECT SUM(a *", "syntax at 14"),
-        ("SELECT SUM((a)", "syntax at 14"),
-        ("SELECT COUNT(", "syntax at 13"),
-        ("SELECT COUNT(*", "syntax at 14"),
-    ];
-    all_are(&rt, rt.alloc(), &table)
+fn tokens_are_refused(rt: HostRuntime) -> Result<(), Fail> {
+    all_are_refused(&rt, rt.alloc(), &WRONG_TOKENS)
 }
 
-#[test]
-fn wrong_tokens(rt: HostRuntime) -> Result<(), Fail> {
-    let table: [(&str, &str); 29] = [
-        ("FROM t", "syntax at 0"),
-        ("SELECT FROM t", "syntax at 7"),
-        ("SELECT SELECT FROM t", "syntax at 7"),
-        ("SELECT a b FROM t", "syntax at 9"),
-        ("SELECT a, * FROM t", "syntax at 10"),
-        ("SELECT *, a FROM t", "syntax at 8"),
-        ("SELECT a FROM 1", "syntax at 14"),
-        ("SELECT a FROM WHERE", "syntax at 14"),
-        ("SELECT a FROM t AND", "syntax at 16"),
-        ("SELECT a FROM t ORDER BY a LIMIT 1", "syntax at 16"),
-        ("SELECT a FROM t;;", "syntax at 16"),
-        ("SELECT a FROM t; x", "syntax at 17"),
-        ("SELECT * FROM t GROUP BY a", "syntax at 16"),
-        ("SELECT * FROM t;", "syntax at 15"),
-        ("SELECT * FROM t ORDER a", "syntax at 22"),
-        ("SELECT * FROM t ORDER BY a b", "syntax at 27"),
-        ("SELECT * FROM t ORDER BY a DESC ASC", "syntax at 32"),
-        ("SELECT * FROM t ORDER BY a LIMIT -1", "syntax at 33"),
-        ("SELECT COUNT(a) FROM t", "syntax at 13"),
-        ("SELECT COUNT(*, FROM t", "syntax at 14"),
-        ("SELECT COUNT * FROM t", "syntax at 13"),
-        ("SELECT SUM(price FROM t", "syntax at 17"),
-        ("SELECT SUM(*) FROM t", "syntax at 11"),
-        ("SELECT SUM(- a) FROM t", "syntax at 13"),
-        ("SELECT SUM(a * / b) FROM t", "syntax at 15"),
-        ("SELECT SUM((a) FROM t", "syntax at 15"),
-        ("SELECT SUM('x') FROM t", "syntax at 11"),
-        ("SELECT a FROM t GROUP a", "syntax at 22"),
-        ("SELECT a FROM t GROUP BY 1", "syntax at 25"),
-    ];
-    all_are(&rt, rt.alloc(), &table)
-}
+static LIMITS: [(&str, &str); 8] = [
+    (
+        "SELECT SUM(9223372036854775808) FROM t",
+        "number too large at 11",
+    ),
+    (
+        "SELECT SUM(-9223372036854775809) FROM t",
+        "number too large at 12",
+    ),
+    (
+        "SELECT SUM(9223372036854775808 FROM",
+        "number too large at 11",
+    ),
+    (
+        "SELECT a FROM t WHERE a = 92233720368547758.08",
+        "number too large at 26",
+    ),
+    (
+        "SELECT * FROM t ORDER BY a LIMIT 9223372036854775808",
+        "number too large at 33",
+    ),
+    (
+        "SELECT SUM((((((((((((((((((((((((((((((((((",
+        "nested too deep at 43",
+    ),
+    (
+        "SELECT a FROM t WHERE NOT NOT NOT NOT NOT NOT NOT NOT NOT NOT NOT NOT NOT NOT NOT NOT NOT NOT NOT NOT NOT NOT NOT NOT NOT NOT NOT NOT NOT NOT NOT NOT NOT a = 1",
+        "nested too deep at 150",
+    ),
+    (
+        "SELECT a FROM t WHERE (NOT (NOT (NOT (NOT (NOT (NOT (NOT (NOT (NOT (NOT (NOT (NOT (NOT (NOT (NOT (NOT (a = 1",
+        "nested too deep at 102",
+    ),
+];
 
 #[test]
-fn wrong_conditions(rt: HostRuntime) -> Result<(), Fail> {
-    let table: [(&str, &str); 30] = [
-        ("SELECT a FROM t WHERE 1 = a", "syntax at 22"),
-        ("SELECT a FROM t WHERE a == 1", "syntax at 25"),
-        ("SELECT a FROM t WHERE a IS NULL", "syntax at 24"),
-        ("SELECT a FROM t WHERE a = NULL", "syntax at 26"),
-        ("SELECT a FROM t WHERE a BETWEEN 1 OR 2", "syntax at 34"),
-        ("SELECT a FROM t WHERE a BETWEEN b AND 2", "syntax at 32"),
-        ("SELECT a FROM t WHERE a IN 1", "syntax at 27"),
-        ("SELECT a FROM t WHERE a IN ()", "syntax at 28"),
-        ("SELECT a FROM t WHERE a IN (1 2)", "syntax at 30"),
-        ("SELECT a FROM t WHERE a NOT = 1", "syntax at 28"),
-        ("SELECT a FROM t WHERE a NOT NOT IN (1)", "syntax at 28"),
-        ("SELECT a FROM t WHERE a = DATE 1", "syntax at 31"),
-        ("SELECT a FROM t WHERE a = - 'x'", "syntax at 28"),
-        ("SELECT a FROM t WHERE a = 1.", "syntax at 27"),
-        ("SELECT a FROM t WHERE a = .5", "syntax at 26"),
-        ("SELECT a FROM t WHERE a = 'x", "syntax at 26"),
-        ("SELECT a FROM t WHERE a = 'x''", "syntax at 29"),
-        ("SELECT a FROM t WHERE a = 'x''y'''z", "syntax at 34"),
-        ("SELECT a FROM t WHERE a = 'x''y''z", "syntax at 32"),
-        ("SELECT \"a FROM t", "syntax at 7"),
-        ("SELECT \"\" FROM t", "syntax at 7"),
-        ("SELECT a FROM t WHERE a ! b", "syntax at 24"),
-        ("SELECT a FROM t WHERE a ? 1", "syntax at 24"),
-        ("SELECT a.b FROM t", "syntax at 8"),
-        ("SELECT é FROM t", "syntax at 7"),
-        ("SELECT a FROM t WHERE (a = 1 , b = 2)", "syntax at 29"),
-        ("SELECT a FROM t WHERE ((a = 1) b", "syntax at 31"),
-        ("SELECT a FROM t WHERE a = 1 = 1", "syntax at 28"),
-        ("SELECT a FROM t WHEREa = 1", "syntax at 16"),
-        ("SELECT SUM( FROM 9223372036854775808", "syntax at 12"),
-    ];
-    all_are(&rt, rt.alloc(), &table)
-}
-
-#[test]
-fn limits(rt: HostRuntime) -> Result<(), Fail> {
-    let table: [(&str, &str); 8] = [
-        (
-            "SELECT SUM(9223372036854775808) FROM t",
-            "number too large at 11",
-        ),
-        (
-            "SELECT SUM(-9223372036854775809) FROM t",
-            "number too large at 12",
-        ),
-        (
-            "SELECT SUM(9223372036854775808 FROM",
-            "number too large at 11",
-        ),
-        (
-            "SELECT a FROM t WHERE a = 92233720368547758.08",
-            "number too large at 26",
-        ),
-        (
-            "SELECT * FROM t ORDER BY a LIMIT 9223372036854775808",
-            "number too large at 33",
-        ),
-        (
-            "SELECT SUM((((((((((((((((((((((((((((((((((",
-            "nested too deep at 43",
-        ),
-        (
-            "SELECT a FROM t WHERE NOT NOT NOT NOT NOT NOT NOT NOT NOT NOT NOT NOT NOT NOT NOT NOT NOT NOT NOT NOT NOT NOT NOT NOT NOT NOT NOT NOT NOT NOT NOT NOT NOT a = 1",
-            "nested too deep at 150",
-        ),
-        (
-            "SELECT a FROM t WHERE (NOT (NOT (NOT (NOT (NOT (NOT (NOT (NOT (NOT (NOT (NOT (NOT (NOT (NOT (NOT (NOT (a = 1",
-            "nested too deep at 102",
-        ),
-    ];
-    all_are(&rt, rt.alloc(), &table)
+fn limits_are_kept(rt: HostRuntime) -> Result<(), Fail> {
+    all_are_refused(&rt, rt.alloc(), &LIMITS)
 }
 
 #[test]
@@ -273,116 +229,4 @@ fn longest(rt: HostRuntime) -> Result<(), Fail> {
     let found = said(rt.alloc(), text.as_str())?;
     assert!(rt; found.as_str() == "longer than 4096 bytes");
     Ok(())
-}
-
-/// The printed form of a text's query, or nothing.
-fn printed(alloc: Global, text: &str) -> Result<String, Fail> {
-    match parse(alloc, text) {
-        Ok(tree) => Ok(print(alloc, &tree)?),
-        Err(_) => Ok(String::new(alloc)),
-    }
-}
-
-/// Each text's query prints so, and what is printed is printed the same again.
-fn all_print(rt: &impl Abort, alloc: Global, table: &[(&str, &str)]) -> Result<(), Fail> {
-    for (text, wanted) in table {
-        let found = printed(alloc, text)?;
-        assert!(rt; found.as_str() == *wanted, "{text}: {found}");
-        let again = printed(alloc, found.as_str())?;
-        assert!(rt; again.as_str() == *wanted, "{text}: {again}");
-    }
-    Ok(())
-}
-
-#[test]
-fn printed_conditions(rt: HostRuntime) -> Result<(), Fail> {
-    let table: [(&str, &str); 9] = [
-        (
-            "select sum( price ) from t where not (price<1 or price>2) and qty=1",
-            "SELECT SUM(price) FROM t WHERE NOT (price < 1 OR price > 2) AND qty = 1",
-        ),
-        (
-            "select a from t where not v in (1)",
-            "SELECT a FROM t WHERE v NOT IN (1)",
-        ),
-        (
-            "select a from t where v not between -1 and 2.50",
-            "SELECT a FROM t WHERE v NOT BETWEEN -1 AND 2.5",
-        ),
-        (
-            "select a from t where (a = 1) or (b = 2 and (c = 3))",
-            "SELECT a FROM t WHERE a = 1 OR b = 2 AND c = 3",
-        ),
-        (
-            "select a from t where (a = 1 or b = 2) and c = 3",
-            "SELECT a FROM t WHERE (a = 1 OR b = 2) AND c = 3",
-        ),
-        (
-            "select a from t where a = 1 and (b = 2 and c = 3)",
-            "SELECT a FROM t WHERE a = 1 AND (b = 2 AND c = 3)",
-        ),
-        (
-            "select a from t where a = 1 or (b = 2 or c = 3)",
-            "SELECT a FROM t WHERE a = 1 OR (b = 2 OR c = 3)",
-        ),
-        (
-            "select a from t where not not (a != b)",
-            "SELECT a FROM t WHERE NOT NOT a <> b",
-        ),
-        (
-            "select a from t where not (a = 1 and b = 2)",
-            "SELECT a FROM t WHERE NOT (a = 1 AND b = 2)",
-        ),
-    ];
-    all_print(&rt, rt.alloc(), &table)
-}
-
-#[test]
-fn printed_expressions(rt: HostRuntime) -> Result<(), Fail> {
-    let table: [(&str, &str); 5] = [
-        (
-            "select sum((a - b) - c), avg(a - (b - c)) from t",
-            "SELECT SUM(a - b - c), AVG(a - (b - c)) FROM t",
-        ),
-        (
-            "select sum((a + b) * c), min((a * b) * c), max(a * (b * c)) from t",
-            "SELECT SUM((a + b) * c), MIN(a * b * c), MAX(a * (b * c)) FROM t",
-        ),
-        (
-            "select sum(-1.50 * - 0 + 007), count( * ) from t",
-            "SELECT SUM(-1.5 * 0 + 7), COUNT(*) FROM t",
-        ),
-        (
-            "select sum(-0.05 + 10.0 - 9223372036854775807) from t",
-            "SELECT SUM(-0.05 + 10 - 9223372036854775807) FROM t",
-        ),
-        (
-            "select sum(-9223372036854775808) from t",
-            "SELECT SUM(-9223372036854775808) FROM t",
-        ),
-    ];
-    all_print(&rt, rt.alloc(), &table)
-}
-
-#[test]
-fn printed_words(rt: HostRuntime) -> Result<(), Fail> {
-    let table: [(&str, &str); 4] = [
-        (
-            "select \"from\", \"abc\", \"a b\", min((city)) from \"t\" group by a,\"1\"",
-            "SELECT \"from\", abc, \"a b\", MIN(city) FROM t GROUP BY a, \"1\"",
-        ),
-        (
-            "select a from t where c in ('it''s' , date '2020-01-01',3)",
-            "SELECT a FROM t WHERE c IN ('it''s', DATE '2020-01-01', 3)",
-        ),
-        (
-            "select * from t order by a asc limit 3;",
-            "SELECT * FROM t ORDER BY a LIMIT 3",
-        ),
-        (
-            "select * from t where c >= 'é' order by a desc limit 1.5",
-            "SELECT * FROM t WHERE c >= 'é' ORDER BY a DESC LIMIT 1.5",
-        ),
-    ];
-    all_print(&rt, rt.alloc(), &table)
 }

@@ -53,7 +53,7 @@ pub enum Select {
 }
 
 #[derive(Clone, Copy, Debug, PartialEq, Eq)]
-pub enum Cmp {
+pub enum Comparison {
     Eq,
     Ne,
     Lt,
@@ -74,12 +74,12 @@ pub enum Value {
 pub enum PredTree {
     Compare {
         column: Named,
-        op: Cmp,
+        op: Comparison,
         value: Value,
     },
     Columns {
         left: Named,
-        op: Cmp,
+        op: Comparison,
         right: Named,
     },
     Between {
@@ -97,17 +97,17 @@ pub enum PredTree {
 }
 
 #[derive(Debug, Drop)]
-pub enum Tail {
+pub enum Ending {
     Nothing,
     Group(Vec<Named>),
     Order { key: Named, down: bool, limit: Num },
 }
 
-/// A whole query. Its head is `Star` exactly where its tail is `Order`.
+/// A whole query. Its head is `Star` exactly where its ending is `Order`.
 #[derive(Debug, Drop)]
 pub struct Tree {
     pub head: Select,
     pub table: Named,
     pub pred: Option<PredTree>,
-    pub tail: Tail,
+    pub ending: Ending,
 }

@@ -10,7 +10,7 @@ use Rattle.sql_tokens.specs.Spelling.{IsToken, word, quoted, digits, point, stri
 use Rattle.sql_tokens.specs.Reads.{token_at}
 use Rattle.sql_tokens.proofs.Marks.{takes, reach}
 
-blank_is : (c : Class) → is_blank c ≡ true → c ≡ Blank
+pub blank_is : (c : Class) → is_blank c ≡ true → c ≡ Blank
 blank_is Blank h = refl
 blank_is Letter h = absurd cc
 blank_is Digit h = absurd cc
@@ -27,7 +27,7 @@ longest front w m h u v n e tok =
     let l : length front + length w ≡ length u + length v = sym (length-append front w) ∙ ap length e ∙ length-append u v in
     omega (arith, l, ap length rest, r.2)
 
-none_begins : (w : List ℕ) → token_at w ≡ None → ((b : ℕ) (v : List ℕ) → w ≡ b ∷ v → class_of b ≡ Blank → ⊥) → BeginsNone w
+pub none_begins : (w : List ℕ) → token_at w ≡ None → ((b : ℕ) (v : List ℕ) → w ≡ b ∷ v → class_of b ≡ Blank → ⊥) → BeginsNone w
 none_begins w h not_blank = (
   λ u v m e tok.
       let r = reach u v m tok in
@@ -45,7 +45,7 @@ token_long front m (string s) = omega arith
 token_long front m (one c h) = omega arith
 token_long front m (two c h) = omega arith
 
-nothing_at_end : token_at [] ≡ None
+pub nothing_at_end : token_at [] ≡ None
 unfolding token_at
 nothing_at_end = refl
 

@@ -3,3 +3,4 @@ pub mod Marks
 pub mod Cutting
 pub mod OneCut
 pub mod Units
+pub mod SomeCut

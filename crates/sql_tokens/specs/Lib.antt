@@ -3,3 +3,4 @@ pub mod Lexeme
 pub mod Byte
 pub mod Spelling
 pub mod Reads
+pub mod CutLaws

@@ -4,6 +4,7 @@ ghost use Rattle.std.specs.Prelude.{◌≡◌, ◌<◌, ◌≤◌, ℕ, List, le
 ghost use Rattle.sql_tokens.specs.Lexeme.{views, Lexeme};
 ghost use Rattle.sql_tokens.specs.Spelling.{Splits};
 ghost use Rattle.sql_tokens.specs.Reads.{token_at, GivesToken};
+ghost use Rattle.sql_tokens.specs.CutLaws.{IsCut};
 
 use crate::byte::{Class, class_of, is_blank};
 use crate::numeral::number;
@@ -66,4 +67,9 @@ pub fn tokens(alloc: Global, text: &[u8]) -> Result<(Vec<Token>, usize), AllocEr
 /// A text has one list of tokens, and one rest.
 pub fn one_cut()
     ensures { (w : List ℕ) (ts us : List Lexeme) (r s : List ℕ) → Splits 0 w ts r → Splits 0 w us s → (ts ≡ us) × (r ≡ s) }
+{}
+
+/// Each text has a list of tokens, and a rest.
+pub fn some_cut()
+    ensures { IsCut }
 {}

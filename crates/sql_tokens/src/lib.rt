@@ -11,6 +11,6 @@ mod tests;
 mod token;
 mod word;
 
-pub use cut::{one_cut, tokens};
+pub use cut::{one_cut, some_cut, tokens};
 pub use token::{Fixed, KEYWORDS, Kind, Number, Token};
 pub use word::is_plain_name;

@@ -4,38 +4,39 @@ use crate::token::{Fixed, KEYWORDS, Kind, Number};
 use crate::tokens;
 use std::test::Fail;
 
+/// A text, how many tokens it has, and where they end.
+static ENDS: [(&str, usize, usize); 26] = [
+    ("", 0, 0),
+    (" \t\r\n", 0, 4),
+    ("SELECT a FROM t", 4, 15),
+    ("selecta", 1, 7),
+    ("_1 a1", 2, 5),
+    ("1a", 2, 2),
+    ("1.", 1, 1),
+    (".5", 0, 0),
+    ("1.5.5", 1, 3),
+    ("1.5e", 2, 4),
+    ("'a''b'", 1, 6),
+    ("'a''", 1, 3),
+    ("'''", 1, 2),
+    ("''", 1, 2),
+    ("'a", 0, 0),
+    ("'a'b", 2, 4),
+    ("\"a b\"", 1, 5),
+    ("\"\"", 0, 0),
+    ("\"a", 0, 0),
+    ("!=<>", 2, 4),
+    ("!", 0, 0),
+    ("<=>=", 2, 4),
+    ("< >", 2, 3),
+    ("(),*+-;=<>", 9, 10),
+    ("a?b", 1, 1),
+    ("é", 0, 0),
+];
+
 #[test]
 fn ends_where_no_token_begins(rt: HostRuntime) -> Result<(), Fail> {
-    // the text, how many tokens it has, and where they end
-    let table: [(&str, usize, usize); 26] = [
-        ("", 0, 0),
-        (" \t\r\n", 0, 4),
-        ("SELECT a FROM t", 4, 15),
-        ("selecta", 1, 7),
-        ("_1 a1", 2, 5),
-        ("1a", 2, 2),
-        ("1.", 1, 1),
-        (".5", 0, 0),
-        ("1.5.5", 1, 3),
-        ("1.5e", 2, 4),
-        ("'a''b'", 1, 6),
-        ("'a''", 1, 3),
-        ("'''", 1, 2),
-        ("''", 1, 2),
-        ("'a", 0, 0),
-        ("'a'b", 2, 4),
-        ("\"a b\"", 1, 5),
-        ("\"\"", 0, 0),
-        ("\"a", 0, 0),
-        ("!=<>", 2, 4),
-        ("!", 0, 0),
-        ("<=>=", 2, 4),
-        ("< >", 2, 3),
-        ("(),*+-;=<>", 9, 10),
-        ("a?b", 1, 1),
-        ("é", 0, 0),
-    ];
-    for (text, count, end) in table {
+    for (text, count, end) in ENDS {
         assert!(rt; text.len() < 100);
         let (found, at) = tokens(rt.alloc(), text.as_bytes())?;
         assert_eq!(rt; found.len(), count, "tokens of {text}");
@@ -81,20 +82,22 @@ fn signs(rt: HostRuntime) -> Result<(), Fail> {
     Ok(())
 }
 
+/// A text, the units of its number, and how many digits stand behind the point.
+static NUMERALS: [(&str, Option<u64>, u16); 9] = [
+    ("0", Some(0), 0),
+    ("007", Some(7), 0),
+    ("1.50", Some(15), 1),
+    ("0.05", Some(5), 2),
+    ("0.00", Some(0), 0),
+    ("120.0", Some(120), 0),
+    ("9223372036854775808", Some(9223372036854775808), 0),
+    ("9223372036854775809", None, 0),
+    ("99999999999999999999.9", None, 1),
+];
+
 #[test]
 fn numbers(rt: HostRuntime) -> Result<(), Fail> {
-    let table: [(&str, Option<u64>, u16); 9] = [
-        ("0", Some(0), 0),
-        ("007", Some(7), 0),
-        ("1.50", Some(15), 1),
-        ("0.05", Some(5), 2),
-        ("0.00", Some(0), 0),
-        ("120.0", Some(120), 0),
-        ("9223372036854775808", Some(9223372036854775808), 0),
-        ("9223372036854775809", None, 0),
-        ("99999999999999999999.9", None, 1),
-    ];
-    for (text, units, scale) in table {
+    for (text, units, scale) in NUMERALS {
         assert!(rt; text.len() < 100);
         let (found, _) = tokens(rt.alloc(), text.as_bytes())?;
         assert_eq!(rt; found.len(), 1, "tokens of {text}");

@@ -8,7 +8,7 @@ use Rattle.sql_text.specs.declared.tree.CallKind.TheVariants as calls
 use Rattle.sql_text.specs.Tree.{Name, Expr, Column, Number, Add, Sub, Mul}
 use Rattle.sql_typing.specs.Faults.{argument_fault, expr_fault}
 use Rattle.sql_typing.specs.Names.{number_of}
-use Rattle.sql_typing.specs.Refusals.{Types}
+use Rattle.sql_typing.specs.Parts.{Types}
 use Rattle.sql_typing.specs.Terms as terms
 use Rattle.sql_typing.specs.Terms.{aggregate_of}
 use Rattle.sql_typing.specs.Typing.{bare_column, face_of, kind_of_call, scale_of, typed_call, typed_expr, whole_column}

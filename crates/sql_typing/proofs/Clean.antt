@@ -15,10 +15,10 @@ pub record IsClean (table : List ColumnHead) (q : Query) : Type 0 where
   pub known : first_in (name_fault table) (names_in q) ≡ None
   pub few_columns : length (columns_of table q) ≤ 16
   pub few_items : aggregates_in q.head ≤ 16
-  pub select_list : head_fault table (group_names q.tail) q.head ≡ None
+  pub select_list : head_fault table (group_names q.ending) q.head ≡ None
   pub condition : filter_fault table q.pred ≡ None
-  pub ending : ending_fault q.tail ≡ None
-  pub groups : group_bits table (columns_of table q) (typed_ending table (columns_of table q) q.tail) ≤ 16
+  pub ending : ending_fault q.ending ≡ None
+  pub groups : group_bits table (columns_of table q) (typed_ending table (columns_of table q) q.ending) ≤ 16
 
 few_columns : (table : List ColumnHead) (q : Query) → too_many_columns table q ≡ None → length (columns_of table q) ≤ 16
 few_columns table q h = at_most 16 (length (columns_of table q)) (not_if (nat_lt 16 (length (columns_of table q))) TooManyColumns h)
@@ -27,7 +27,7 @@ pub few_named : (table : List ColumnHead) (q : Query) → first_of (first_in (na
 few_named table q h = few_columns table q (none_later (first_in (name_fault table) (names_in q)) (too_many_columns table q) h)
 
 parts : (table : List ColumnHead) (q : Query) (t u c i x y z g : Option TypeFault) → t ≡ table_fault q.table → u ≡ first_in (name_fault table) (names_in q) → c ≡ too_many_columns table q → i ≡ too_many_items q
-    → x ≡ head_fault table (group_names q.tail) q.head → y ≡ filter_fault table q.pred → z ≡ ending_fault q.tail → g ≡ group_fault table q
+    → x ≡ head_fault table (group_names q.ending) q.head → y ≡ filter_fault table q.pred → z ≡ ending_fault q.ending → g ≡ group_fault table q
     → first_of t (first_of u (first_of c (first_of i (first_of (first_of x (first_of y z)) g)))) ≡ None → IsClean table q
 parts table q t u c i x y z g et eu ec ei ex ey ez eg h =
     let h1 = none_later t (first_of u (first_of c (first_of i (first_of (first_of x (first_of y z)) g)))) h in
@@ -44,10 +44,10 @@ parts table q t u c i x y z g et eu ec ei ex ey ez eg h =
       select_list = sym ex ∙ none_first x (first_of y z) text;
       condition = sym ey ∙ none_first y z after;
       ending = sym ez ∙ none_later y z after;
-      groups = at_most 16 (group_bits table (columns_of table q) (typed_ending table (columns_of table q) q.tail))
-          (not_if (nat_lt 16 (group_bits table (columns_of table q) (typed_ending table (columns_of table q) q.tail))) (GroupTooWide (group_bits table (columns_of table q) (typed_ending table (columns_of table q) q.tail))) (sym eg ∙ width));
+      groups = at_most 16 (group_bits table (columns_of table q) (typed_ending table (columns_of table q) q.ending))
+          (not_if (nat_lt 16 (group_bits table (columns_of table q) (typed_ending table (columns_of table q) q.ending))) (GroupTooWide (group_bits table (columns_of table q) (typed_ending table (columns_of table q) q.ending))) (sym eg ∙ width));
     }
 
 pub clean : (table : List ColumnHead) (q : Query) → first_fault table q ≡ None → IsClean table q
-clean table q h = parts table q (table_fault q.table) (first_in (name_fault table) (names_in q)) (too_many_columns table q) (too_many_items q) (head_fault table (group_names q.tail) q.head) (filter_fault table q.pred) (ending_fault q.tail) (group_fault table q)
+clean table q h = parts table q (table_fault q.table) (first_in (name_fault table) (names_in q)) (too_many_columns table q) (too_many_items q) (head_fault table (group_names q.ending) q.head) (filter_fault table q.pred) (ending_fault q.ending) (group_fault table q)
     refl refl refl refl refl refl refl refl h

@@ -11,7 +11,8 @@ use Rattle.sql_text.specs.Tree.{Name, Expr, Item, Head, Operand, Pred, Ending, Q
 use Rattle.sql_typing.specs.Faults.{aggregates_in, argument_fault, ending_fault, expr_fault, fault_if, filter_fault, first_fault, first_in, first_of, group_bits, group_fault, head_fault, is_grouped, is_limit, item_fault, name_fault, pred_fault, shape_fault, table_fault, text_fault, too_many_columns, too_many_items, unknown_at, value_fault, values_fault}
 use Rattle.sql_typing.specs.Kinds.{can_compare, is_number, most_scale, place_of_operand, scale_of_kind, scale_of_operand, suits}
 use Rattle.sql_typing.specs.Names.{group_names, kind_of, names_in, place_of}
-use Rattle.sql_typing.specs.Refusals.{IsFault, Refuses}
+use Rattle.sql_typing.specs.Parts.{IsFault}
+use Rattle.sql_typing.specs.Refusals.{Refuses}
 use Rattle.sql_typing.specs.Typing.{columns_of, scale_of, typed_ending, whole_column}
 use Rattle.sql_typing.specs.declared.fault.TypeFault.{TypeFault}
 use Rattle.sql_typing.specs.declared.fault.TypeFault.TheVariants.{UnknownTable, UnknownColumn, TooManyColumns, TooManyItems, KindsDiffer, ScaleTooFine, NotGrouped, TooManyValues, LimitOutOfRange, GroupTooWide, TooWide, NoMemory}
@@ -96,8 +97,8 @@ early_ending (Grouped ns) = tt
 early_ending (Ordered key down limit) = early_if (not (is_limit limit)) (LimitOutOfRange limit.at) tt
 
 early_text : (table : List ColumnHead) (q : Query) → IfSome (text_fault table q) IsEarly
-early_text table q = early_of (head_fault table (group_names q.tail) q.head) (first_of (filter_fault table q.pred) (ending_fault q.tail)) (early_head table (group_names q.tail) q.head)
-    (early_of (filter_fault table q.pred) (ending_fault q.tail) (early_filter table q.pred) (early_ending q.tail))
+early_text table q = early_of (head_fault table (group_names q.ending) q.head) (first_of (filter_fault table q.pred) (ending_fault q.ending)) (early_head table (group_names q.ending) q.head)
+    (early_of (filter_fault table q.pred) (ending_fault q.ending) (early_filter table q.pred) (early_ending q.ending))
 
 early_groups : (table : List ColumnHead) (columns : List ℕ) (shape : Shape) → IfSome (shape_fault table columns shape) IsEarly
 early_groups table columns shape = early_if (nat_lt 16 (group_bits table columns shape)) (GroupTooWide (group_bits table columns shape)) tt
@@ -114,7 +115,7 @@ early table q = early_six (table_fault q.table) (first_in (name_fault table) (na
     (early_if (nat_lt 16 (length (columns_of table q))) TooManyColumns tt)
     (early_if (nat_lt 16 (aggregates_in q.head)) TooManyItems tt)
     (early_text table q)
-    (early_groups table (columns_of table q) (typed_ending table (columns_of table q) q.tail))
+    (early_groups table (columns_of table q) (typed_ending table (columns_of table q) q.ending))
 
 no_late : (first : Option TypeFault) (i : ℕ) → IfSome first IsEarly → first ≡ Some (TooWide i) → ⊥
 no_late first i h e = subst (λ (o : Option TypeFault). IfSome o IsEarly) e h

@@ -1,7 +1,7 @@
 -- The first of some faults.
 use Rattle.std.proofs.Common.{◌≡◌, Bool, true, false, Option, Some, None, inl, inr, List, ◌∷◌, refl, sym, ap, subst, ◌∙◌}
 use Rattle.sql_typing.specs.Faults.{fault_if, first_in, first_of}
-use Rattle.sql_typing.specs.Refusals.{IsFault}
+use Rattle.sql_typing.specs.Parts.{IsFault}
 use Rattle.sql_typing.specs.declared.fault.TypeFault.{TypeFault}
 
 pub none_first : (a b : Option TypeFault) → first_of a b ≡ None → a ≡ None

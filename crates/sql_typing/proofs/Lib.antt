@@ -19,3 +19,6 @@ pub mod Valid
 pub mod ValidItems
 pub mod Values
 pub mod WellFormed
+pub mod Built
+pub mod Decided
+pub mod SomeTyping

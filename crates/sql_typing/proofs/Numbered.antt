@@ -101,7 +101,7 @@ number_small : (columns : List ℕ) (o : Option ℕ) → length columns ≤ 16 �
 number_small columns None few = omega arith
 number_small columns (Some c) few = unwrapped (position (λ i. i == c) columns) (length columns) (position_within (λ i. i == c) columns) few
 
-pub few_groups : (table : List ColumnHead) (columns : List ℕ) (tail : Ending) → length columns ≤ 16 → length (groups_of (typed_ending table columns tail)) ≤ 16
+pub few_groups : (table : List ColumnHead) (columns : List ℕ) (ending : Ending) → length columns ≤ 16 → length (groups_of (typed_ending table columns ending)) ≤ 16
 few_groups table columns Nothing few = omega arith
 few_groups table columns (Grouped ns) few = few_distinct 16 (group_columns table columns ns) (after_distinct [] (map (λ n. number_of table columns n.name) ns) tt)
     (after_all (λ c. c < 16) [] (map (λ n. number_of table columns n.name) ns) tt (all_over (λ c. c < 16) (λ n. number_of table columns n.name) ns (all_of (λ n. number_of table columns n.name < 16) (λ n. number_small columns (place_of table n.name) few) ns)))

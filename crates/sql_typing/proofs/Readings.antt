@@ -12,8 +12,8 @@ use Rattle.query_model.specs.declared.query.Expr.{Expr}
 use Rattle.query_model.specs.declared.query.Expr.TheVariants as exprs
 use Rattle.query_model.specs.declared.query.Pred.{Pred}
 use Rattle.query_model.specs.declared.query.Pred.TheVariants as preds
-use Rattle.sql_text.specs.declared.tree.Cmp.{Cmp}
-use Rattle.sql_text.specs.declared.tree.Cmp.TheVariants as cmps
+use Rattle.sql_text.specs.declared.tree.Comparison.{Comparison}
+use Rattle.sql_text.specs.declared.tree.Comparison.TheVariants as cmps
 use Rattle.sql_text.specs.Tree as tree
 use Rattle.sql_typing.specs.Faults.{expr_fault, pred_fault}
 use Rattle.sql_typing.specs.Kinds.{can_compare, is_number}
@@ -100,7 +100,7 @@ pred_below n (preds.And' p a q b) h = (pred_below n a h.0, pred_below n b h.1)
 pred_below n (preds.Or' p a q b) h = (pred_below n a h.0, pred_below n b h.1)
 pred_below n (preds.Not' p a) h = pred_below n a h
 
-compared_below : (n c : ℕ) (op : Cmp) (s : Spot) → c < n → AtomReadsBelow n (compared c op s)
+compared_below : (n c : ℕ) (op : Comparison) (s : Spot) → c < n → AtomReadsBelow n (compared c op s)
 compared_below n c op (At v) h = h
 compared_below n c cmps.Eq (Before p) h = h
 compared_below n c cmps.Ne (Before p) h = h
@@ -134,7 +134,7 @@ IsAlike kind (Both a b) = IsAlike kind a × IsAlike kind b
 IsAlike kind (Either a b) = IsAlike kind a × IsAlike kind b
 IsAlike kind (Negation a) = IsAlike kind a
 
-compared_alike : (kind : ℕ → Kind) (c : ℕ) (op : Cmp) (s : Spot) → ComparesAlike kind (compared c op s)
+compared_alike : (kind : ℕ → Kind) (c : ℕ) (op : Comparison) (s : Spot) → ComparesAlike kind (compared c op s)
 compared_alike kind c op (At v) = tt
 compared_alike kind c cmps.Eq (Before p) = tt
 compared_alike kind c cmps.Ne (Before p) = tt

@@ -89,9 +89,9 @@ up_to : (z : ℤ) → int_lt (pos 0) z ≡ true → int_le z (pos 1000) ≡ true
 up_to (pos n) h k = omega (arith, ints)
 up_to (negsuc n) h k = omega (arith, ints)
 
-valid_shape : (head : Head) (query : TypedQuery) (h : tree.Head) (tail : tree.Ending) → MatchesEnding h tail → map aggregate_of query.items ≡ typed_head head.columns query.columns h → ending_fault tail ≡ None
-    → group_bits head.columns query.columns (typed_ending head.columns query.columns tail) ≤ 16 → AllByRecursion (IsNumbered head.columns query.columns) (names_in_ending tail)
-    → IsValidShape head query (typed_ending head.columns query.columns tail)
+valid_shape : (head : Head) (query : TypedQuery) (h : tree.Head) (ending : tree.Ending) → MatchesEnding h ending → map aggregate_of query.items ≡ typed_head head.columns query.columns h → ending_fault ending ≡ None
+    → group_bits head.columns query.columns (typed_ending head.columns query.columns ending) ≤ 16 → AllByRecursion (IsNumbered head.columns query.columns) (names_in_ending ending)
+    → IsValidShape head query (typed_ending head.columns query.columns ending)
 valid_shape head query h tree.Nothing matches same good few numbered = tt
 valid_shape head query h (tree.Grouped ns) matches same good few numbered = (
   after_all (λ c. c < length query.columns) [] (map (λ n. number_of head.columns query.columns n.name) ns) tt (all_over (λ c. c < length query.columns) (λ n. number_of head.columns query.columns n.name) ns (numbers_below head.columns query.columns ns numbered)),
@@ -114,12 +114,12 @@ valid q head query formed typed =
     let numbered : AllByRecursion (IsNumbered head.columns query.columns) (names_in q) = subst (λ (cs : List ℕ). AllByRecursion (IsNumbered head.columns cs) (names_in q)) same (all_numbered head.columns (names_in q) facts.known) in
     let pred : condition_of query.pred ≡ typed_filter head.columns query.columns q.pred = subst (λ (cs : List ℕ). condition_of query.pred ≡ typed_filter head.columns cs q.pred) same (ap (λ (m : Meaning). m.pred) typed.meant.meaning) in
     let items : map aggregate_of query.items ≡ typed_head head.columns query.columns q.head = subst (λ (cs : List ℕ). map aggregate_of query.items ≡ typed_head head.columns cs q.head) same (ap (λ (m : Meaning). m.items) typed.meant.meaning) in
-    let shape : query.shape ≡ typed_ending head.columns query.columns q.tail = subst (λ (cs : List ℕ). query.shape ≡ typed_ending head.columns cs q.tail) same (ap (λ (m : Meaning). m.shape) typed.meant.meaning) in
-    let groups : group_bits head.columns query.columns (typed_ending head.columns query.columns q.tail) ≤ 16 = subst (λ (cs : List ℕ). group_bits head.columns cs (typed_ending head.columns cs q.tail) ≤ 16) same facts.groups in
-    let front = all_left (IsNumbered head.columns query.columns) (names_in_head q.head ++ names_in_filter q.pred) (names_in_ending q.tail) numbered in
+    let shape : query.shape ≡ typed_ending head.columns query.columns q.ending = subst (λ (cs : List ℕ). query.shape ≡ typed_ending head.columns cs q.ending) same (ap (λ (m : Meaning). m.shape) typed.meant.meaning) in
+    let groups : group_bits head.columns query.columns (typed_ending head.columns query.columns q.ending) ≤ 16 = subst (λ (cs : List ℕ). group_bits head.columns cs (typed_ending head.columns cs q.ending) ≤ 16) same facts.groups in
+    let front = all_left (IsNumbered head.columns query.columns) (names_in_head q.head ++ names_in_filter q.pred) (names_in_ending q.ending) numbered in
     let in_head = all_left (IsNumbered head.columns query.columns) (names_in_head q.head) (names_in_filter q.pred) front in
     let in_filter = all_right (IsNumbered head.columns query.columns) (names_in_head q.head) (names_in_filter q.pred) front in
-    let in_ending = all_right (IsNumbered head.columns query.columns) (names_in_head q.head ++ names_in_filter q.pred) (names_in_ending q.tail) numbered in
+    let in_ending = all_right (IsNumbered head.columns query.columns) (names_in_head q.head ++ names_in_filter q.pred) (names_in_ending q.ending) numbered in
     let count : length query.items ≡ aggregates_in q.head = sym (length_mapped aggregate_of query.items) ∙ (ap (λ (xs : List Aggregate). length xs) items ∙ head_length head.columns query.columns q.head) in
     record {
       few_columns = subst (λ (cs : List ℕ). length cs ≤ 16) same facts.few_columns;
@@ -128,6 +128,6 @@ valid q head query formed typed =
       few_items = subst (λ (n : ℕ). n ≤ 16) (sym count) facts.few_items;
       condition = pred_below (length query.columns) query.pred (subst (λ (c : Condition). IsBelow (length query.columns) c) (sym pred) (filter_below head.columns query.columns q.pred in_filter));
       compared = can_compare_in head query query.pred (subst (λ (c : Condition). IsAlike (kind_at head query) c) (sym pred) (filter_alike head.columns query.columns q.pred facts.condition in_filter));
-      shape = subst (λ (s : Shape). IsValidShape head query s) (sym shape) (valid_shape head query q.head q.tail formed items facts.ending groups in_ending);
-      items = head_items head query (group_names q.tail) q.head items facts.select_list in_head typed.fits;
+      shape = subst (λ (s : Shape). IsValidShape head query s) (sym shape) (valid_shape head query q.head q.ending formed items facts.ending groups in_ending);
+      items = head_items head query (group_names q.ending) q.head items facts.select_list in_head typed.fits;
     }

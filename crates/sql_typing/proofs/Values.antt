@@ -5,7 +5,7 @@ use Rattle.daq_table.specs.declared.head.Kind.{Kind}
 use Rattle.sql_text.specs.Tree.{Operand}
 use Rattle.sql_typing.specs.Faults.{fault_if, first_of, value_fault, values_fault}
 use Rattle.sql_typing.specs.Kinds.{place_of_operand}
-use Rattle.sql_typing.specs.Refusals.{IsFault}
+use Rattle.sql_typing.specs.Parts.{IsFault}
 use Rattle.sql_typing.specs.declared.fault.TypeFault.{TypeFault}
 use Rattle.sql_typing.specs.declared.fault.TypeFault.TheVariants.{TooManyValues}
 use Rattle.sql_typing.proofs.Firsts.{fault_is}

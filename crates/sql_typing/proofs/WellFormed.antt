@@ -9,9 +9,9 @@ use Rattle.sql_text.specs.Tree.{Ending, Head, Item, Items, Query, Star}
 use Rattle.sql_typing.specs.Refusals.{IsWellFormed, MatchesEnding}
 
 module _ (fits : Bool → Option ℕ → Bool) (inside : (p : Part) → Language (Inner p)) where
-  record EndsWith (head : Head) (tail : Rule Ending) (q : Query) : Type 0 where
+  record EndsWith (head : Head) (rule : Rule Ending) (q : Query) : Type 0 where
     tokens : List Lexeme
-    ending : IsOf fits inside tail tokens q.tail
+    ending : IsOf fits inside rule tokens q.ending
     begins : q.head ≡ head
 
   semicolon_is : (a q : Query) (w : List Lexeme) → IsOf fits inside (semicolon a) w q → q ≡ a
@@ -19,14 +19,14 @@ module _ (fits : Bool → Option ℕ → Bool) (inside : (p : Part) → Language
   semicolon_is a q w (inl h) = h.5.1
   semicolon_is a q w (inr h) = h.1
 
-  source_is : (head : Head) (tail : Rule Ending) (w : List Lexeme) (q : Query) → IsOf fits inside (source head tail) w q → EndsWith head tail q
+  source_is : (head : Head) (rule : Rule Ending) (w : List Lexeme) (q : Query) → IsOf fits inside (source head rule) w q → EndsWith head rule q
   unfolding source
-  source_is head tail w q h =
+  source_is head rule w q h =
       let rest = h.5.5.5 in
-      let is = semicolon_is (record { head = head; table = h.5.2; pred = h.5.5.2; tail = rest.2 }) q rest.1 rest.5 in
+      let is = semicolon_is (record { head = head; table = h.5.2; pred = h.5.5.2; ending = rest.2 }) q rest.1 rest.5 in
       record {
         tokens = rest.0;
-        ending = subst (λ (e : Ending). IsOf fits inside tail rest.0 e) (sym (ap (λ (x : Query). x.tail) is)) rest.4;
+        ending = subst (λ (e : Ending). IsOf fits inside rule rest.0 e) (sym (ap (λ (x : Query). x.ending) is)) rest.4;
         begins = ap (λ (x : Query). x.head) is;
       }
 
@@ -40,10 +40,10 @@ module _ (fits : Bool → Option ℕ → Bool) (inside : (p : Part) → Language
   grouping_is is w e (inr h) = subst (λ (x : Ending). MatchesEnding (Items is) x) (sym h.1) tt
 
   starred : (q : Query) → EndsWith Star ordering q → IsWellFormed q
-  starred q h = subst (λ (x : Head). MatchesEnding x q.tail) (sym h.begins) (ordering_is h.tokens q.tail h.ending)
+  starred q h = subst (λ (x : Head). MatchesEnding x q.ending) (sym h.begins) (ordering_is h.tokens q.ending h.ending)
 
   listed : (q : Query) (is : List Item) → EndsWith (Items is) grouping q → IsWellFormed q
-  listed q is h = subst (λ (x : Head). MatchesEnding x q.tail) (sym h.begins) (grouping_is is h.tokens q.tail h.ending)
+  listed q is h = subst (λ (x : Head). MatchesEnding x q.ending) (sym h.begins) (grouping_is is h.tokens q.ending h.ending)
 
   query_is : (w : List Lexeme) (q : Query) → IsOf fits inside query w q → IsWellFormed q
   unfolding query

@@ -122,7 +122,7 @@ ending_fault (Grouped ns) = None
 ending_fault (Ordered key down limit) = fault_if (not (is_limit limit)) (LimitOutOfRange limit.at)
 
 abbrev pub text_fault : List ColumnHead → Query → Option TypeFault
-text_fault table q = first_of (head_fault table (group_names q.tail) q.head) (first_of (filter_fault table q.pred) (ending_fault q.tail))
+text_fault table q = first_of (head_fault table (group_names q.ending) q.head) (first_of (filter_fault table q.pred) (ending_fault q.ending))
 
 -- ---- groups
 
@@ -142,7 +142,7 @@ abbrev pub shape_fault : List ColumnHead → List ℕ → Shape → Option TypeF
 shape_fault table columns shape = fault_if (nat_lt 16 (group_bits table columns shape)) (GroupTooWide (group_bits table columns shape))
 
 abbrev pub group_fault : List ColumnHead → Query → Option TypeFault
-group_fault table q = shape_fault table (columns_of table q) (typed_ending table (columns_of table q) q.tail)
+group_fault table q = shape_fault table (columns_of table q) (typed_ending table (columns_of table q) q.ending)
 
 -- ---- all checks but that of 128 bits
 

@@ -1,5 +1,5 @@
 -- What holds of the typing of all queries.
-use Rattle.std.specs.Prelude.{◌≡◌, ◌≢◌, ℕ, List}
+use Rattle.std.specs.Prelude.{◌≡◌, ◌≢◌, ◌⊎◌, ℕ, List}
 use Rattle.daq_table.specs.declared.table_head.Head.{Head}
 use Rattle.query_model.specs.declared.query.TypedQuery.{TypedQuery}
 use Rattle.sql_text.specs.Answer.{IsText}
@@ -24,3 +24,7 @@ IsTypedOnce = (q : Query) (head : Head) (one other : TypedQuery) → IsTyped q h
 -- each query of a text has a star exactly where rows in an order are asked for
 abbrev pub AreTextsWellFormed : Type 0
 AreTextsWellFormed = (text : List ℕ) (q : Query) → IsText text q → IsWellFormed q
+
+-- each query is typed or has a fault, want of memory left aside
+abbrev pub HasTyping : Type 0
+HasTyping = (q : Query) (head : Head) → ((query : TypedQuery) × IsTyped q head query) ⊎ ((fault : TypeFault) × (fault ≢ NoMemory) × Refuses q head fault)

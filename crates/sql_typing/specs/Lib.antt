@@ -3,5 +3,6 @@ pub mod Kinds
 pub mod Terms
 pub mod Typing
 pub mod Faults
+pub mod Parts
 pub mod Refusals
 pub mod Laws

@@ -50,7 +50,7 @@ names_in_ending (Ordered key down limit) = key ∷ []
 
 -- all but that of the table
 abbrev pub names_in : Query → List Name
-names_in q = names_in_head q.head ++ names_in_filter q.pred ++ names_in_ending q.tail
+names_in q = names_in_head q.head ++ names_in_filter q.pred ++ names_in_ending q.ending
 
 -- ---- columns
 

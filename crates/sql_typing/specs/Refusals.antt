@@ -1,6 +1,5 @@
 -- Which typed query a query is, and what each refusal says.
-use Rattle.std.specs.Prelude.{◌≡◌, ◌≢◌, ℕ, ◌<◌, ◌⊎◌, List, Option, Some, None, Result, Ok, Err, slice_get, FitsSigned}
-use Rattle.std.specs.Int.{w64}
+use Rattle.std.specs.Prelude.{◌≡◌, ℕ, ◌<◌, List, Some, None, slice_get}
 use Rattle.std.specs.List.{AllByRecursion}
 use Rattle.daq_table.specs.Tables.{Frame, frame_of}
 use Rattle.daq_table.specs.declared.table_head.Head.{Head}
@@ -11,7 +10,7 @@ use Rattle.query_model.specs.declared.query.TypedQuery.{TypedQuery}
 use Rattle.sql_text.specs.Tree.{Query, Items, Star, Nothing, Grouped, Ordered}
 use Rattle.sql_text.specs.Tree as tree
 use Rattle.sql_typing.specs.Faults.{first_fault}
-use Rattle.sql_typing.specs.Terms.{Term, Column, Literal, Add, Sub, Mul, meaning_of}
+use Rattle.sql_typing.specs.Terms.{meaning_of}
 use Rattle.sql_typing.specs.Typing.{typed}
 use Rattle.sql_typing.specs.declared.fault.TypeFault.{TypeFault}
 use Rattle.sql_typing.specs.declared.fault.TypeFault.TheVariants.{UnknownTable, UnknownColumn, TooManyColumns, TooManyItems, KindsDiffer, ScaleTooFine, NotGrouped, TooManyValues, LimitOutOfRange, GroupTooWide, TooWide, NoMemory}
@@ -62,28 +61,4 @@ MatchesEnding (Items is) (Grouped ns) = Unit {0}
 MatchesEnding (Items is) (Ordered key down limit) = ⊥
 
 abbrev pub IsWellFormed : Query → Type 0
-IsWellFormed q = MatchesEnding q.head q.tail
-
--- ---- what the parts of the work give
-
--- want of memory, or the first fault
-abbrev pub IsFault : TypeFault → Option TypeFault → Type 0
-IsFault fault first = (fault ≡ NoMemory) ⊎ (first ≡ Some fault)
-
--- something that is seen as this, where there is no fault
-abbrev pub Types : {X Y : Type 0} → (X → Y) → Result X TypeFault → Option TypeFault → Y → Type 0
-Types view (Ok x) first y = (first ≡ None) × (view x ≡ y)
-Types view (Err fault) first y = IsFault fault first
-
--- no fault, or the first
-abbrev pub Checks : Result (Unit {0}) TypeFault → Option TypeFault → Type 0
-Checks (Ok x) first = first ≡ None
-Checks (Err fault) first = IsFault fault first
-
--- a literal is a number of 64 bits
-abbrev pub IsSmall : Term → Type 0
-IsSmall (Column c) = Unit {0}
-IsSmall (Literal n) = FitsSigned w64 n
-IsSmall (Add a b) = Unit {0}
-IsSmall (Sub a b) = Unit {0}
-IsSmall (Mul a b) = Unit {0}
+IsWellFormed q = MatchesEnding q.head q.ending

@@ -14,14 +14,14 @@ use Rattle.query_model.specs.declared.query.Face.{Face}
 use Rattle.query_model.specs.declared.query.Face.TheVariants as faces
 use Rattle.query_model.specs.declared.query.ItemKind.{ItemKind}
 use Rattle.query_model.specs.declared.query.ItemKind.TheVariants as kinds
-use Rattle.query_model.specs.declared.query.Op.{Op}
-use Rattle.query_model.specs.declared.query.Op.TheVariants as ops
+use Rattle.query_model.specs.declared.query.Comparison.{Comparison}
+use Rattle.query_model.specs.declared.query.Comparison.TheVariants as ops
 use Rattle.query_model.specs.declared.query.Shape.{Shape}
 use Rattle.query_model.specs.declared.query.Shape.TheVariants as shapes
 use Rattle.sql_text.specs.declared.tree.CallKind.{CallKind}
 use Rattle.sql_text.specs.declared.tree.CallKind.TheVariants as calls
-use Rattle.sql_text.specs.declared.tree.Cmp.{Cmp}
-use Rattle.sql_text.specs.declared.tree.Cmp.TheVariants as cmps
+use Rattle.sql_text.specs.declared.tree.Comparison as written
+use Rattle.sql_text.specs.declared.tree.Comparison.TheVariants as cmps
 use Rattle.sql_text.specs.Tree as tree
 use Rattle.sql_text.specs.Tree.{Name}
 use Rattle.sql_typing.specs.declared.spot.Spot.{Spot}
@@ -157,7 +157,7 @@ member (Before p) = no_rank
 
 -- ---- conditions
 
-abbrev pub op_of : Cmp → Op
+abbrev pub op_of : written.Comparison → Comparison
 op_of cmps.Eq = ops.Eq
 op_of cmps.Ne = ops.Ne
 op_of cmps.Lt = ops.Lt
@@ -166,7 +166,7 @@ op_of cmps.Gt = ops.Gt
 op_of cmps.Ge = ops.Ge
 
 -- a text that is no name lies before the name of rank p: what is below it is below p, and nothing is equal to it
-abbrev pub compared_before : ℕ → Cmp → ℕ → Atom
+abbrev pub compared_before : ℕ → written.Comparison → ℕ → Atom
 compared_before c cmps.Eq p = atoms.Compare c ops.Eq no_rank
 compared_before c cmps.Ne p = atoms.Compare c ops.Ne no_rank
 compared_before c cmps.Lt p = atoms.Compare c ops.Lt (pos p)
@@ -174,7 +174,7 @@ compared_before c cmps.Le p = atoms.Compare c ops.Lt (pos p)
 compared_before c cmps.Gt p = atoms.Compare c ops.Ge (pos p)
 compared_before c cmps.Ge p = atoms.Compare c ops.Ge (pos p)
 
-abbrev pub compared : ℕ → Cmp → Spot → Atom
+abbrev pub compared : ℕ → written.Comparison → Spot → Atom
 compared c op (At v) = atoms.Compare c (op_of op) v
 compared c op (Before p) = compared_before c op p
 
@@ -219,5 +219,5 @@ typed table q = record {
   columns = columns_of table q;
   items = typed_head table (columns_of table q) q.head;
   pred = typed_filter table (columns_of table q) q.pred;
-  shape = typed_ending table (columns_of table q) q.tail;
+  shape = typed_ending table (columns_of table q) q.ending;
 }

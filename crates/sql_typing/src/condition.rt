@@ -6,7 +6,7 @@ ghost use Rattle.sql_text.specs.Tree as tree;
 ghost use Rattle.sql_typing.specs.Faults.{filter_fault, pred_fault, value_fault, values_fault};
 ghost use Rattle.sql_typing.specs.Kinds.{can_compare};
 ghost use Rattle.sql_typing.specs.Names.{dictionary_of, kind_of};
-ghost use Rattle.sql_typing.specs.Refusals.{Types};
+ghost use Rattle.sql_typing.specs.Parts.{Types};
 ghost use Rattle.sql_typing.specs.Terms.{condition_of, Single};
 ghost use Rattle.sql_typing.specs.Typing.{member, spot_of, spot_in, typed_filter, typed_pred};
 
@@ -18,7 +18,7 @@ use crate::table::{dictionary_of, kind_of};
 use crate::value::{is_number, place_of_value, spot_of};
 use daq_table::{ColumnHead, Kind};
 use query_model::{Atom, Pred, Values};
-use sql_text::{Cmp, Named, PredTree, Value};
+use sql_text::{Comparison, Named, PredTree, Value};
 use std::alloc::Global;
 
 /// The most values of an IN.
@@ -46,7 +46,7 @@ fn typed_comparison(
     table: &[ColumnHead],
     columns: &Numbering,
     column: &Named,
-    op: Cmp,
+    op: Comparison,
     value: &Value,
 ) -> Result<Atom, TypeFault>
     ensures { Types Single result (pred_fault table.now (tree.Compare (name_of column.now) op (operand_of value.now))) (typed_pred table.now columns.now (tree.Compare (name_of column.now) op (operand_of value.now))) }
@@ -60,7 +60,7 @@ fn typed_columns(
     table: &[ColumnHead],
     columns: &Numbering,
     left: &Named,
-    op: Cmp,
+    op: Comparison,
     right: &Named,
 ) -> Result<Atom, TypeFault>
     ensures { Types Single result (pred_fault table.now (tree.Columns (name_of left.now) op (name_of right.now))) (typed_pred table.now columns.now (tree.Columns (name_of left.now) op (name_of right.now))) }
@@ -149,13 +149,10 @@ pub(crate) fn typed_pred(
         PredTree::Between { column, low, high } => {
             Ok(Pred::Atom(typed_between(table, columns, column, low, high)?))
         }
-        PredTree::OneOf { column, values } => Ok(Pred::Atom(typed_members(
-            alloc,
-            table,
-            columns,
-            column,
-            values.as_slice(),
-        )?)),
+        PredTree::OneOf { column, values } => {
+            let values = values.as_slice();
+            Ok(Pred::Atom(typed_members(alloc, table, columns, column, values)?))
+        }
         PredTree::Not(inner) => {
             let inner = typed_pred(alloc, table, columns, inner)?;
             Ok(Pred::Not(Box::new(alloc, inner)?))

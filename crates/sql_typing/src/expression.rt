@@ -4,7 +4,7 @@ ghost use Rattle.std.specs.Prelude.{◌≡◌, ◌≤◌, ◌-◌, ◌^◌, pos,
 ghost use Rattle.sql_text.specs.Tree.{expr_of, name_of};
 ghost use Rattle.sql_typing.specs.Faults.{expr_fault, first_of, operand_fault, fault_if};
 ghost use Rattle.sql_typing.specs.Names.{kind_of, number_of};
-ghost use Rattle.sql_typing.specs.Refusals.{Checks, IsSmall, Types};
+ghost use Rattle.sql_typing.specs.Parts.{Checks, IsSmall, Types};
 ghost use Rattle.sql_typing.specs.Terms.{term_of, Column, Literal, Mul};
 ghost use Rattle.sql_typing.specs.Typing.{literal_of, raised, scale_of, typed_expr, aligned};
 ghost use Rattle.sql_text.specs.Tree as tree;

@@ -42,7 +42,7 @@ pub enum TypeFault {
     #[error("group of {bits} bits")]
     GroupTooWide { bits: u32 },
     /// A value or a sum of that aggregate may leave 128 bits.
-    #[error("item {item} too wide")]
+    #[error("item {item}, counted from 0, too wide")]
     TooWide { item: usize },
     /// Memory ran out.
     #[error("no memory")]

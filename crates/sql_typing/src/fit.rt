@@ -11,15 +11,15 @@ ghost use Rattle.sql_typing.specs.Refusals.{IsFirstUnfit};
 ghost use Rattle.std.specs.Prelude.{slice_index_or};
 
 use daq_table::Ends;
-use interval_calc::{Span, add, exactly, hull0, mul, sub, times};
+use interval_calc::{Interval, add, exactly, hull0, mul, sub, times};
 use query_model::{Expr, Item, ItemKind};
 
 /// The declared range of a column of the query.
-fn range_of(ends: &[Ends], column: u8) -> Span
+fn range_of(ends: &[Ends], column: u8) -> Interval
     ensures { interval_of result ≡ declared_range (slice_index_or ends.now column no_ends) }
 {
     match ends.get(column as usize) {
-        Some(ends) => Span {
+        Some(ends) => Interval {
             lo: ends.base as i128,
             hi: ends.top as i128,
         },
@@ -28,7 +28,7 @@ fn range_of(ends: &[Ends], column: u8) -> Span
 }
 
 /// Where an expression lies over the declared ranges, if no part of it can leave 128 bits.
-fn span_of(expr: &Expr, rows: u64, ends: &[Ends]) -> Option<Span>
+fn span_of(expr: &Expr, rows: u64, ends: &[Ends]) -> Option<Interval>
     ensures fits { IsSome result ↔ FitsWide expr.now (declared_ranges (record { rows = rows; columns = ends.now })) }
     ensures value { IfSome result (λ s. interval_of s ≡ span_of expr.now (declared_ranges (record { rows = rows; columns = ends.now }))) }
 {
@@ -41,14 +41,14 @@ fn span_of(expr: &Expr, rows: u64, ends: &[Ends]) -> Option<Span>
     }
 }
 
-fn fits_sum(rows: u64, span: Span) -> bool
+fn fits_sum(rows: u64, span: Interval) -> bool
     ensures { IsTrue result ↔ FitsSum rows (interval_of span) }
 {
     times(hull0(span), rows).is_some()
 }
 
 /// Whether the cross products of averages fit.
-fn fits_average(rows: u64, span: Span) -> bool
+fn fits_average(rows: u64, span: Interval) -> bool
     requires { rows ≤ 16777216 }
     ensures { IsTrue result ↔ FitsAverage rows (interval_of span) }
 {
@@ -59,7 +59,7 @@ fn fits_average(rows: u64, span: Span) -> bool
     }
 }
 
-fn fits_kind(kind: ItemKind, rows: u64, span: Span) -> bool
+fn fits_kind(kind: ItemKind, rows: u64, span: Interval) -> bool
     requires { rows ≤ 16777216 }
     ensures { IsTrue result ↔ FitsKind kind rows (interval_of span) }
 {

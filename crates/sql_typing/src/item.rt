@@ -7,7 +7,7 @@ ghost use Rattle.std.specs.Str.{bytes_eq};
 ghost use Rattle.sql_text.specs.Tree.{expr_of, head_of, item_of, name_of};
 ghost use Rattle.sql_typing.specs.Faults.{argument_fault, expr_fault, first_in, head_fault, item_fault, is_grouped};
 ghost use Rattle.sql_typing.specs.Names.{number_of};
-ghost use Rattle.sql_typing.specs.Refusals.{Checks, Types};
+ghost use Rattle.sql_typing.specs.Parts.{Checks, Types};
 ghost use Rattle.sql_typing.specs.Terms.{Column, aggregate_of};
 ghost use Rattle.sql_typing.specs.Typing.{bare_column, is_extreme, kind_of_call, scale_of, typed_call, typed_expr, typed_head, typed_item, whole_column};
 

@@ -6,7 +6,7 @@ ghost use Rattle.sql_typing.specs.Names.{mention, mentions, names_in, names_in_e
 
 use crate::table::place_of;
 use daq_table::ColumnHead;
-use sql_text::{ExprTree, ItemTree, Named, PredTree, Select, Tail, Tree};
+use sql_text::{Ending, ExprTree, ItemTree, Named, PredTree, Select, Tree};
 use std::alloc::{AllocError, Global};
 
 /// Where a name stands, and the column of the table that it names, if there is one.
@@ -137,13 +137,17 @@ fn put_filter(
     }
 }
 
-fn put_tail(out: &mut Vec<Mention>, table: &[ColumnHead], tail: &Tail) -> Result<(), AllocError>
-    ensures { OnOk result (out.new.items ≡ out.old.items ++ mentions table.now (names_in_ending (ending_of tail.now))) }
+fn put_ending(
+    out: &mut Vec<Mention>,
+    table: &[ColumnHead],
+    ending: &Ending,
+) -> Result<(), AllocError>
+    ensures { OnOk result (out.new.items ≡ out.old.items ++ mentions table.now (names_in_ending (ending_of ending.now))) }
 {
-    match tail {
-        Tail::Nothing => Ok(()),
-        Tail::Group(names) => put_names(out, table, names.as_slice()),
-        Tail::Order { key, .. } => put_name(out, table, key),
+    match ending {
+        Ending::Nothing => Ok(()),
+        Ending::Group(names) => put_names(out, table, names.as_slice()),
+        Ending::Order { key, .. } => put_name(out, table, key),
     }
 }
 
@@ -159,6 +163,6 @@ pub(crate) fn mentions(
     let mut out = Vec::new(alloc);
     put_head(&mut out, table, &tree.head)?;
     put_filter(&mut out, table, &tree.pred)?;
-    put_tail(&mut out, table, &tree.tail)?;
+    put_ending(&mut out, table, &tree.ending)?;
     Ok(out)
 }

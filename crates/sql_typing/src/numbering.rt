@@ -4,7 +4,7 @@ ghost use Rattle.std.specs.Prelude.{◌≡◌, ◌≤◌, ◌<◌, ◌==◌, len
 ghost use Rattle.std.specs.List.{position};
 ghost use Rattle.sql_typing.specs.Names.{first_seen, number_of};
 ghost use Rattle.sql_typing.specs.Faults.{first_in, unknown_at};
-ghost use Rattle.sql_typing.specs.Refusals.{Checks};
+ghost use Rattle.sql_typing.specs.Parts.{Checks};
 
 use crate::fault::TypeFault;
 use crate::names::Mention;

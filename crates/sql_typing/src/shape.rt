@@ -5,23 +5,23 @@ ghost use Rattle.std.specs.List.{list_any};
 ghost use Rattle.sql_text.specs.Tree.{ending_of, name_of};
 ghost use Rattle.sql_typing.specs.Faults.{ending_fault, is_limit};
 ghost use Rattle.sql_typing.specs.Names.{group_names, with_number};
-ghost use Rattle.sql_typing.specs.Refusals.{Types};
+ghost use Rattle.sql_typing.specs.Parts.{Types};
 ghost use Rattle.sql_typing.specs.Typing.{group_columns, typed_ending};
 
 use crate::fault::TypeFault;
 use crate::numbering::Numbering;
 use daq_table::ColumnHead;
 use query_model::{Columns, Shape};
-use sql_text::{Named, Num, Tail};
+use sql_text::{Ending, Named, Num};
 use std::alloc::{AllocError, Global};
 
 /// The names in GROUP BY.
-pub(crate) fn group_names(tail: &Tail) -> &[Named]
-    ensures { map name_of result.now ≡ group_names (ending_of tail.now) }
+pub(crate) fn group_names(ending: &Ending) -> &[Named]
+    ensures { map name_of result.now ≡ group_names (ending_of ending.now) }
 {
-    match tail {
-        Tail::Group(names) => names.as_slice(),
-        Tail::Nothing | Tail::Order { .. } => &[],
+    match ending {
+        Ending::Group(names) => names.as_slice(),
+        Ending::Nothing | Ending::Order { .. } => &[],
     }
 }
 
@@ -65,21 +65,21 @@ fn is_limit(limit: Num) -> bool
 }
 
 /// What the end of a query asks for, or its fault.
-pub(crate) fn typed_tail(
+pub(crate) fn typed_ending(
     alloc: Global,
     table: &[ColumnHead],
     columns: &Numbering,
-    tail: &Tail,
+    ending: &Ending,
 ) -> Result<Shape, TypeFault>
-    ensures { Types (λ s. s) result (ending_fault (ending_of tail.now)) (typed_ending table.now columns.now (ending_of tail.now)) }
+    ensures { Types (λ s. s) result (ending_fault (ending_of ending.now)) (typed_ending table.now columns.now (ending_of ending.now)) }
 {
-    match tail {
-        Tail::Nothing => Ok(Shape::Plain),
-        Tail::Group(names) => {
+    match ending {
+        Ending::Nothing => Ok(Shape::Plain),
+        Ending::Group(names) => {
             let groups = group_columns(alloc, table, columns, names.as_slice())?;
             Ok(Shape::Grouped(Columns::new(groups)))
         }
-        Tail::Order { key, down, limit } => {
+        Ending::Order { key, down, limit } => {
             if !is_limit(*limit) {
                 return Err(TypeFault::LimitOutOfRange { at: limit.at });
             }

@@ -3,8 +3,8 @@
 ghost use Rattle.std.specs.Prelude.{◌≡◌, ◌≤ℤ◌, pos};
 ghost use Rattle.sql_typing.specs.Typing.{compared, high_end, low_end, member, op_of};
 
-use query_model::{Atom, Op};
-use sql_text::Cmp;
+use query_model::{Atom, Comparison};
+use sql_text::Comparison as Written;
 
 /// A value is a number of the column, or a text that is no name: so many names come before it.
 #[derive(Clone, Copy, Debug, PartialEq, Eq)]
@@ -17,16 +17,16 @@ pub(crate) enum Spot {
 const NO_RANK: i128 = -1;
 
 /// The operator of a typed condition.
-pub(crate) fn op_of(op: Cmp) -> Op
+pub(crate) fn op_of(op: Written) -> Comparison
     ensures { result ≡ op_of op }
 {
     match op {
-        Cmp::Eq => Op::Eq,
-        Cmp::Ne => Op::Ne,
-        Cmp::Lt => Op::Lt,
-        Cmp::Le => Op::Le,
-        Cmp::Gt => Op::Gt,
-        Cmp::Ge => Op::Ge,
+        Written::Eq => Comparison::Eq,
+        Written::Ne => Comparison::Ne,
+        Written::Lt => Comparison::Lt,
+        Written::Le => Comparison::Le,
+        Written::Gt => Comparison::Gt,
+        Written::Ge => Comparison::Ge,
     }
 }
 
@@ -62,16 +62,16 @@ impl Spot {
     }
 
     /// The comparison with a column's number.
-    pub(crate) fn compared(self, column: u8, op: Cmp) -> Atom
+    pub(crate) fn compared(self, column: u8, op: Written) -> Atom
         ensures { result ≡ compared column op self }
     {
         let (op, value) = match self {
             Spot::At(value) => (op_of(op), value),
             Spot::Before(rank) => match op {
-                Cmp::Eq => (Op::Eq, NO_RANK),
-                Cmp::Ne => (Op::Ne, NO_RANK),
-                Cmp::Lt | Cmp::Le => (Op::Lt, rank as i128),
-                Cmp::Gt | Cmp::Ge => (Op::Ge, rank as i128),
+                Written::Eq => (Comparison::Eq, NO_RANK),
+                Written::Ne => (Comparison::Ne, NO_RANK),
+                Written::Lt | Written::Le => (Comparison::Lt, rank as i128),
+                Written::Gt | Written::Ge => (Comparison::Ge, rank as i128),
             },
         };
         Atom::Compare { column, op, value }

@@ -1,7 +1,7 @@
 //! Queries over the widest column.
 
 use crate::{texts_are_well_formed, type_query};
-use daq_table::{ColumnHead, ColumnHeads, Head, Kind, Name, Names};
+use daq_table::{ColumnHead, ColumnHeads, Dictionary, Head, Kind, Name};
 use query_model::{Expr, Face, ItemKind};
 use sql_text::parse;
 use std::alloc::{AllocError, Global};
@@ -15,7 +15,7 @@ fn widest(alloc: Global) -> Result<Head, AllocError> {
         kind: Kind::Int,
         base: i64::MIN,
         top: i64::MAX,
-        names: Names::new(Vec::new(alloc)),
+        names: Dictionary::new(Vec::new(alloc)),
     };
     Ok(Head {
         rows: 2,
@@ -35,25 +35,33 @@ fn said(rt: &impl Abort, alloc: Global, head: &Head, text: &str) -> Result<Strin
     }
 }
 
+static WIDEST: [(&str, &str); 5] = [
+    ("SELECT MIN(a * a) FROM t", ""),
+    (
+        "SELECT SUM(a * a) FROM t",
+        "item 0, counted from 0, too wide",
+    ),
+    (
+        "SELECT COUNT(*), AVG(a), AVG(a * a) FROM t",
+        "item 2, counted from 0, too wide",
+    ),
+    (
+        "SELECT MIN(a * a * a) FROM t",
+        "item 0, counted from 0, too wide",
+    ),
+    (
+        "SELECT MAX(a - a), SUM(a + a), SUM(a - a * a) FROM t",
+        "item 2, counted from 0, too wide",
+    ),
+];
+
 #[test]
 fn widest_products(rt: HostRuntime) -> Result<(), Fail> {
     let alloc = rt.alloc();
     let head = widest(alloc)?;
-    for (text, wanted) in [
-        ("SELECT MIN(a * a) FROM t", ""),
-        ("SELECT SUM(a * a) FROM t", "item 0 too wide"),
-        (
-            "SELECT COUNT(*), AVG(a), AVG(a * a) FROM t",
-            "item 2 too wide",
-        ),
-        ("SELECT MIN(a * a * a) FROM t", "item 0 too wide"),
-        (
-            "SELECT MAX(a - a), SUM(a + a), SUM(a - a * a) FROM t",
-            "item 2 too wide",
-        ),
-    ] {
+    for (text, wanted) in &WIDEST {
         let found = said(&rt, alloc, &head, text)?;
-        assert!(rt; found.as_str() == wanted, "{text}: {found}");
+        assert!(rt; found.as_str() == *wanted, "{text}: {found}");
     }
     Ok(())
 }

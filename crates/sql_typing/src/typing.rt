@@ -9,7 +9,8 @@ ghost use Rattle.query_model.specs.Validity.{FitsItem, IsValid};
 ghost use Rattle.sql_text.specs.Tree.{head_of, name_of, query_of};
 ghost use Rattle.sql_typing.specs.Faults.{aggregates_in, fault_if, first_fault, first_in, first_of, is_aggregate, name_fault, planes_at, shape_fault, table_fault, text_fault, too_many_columns};
 ghost use Rattle.sql_typing.specs.Names.{names_in};
-ghost use Rattle.sql_typing.specs.Refusals.{Checks, IsFirstUnfit, IsMeant, IsTyped, IsWellFormed, Refuses, Types};
+ghost use Rattle.sql_typing.specs.Parts.{Checks, Types};
+ghost use Rattle.sql_typing.specs.Refusals.{IsFirstUnfit, IsMeant, IsTyped, IsWellFormed, Refuses};
 ghost use Rattle.sql_typing.specs.Terms.{meaning_of};
 ghost use Rattle.sql_typing.specs.Typing.{columns_of, typed, typed_ending, typed_filter, typed_head};
 ghost use Rattle.sql_typing.specs.declared.fault.TypeFault.TheVariants.{TooManyItems};
@@ -21,7 +22,7 @@ use crate::fit::first_unfit;
 use crate::item::typed_head;
 use crate::names::mentions;
 use crate::numbering::{MOST_COLUMNS, Numbering, check_known, first_seen};
-use crate::shape::{group_names, typed_tail};
+use crate::shape::{group_names, typed_ending};
 use daq_table::{ColumnHead, Ends, Head, ends, width};
 use query_model::{Items, Shape, TypedQuery};
 use sql_text::{ItemTree, Named, Select, Tree};
@@ -100,12 +101,12 @@ fn typed_text(
     tree: &Tree,
 ) -> Result<TypedQuery, TypeFault>
     ensures { Types meaning_of result (text_fault table.now (query_of tree.now))
-        (record { columns = columns; items = typed_head table.now columns (query_of tree.now).head; pred = typed_filter table.now columns (query_of tree.now).pred; shape = typed_ending table.now columns (query_of tree.now).tail }) }
+        (record { columns = columns; items = typed_head table.now columns (query_of tree.now).head; pred = typed_filter table.now columns (query_of tree.now).pred; shape = typed_ending table.now columns (query_of tree.now).ending }) }
 {
-    let groups = group_names(&tree.tail);
+    let groups = group_names(&tree.ending);
     let items = typed_head(alloc, table, &columns, groups, &tree.head)?;
     let pred = typed_filter(alloc, table, &columns, &tree.pred)?;
-    let shape = typed_tail(alloc, table, &columns, &tree.tail)?;
+    let shape = typed_ending(alloc, table, &columns, &tree.ending)?;
     Ok(TypedQuery {
         columns: columns.into_columns(),
         items: Items::new(items),

@@ -7,7 +7,7 @@ ghost use Rattle.daq_table.specs.CellTexts.{date_value};
 ghost use Rattle.sql_text.specs.Tree.{operand_of, Numeric};
 ghost use Rattle.sql_typing.specs.Faults.{fault_if, value_fault};
 ghost use Rattle.sql_typing.specs.Kinds.{is_date, is_number, place_of_operand};
-ghost use Rattle.sql_typing.specs.Refusals.{Types};
+ghost use Rattle.sql_typing.specs.Parts.{Types};
 ghost use Rattle.sql_typing.specs.Typing.{is_name, names_below, spot_of, spot_of_text};
 ghost use Rattle.sql_typing.specs.declared.fault.TypeFault.TheVariants.{KindsDiffer};
 ghost use Rattle.sql_typing.specs.declared.spot.Spot.TheVariants.{At};

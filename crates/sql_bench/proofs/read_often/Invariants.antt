@@ -1,3 +1,4 @@
+-- As many were read as the counter allows, and only if the text is a query.
 use Rattle.std.proofs.Common.{◌≤◌}
 use Rattle.sql_text.specs.Tree.{Query}
 use Rattle.sql_text.specs.Answer.{IsText}

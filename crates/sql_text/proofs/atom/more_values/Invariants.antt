@@ -1,3 +1,4 @@
+-- What is read and what is left give the same list as at the start.
 use Rattle.std.proofs.Common.{◌≡◌, ◌-◌, map, ◌∷◌, [], ◌++◌}
 use Rattle.sql_tokens.specs.declared.token.Fixed.TheVariants.{Comma}
 use Rattle.sql_tokens.specs.Lexeme.{views}

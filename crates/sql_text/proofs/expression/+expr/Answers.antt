@@ -1,3 +1,4 @@
+-- Sums and products end, fail or go on as the chains of their rules do.
 use Rattle.std.proofs.Common.{◌<◌, ◌≤◌}
 use Rattle.std.proofs.lemmas.Result.{err_from_is_err_and}
 use Rattle.sql_tokens.specs.declared.token.Fixed.TheVariants.{Star}

@@ -1,3 +1,4 @@
+-- Measures of the calls, and what the loops over operands keep.
 use Rattle.std.proofs.Common.{◌≡◌, ◌*◌, ◌+◌, ◌-◌}
 use Rattle.sql_tokens.specs.declared.token.Fixed.TheVariants.{Star}
 use Rattle.sql_tokens.specs.Lexeme.{views}

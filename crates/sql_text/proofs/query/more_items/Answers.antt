@@ -1,3 +1,4 @@
+-- The list ends, fails or goes on as the chain of its rule does.
 use Rattle.std.proofs.Common.{◌≡◌, ◌<◌, ◌≤◌, map, ◌∷◌, [], ◌++◌}
 use Rattle.std.proofs.lemmas.Result.{err_from_is_err_and}
 use Rattle.std.proofs.lemmas.List.{map_push}

@@ -1,3 +1,4 @@
+-- A text has one answer: the law of each pair of answers.
 use Rattle.sql_text.proofs.Answering.{one_query, one_fault, not_both}
 use Rattle.sql_text.proofs.reading.one_answer.Goals as goal
 

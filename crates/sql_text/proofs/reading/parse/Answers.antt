@@ -1,3 +1,4 @@
+-- From the sentence of the tokens, or their refusal, to that of the text.
 use Rattle.std.proofs.Common.{drop, subst, arith}
 use Rattle.std.proofs.lemmas.List.{drop_all}
 use Rattle.sql_tokens.specs.Lexeme.{views}

@@ -1,3 +1,4 @@
+-- The place of the token is that of the first of so many.
 use Rattle.sql_text.proofs.Answering.{place_of}
 use Rattle.sql_text.proofs.reading.place.Goals as goal
 

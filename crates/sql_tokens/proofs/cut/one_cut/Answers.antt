@@ -1,3 +1,4 @@
+-- A text has one cut.
 use Rattle.sql_tokens.proofs.OneCut.{one_cut}
 use Rattle.sql_tokens.proofs.cut.one_cut.Goals as goal
 

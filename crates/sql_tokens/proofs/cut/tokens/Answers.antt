@@ -1,3 +1,4 @@
+-- A blank or a token more keeps the cut, which ends where no token begins.
 use Rattle.std.proofs.Common.{sym, arith}
 use Rattle.std.proofs.lemmas.List.{map_push}
 use Rattle.sql_tokens.specs.Lexeme.{views, mark_of}

@@ -1,3 +1,4 @@
+-- A cut of the text left completes the cut of the whole.
 use Rattle.std.proofs.Common.{◌-◌, ◌≤◌, length}
 use Rattle.sql_tokens.specs.Lexeme.{views}
 use Rattle.sql_tokens.proofs.Cutting.{Completes}

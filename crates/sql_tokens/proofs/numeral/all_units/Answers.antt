@@ -1,3 +1,4 @@
+-- The units of both parts, where they are small enough.
 use Rattle.std.proofs.Common.{◌∙◌}
 use Rattle.sql_tokens.proofs.Units.{all_small, all_large}
 use Rattle.sql_tokens.proofs.numeral.all_units.Goals as goal

@@ -1,3 +1,4 @@
+-- One more digit keeps the value, or makes it too large.
 use Rattle.std.proofs.Common.{◌≡◌, ◌-◌, sym, ◌∙◌, ap, arith, get_or}
 use Rattle.sql_tokens.specs.Spelling.{held}
 use Rattle.sql_tokens.proofs.Units.{held_small, value_end, too_large, one_more}

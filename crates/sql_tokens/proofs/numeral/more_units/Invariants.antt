@@ -1,3 +1,4 @@
+-- The units so far and the digits left give the same value as at the start.
 use Rattle.std.proofs.Common.{◌≡◌, ◌≤◌, ◌^◌, drop}
 use Rattle.sql_tokens.specs.Spelling.{held, value_from}
 use Rattle.sql_tokens.proofs.numeral.more_units.Given as goal

@@ -1,3 +1,4 @@
+-- Each byte read keeps the string of the whole text.
 use Rattle.std.proofs.Common.{◌≡◌, false, length, ◌∷◌, [], vec_len, arith}
 use Rattle.std.proofs.lemmas.Bool.{eq-eqb, ne_eqb}
 use Rattle.std.proofs.lemmas.List.{drop_all, length-append}

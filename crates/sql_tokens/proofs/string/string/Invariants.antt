@@ -1,3 +1,4 @@
+-- What is read and what is left give the string of the whole text.
 use Rattle.std.proofs.Common.{◌≡◌, ◌≤◌, drop, false, length}
 use Rattle.std.specs.Prelude.{IfSome}
 use Rattle.sql_tokens.specs.Reads.{string_from, or_else}

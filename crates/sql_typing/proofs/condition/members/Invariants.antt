@@ -1,3 +1,4 @@
+-- The values typed and those left give the same fault and the same members as at the start.
 use Rattle.std.proofs.Common.{◌≡◌, ◌++◌, drop, map}
 use Rattle.sql_text.specs.Tree.{name_of, operand_of}
 use Rattle.sql_typing.specs.Faults.{values_fault}

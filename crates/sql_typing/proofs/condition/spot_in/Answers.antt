@@ -1,3 +1,4 @@
+-- The spot of a value, by the kind and the names of its column.
 use Rattle.sql_typing.proofs.condition.spot_in.Goals as goal
 
 pub returns : goal.returns

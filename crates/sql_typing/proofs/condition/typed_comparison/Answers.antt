@@ -1,3 +1,4 @@
+-- The comparison by the number of its column and the spot of its value.
 use Rattle.std.proofs.Common.{◌≡◌, ◌∙◌, ap, ap₂, ℕ}
 use Rattle.sql_text.specs.Tree.{name_of, operand_of}
 use Rattle.sql_typing.specs.Names.{number_of}

@@ -1,3 +1,4 @@
+-- Measures of the calls: an operand is smaller than its expression.
 use Rattle.std.proofs.Common.{◌+◌}
 use Rattle.sql_text.specs.Tree.{expr_of}
 use Rattle.sql_typing.proofs.Sizes.{size}

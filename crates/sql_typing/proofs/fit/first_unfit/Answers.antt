@@ -1,3 +1,4 @@
+-- One more item fits, and at the end all do.
 use Rattle.std.proofs.Common.{ℕ, length, Some, slice_get, ◌≡◌, ◌<◌, arith}
 use Rattle.query_model.specs.Validity.{FitsItem}
 use Rattle.query_model.specs.declared.query.Item.{Item}

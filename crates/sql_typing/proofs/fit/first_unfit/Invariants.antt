@@ -1,3 +1,4 @@
+-- Each item so far fits.
 use Rattle.std.proofs.Common.{◌≡◌, ℕ, ◌<◌, Some, slice_get}
 use Rattle.query_model.specs.Validity.{FitsItem}
 use Rattle.query_model.specs.declared.query.Item.{Item}

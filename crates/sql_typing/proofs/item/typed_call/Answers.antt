@@ -1,3 +1,4 @@
+-- A call over a column, or over any other expression.
 use Rattle.sql_text.specs.Tree.{expr_of, name_of}
 use Rattle.sql_typing.proofs.Calls.{over_none, over_some}
 use Rattle.sql_typing.proofs.item.typed_call.Goals as goal

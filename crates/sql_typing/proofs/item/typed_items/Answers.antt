@@ -1,3 +1,4 @@
+-- One more item is typed, or is the first fault.
 use Rattle.std.proofs.Common.{map, sym}
 use Rattle.std.proofs.lemmas.Result.{err_from_is_err_and}
 use Rattle.sql_text.specs.Tree.{item_of, name_of}

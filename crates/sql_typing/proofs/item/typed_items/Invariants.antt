@@ -1,3 +1,4 @@
+-- The items typed and those left give the same fault and the same items as at the start.
 use Rattle.std.proofs.Common.{◌≡◌, ◌++◌, drop, map}
 use Rattle.std.specs.List.{filter_map}
 use Rattle.sql_text.specs.Tree.{item_of, name_of}

@@ -1,3 +1,4 @@
+-- A query of a text is well formed.
 use Rattle.sql_typing.proofs.WellFormed.{well_formed}
 use Rattle.sql_typing.proofs.laws.texts_are_well_formed.Goals as goal
 

@@ -1,3 +1,4 @@
+-- The three laws of one answer.
 use Rattle.sql_typing.proofs.Exact.{faultless, one_fault, typed_once}
 use Rattle.sql_typing.proofs.laws.typing_is_exact.Goals as goal
 

@@ -1,3 +1,4 @@
+-- What is left is shorter.
 use Rattle.std.proofs.Common.{length}
 use Rattle.sql_typing.proofs.names.+put_names.Given as goal
 

@@ -1,3 +1,4 @@
+-- No name so far is unknown.
 use Rattle.std.proofs.Common.{◌≡◌, drop}
 use Rattle.sql_typing.specs.Faults.{first_in, unknown_at}
 use Rattle.sql_typing.proofs.numbering.check_known.Given as goal

@@ -1,3 +1,4 @@
+-- The columns found and the mentions left give the same columns as at the start.
 use Rattle.std.proofs.Common.{◌≡◌, [], drop}
 use Rattle.sql_typing.specs.Names.{first_seen}
 use Rattle.sql_typing.proofs.numbering.first_seen.Given as goal

@@ -1,3 +1,4 @@
+-- A small number raised by few places fits 128 bits.
 use Rattle.std.proofs.Common.{◌≡◌, ap₂, rules, sym, subst, to_z, of_z}
 use Rattle.std.specs.Int.{w128}
 use Rattle.std.specs.Prelude.{ℤ, ◌*ℤ◌, FitsSigned}

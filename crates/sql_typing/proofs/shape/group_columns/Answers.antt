@@ -1,3 +1,4 @@
+-- One more name keeps the columns.
 use Rattle.std.proofs.Common.{◌≡◌, ◌∙◌, ap, sym}
 use Rattle.sql_text.specs.Tree.{Name, name_of}
 use Rattle.sql_typing.specs.Names.{number_of}

@@ -1,3 +1,4 @@
+-- The columns found and the names left give the same columns as at the start.
 use Rattle.std.proofs.Common.{◌≡◌, [], drop, map}
 use Rattle.sql_text.specs.Tree.{name_of}
 use Rattle.sql_typing.specs.Names.{number_of}

@@ -1,3 +1,4 @@
+-- The ends of the columns so far.
 use Rattle.std.proofs.Common.{◌≡◌, map, take}
 use Rattle.std.specs.Prelude.{slice_index_or}
 use Rattle.daq_table.specs.Tables.{ends_of, no_ends}

@@ -1,3 +1,4 @@
+-- The planes of the groups so far, at most 64 for each.
 use Rattle.std.proofs.Common.{◌≡◌, ◌≤◌, ◌*◌, map, take}
 use Rattle.std.specs.List.{sum}
 use Rattle.sql_typing.specs.Faults.{planes_at}

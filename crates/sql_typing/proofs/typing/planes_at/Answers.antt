@@ -1,3 +1,4 @@
+-- A number that names no column has no planes.
 use Rattle.sql_typing.proofs.Planes.{no_column, outside}
 use Rattle.sql_typing.proofs.typing.planes_at.Goals as goal
 

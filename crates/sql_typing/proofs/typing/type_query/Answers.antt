@@ -1,3 +1,4 @@
+-- A refusal is that of the parts, and what is typed is valid.
 use Rattle.std.proofs.lemmas.Result.{err_from_is_err_and}
 use Rattle.sql_text.specs.Tree.{query_of}
 use Rattle.sql_typing.proofs.Early.{refused}

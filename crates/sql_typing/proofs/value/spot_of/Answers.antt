@@ -1,3 +1,4 @@
+-- A text against a column of names.
 use Rattle.std.proofs.Common.{refl, ap, ◌∙◌}
 use Rattle.sql_typing.specs.Typing.{spot_of_text}
 use Rattle.sql_typing.proofs.value.spot_of.Goals as goal

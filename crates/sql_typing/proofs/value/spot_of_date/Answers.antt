@@ -1,3 +1,4 @@
+-- A text is a date exactly where its day is found.
 use Rattle.std.proofs.Common.{refl, inr, rules}
 use Rattle.sql_typing.proofs.Dates.{date_fails, date_test}
 use Rattle.sql_typing.proofs.value.spot_of_date.Goals as goal

@@ -1,0 +1,12 @@
+pub mod Back
+pub mod ExprBack
+pub mod PredBack
+pub mod QueryBack
+pub mod Spelled
+pub mod Numerals
+pub mod Pieces
+pub mod TokenFacts
+pub mod TreeTexts
+pub mod Utf8
+pub mod TreeUtf8
+pub mod TreeSize

@@ -1,0 +1,6 @@
+-- What is left is shorter.
+use Rattle.std.proofs.Common.{length}
+use Rattle.sql_print.proofs.printing.+put_names.Given as goal
+
+abbrev pub decreases-put_names : goal.decreases-put_names
+decreases-put_names l = length l.items.now

@@ -1,9 +1,0 @@
-use Rattle.sql_text.proofs.TreeTexts.{read_back}
-use Rattle.sql_text.proofs.TreeUtf8.{printed_utf8}
-use Rattle.sql_text.proofs.printing.reads_back.Goals as goal
-
-pub returns-clause-again : goal.returns-clause-again
-returns-clause-again c = read_back
-
-pub returns-clause-text : goal.returns-clause-text
-returns-clause-text c = printed_utf8
