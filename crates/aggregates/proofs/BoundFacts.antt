@@ -5,11 +5,11 @@ use Rattle.std.specs.List.{list_any}
 use Rattle.std.specs.Option.{option_or, unwrap_or}
 use Rattle.std.proofs.lemmas.Bool.{or_parts, cases_Bool, cases_eq}
 use Rattle.std.proofs.lemmas.Int.{ints, clamps}
-use Rattle.query_model.specs.declared.bounds.Presence.{Presence}
-use Rattle.query_model.specs.declared.bounds.Presence.TheVariants.{Never, Possibly, Always}
+use Rattle.query_model.specs.declared.bounds.Nullity.{Nullity}
+use Rattle.query_model.specs.declared.bounds.Nullity.TheVariants.{Never, Possibly, Always}
 use Rattle.query_model.specs.declared.query.ItemKind.TheVariants.{Min, Max}
 use Rattle.query_model.specs.Answers.{total, least, greatest, answer}
-use Rattle.query_model.specs.Bounds.{AverageBound, average_bound_of, Pair, some_certain, certain_count, lows, highs, certain_lows, certain_highs, low_share, high_share, least_sum, greatest_sum, high_of_least, low_of_greatest, emptiness}
+use Rattle.query_model.specs.Bounds.{AverageBound, average_bound_of, Pair, some_certain, certain_count, lows, highs, certain_lows, certain_highs, low_share, high_share, least_sum, greatest_sum, high_of_least, low_of_greatest, nullity_of}
 use Rattle.query_model.proofs.ListBounds.{keeps_low, keeps_high}
 
 -- ---- some pair is certain
@@ -30,17 +30,17 @@ none_counted (p ∷ ps) h =
       | inr f ↦ (let rest : certain_count ps ≡ 0 = rw f at h in rw f (none_counted ps rest))
     ]
 
-pub emptiness-none : (ps : List Pair) → length ps ≡ 0 → Always ≡ emptiness ps
-emptiness-none [] e = refl
-emptiness-none (p ∷ ps) e = absurd (omega (arith, e))
+pub nullity_of-none : (ps : List Pair) → length ps ≡ 0 → Always ≡ nullity_of ps
+nullity_of-none [] e = refl
+nullity_of-none (p ∷ ps) e = absurd (omega (arith, e))
 
-pub emptiness-certain : (ps : List Pair) → 0 < certain_count ps → Never ≡ emptiness ps
-emptiness-certain [] h = absurd (omega (arith, h))
-emptiness-certain (p ∷ ps) h = rw (some_counted (p ∷ ps) h) refl
+pub nullity_of-certain : (ps : List Pair) → 0 < certain_count ps → Never ≡ nullity_of ps
+nullity_of-certain [] h = absurd (omega (arith, h))
+nullity_of-certain (p ∷ ps) h = rw (some_counted (p ∷ ps) h) refl
 
-pub emptiness-uncertain : (ps : List Pair) → 0 < length ps → certain_count ps ≡ 0 → Possibly ≡ emptiness ps
-emptiness-uncertain [] some none = absurd (omega (arith, some))
-emptiness-uncertain (p ∷ ps) some none = rw (none_counted (p ∷ ps) none) refl
+pub nullity_of-uncertain : (ps : List Pair) → 0 < length ps → certain_count ps ≡ 0 → Possibly ≡ nullity_of ps
+nullity_of-uncertain [] some none = absurd (omega (arith, some))
+nullity_of-uncertain (p ∷ ps) some none = rw (none_counted (p ∷ ps) none) refl
 
 -- ---- the least sum
 
@@ -203,8 +203,8 @@ either true x y z e f = e
 either false x y z e f = f
 
 -- the parts of an average's bound
-pub record AveragesOf (ps : List Pair) (word : Presence) (low high : ℤ) (low_den high_den most fewest : ℕ) : Type 0 where
-  pub word_is : word ≡ emptiness ps
+pub record AveragesOf (ps : List Pair) (word : Nullity) (low high : ℤ) (low_den high_den most fewest : ℕ) : Type 0 where
+  pub word_is : word ≡ nullity_of ps
   pub low_is : low ≡ least_sum ps
   pub high_is : high ≡ greatest_sum ps
   pub most_is : most ≡ max (length ps) 1
@@ -212,12 +212,12 @@ pub record AveragesOf (ps : List Pair) (word : Presence) (low high : ℤ) (low_d
   pub low_den_is : low_den ≡ cond (int_le (pos 0) low) most fewest
   pub high_den_is : high_den ≡ cond (int_le (pos 0) high) fewest most
 
-same_average : (w w' : Presence) (l l' h h' : ℤ) (d d' e e' : ℕ) → w ≡ w' → l ≡ l' → h ≡ h' → d ≡ d' → e ≡ e' →
-    ◌≡◌ {A = AverageBound} (record { empty = w; lo = record { num = l; den = d }; hi = record { num = h; den = e } }) (record { empty = w'; lo = record { num = l'; den = d' }; hi = record { num = h'; den = e' } })
+same_average : (w w' : Nullity) (l l' h h' : ℤ) (d d' e e' : ℕ) → w ≡ w' → l ≡ l' → h ≡ h' → d ≡ d' → e ≡ e' →
+    ◌≡◌ {A = AverageBound} (record { null = w; lo = record { num = l; den = d }; hi = record { num = h; den = e } }) (record { null = w'; lo = record { num = l'; den = d' }; hi = record { num = h'; den = e' } })
 same_average w w' l l' h h' d d' e e' a b c f g = cc
 
-pub average_is : (ps : List Pair) (word : Presence) (low high : ℤ) (low_den high_den most fewest : ℕ) → AveragesOf ps word low high low_den high_den most fewest →
-    ◌≡◌ {A = AverageBound} (record { empty = word; lo = record { num = low; den = low_den }; hi = record { num = high; den = high_den } }) (average_bound_of ps)
+pub average_is : (ps : List Pair) (word : Nullity) (low high : ℤ) (low_den high_den most fewest : ℕ) → AveragesOf ps word low high low_den high_den most fewest →
+    ◌≡◌ {A = AverageBound} (record { null = word; lo = record { num = low; den = low_den }; hi = record { num = high; den = high_den } }) (average_bound_of ps)
 average_is [] word low high low_den high_den most fewest a =
     same_average _ _ _ _ _ _ _ _ _ _ a.word_is a.low_is a.high_is
     (a.low_den_is ∙ either (int_le (pos 0) low) most fewest 1 a.most_is a.fewest_is)

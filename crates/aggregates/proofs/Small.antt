@@ -2,7 +2,7 @@
 use Rattle.std.proofs.Common.{◌*◌, ◌<◌, ◌≤◌, pos, negsuc, ◌+ℤ◌, ◌≤ℤ◌, Bool, List, [], ◌∷◌, ◌++◌, length, map, arith, FitsSigned}
 use Rattle.std.specs.Int.{w16, w128, int_min, int_max}
 use Rattle.std.proofs.lemmas.Int.{ints, clamps}
-use Rattle.interval_calc.specs.declared.Span.{Span}
+use Rattle.interval_calc.specs.declared.Interval as code
 use Rattle.query_model.specs.declared.query.ItemKind.{ItemKind}
 use Rattle.query_model.specs.Answers.{total}
 use Rattle.query_model.specs.Bounds.{Pair}
@@ -15,7 +15,7 @@ pub record IsSmall (p : Pair) : Type 0 where
   pub low : pos 0 ≤ℤ (p.low +ℤ pos 32768)
   pub high : p.high ≤ℤ pos 32767
 
-pub is_small : (certain : Bool) (span : Span) → FitsSigned w16 span.lo → FitsSigned w16 span.hi → IsSmall (pair_with certain span)
+pub is_small : (certain : Bool) (span : code.Interval) → FitsSigned w16 span.lo → FitsSigned w16 span.hi → IsSmall (pair_with certain span)
 is_small certain span low high =
     let a = low.sfits in
     let b = high.sfits in

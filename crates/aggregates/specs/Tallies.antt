@@ -1,6 +1,6 @@
 -- What is kept of a list of pairs. The bound of the list can be told from it, and it can be told of the list with one pair more.
 use Rattle.std.specs.Prelude.{◌<◌, ℤ, pos, ◌≤ℤ◌, Bool, List, [], ◌∷◌, ◌++◌, length, map}
-use Rattle.interval_calc.specs.declared.Span.{Span}
+use Rattle.interval_calc.specs.declared.Interval as code
 use Rattle.query_model.specs.declared.query.ItemKind.{ItemKind}
 use Rattle.query_model.specs.declared.query.ItemKind.TheVariants.{Count, Sum, Min, Max, Avg}
 use Rattle.query_model.specs.Answers.{total, answer}
@@ -10,7 +10,7 @@ use Rattle.query_model.specs.Validity.{IsSumKind}
 use Rattle.aggregates.specs.declared.tally.Tally.{Tally}
 
 -- a row that counts for certain or perhaps, with the span of its value
-abbrev pub pair_with : Bool → Span → Pair
+abbrev pub pair_with : Bool → code.Interval → Pair
 pair_with certain span = record { certain = certain; low = span.lo; high = span.hi }
 
 -- no span of these pairs is empty

@@ -2,13 +2,13 @@
 
 ghost use Rattle.std.specs.Prelude.{◌≡◌, ◌≢◌, ◌≤◌, ◌<◌, List, length, IfOk};
 ghost use Rattle.query_model.specs.declared.query.ItemKind.TheVariants.{Avg};
-ghost use Rattle.query_model.specs.Bounds.{average_bound_of, bound_of, ratios_of, Pair};
+ghost use Rattle.query_model.specs.Bounds.{average_bound_of, bound_of, fractions_of, Pair};
 ghost use Rattle.aggregates.specs.Tallies.{pair_with};
 ghost use Rattle.aggregates.specs.Runnings.{IsAdded, IsBlank, MayAdd, StandsFor};
 
 use crate::tally::Tally;
-use interval_calc::Span;
-use query_model::{AvgBound, Bound, ItemKind};
+use interval_calc::Interval;
+use query_model::{AverageBound, Bound, ItemKind};
 use std::alloc::{AllocError, Global};
 use std::marker::Model;
 
@@ -57,7 +57,7 @@ impl Running {
     }
 
     /// Adds a row to a cell.
-    pub fn add(&mut self, cell: u32, certain: bool, span: Span)
+    pub fn add(&mut self, cell: u32, certain: bool, span: Interval)
         requires { MayAdd self.old cell (pair_with certain span) }
         ensures { IsAdded self.old self.new cell (pair_with certain span) }
     {
@@ -75,10 +75,10 @@ impl Running {
     }
 
     /// The bound of an average.
-    pub fn average(&self, cell: u32) -> AvgBound
+    pub fn average(&self, cell: u32) -> AverageBound
         requires cell { cell < length self.now.cells }
         requires kind { self.now.kind ≡ Avg }
-        ensures { (ps : List Pair) → StandsFor self.now cell ps → ratios_of result ≡ average_bound_of ps }
+        ensures { (ps : List Pair) → StandsFor self.now cell ps → fractions_of result ≡ average_bound_of ps }
     {
         self.tallies[cell as usize].average()
     }

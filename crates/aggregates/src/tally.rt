@@ -2,13 +2,13 @@
 ghost use Rattle.std.specs.Prelude.{◌≡◌, ◌<◌, ℕ, ℤ, pos, ◌+ℤ◌, ◌≤ℤ◌, List, [], ◌∷◌, ◌++◌, if◌then◌else◌, int_le, FitsSigned};
 ghost use Rattle.std.specs.Int.{w128};
 ghost use Rattle.query_model.specs.declared.query.ItemKind.TheVariants.{Sum};
-ghost use Rattle.query_model.specs.Bounds.{average_bound_of, bound_of, emptiness, greatest_sum, high_of_least, high_share, least_sum, low_of_greatest, low_share, ratios_of, Pair};
+ghost use Rattle.query_model.specs.Bounds.{average_bound_of, bound_of, nullity_of, greatest_sum, high_of_least, high_share, least_sum, low_of_greatest, low_share, fractions_of, Pair};
 ghost use Rattle.query_model.specs.Validity.{IsSumKind};
 ghost use Rattle.aggregates.specs.Tallies.{if_summed, pair_with, tally_of};
 
 use crate::extremes::{greater, lesser};
-use interval_calc::{Frac, Span};
-use query_model::{AvgBound, Bound, ItemKind, Presence};
+use interval_calc::{Fraction, Interval};
+use query_model::{AverageBound, Bound, ItemKind, Nullity};
 
 // Counts, sums and ends of a list of pairs: how many rows count for certain and how many may count, their ends, and what
 // they add to the least and to the greatest sum.
@@ -25,14 +25,14 @@ pub(crate) struct Tally {
 }
 
 // What a row adds to the least sum: one that may not count only what lowers it.
-fn low_share(certain: bool, span: Span) -> i128
+fn low_share(certain: bool, span: Interval) -> i128
     ensures { result ≡ low_share (pair_with certain span) }
 {
     if certain { span.lo } else { span.lo.min(0) }
 }
 
 // What a row adds to the greatest sum.
-fn high_share(certain: bool, span: Span) -> i128
+fn high_share(certain: bool, span: Interval) -> i128
     ensures { result ≡ high_share (pair_with certain span) }
 {
     if certain { span.hi } else { span.hi.max(0) }
@@ -50,13 +50,13 @@ fn sum_with(kind: ItemKind, sum: i128, share: i128) -> i128
 }
 
 // A sum divided by one number where it is not negative, else by another.
-fn quotient(sum: i128, most: u64, least: u64) -> Frac
+fn quotient(sum: i128, most: u64, least: u64) -> Fraction
     requires most { 0 < most }
     requires least { 0 < least }
     ensures num { result.num ≡ sum }
     ensures den { result.den ≡ if int_le (pos 0) sum then most else least }
 {
-    Frac {
+    Fraction {
         num: sum,
         den: if sum >= 0 { most } else { least },
     }
@@ -80,7 +80,7 @@ impl Tally {
     }
 
     // That of the pairs with one more at their end.
-    pub(crate) fn with(self, kind: ItemKind, certain: bool, span: Span) -> Tally
+    pub(crate) fn with(self, kind: ItemKind, certain: bool, span: Interval) -> Tally
         requires few { self.all < 16777216 }
         requires few_certain { self.certain < 16777216 }
         requires low { IsSumKind kind → FitsSigned w128 (self.low_sum +ℤ low_share (pair_with certain span)) }
@@ -107,15 +107,15 @@ impl Tally {
     }
 
     // Whether no row counts.
-    fn emptiness(self) -> Presence
-        ensures { (kind : ItemKind) (ps : List Pair) → self ≡ tally_of kind ps → result ≡ emptiness ps }
+    fn nullity_of(self) -> Nullity
+        ensures { (kind : ItemKind) (ps : List Pair) → self ≡ tally_of kind ps → result ≡ nullity_of ps }
     {
         if self.all == 0 {
-            Presence::Always
+            Nullity::Always
         } else if self.certain > 0 {
-            Presence::Never
+            Nullity::Never
         } else {
-            Presence::Possibly
+            Nullity::Possibly
         }
     }
 
@@ -159,22 +159,22 @@ impl Tally {
     {
         match kind {
             ItemKind::Count => Bound {
-                empty: Presence::Never,
+                null: Nullity::Never,
                 lo: i128::from(self.certain),
                 hi: i128::from(self.all),
             },
             ItemKind::Sum | ItemKind::Avg => Bound {
-                empty: self.emptiness(),
+                null: self.nullity_of(),
                 lo: self.least_sum(),
                 hi: self.greatest_sum(),
             },
             ItemKind::Min => Bound {
-                empty: self.emptiness(),
+                null: self.nullity_of(),
                 lo: self.least_low.unwrap_or(0),
                 hi: self.high_of_least(),
             },
             ItemKind::Max => Bound {
-                empty: self.emptiness(),
+                null: self.nullity_of(),
                 lo: self.low_of_greatest(),
                 hi: self.greatest_high.unwrap_or(0),
             },
@@ -183,13 +183,13 @@ impl Tally {
 
     // The bound of an average: a sum that is not negative is divided by as many rows as may count for the low end, and
     // by as few as may count for the high end.
-    pub(crate) fn average(self) -> AvgBound
-        ensures { (ps : List Pair) → self ≡ tally_of Sum ps → ratios_of result ≡ average_bound_of ps }
+    pub(crate) fn average(self) -> AverageBound
+        ensures { (ps : List Pair) → self ≡ tally_of Sum ps → fractions_of result ≡ average_bound_of ps }
     {
         let most = self.all.max(1);
         let fewest = self.certain.max(1);
-        AvgBound {
-            empty: self.emptiness(),
+        AverageBound {
+            null: self.nullity_of(),
             lo: quotient(self.least_sum(), most, fewest),
             hi: quotient(self.greatest_sum(), fewest, most),
         }

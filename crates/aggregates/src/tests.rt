@@ -4,11 +4,11 @@ ghost use Rattle.std.specs.Int.{w16};
 ghost use Rattle.query_model.specs.declared.query.ItemKind.TheVariants.{Avg};
 
 use super::*;
-use daq_table::{ColumnHead, Kind, Name, Names};
-use interval_calc::{Frac, Span};
+use daq_table::{ColumnHead, Dictionary, Kind, Name};
+use interval_calc::{Fraction, Interval};
 use known_column::Known;
 use plane_kernels::{Mask, Plane, transpose};
-use query_model::{AvgBound, Bound, ItemKind, Presence};
+use query_model::{AverageBound, Bound, ItemKind, Nullity};
 use std::alloc::{AllocError, Global};
 use std::test::Fail;
 
@@ -36,11 +36,11 @@ fn unknown(lo: i16, hi: i16) -> Row {
     }
 }
 
-fn span(row: Row) -> Span
+fn span(row: Row) -> Interval
     ensures low { FitsSigned w16 result.lo }
     ensures high { FitsSigned w16 result.hi }
 {
-    Span {
+    Interval {
         lo: i128::from(row.lo),
         hi: i128::from(row.hi.max(row.lo)),
     }
@@ -78,7 +78,7 @@ fn bounds_of(alloc: Global, rows: &[Row]) -> Result<[Bound; 4], AllocError>
     ])
 }
 
-fn average_of(alloc: Global, rows: &[Row]) -> Result<AvgBound, AllocError>
+fn average_of(alloc: Global, rows: &[Row]) -> Result<AverageBound, AllocError>
     requires { length rows.now ≤ 1000 }
 {
     Ok(filled(alloc, ItemKind::Avg, rows)?.average(0))
@@ -86,7 +86,7 @@ fn average_of(alloc: Global, rows: &[Row]) -> Result<AvgBound, AllocError>
 
 fn never(lo: i128, hi: i128) -> Bound {
     Bound {
-        empty: Presence::Never,
+        null: Nullity::Never,
         lo,
         hi,
     }
@@ -94,23 +94,23 @@ fn never(lo: i128, hi: i128) -> Bound {
 
 fn possibly(lo: i128, hi: i128) -> Bound {
     Bound {
-        empty: Presence::Possibly,
+        null: Nullity::Possibly,
         lo,
         hi,
     }
 }
 
-fn fraction(num: i128, den: u64) -> Frac
+fn fraction(num: i128, den: u64) -> Fraction
     requires { 0 < den }
 {
-    Frac { num, den }
+    Fraction { num, den }
 }
 
 #[test]
 fn no_row_counts(rt: HostRuntime) -> Result<(), Fail> {
     let alloc = rt.alloc();
     let none = Bound {
-        empty: Presence::Always,
+        null: Nullity::Always,
         lo: 0,
         hi: 0,
     };
@@ -121,8 +121,8 @@ fn no_row_counts(rt: HostRuntime) -> Result<(), Fail> {
     );
     assert_eq!(rt;
         average_of(alloc, &[])?,
-        AvgBound {
-            empty: Presence::Always,
+        AverageBound {
+            null: Nullity::Always,
             lo: zero,
             hi: zero
         }
@@ -140,8 +140,8 @@ fn all_count(rt: HostRuntime) -> Result<(), Fail> {
     );
     assert_eq!(rt;
         average_of(alloc, &rows)?,
-        AvgBound {
-            empty: Presence::Never,
+        AverageBound {
+            null: Nullity::Never,
             lo: fraction(2, 2),
             hi: fraction(8, 2)
         }
@@ -165,8 +165,8 @@ fn one_unknown_row_stands_alone(rt: HostRuntime) -> Result<(), Fail> {
     );
     assert_eq!(rt;
         average_of(alloc, &above)?,
-        AvgBound {
-            empty: Presence::Possibly,
+        AverageBound {
+            null: Nullity::Possibly,
             lo: fraction(3, 2),
             hi: fraction(20, 1)
         }
@@ -184,8 +184,8 @@ fn one_unknown_row_stands_alone(rt: HostRuntime) -> Result<(), Fail> {
     );
     assert_eq!(rt;
         average_of(alloc, &below)?,
-        AvgBound {
-            empty: Presence::Possibly,
+        AverageBound {
+            null: Nullity::Possibly,
             lo: fraction(-20, 1),
             hi: fraction(-3, 2)
         }
@@ -223,8 +223,8 @@ fn some_count(rt: HostRuntime) -> Result<(), Fail> {
     );
     assert_eq!(rt;
         average_of(alloc, &rows)?,
-        AvgBound {
-            empty: Presence::Never,
+        AverageBound {
+            null: Nullity::Never,
             lo: fraction(2, 3),
             hi: fraction(14, 1)
         }
@@ -241,8 +241,8 @@ fn some_count(rt: HostRuntime) -> Result<(), Fail> {
     );
     assert_eq!(rt;
         average_of(alloc, &low)?,
-        AvgBound {
-            empty: Presence::Never,
+        AverageBound {
+            null: Nullity::Never,
             lo: fraction(-21, 2),
             hi: fraction(-5, 4)
         }
@@ -263,7 +263,7 @@ fn second_of_two(alloc: Global, row: Row) -> Result<[Bound; 3], AllocError> {
 #[test]
 fn cells_are_apart(rt: HostRuntime) -> Result<(), Fail> {
     let none = Bound {
-        empty: Presence::Always,
+        null: Nullity::Always,
         lo: 0,
         hi: 0,
     };
@@ -286,7 +286,7 @@ fn partly_read(
     requires few { length cells.now ≤ 1000 }
 {
     let name = Name::new(b"v".to_vec(alloc)?);
-    let names = Names::new(Vec::new(alloc));
+    let names = Dictionary::new(Vec::new(alloc));
     let head = ColumnHead {
         name,
         kind: Kind::Int,

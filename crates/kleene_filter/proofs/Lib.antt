@@ -1,2 +1,3 @@
 pub mod TestsByEnds
 pub mod Masks
+pub mod Unread

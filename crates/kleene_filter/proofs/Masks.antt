@@ -3,11 +3,14 @@ use Rattle.std.proofs.Common.{◌≡◌, ℕ, suc, cond, ◌+◌, Bool, true, fa
 use Rattle.std.specs.Simd.Lanes.{zip2}
 use Rattle.std.proofs.lemmas.Bool.{false≢true}
 use Rattle.std.proofs.lemmas.Simd.{length-zip2}
+use Rattle.std.proofs.lemmas.List.FromFn.{length-map-range_with_len}
 use Rattle.std.proofs.lemmas.List.Sums.{sum_by-cons}
 use Rattle.query_model.specs.declared.bounds.Truth.{Truth}
 use Rattle.query_model.specs.declared.bounds.Truth.TheVariants.{False, Unknown, True}
 use Rattle.query_model.specs.Truths.{truth_from}
-use Rattle.kleene_filter.specs.Filters.{is_certain, is_possible, is_unknown, AreNested}
+use Rattle.query_model.specs.declared.query.Pred.{Pred}
+use Rattle.known_column.specs.KnownTables.{KnownTable}
+use Rattle.kleene_filter.specs.Filters.{is_certain, is_possible, is_unknown, truth_at, AreNested, StoodBefore}
 
 -- a truth is told by its two bits
 told : (t : Truth) → truth_from (is_certain t) (is_possible t) ≡ t
@@ -16,18 +19,18 @@ told Unknown = refl
 told True = refl
 
 -- the masks of truths tell them
-pub masks_tell : (f : ℕ → Truth) (xs : List ℕ) → zip2 truth_from (map (λ x. is_certain (f x)) xs) (map (λ x. is_possible (f x)) xs) ≡ map f xs
-masks_tell f [] = refl
-masks_tell f (x ∷ xs) = ap (λ t. t ∷ zip2 truth_from (map (λ x. is_certain (f x)) xs) (map (λ x. is_possible (f x)) xs)) (told (f x)) ∙ ap (λ ts. f x ∷ ts) (masks_tell f xs)
+pub masks_tell : (ts : List Truth) → zip2 truth_from (map is_certain ts) (map is_possible ts) ≡ ts
+masks_tell [] = refl
+masks_tell (t ∷ ts) = ap (λ u. u ∷ zip2 truth_from (map is_certain ts) (map is_possible ts)) (told t) ∙ ap (λ us. t ∷ us) (masks_tell ts)
 
 possible : (t : Truth) → IsTrue (is_certain t) → IsTrue (is_possible t)
 possible False h = h
 possible Unknown h = refl
 possible True h = h
 
-pub masks_nest : (f : ℕ → Truth) (xs : List ℕ) → AreNested (map (λ x. is_certain (f x)) xs) (map (λ x. is_possible (f x)) xs)
-masks_nest f [] = tt
-masks_nest f (x ∷ xs) = (possible (f x), masks_nest f xs)
+pub masks_nest : (ts : List Truth) → AreNested (map is_certain ts) (map is_possible ts)
+masks_nest [] = tt
+masks_nest (t ∷ ts) = (possible t, masks_nest ts)
 
 certain_bit : (m n : Bool) → is_certain (truth_from m n) ≡ m
 certain_bit true n = refl
@@ -79,3 +82,8 @@ nested_rows (m ∷ ms) (n ∷ ns) h = ap suc (nested_rows ms ns h.1)
 
 pub rows_of_truths : (ms ns : List Bool) → AreNested ms ns → length (zip2 truth_from ms ns) ≡ length ms
 rows_of_truths ms ns h = length-zip2 truth_from ms ns (sym (nested_rows ms ns h))
+
+-- there is a truth for each row
+pub stood_rows : (truths : List Truth) (pred : Pred) (table : KnownTable) (column : ℕ) (bits : List Bool) → StoodBefore truths pred table column bits → length truths ≡ table.frame.rows
+stood_rows truths pred table column bits stood =
+    ap length stood.stood ∙ length-map-range_with_len (truth_at pred stood.before) 0 stood.before.frame.rows ∙ sym (ap (λ (t : KnownTable). t.frame.rows) stood.taken)

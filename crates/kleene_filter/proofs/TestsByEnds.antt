@@ -7,8 +7,8 @@ use Rattle.std.proofs.lemmas.Bool.{cases_Bool, and_parts, and_cases, false≢tru
 use Rattle.std.proofs.lemmas.Bool.Decides.{Decides-int_eq}
 use Rattle.std.proofs.lemmas.Int.{ints}
 use Rattle.interval_calc.specs.Intervals.{Interval, Within, numbers_in, only}
-use Rattle.query_model.specs.declared.query.Op.{Op}
-use Rattle.query_model.specs.declared.query.Op.TheVariants.{Eq, Ne, Lt, Le, Gt, Ge}
+use Rattle.query_model.specs.declared.query.Comparison.{Comparison}
+use Rattle.query_model.specs.declared.query.Comparison.TheVariants.{Eq, Ne, Lt, Le, Gt, Ge}
 use Rattle.query_model.specs.Meaning.{among, between, compares}
 use Rattle.query_model.specs.Truths.{truth_from, truth_over, truth_over_both}
 use Rattle.query_model.proofs.Extremes.{Has}
@@ -186,7 +186,7 @@ differs i j test always sometimes h = record {
 
 -- ---- comparisons
 
-answers_of : (op : Op) (i j : Interval) → i.low ≤ℤ i.high → j.low ≤ℤ j.high → AreAnswers i j (compares op) (always_compares op i j) (sometimes_compares op i j)
+answers_of : (op : Comparison) (i j : Interval) → i.low ≤ℤ i.high → j.low ≤ℤ j.high → AreAnswers i j (compares op) (always_compares op i j) (sometimes_compares op i j)
 answers_of Eq i j o o' = equals i j o o'
 answers_of Ne i j o o' = differs i j int_eq (are_one i j) (meet i j) (equals i j o o')
 answers_of Lt i j o o' = falling i j int_lt o o' less_stays
@@ -194,10 +194,10 @@ answers_of Le i j o o' = falling i j int_le o o' at_most_stays
 answers_of Gt i j o o' = rising i j (λ x y. int_lt y x) o o' (λ x y x' y' h k e. less_stays y x y' x' k h e)
 answers_of Ge i j o o' = rising i j (λ x y. int_le y x) o o' (λ x y x' y' h k e. at_most_stays y x y' x' k h e)
 
-pub compared_by_ends : (op : Op) (i j : Interval) → i.low ≤ℤ i.high → j.low ≤ℤ j.high → truth_over_both i j (compares op) ≡ truth_from (always_compares op i j) (sometimes_compares op i j)
+pub compared_by_ends : (op : Comparison) (i j : Interval) → i.low ≤ℤ i.high → j.low ≤ℤ j.high → truth_over_both i j (compares op) ≡ truth_from (always_compares op i j) (sometimes_compares op i j)
 compared_by_ends op i j o o' = both_is i j (compares op) _ _ o o' (answers_of op i j o o')
 
-pub against_one : (op : Op) (i : Interval) (z : ℤ) → i.low ≤ℤ i.high → truth_over_both i (only z) (compares op) ≡ truth_over i (λ x. compares op x z)
+pub against_one : (op : Comparison) (i : Interval) (z : ℤ) → i.low ≤ℤ i.high → truth_over_both i (only z) (compares op) ≡ truth_over i (λ x. compares op x z)
 against_one op i z o = over_one i z (compares op) _ _ o (answers_of op i (only z) o (omega (arith, ints)))
 
 -- ---- between two numbers

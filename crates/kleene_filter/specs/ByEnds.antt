@@ -3,8 +3,8 @@ use Rattle.std.specs.Prelude.{ℤ, int_lt, int_le, Bool, not, ◌&&◌, List}
 use Rattle.std.specs.List.{list_any}
 use Rattle.std.specs.Ordering.{int_eq}
 use Rattle.interval_calc.specs.Intervals.{Interval}
-use Rattle.query_model.specs.declared.query.Op.{Op}
-use Rattle.query_model.specs.declared.query.Op.TheVariants.{Eq, Ne, Lt, Le, Gt, Ge}
+use Rattle.query_model.specs.declared.query.Comparison.{Comparison}
+use Rattle.query_model.specs.declared.query.Comparison.TheVariants.{Eq, Ne, Lt, Le, Gt, Ge}
 use Rattle.query_model.specs.Meaning.{between}
 
 -- both are the one same number
@@ -16,7 +16,7 @@ abbrev pub meet : Interval → Interval → Bool
 meet i j = int_le i.low j.high && int_le j.low i.high
 
 -- each number of the first compares so with each of the second
-abbrev pub always_compares : Op → Interval → Interval → Bool
+abbrev pub always_compares : Comparison → Interval → Interval → Bool
 always_compares Eq i j = are_one i j
 always_compares Ne i j = not (meet i j)
 always_compares Lt i j = int_lt i.high j.low
@@ -25,7 +25,7 @@ always_compares Gt i j = int_lt j.high i.low
 always_compares Ge i j = int_le j.high i.low
 
 -- some number of the first compares so with some number of the second
-abbrev pub sometimes_compares : Op → Interval → Interval → Bool
+abbrev pub sometimes_compares : Comparison → Interval → Interval → Bool
 sometimes_compares Eq i j = meet i j
 sometimes_compares Ne i j = not (are_one i j)
 sometimes_compares Lt i j = int_lt i.low j.high

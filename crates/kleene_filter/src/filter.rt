@@ -1,15 +1,13 @@
 //! The rows of a condition.
 
 ghost use Rattle.std.specs.Prelude.{◌≡◌, length, map, count_by, IfOk};
-ghost use Rattle.std.specs.List.{range_with_len, All};
 ghost use Rattle.query_model.specs.Meaning.{PredReadsBelow};
-ghost use Rattle.query_model.specs.Truths.{truth_of};
-ghost use Rattle.known_column.specs.Columns.{ranges_over, rows_of_column};
 ghost use Rattle.kleene_filter.specs.Filters.{is_certain, is_possible, is_unknown, truths_under, StoodBefore};
 
 use crate::atoms::pred_at;
+use crate::reads::pred_reads;
 use crate::truths::{holds, may_hold};
-use known_column::Known;
+use known_column::KnownColumns;
 use plane_kernels::{Mask, Plane};
 use query_model::Pred;
 use std::alloc::{AllocError, Global};
@@ -37,48 +35,43 @@ impl Model for Filter {
 }
 
 // Sets each row's bits by what is known of the condition there.
-fn judge_rows(pred: &Pred, knowns: &[Known], must: &mut Mask, may: &mut Mask)
-    requires columns { PredReadsBelow (length knowns.now) pred.now }
-    requires rows { All (λ column. rows_of_column column ≡ length must.old) knowns.now }
-    requires same { length may.old ≡ length must.old }
-    ensures must { must.new ≡ map (λ row. is_certain (truth_of pred.now (ranges_over knowns.now row))) (range_with_len 0 (length must.old)) }
-    ensures may { may.new ≡ map (λ row. is_possible (truth_of pred.now (ranges_over knowns.now row))) (range_with_len 0 (length must.old)) }
+fn judge_rows(pred: &Pred, columns: &KnownColumns, must: &mut Mask, may: &mut Mask)
+    requires columns { PredReadsBelow (length columns.now.frame.columns) pred.now }
+    requires must { length must.old ≡ columns.now.frame.rows }
+    requires may { length may.old ≡ columns.now.frame.rows }
+    ensures must { must.new ≡ map is_certain (truths_under pred.now columns.now) }
+    ensures may { may.new ≡ map is_possible (truths_under pred.now columns.now) }
 {
-    let rows = must.rows();
-    for row in 0..rows {
-        let truth = pred_at(pred, row, knowns);
+    for row in 0..columns.rows() {
+        let truth = pred_at(pred, row, columns);
         must.set(row, holds(truth));
         may.set(row, may_hold(truth));
     }
 }
 
 impl Filter {
-    /// The filter of the condition over columns with so many rows, of which nothing is read.
-    pub fn open(
-        alloc: Global,
-        pred: &Pred,
-        knowns: &[Known],
-        rows: usize,
-    ) -> Result<Filter, AllocError>
-        requires columns { PredReadsBelow (length knowns.now) pred.now }
-        requires rows { All (λ column. rows_of_column column ≡ rows) knowns.now }
-        requires unread { All (λ column. column.known.read ≡ 0) knowns.now }
-        ensures { IfOk result (λ filter. filter ≡ truths_under pred.now rows knowns.now) }
+    /// The filter of the condition over columns of which planes may be read.
+    pub fn open(alloc: Global, pred: &Pred, columns: &KnownColumns) -> Result<Filter, AllocError>
+        requires { PredReadsBelow (length columns.now.frame.columns) pred.now }
+        ensures { IfOk result (λ filter. filter ≡ truths_under pred.now columns.now) }
     {
-        let mut must = Mask::none(alloc, rows)?;
-        let mut may = Mask::none(alloc, rows)?;
-        judge_rows(pred, knowns, &mut must, &mut may);
+        let mut must = Mask::none(alloc, columns.rows())?;
+        let mut may = Mask::none(alloc, columns.rows())?;
+        judge_rows(pred, columns, &mut must, &mut may);
         Ok(Filter { must, may })
     }
 
-    /// Follows the columns after a plane of one of them was taken. Before, the filter was that of the condition then.
-    pub fn refresh(&mut self, pred: &Pred, knowns: &[Known], column: usize, plane: &Plane)
-        requires columns { PredReadsBelow (length knowns.now) pred.now }
-        requires rows { All (λ column. rows_of_column column ≡ length self.old) knowns.now }
-        requires stood { StoodBefore self.old pred.now knowns.now column plane.now }
-        ensures { self.new ≡ truths_under pred.now (length self.old) knowns.now }
+    /// Follows the columns after a plane of one of them was taken. Before, the filter was that of the condition then. Nothing
+    /// is done where the condition does not read that column.
+    pub fn refresh(&mut self, pred: &Pred, columns: &KnownColumns, column: usize, plane: &Plane)
+        requires columns { PredReadsBelow (length columns.now.frame.columns) pred.now }
+        requires stood { StoodBefore self.old pred.now columns.now column plane.now }
+        ensures { self.new ≡ truths_under pred.now columns.now }
     {
-        judge_rows(pred, knowns, &mut self.must, &mut self.may);
+        if !pred_reads(pred, column) {
+            return;
+        }
+        judge_rows(pred, columns, &mut self.must, &mut self.may);
     }
 
     /// The rows at which the condition holds for certain.

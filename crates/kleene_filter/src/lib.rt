@@ -4,9 +4,11 @@
 mod atoms;
 mod filter;
 mod ranges;
+mod reads;
 mod truths;
 
 pub use filter::Filter;
+pub use reads::pred_reads;
 
 #[cfg(test)]
 mod tests;

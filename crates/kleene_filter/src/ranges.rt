@@ -8,53 +8,53 @@ ghost use Rattle.query_model.specs.Truths.{truth_over, truth_over_both};
 ghost use Rattle.kleene_filter.specs.ByEnds.{always_between, always_compares, are_one, meet, some_within, sometimes_between, sometimes_compares};
 
 use crate::truths::known_from;
-use interval_calc::Span;
-use query_model::{Op, Truth};
+use interval_calc::Interval;
+use query_model::{Comparison, Truth};
 
 // Whether both are the one same number.
-fn are_same_number(left: Span, right: Span) -> bool
+fn are_same_number(left: Interval, right: Interval) -> bool
     ensures { result ≡ are_one (interval_of left) (interval_of right) }
 {
     left.lo == right.hi && left.hi == right.lo
 }
 
 // Whether they share a number.
-fn share_a_number(left: Span, right: Span) -> bool
+fn share_a_number(left: Interval, right: Interval) -> bool
     ensures { result ≡ meet (interval_of left) (interval_of right) }
 {
     left.lo <= right.hi && right.lo <= left.hi
 }
 
 // Whether each number of the first compares so with each of the second.
-fn holds_always(op: Op, left: Span, right: Span) -> bool
+fn holds_always(op: Comparison, left: Interval, right: Interval) -> bool
     ensures { result ≡ always_compares op (interval_of left) (interval_of right) }
 {
     match op {
-        Op::Eq => are_same_number(left, right),
-        Op::Ne => !share_a_number(left, right),
-        Op::Lt => left.hi < right.lo,
-        Op::Le => left.hi <= right.lo,
-        Op::Gt => left.lo > right.hi,
-        Op::Ge => left.lo >= right.hi,
+        Comparison::Eq => are_same_number(left, right),
+        Comparison::Ne => !share_a_number(left, right),
+        Comparison::Lt => left.hi < right.lo,
+        Comparison::Le => left.hi <= right.lo,
+        Comparison::Gt => left.lo > right.hi,
+        Comparison::Ge => left.lo >= right.hi,
     }
 }
 
 // Whether some number of the first compares so with some number of the second.
-fn holds_sometimes(op: Op, left: Span, right: Span) -> bool
+fn holds_sometimes(op: Comparison, left: Interval, right: Interval) -> bool
     ensures { result ≡ sometimes_compares op (interval_of left) (interval_of right) }
 {
     match op {
-        Op::Eq => share_a_number(left, right),
-        Op::Ne => !are_same_number(left, right),
-        Op::Lt => left.lo < right.hi,
-        Op::Le => left.lo <= right.hi,
-        Op::Gt => left.hi > right.lo,
-        Op::Ge => left.hi >= right.lo,
+        Comparison::Eq => share_a_number(left, right),
+        Comparison::Ne => !are_same_number(left, right),
+        Comparison::Lt => left.lo < right.hi,
+        Comparison::Le => left.lo <= right.hi,
+        Comparison::Gt => left.hi > right.lo,
+        Comparison::Ge => left.hi >= right.lo,
     }
 }
 
 // What is known of a comparison of a number of the first with one of the second.
-pub(crate) fn compared(op: Op, left: Span, right: Span) -> Truth
+pub(crate) fn compared(op: Comparison, left: Interval, right: Interval) -> Truth
     ensures { result ≡ truth_over_both (interval_of left) (interval_of right) (compares op) }
 {
     known_from(
@@ -63,20 +63,20 @@ pub(crate) fn compared(op: Op, left: Span, right: Span) -> Truth
     )
 }
 
-fn is_always_between(range: Span, low: i128, high: i128) -> bool
+fn is_always_between(range: Interval, low: i128, high: i128) -> bool
     ensures { result ≡ always_between low high (interval_of range) }
 {
     low <= range.lo && range.hi <= high
 }
 
-fn is_sometimes_between(range: Span, low: i128, high: i128) -> bool
+fn is_sometimes_between(range: Interval, low: i128, high: i128) -> bool
     ensures { result ≡ sometimes_between low high (interval_of range) }
 {
     low <= high && low <= range.hi && range.lo <= high
 }
 
 // What is known of whether a number of the range lies between two others, which count as between.
-pub(crate) fn lies_between(range: Span, low: i128, high: i128) -> Truth
+pub(crate) fn lies_between(range: Interval, low: i128, high: i128) -> Truth
     ensures { result ≡ truth_over (interval_of range) (between low high) }
 {
     known_from(
@@ -93,7 +93,7 @@ fn is_among(values: &[i128], number: i128) -> bool
 
 // Whether each number of the range is one of the values: stops at the first that is not, so it looks at one number more
 // than there are values at most.
-fn are_all_among(range: Span, values: &[i128]) -> bool
+fn are_all_among(range: Interval, values: &[i128]) -> bool
     ensures { result ≡ list_all (among values.now) (numbers_in (interval_of range)) }
 {
     let mut number = range.lo;
@@ -107,7 +107,7 @@ fn are_all_among(range: Span, values: &[i128]) -> bool
 }
 
 // Whether one of the values is in the range.
-fn is_some_within(range: Span, values: &[i128]) -> bool
+fn is_some_within(range: Interval, values: &[i128]) -> bool
     ensures { result ≡ some_within values.now (interval_of range) }
 {
     values
@@ -116,7 +116,7 @@ fn is_some_within(range: Span, values: &[i128]) -> bool
 }
 
 // What is known of whether a number of the range is one of the values.
-pub(crate) fn is_one_of(range: Span, values: &[i128]) -> Truth
+pub(crate) fn is_one_of(range: Interval, values: &[i128]) -> Truth
     ensures { result ≡ truth_over (interval_of range) (among values.now) }
 {
     known_from(are_all_among(range, values), is_some_within(range, values))

@@ -1,12 +1,10 @@
 -- What a column is known by: its ends, how many planes were read, and a prefix for each row.
-use Rattle.std.specs.Prelude.{◌≡◌, ℕ, ◌+◌, ◌<◌, ◌≤◌, Bool, List, length, map, replicate, slice_get, slice_index, slice_set, Some}
-use Rattle.std.specs.List.{All, AllByRecursion}
+use Rattle.std.specs.Prelude.{◌≡◌, ℕ, ◌+◌, ◌<◌, ◌≤◌, Bool, List, length, replicate, slice_index}
+use Rattle.std.specs.List.{All}
 use Rattle.interval_calc.specs.Intervals.{Interval}
 use Rattle.daq_table.specs.declared.head.Ends.{Ends}
-use Rattle.daq_table.specs.Tables.{Frame, planes as planes_of}
-use Rattle.query_model.specs.Truths.{Ranges}
-use Rattle.query_model.specs.Knowledge.{ColumnKnowledge, Knowledge, IsLegal, longer, longer_column, range_of, ranges_of, start, taken}
-use Rattle.query_model.specs.Validity.{declared_ranges}
+use Rattle.daq_table.specs.Tables.{planes as planes_of}
+use Rattle.query_model.specs.Knowledge.{ColumnKnowledge, IsLegal, longer, longer_column, range_of}
 
 -- what is declared of a column, and what was read of it
 pub record KnownColumn : Type 0 where
@@ -51,36 +49,3 @@ pub record IsFirstAbove (limit : ℕ) (numbers : List ℕ) (at : ℕ) : Type 0 w
   pub in_range : at < length numbers
   pub above : limit < slice_index numbers at
   pub first : (k : ℕ) → k < at → slice_index numbers k ≤ limit
-
--- ---- several columns
-
--- what is declared of them, and what is known of them
-abbrev pub frame_over : ℕ → List KnownColumn → Frame
-frame_over rows columns = record { rows = rows; columns = map (λ column. column.ends) columns }
-
-abbrev pub knowledge_of : List KnownColumn → Knowledge
-knowledge_of columns = map (λ column. column.known) columns
-
--- the ranges that are declared of them, and those of a row, by their numbers; how many rows there are makes no difference
-abbrev pub declared_over : List KnownColumn → Ranges
-declared_over columns = declared_ranges (frame_over 0 columns)
-
-abbrev pub ranges_over : List KnownColumn → ℕ → Ranges
-ranges_over columns row = ranges_of (frame_over 0 columns) (knowledge_of columns) row
-
--- each of them has the row
-abbrev pub HaveRow : ℕ → List KnownColumn → Type 0
-HaveRow row columns = All (λ column. row < rows_of_column column) columns
-
--- ---- laws: what is kept column by column is what is known of a table
-
--- columns of which nothing is read are the start
-abbrev pub OpeningStarts : Type 0
-OpeningStarts = (rows : ℕ) (columns : List KnownColumn) → AllByRecursion (λ column. column ≡ unread_column column.ends rows) columns → knowledge_of columns ≡ start (frame_over rows columns)
-
--- to read one of them further is to take the plane, and leaves what is declared
-abbrev pub ReadingTakes : Type 0
-ReadingTakes =
-    (rows c : ℕ) (columns : List KnownColumn) (column : KnownColumn) (bits : List Bool) → slice_get columns c ≡ Some column →
-    (knowledge_of (slice_set columns c (read_further column bits)) ≡ taken (knowledge_of columns) c bits)
-    × (frame_over rows (slice_set columns c (read_further column bits)) ≡ frame_over rows columns)

@@ -7,7 +7,7 @@ ghost use Rattle.known_column.specs.Columns.{range_at, read_further, rows_of_col
 
 use crate::prefixes::{first_over, lengthen, range_of};
 use daq_table::{ColumnHead, Ends, ends, width};
-use interval_calc::Span;
+use interval_calc::Interval;
 use plane_kernels::Plane;
 use std::alloc::{AllocError, Global};
 use std::marker::Model;
@@ -90,7 +90,7 @@ impl Known {
     }
 
     /// Where a row's number lies.
-    pub fn range(&self, row: usize) -> Span
+    pub fn range(&self, row: usize) -> Interval
         requires { row < rows_of_column self.now }
         ensures range { interval_of result ≡ range_at self.now row }
         ensures within { (self.now.ends.base ≤ℤ result.lo) × (result.hi ≤ℤ self.now.ends.top) }

@@ -1,12 +1,12 @@
-//! What is known of a column after some of its planes: a prefix of each row's digits, and the range that it leaves.
+//! What is known of columns after some of their planes: a prefix of each row's digits, and the range that it leaves.
 #![tactic(auto)]
 
 mod known;
-mod laws;
+mod known_columns;
 mod prefixes;
 
 pub use known::{Known, OverTop};
-pub use laws::{opening_starts, reading_takes};
+pub use known_columns::KnownColumns;
 
 #[cfg(test)]
 mod tests;

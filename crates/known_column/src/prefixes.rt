@@ -6,7 +6,7 @@ ghost use Rattle.query_model.specs.Knowledge.{longer};
 ghost use Rattle.known_column.specs.Columns.{IsFirstAbove};
 
 use daq_table::Ends;
-use interval_calc::Span;
+use interval_calc::Interval;
 use plane_kernels::Plane;
 
 // A prefix followed by one more digit.
@@ -68,7 +68,7 @@ fn cells_of_prefix(greatest: u64, unread: u8, prefix: u64) -> (u64, u64)
 }
 
 // The numbers whose cells have the prefix.
-pub(crate) fn range_of(ends: Ends, unread: u8, prefix: u64) -> Span
+pub(crate) fn range_of(ends: Ends, unread: u8, prefix: u64) -> Interval
     requires digits { unread ≤ 64 }
     requires legal { prefix * 2 ^ unread ≤ spread ends }
     ensures lo { result.lo ≡ ends.base +ℤ pos (prefix * 2 ^ unread) }
@@ -78,7 +78,7 @@ pub(crate) fn range_of(ends: Ends, unread: u8, prefix: u64) -> Span
 {
     let (first, last) = cells_of_prefix(ends.top.abs_diff(ends.base), unread, prefix);
     let base = i128::from(ends.base);
-    Span {
+    Interval {
         lo: base + i128::from(first),
         hi: base + i128::from(last),
     }

@@ -1,4 +1,3 @@
 pub mod WideCells
 pub mod Counts
 pub mod Steps
-pub mod Following

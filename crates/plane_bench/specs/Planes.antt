@@ -2,13 +2,14 @@
 use Rattle.std.specs.Prelude.{◌≡◌, ℕ, ◌+◌, ◌*◌, ◌/◌, ◌%◌, ◌==◌, pos, Bool, List, [], ◌∷◌, length, map, count_by}
 use Rattle.std.specs.List.{range_with_len}
 use Rattle.daq_table.specs.declared.head.Ends.{Ends}
+use Rattle.daq_table.specs.Tables.{Frame}
 use Rattle.query_model.specs.declared.bounds.Truth.{Truth}
 use Rattle.query_model.specs.declared.query.Atom.TheVariants.{Compare}
-use Rattle.query_model.specs.declared.query.Op.TheVariants.{Lt}
+use Rattle.query_model.specs.declared.query.Comparison.TheVariants.{Lt}
 use Rattle.query_model.specs.declared.query.Pred.{Pred}
 use Rattle.query_model.specs.declared.query.Pred.TheVariants.{Atom as AtomOf}
-use Rattle.query_model.specs.Knowledge.{prefix_of}
-use Rattle.known_column.specs.Columns.{KnownColumn}
+use Rattle.query_model.specs.Knowledge.{known_of}
+use Rattle.known_column.specs.KnownTables.{KnownTable}
 use Rattle.kleene_filter.specs.Filters.{is_unknown, truths_under}
 use Rattle.plane_bench.specs.declared.TheConstants.{LIMIT}
 use Rattle.plane_bench.specs.declared.words.Work.{Work}
@@ -31,13 +32,17 @@ pub record AreWide (ends : Ends) : Type 0 where
   pub base : ends.base ≡ pos 0
   pub top : ends.top ≡ pos 4294967295
 
--- the column of these cells, of which so many planes are read
-abbrev pub column_after : Ends → List ℕ → ℕ → KnownColumn
-column_after ends cells read = record { ends = ends; known = record { read = read; prefixes = map (prefix_of ends read) cells } }
+-- a table of one column, which has these cells
+abbrev pub alone : Ends → List ℕ → Frame
+alone ends cells = record { rows = length cells; columns = ends ∷ [] }
+
+-- what is known of it after so many planes
+abbrev pub table_after : Ends → List ℕ → ℕ → KnownTable
+table_after ends cells read = record { frame = alone ends cells; known = known_of (alone ends cells) (cells ∷ []) (read ∷ []) }
 
 -- what is known of a condition on the number at each row, after so many planes
 abbrev pub truths_after : Pred → Ends → List ℕ → ℕ → List Truth
-truths_after pred ends cells read = truths_under pred (length cells) (column_after ends cells read ∷ [])
+truths_after pred ends cells read = truths_under pred (table_after ends cells read)
 
 -- the condition that the number is below the limit
 abbrev pub below_limit : Pred

@@ -1,11 +1,12 @@
 // What planes are cut from: cells of 32 binary digits, and their column, of which nothing is read.
 
-ghost use Rattle.std.specs.Prelude.{◌≡◌, ◌≤◌, IfOk};
-ghost use Rattle.known_column.specs.Columns.{unread_column};
+ghost use Rattle.std.specs.Prelude.{◌≡◌, ◌≤◌, [], ◌∷◌, IfOk};
+ghost use Rattle.daq_table.specs.Tables.{ends_at};
+ghost use Rattle.known_column.specs.KnownTables.{unread_table};
 ghost use Rattle.plane_bench.specs.Planes.{cell_of, cells_of, AreWide};
 
-use daq_table::{ColumnHead, Kind, Name, Names};
-use known_column::Known;
+use daq_table::{ColumnHead, ColumnHeads, Dictionary, Head, Kind, Name};
+use known_column::KnownColumns;
 use std::alloc::{AllocError, Global};
 
 // The cell of a row: multiples of an odd number of 32 digits, which lie about evenly.
@@ -28,18 +29,24 @@ pub(crate) fn make_cells(alloc: Global, rows: usize) -> Result<Vec<u64>, AllocEr
     Ok(cells)
 }
 
-// A column of whole numbers with so many rows, which its cells are.
-pub(crate) fn open_column(alloc: Global, rows: usize) -> Result<Known, AllocError>
+// A column of whole numbers of 32 digits in a table of so many rows, of which nothing is read.
+pub(crate) fn open_column(alloc: Global, rows: usize) -> Result<KnownColumns, AllocError>
     requires { rows ≤ 16777216 }
-    ensures unread { IfOk result (λ known. known ≡ unread_column known.ends rows) }
-    ensures wide { IfOk result (λ known. AreWide known.ends) }
+    ensures unread { IfOk result (λ columns. columns ≡ unread_table columns.frame) }
+    ensures rows { IfOk result (λ columns. columns.frame.rows ≡ rows) }
+    ensures one { IfOk result (λ columns. columns.frame.columns ≡ ends_at columns.frame 0 ∷ []) }
+    ensures wide { IfOk result (λ columns. AreWide (ends_at columns.frame 0)) }
 {
-    let head = ColumnHead {
+    let column = ColumnHead {
         name: Name::new(b"v".to_vec(alloc)?),
         kind: Kind::Int,
         base: 0,
         top: i64::from(u32::MAX),
-        names: Names::new(Vec::new(alloc)),
+        names: Dictionary::new(Vec::new(alloc)),
     };
-    Known::open(alloc, &head, rows)
+    let head = Head {
+        rows: rows as u64,
+        columns: ColumnHeads::new(vec![in alloc; column]?),
+    };
+    KnownColumns::open(alloc, &[0], &head)
 }

@@ -12,7 +12,7 @@ ghost use Rattle.plane_bench.specs.Planes.{below_limit, IsResult};
 
 use cells::{make_cells, open_column};
 use cutting::count_highest;
-use query_model::{Atom, Op, Pred};
+use query_model::{Atom, Comparison, Pred};
 use reading::{follow_planes, read_planes};
 use std::alloc::{AllocError, Global};
 use std::process::ExitCode;
@@ -27,7 +27,7 @@ fn make_condition() -> Pred
 {
     Pred::Atom(Atom::Compare {
         column: 0,
-        op: Op::Lt,
+        op: Comparison::Lt,
         value: LIMIT,
     })
 }
@@ -43,13 +43,13 @@ fn do_work(alloc: Global, work: Work, rows: usize, rounds: u8) -> Result<u64, Al
     match work {
         Work::Cut => count_highest(alloc, &cells, rounds),
         Work::Take => {
-            let known = open_column(alloc, rows)?;
-            let read = read_planes(alloc, known, &cells, rounds)?;
-            Ok(u64::from(read.unread()))
+            let columns = open_column(alloc, rows)?;
+            let read = read_planes(alloc, columns, &cells, rounds)?;
+            Ok(u64::from(read.unread(0)))
         }
         Work::Follow => {
-            let known = open_column(alloc, rows)?;
-            let filter = follow_planes(alloc, &make_condition(), known, &cells, rounds)?;
+            let columns = open_column(alloc, rows)?;
+            let filter = follow_planes(alloc, &make_condition(), columns, &cells, rounds)?;
             Ok(filter.unknown())
         }
     }

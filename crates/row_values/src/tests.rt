@@ -1,75 +1,73 @@
-// Spans of expressions over a column whose numbers lie from 3 to 12 and one from 1 to 4.
-ghost use Rattle.std.specs.Prelude.{◌≡◌, ◌≤ℤ◌, IfOk};
-ghost use Rattle.query_model.specs.Validity.{declared_range};
-ghost use Rattle.known_column.specs.Columns.{rows_of_column, HaveRow};
+// Spans of expressions over a column whose numbers lie from -3 to 2.
+ghost use Rattle.std.specs.Prelude.{◌≡◌, ◌<◌, length, pos, negsuc, IfOk};
+ghost use Rattle.query_model.specs.Validity.{declared_ranges};
 
 use crate::span_of;
-use daq_table::{ColumnHead, Kind, Name, Names};
-use interval_calc::{Span, exactly};
-use known_column::Known;
+use daq_table::{ColumnHead, ColumnHeads, Dictionary, Head, Kind, Name};
+use interval_calc::{Interval, exactly};
+use known_column::KnownColumns;
 use query_model::Expr;
 use std::alloc::{AllocError, Global};
 use std::test::Fail;
 
-// A column of one row of which nothing is read.
-fn column(alloc: Global, base: i64, top: i64) -> Result<Known, AllocError>
-    requires { base ≤ℤ top }
-    ensures rows { IfOk result (λ k. rows_of_column k ≡ 1) }
-    ensures base { IfOk result (λ k. k.ends.base ≡ base) }
-    ensures top { IfOk result (λ k. k.ends.top ≡ top) }
+// The column at one row, of which nothing is read.
+fn columns(alloc: Global) -> Result<KnownColumns, AllocError>
+    ensures rows { IfOk result (λ columns. columns.frame.rows ≡ 1) }
+    ensures one { IfOk result (λ columns. length columns.frame.columns ≡ 1) }
+    ensures numbers { IfOk result (λ columns. declared_ranges columns.frame 0 ≡ record { low = negsuc 2; high = pos 2 }) }
 {
-    let name = Name::new(b"v".to_vec(alloc)?);
-    let names = Names::new(Vec::new(alloc));
-    let head = ColumnHead {
-        name,
+    let change = ColumnHead {
+        name: Name::new(b"change".to_vec(alloc)?),
         kind: Kind::Int,
-        base,
-        top,
-        names,
+        base: -3,
+        top: 2,
+        names: Dictionary::new(Vec::new(alloc)),
     };
-    Known::open(alloc, &head, 1)
+    let head = Head {
+        rows: 1,
+        columns: ColumnHeads::new(vec![in alloc; change]?),
+    };
+    KnownColumns::open(alloc, &[0], &head)
 }
 
 #[test]
 fn columns_and_numbers(rt: HostRuntime) -> Result<(), Fail> {
-    let knowns = [column(rt.alloc(), 3, 12)?, column(rt.alloc(), 1, 4)?];
-    assert_eq!(rt;
-        span_of(&Expr::Column(0), 0, &knowns),
-        Span { lo: 3, hi: 12 }
-    );
-    assert_eq!(rt; span_of(&Expr::Literal(-7), 0, &knowns), exactly(-7));
-    Ok(())
-}
-
-#[test]
-fn differences(rt: HostRuntime) -> Result<(), Fail> {
-    let alloc = rt.alloc();
-    let knowns = [column(alloc, 3, 12)?, column(alloc, 1, 4)?];
-    let price = Box::new(alloc, Expr::Column(0))?;
-    let quantity = Box::new(alloc, Expr::Column(1))?;
-    let rest = Expr::Sub(price, quantity);
-    assert_eq!(rt; span_of(&rest, 0, &knowns), Span { lo: -1, hi: 11 });
-    Ok(())
-}
-
-#[test]
-fn products(rt: HostRuntime) -> Result<(), Fail> {
-    let alloc = rt.alloc();
-    let knowns = [column(alloc, -3, 2)?, column(alloc, -1, 4)?];
-    let first = Box::new(alloc, Expr::Column(0))?;
-    let second = Box::new(alloc, Expr::Column(1))?;
-    let product = Expr::Mul(first, second);
-    assert_eq!(rt; span_of(&product, 0, &knowns), Span { lo: -12, hi: 8 });
+    let columns = columns(rt.alloc())?;
+    let change = span_of(&Expr::Column(0), 0, &columns);
+    let number = span_of(&Expr::Literal(-7), 0, &columns);
+    assert_eq!(rt; [change, number], [Interval { lo: -3, hi: 2 }, exactly(-7)]);
     Ok(())
 }
 
 #[test]
 fn sums(rt: HostRuntime) -> Result<(), Fail> {
     let alloc = rt.alloc();
-    let knowns = [column(alloc, 3, 12)?, column(alloc, 1, 4)?];
-    let price = Box::new(alloc, Expr::Column(0))?;
+    let columns = columns(alloc)?;
+    let change = Box::new(alloc, Expr::Column(0))?;
     let ten = Box::new(alloc, Expr::Literal(10))?;
-    let sum = Expr::Add(price, ten);
-    assert_eq!(rt; span_of(&sum, 0, &knowns), Span { lo: 13, hi: 22 });
+    let sum = Expr::Add(change, ten);
+    assert_eq!(rt; span_of(&sum, 0, &columns), Interval { lo: 7, hi: 12 });
+    Ok(())
+}
+
+#[test]
+fn differences(rt: HostRuntime) -> Result<(), Fail> {
+    let alloc = rt.alloc();
+    let columns = columns(alloc)?;
+    let ten = Box::new(alloc, Expr::Literal(10))?;
+    let change = Box::new(alloc, Expr::Column(0))?;
+    let rest = Expr::Sub(ten, change);
+    assert_eq!(rt; span_of(&rest, 0, &columns), Interval { lo: 8, hi: 13 });
+    Ok(())
+}
+
+#[test]
+fn products(rt: HostRuntime) -> Result<(), Fail> {
+    let alloc = rt.alloc();
+    let columns = columns(alloc)?;
+    let change = Box::new(alloc, Expr::Column(0))?;
+    let other = Box::new(alloc, Expr::Column(0))?;
+    let product = Expr::Mul(change, other);
+    assert_eq!(rt; span_of(&product, 0, &columns), Interval { lo: -6, hi: 9 });
     Ok(())
 }

@@ -11,7 +11,7 @@ returns c = λ ps e.
     let low : to_z w128 (of_z w128 c.least_sum.result) ≡ c.least_sum.result = omega (arith, ints) in
     let high : to_z w128 (of_z w128 c.greatest_sum.result) ≡ c.greatest_sum.result = omega (arith, ints) in
     average_is ps _ _ _ _ _ c.max-most.result c.max-fewest.result (record {
-      word_is = c.emptiness.ensures Sum ps e;
+      word_is = c.nullity_of.ensures Sum ps e;
       low_is = c.quotient.ensures.num ∙ low ∙ c.least_sum.ensures ps e;
       high_is = c.quotient-2.ensures.num ∙ high ∙ c.greatest_sum.ensures ps e;
       most_is = c.max-most.ensures ∙ ap (λ (t : Tally). max t.all 1) e;

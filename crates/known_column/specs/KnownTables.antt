@@ -1,0 +1,38 @@
+-- What several columns of a table are known by: what is declared of them, and what was read of them.
+use Rattle.std.specs.Prelude.{ℕ, ◌≤◌, Bool, List, map}
+use Rattle.daq_table.specs.Tables.{Frame, ends_at}
+use Rattle.query_model.specs.Knowledge.{IsKnowledge, Knowledge, known_at, start, taken}
+use Rattle.known_column.specs.Columns.{KnownColumn}
+
+-- the columns are numbered in their order
+pub record KnownTable : Type 0 where
+  pub frame : Frame
+  pub known : Knowledge
+
+-- these columns, each of which has so many rows
+abbrev pub table_of : ℕ → List KnownColumn → KnownTable
+table_of rows columns = record {
+  frame = record { rows = rows; columns = map (λ column. column.ends) columns };
+  known = map (λ column. column.known) columns;
+}
+
+-- a column of them
+abbrev pub column_at : KnownTable → ℕ → KnownColumn
+column_at table c = record { ends = ends_at table.frame c; known = known_at table.known c }
+
+-- what is declared of the columns at these places of a table
+abbrev pub frame_at : Frame → List ℕ → Frame
+frame_at frame places = record { rows = frame.rows; columns = map (ends_at frame) places }
+
+-- nothing is read of columns of which this is declared
+abbrev pub unread_table : Frame → KnownTable
+unread_table frame = record { frame = frame; known = start frame }
+
+-- after the next plane of a column, with these bits
+abbrev pub read_column : KnownTable → ℕ → List Bool → KnownTable
+read_column table c bits = record { frame = table.frame; known = taken table.known c bits }
+
+-- what known columns keep: there are few rows, and for each row of each column a prefix that some cell has
+pub record IsKnownTable (table : KnownTable) : Type 0 where
+  pub few_rows : table.frame.rows ≤ 16777216
+  pub knowledge : IsKnowledge table.frame table.known
