@@ -1,0 +1,4 @@
+pub mod Best
+pub mod One
+pub mod Existing
+pub mod Same

@@ -1,7 +1,9 @@
 -- The column that is read next, by each policy.
-use Rattle.std.specs.Prelude.{◌≡◌, ℕ, ◌^◌, ◌<◌, ◌≤◌, length, slice_index, slice_get}
+use Rattle.std.specs.Prelude.{◌≡◌, ℕ, ◌^◌, ◌<◌, ◌≤◌, min, List, length, slice_index, slice_get}
 use Rattle.std.specs.declared.option.Option.{Option}
 use Rattle.std.specs.declared.option.Option.TheVariants.{Some, None}
+use Rattle.plane_schedule.specs.declared.policy.Policy.{Policy}
+use Rattle.plane_schedule.specs.declared.policy.Policy.TheVariants.{Widest, InOrder, FilterFirst, Listed}
 use Rattle.plane_schedule.specs.declared.progress.Progress.{Progress}
 use Rattle.plane_schedule.specs.declared.progress.Role.{Role}
 use Rattle.plane_schedule.specs.declared.progress.Role.TheVariants.{Filter, Group}
@@ -15,48 +17,75 @@ pub record IsSound (p : Progress) : Type 0 where
   pub unknown : p.unknown < 2 ^ 64
   pub done : p.done < 2 ^ 32
 
+-- what a policy looks at: the number of columns, for each of them its unread planes and what it is read for, at how many rows the condition is
+-- unknown, and how many planes were read of all columns
+pub record Outlook : Type 0 where
+  pub columns : ℕ
+  pub unread : ℕ → ℕ
+  pub role : ℕ → Option Role
+  pub unknown : ℕ
+  pub read : ℕ
+
+abbrev pub outlook_of : Progress → Outlook
+outlook_of p = record { columns = min p.columns 16; unread = slice_index p.unread; role = slice_get p.role; unknown = p.unknown; read = p.done }
+
 -- this column has an unread plane
-pub record Chooses (p : Progress) (c : ℕ) : Type 0 where
-  pub in_query : c < p.columns
-  pub in_list : c < 16
-  pub unread : 0 < slice_index p.unread c
+pub record IsUnread (o : Outlook) (c : ℕ) : Type 0 where
+  pub column : c < o.columns
+  pub unread : 0 < o.unread c
 
 -- some column has one
-abbrev pub HasUnread : Progress → Type 0
-HasUnread p = (c : ℕ) × Chooses p c
+abbrev pub HasUnread : Outlook → Type 0
+HasUnread o = (c : ℕ) × IsUnread o c
 
 -- the least of the columns with an unread plane
-pub record IsFirst (p : Progress) (c : ℕ) : Type 0 where
-  pub chooses : Chooses p c
-  pub first : (d : ℕ) → d < c → ¬ Chooses p d
+pub record IsFirst (o : Outlook) (c : ℕ) : Type 0 where
+  pub unread : IsUnread o c
+  pub first : (d : ℕ) → d < c → ¬ IsUnread o d
 
 -- among the columns of a sort that have an unread plane, one with the most of them, and of equals the least
-pub record IsWidestOf (IsOfSort : ℕ → Type 0) (p : Progress) (c : ℕ) : Type 0 where
+pub record IsWidestOf (IsOfSort : ℕ → Type 0) (o : Outlook) (c : ℕ) : Type 0 where
   pub of_sort : IsOfSort c
-  pub chooses : Chooses p c
-  pub widest : (d : ℕ) → IsOfSort d → Chooses p d → slice_index p.unread d ≤ slice_index p.unread c
-  pub first : (d : ℕ) → d < c → IsOfSort d → Chooses p d → slice_index p.unread d < slice_index p.unread c
+  pub unread : IsUnread o c
+  pub widest : (d : ℕ) → IsOfSort d → IsUnread o d → o.unread d ≤ o.unread c
+  pub first : (d : ℕ) → d < c → IsOfSort d → IsUnread o d → o.unread d < o.unread c
 
 -- a column is read for this
-abbrev pub HasRole : Progress → Role → ℕ → Type 0
-HasRole p role c = slice_get p.role c ≡ Some role
+abbrev pub HasRole : Outlook → Role → ℕ → Type 0
+HasRole o role c = o.role c ≡ Some role
 
 -- a column of this role, or any column where none is given
-abbrev pub IsOf : Progress → Option Role → ℕ → Type 0
-IsOf p None c = Unit {0}
-IsOf p (Some role) c = HasRole p role c
+abbrev pub IsOf : Outlook → Option Role → ℕ → Type 0
+IsOf o None c = Unit {0}
+IsOf o (Some role) c = HasRole o role c
 
 -- the widest of all
-abbrev pub IsWidest : Progress → ℕ → Type 0
-IsWidest p = IsWidestOf (IsOf p None) p
+abbrev pub IsWidest : Outlook → ℕ → Type 0
+IsWidest o = IsWidestOf (IsOf o None) o
 
 -- some column with an unread plane is read for this
-abbrev pub HasUnreadOf : Role → Progress → Type 0
-HasUnreadOf role p = (c : ℕ) × HasRole p role c × Chooses p c
+abbrev pub HasUnreadOf : Role → Outlook → Type 0
+HasUnreadOf role o = (c : ℕ) × HasRole o role c × IsUnread o c
 
 -- while the condition is unknown at some row, the columns that it reads come first; next those of the groups; then all
-pub record IsFilterFirst (p : Progress) (c : ℕ) : Type 0 where
-  pub chooses : Chooses p c
-  pub filter : 0 < p.unknown → HasUnreadOf Filter p → IsWidestOf (HasRole p Filter) p c
-  pub group : ¬ ((0 < p.unknown) × HasUnreadOf Filter p) → HasUnreadOf Group p → IsWidestOf (HasRole p Group) p c
-  pub rest : ¬ ((0 < p.unknown) × HasUnreadOf Filter p) → ¬ HasUnreadOf Group p → IsWidest p c
+pub record IsFilterFirst (o : Outlook) (c : ℕ) : Type 0 where
+  pub unread : IsUnread o c
+  pub filter : 0 < o.unknown → HasUnreadOf Filter o → IsWidestOf (HasRole o Filter) o c
+  pub group : ¬ ((0 < o.unknown) × HasUnreadOf Filter o) → HasUnreadOf Group o → IsWidestOf (HasRole o Group) o c
+  pub rest : ¬ ((0 < o.unknown) × HasUnreadOf Filter o) → ¬ HasUnreadOf Group o → IsWidest o c
+
+-- as many planes were read as columns stand before this one in the list, and it has an unread plane
+pub record IsNextListed (list : List ℕ) (o : Outlook) (c : ℕ) : Type 0 where
+  pub next : slice_get list o.read ≡ Some c
+  pub unread : IsUnread o c
+
+-- the column that the policy reads next
+abbrev pub Chooses : Policy → Outlook → ℕ → Type 0
+Chooses Widest o c = IsWidest o c
+Chooses InOrder o c = IsFirst o c
+Chooses FilterFirst o c = IsFilterFirst o c
+Chooses (Listed list) o c = IsNextListed list o c
+
+-- there is one
+abbrev pub HasChoice : Policy → Outlook → Type 0
+HasChoice policy o = (c : ℕ) × Chooses policy o c

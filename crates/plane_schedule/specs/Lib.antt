@@ -1,2 +1,4 @@
 pub mod Choices
 pub mod Keeping
+pub mod Plans
+pub mod Laws

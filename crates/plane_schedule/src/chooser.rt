@@ -2,8 +2,9 @@
 
 ghost use Rattle.std.specs.Prelude.{◌≡◌, ◌↔◌, IfSome, IsNone};
 ghost use Rattle.std.specs.Fn.{FnReturnsAt};
-ghost use Rattle.plane_schedule.specs.Choices.{Chooses, HasUnread, IsSound};
-ghost use Rattle.plane_schedule.specs.Keeping.{Keeps};
+ghost use Rattle.plane_schedule.specs.declared.policy.Policy.{Policy};
+ghost use Rattle.plane_schedule.specs.Choices.{Chooses, HasChoice, HasUnread, IsSound, IsUnread, outlook_of};
+ghost use Rattle.plane_schedule.specs.Keeping.{Follows, Keeps};
 
 use crate::progress::{Progress, has_unread};
 
@@ -23,13 +24,15 @@ impl<F: Fn(&Progress) -> usize> Chooser<F> {
         Chooser { choose }
     }
 
-    /// The closure's answer, or none where nothing is unread.
+    /// The closure's answer, or none where nothing is unread. It is what each policy chooses that the closure follows.
     pub fn next(&self, progress: &Progress) -> Option<usize>
         requires kept { Keeps F.Fn self.now.choose }
         requires sound { IsSound progress.now }
-        ensures none { IsNone result ↔ ¬ HasUnread progress.now }
-        ensures chooses { IfSome result (λ column. Chooses progress.now column) }
+        ensures none { IsNone result ↔ ¬ HasUnread (outlook_of progress.now) }
+        ensures unread { IfSome result (λ column. IsUnread (outlook_of progress.now) column) }
         ensures answer { IfSome result (λ column. FnReturnsAt F.Fn self.now.choose progress.now column) }
+        ensures follows { IfSome result (λ column. (policy : Policy) → Follows F.Fn self.now.choose policy → HasChoice policy (outlook_of progress.now)
+            → Chooses policy (outlook_of progress.now) column) }
     {
         if has_unread(progress) {
             Some((self.choose)(progress))

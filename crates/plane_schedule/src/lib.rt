@@ -1,12 +1,16 @@
-//! Which column of a query is read next.
+//! Which column of a query is read next, and how far the rounds go.
 #![tactic(auto)]
 
 mod chooser;
+mod laws;
 mod policies;
+mod policy;
 mod progress;
 
 pub use chooser::Chooser;
-pub use policies::{filter_first, in_order, widest};
+pub use laws::{choices_are_one, policies_choose};
+pub use policies::{filter_first, in_order, listed, widest};
+pub use policy::{Ending, Plan, Policy};
 pub use progress::{Progress, Role};
 
 #[cfg(test)]

@@ -1,7 +1,7 @@
 //! How far a query has come.
 
 ghost use Rattle.std.specs.Prelude.{◌↔◌, IsTrue};
-ghost use Rattle.plane_schedule.specs.Choices.{HasUnread};
+ghost use Rattle.plane_schedule.specs.Choices.{HasUnread, outlook_of};
 
 /// What a column of a query is read for: the condition, else the groups, else values.
 #[derive(Clone, Copy, Debug, PartialEq, Eq)]
@@ -24,7 +24,7 @@ pub struct Progress {
 
 // Whether some column has an unread plane.
 pub(crate) fn has_unread(progress: &Progress) -> bool
-    ensures { IsTrue result ↔ HasUnread progress.now }
+    ensures { IsTrue result ↔ HasUnread (outlook_of progress.now) }
 {
     for column in 0..16usize {
         if column < progress.columns as usize && progress.unread[column] > 0 {

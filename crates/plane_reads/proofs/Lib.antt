@@ -1,0 +1,4 @@
+pub mod Naming
+pub mod FirstReads
+pub mod Answers
+pub mod Turns

@@ -1,0 +1,48 @@
+-- A policy chooses one column at most.
+use Rattle.std.proofs.Common.{◌≡◌, ◌≢◌, ◌⊎◌, ℕ, ◌<◌, ◌≤◌, sym, ◌∙◌, arith, inl, inr, slice_get}
+use Rattle.std.proofs.lemmas.Bool.{cases_lt, cases_eq}
+use Rattle.std.specs.declared.option.Option.{Option}
+use Rattle.std.specs.declared.option.Option.TheVariants.{Some, None}
+use Rattle.plane_schedule.specs.declared.policy.Policy.TheVariants.{Widest, InOrder, FilterFirst, Listed}
+use Rattle.plane_schedule.specs.declared.progress.Role.TheVariants.{Filter, Group}
+use Rattle.plane_schedule.specs.Choices.{HasRole, HasUnreadOf, IsFilterFirst, IsFirst, IsOf, IsWidestOf, Outlook}
+use Rattle.plane_schedule.specs.Laws.{ChoicesAreOne}
+
+only_widest : (IsOfSort : ℕ → Type 0) (o : Outlook) (c d : ℕ) → IsWidestOf IsOfSort o c → IsWidestOf IsOfSort o d → c ≡ d
+only_widest IsOfSort o c d wc wd = by (cases_lt c d) (cases_lt d c)
+  where
+    by : ((c < d) ⊎ (d ≤ c)) → ((d < c) ⊎ (c ≤ d)) → c ≡ d
+    by (inl less) other = absurd (let first = wd.first c less wc.of_sort wc.unread in let most = wc.widest d wd.of_sort wd.unread in omega (arith, first, most))
+    by (inr k) (inl less) = absurd (let first = wc.first d less wd.of_sort wd.unread in let most = wd.widest c wc.of_sort wc.unread in omega (arith, first, most))
+    by (inr k) (inr l) = omega (arith, k, l)
+
+only_first : (o : Outlook) (c d : ℕ) → IsFirst o c → IsFirst o d → c ≡ d
+only_first o c d fc fd = by (cases_lt c d) (cases_lt d c)
+  where
+    by : ((c < d) ⊎ (d ≤ c)) → ((d < c) ⊎ (c ≤ d)) → c ≡ d
+    by (inl less) other = absurd (fd.first c less fc.unread)
+    by (inr k) (inl less) = absurd (fc.first d less fd.unread)
+    by (inr k) (inr l) = omega (arith, k, l)
+
+-- were they two, none of the three cases could be
+only_filter_first : (o : Outlook) (c d : ℕ) → IsFilterFirst o c → IsFilterFirst o d → c ≡ d
+only_filter_first o c d fc fd = by (cases_eq c d)
+  where
+    by : ((c ≡ d) ⊎ (c ≢ d)) → c ≡ d
+    by (inl same) = same
+    by (inr other) =
+        let no_filter : ¬ ((0 < o.unknown) × HasUnreadOf Filter o) = λ some. other (only_widest (HasRole o Filter) o c d (fc.filter some.0 some.1) (fd.filter some.0 some.1)) in
+        let no_group : ¬ HasUnreadOf Group o = λ some. other (only_widest (HasRole o Group) o c d (fc.group no_filter some) (fd.group no_filter some)) in
+        absurd (other (only_widest (IsOf o None) o c d (fc.rest no_filter no_group) (fd.rest no_filter no_group)))
+
+same_some : (c d : ℕ) (r : Option ℕ) → r ≡ Some c → r ≡ Some d → c ≡ d
+same_some c d r a b = by (sym a ∙ b)
+  where
+    by : Some c ≡ Some d → c ≡ d
+    by e = cc
+
+pub choices_are_one : ChoicesAreOne
+choices_are_one Widest o c d a b = only_widest (IsOf o None) o c d a b
+choices_are_one InOrder o c d a b = only_first o c d a b
+choices_are_one FilterFirst o c d a b = only_filter_first o c d a b
+choices_are_one (Listed list) o c d a b = same_some c d (slice_get list o.read) a.next b.next

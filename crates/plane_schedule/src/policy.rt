@@ -1,0 +1,85 @@
+//! Plans of rounds: by which policy columns are read, and how far.
+
+ghost use Rattle.std.specs.Prelude.{◌≡◌};
+ghost use Rattle.plane_schedule.specs.Plans.{ending_of, is_list_end, is_most, widest_plan};
+
+use query_model::Columns;
+
+/// The policy by which the next column is chosen. A column is wider the more unread planes it has.
+#[derive(Drop, Debug)]
+pub enum Policy {
+    /// The widest column, of equals the least number.
+    Widest,
+    /// The least number with an unread plane.
+    InOrder,
+    /// The columns of the condition while it is unknown at some row, next those of the groups, then all; of each the widest.
+    FilterFirst,
+    /// These columns of the query, one for each round.
+    Listed(Columns),
+}
+
+/// A policy, how far apart the ends of a narrow bound may be, and the number of the last round that is wanted, if any.
+#[derive(Drop, Debug)]
+pub struct Plan {
+    pub policy: Policy,
+    pub width: u64,
+    pub most: Option<u32>,
+}
+
+/// Why a round is the last: it is narrow, or the last that is wanted, or the list of columns is at its end.
+#[derive(Clone, Copy, Debug, PartialEq, Eq)]
+pub enum Ending {
+    Narrow,
+    Rounds,
+    Reads,
+}
+
+impl Policy {
+    // Whether a list of columns is at its end after the round with that number.
+    fn is_list_end(&self, round: u32) -> bool
+        ensures { result ≡ is_list_end self.now round }
+    {
+        match self {
+            Policy::Widest | Policy::InOrder | Policy::FilterFirst => false,
+            Policy::Listed(list) => round as usize == list.as_slice().len(),
+        }
+    }
+}
+
+impl Plan {
+    /// Each time the widest column, until each answer is one number.
+    pub fn widest() -> Plan
+        ensures { result ≡ widest_plan }
+    {
+        Plan {
+            policy: Policy::Widest,
+            width: 0,
+            most: None,
+        }
+    }
+
+    // Whether the round with that number is the last that is wanted.
+    fn is_most(&self, round: u32) -> bool
+        ensures { result ≡ is_most self.now.most round }
+    {
+        match self.most {
+            Some(most) => round == most,
+            None => false,
+        }
+    }
+
+    /// Why the rounds end with the round of that number, which is narrow or not; none where they go on.
+    pub fn ending(&self, narrow: bool, round: u32) -> Option<Ending>
+        ensures { result ≡ ending_of self.now narrow round }
+    {
+        if narrow {
+            Some(Ending::Narrow)
+        } else if self.is_most(round) {
+            Some(Ending::Rounds)
+        } else if self.policy.is_list_end(round) {
+            Some(Ending::Reads)
+        } else {
+            None
+        }
+    }
+}
