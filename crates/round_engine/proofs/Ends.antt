@@ -7,13 +7,15 @@ use Rattle.aggregates.specs.Runnings.{Tallies}
 use Rattle.query_model.specs.declared.query.Item.{Item}
 use Rattle.query_model.specs.declared.query.ItemKind.{ItemKind}
 use Rattle.query_model.specs.declared.query.ItemKind.TheVariants.{Count, Sum, Min, Max, Avg}
-use Rattle.query_model.specs.Bounds.{Pair, average_under, bound_of, pairs}
+use Rattle.query_model.specs.declared.query.TypedQuery.{TypedQuery}
+use Rattle.query_model.specs.Bounds.{AverageBound, Pair, average_under, bound_of, pairs}
 use Rattle.query_model.specs.Laws.{PairsAreFew}
 use Rattle.query_model.specs.Truths.{span_of}
 use Rattle.query_model.specs.Validity.{FitsKind, declared_ranges}
 use Rattle.round_engine.specs.Narrowness.{FitsNarrow, is_narrow_bound, is_narrow_item}
-use Rattle.round_engine.specs.Stages.{Stage}
-use Rattle.round_engine.proofs.Kept.{IsKeptAt, of_some, open_item_at}
+use Rattle.round_engine.specs.Stages.{IsOpenStage, Stage}
+use Rattle.round_engine.specs.Totals.{AreTotals, AreTotalsOf, HasTotal}
+use Rattle.round_engine.proofs.Kept.{has_total, if_some, of_some, open_item_at}
 use Rattle.round_engine.proofs.Ratios.{average_fits}
 use Rattle.round_engine.proofs.Shown.{pairs_within}
 
@@ -21,11 +23,11 @@ use Rattle.round_engine.proofs.Shown.{pairs_within}
 pub kind_read : (items read : List Item) (n : ℕ) (d i : Item) (P : ItemKind → Type 0) → read ≡ items → slice_get items n ≡ Some i → P (get_or read n d).kind → P i.kind
 kind_read items read n d i P same is h = subst (λ w. P w.kind) (ap (λ xs. get_or xs n d) same ∙ get_or_from_slice_get items n i d is) h
 
-pub ratios_fit : (stage : Stage) (runnings : List Tallies) (n width : ℕ) (i : Item) → PairsAreFew → IsKeptAt stage runnings → slice_get stage.query.items n ≡ Some i → i.kind ≡ Avg → width < 2 ^ 63 →
+pub ratios_fit : (stage : Stage) (n width : ℕ) (i : Item) → PairsAreFew → IsOpenStage stage → slice_get stage.query.items n ≡ Some i → i.kind ≡ Avg → width < 2 ^ 63 →
     FitsNarrow width (average_under stage.query i [] stage.frame stage.known)
-ratios_fit stage runnings n width i few kept is kind narrow =
+ratios_fit stage n width i few kept is kind narrow =
     let span = span_of i.arg (declared_ranges stage.frame) in
-    let fits : FitsKind Avg stage.frame.rows span = subst (λ k. FitsKind k stage.frame.rows span) kind (open_item_at stage runnings n i kept is).fits.1 in
+    let fits : FitsKind Avg stage.frame.rows span = subst (λ k. FitsKind k stage.frame.rows span) kind (open_item_at stage n i kept is).fits.1 in
     average_fits width stage.frame.rows span (pairs stage.query i [] stage.frame stage.known) (pairs_within stage.query i [] stage.frame stage.known kept.knowledge)
     ((few stage.query i stage.frame stage.known stage.frame.rows).of_key []) kept.open_query.few_rows narrow fits.1
 
@@ -35,6 +37,32 @@ narrow_plain width Sum ps h = refl
 narrow_plain width Min ps h = refl
 narrow_plain width Max ps h = refl
 narrow_plain width Avg ps h = absurd (h refl)
+
+-- ---- the totals of a query at some stage
+
+pub kind_there : (stage : Stage) (query : TypedQuery) (read : List Item) (n : ℕ) (d i : Item) (P : ItemKind → Type 0) → stage.query ≡ query → read ≡ query.items → slice_get stage.query.items n ≡ Some i → P (get_or read n d).kind → P i.kind
+kind_there stage query read n d i P same items is h = kind_read stage.query.items read n d i P (items ∙ ap (λ (q : TypedQuery). q.items) (sym same)) is h
+
+module _ (query : TypedQuery) (totals : List Tallies) (n : ℕ) (read : List Item) (are : AreTotalsOf query totals) where
+  within_stage : n < length query.items → n < length are.stage.query.items
+  within_stage within = subst (λ (q : TypedQuery). n < length q.items) (sym are.same) within
+
+  pub has_total_read : (P : ItemKind → Type 0) (d : Item) → n < length query.items → read ≡ query.items → P (get_or read n d).kind → HasTotal totals n P
+  has_total_read P d within items h =
+      has_total are.stage totals n are.totals_are (within_stage within) P (if_some (slice_get are.stage.query.items n) _ (λ i is. kind_there are.stage query read n d i P are.same items is h))
+
+pub fits_read : (query : TypedQuery) (totals : List Tallies) (n : ℕ) (read : List Item) (width : ℕ) (d : Item) (bound : AverageBound) → PairsAreFew → (are : AreTotalsOf query totals) → n < length query.items → width < 2 ^ 63 → read ≡ query.items →
+    (get_or read n d).kind ≡ Avg →
+    ((stage : Stage) → AreTotals stage totals → IfSome (slice_get stage.query.items n) (λ i. bound ≡ average_under stage.query i [] stage.frame stage.known)) → FitsNarrow width bound
+fits_read query totals n read width d bound few are within narrow items avg told =
+    let stage = are.stage in
+    let inside : n < length stage.query.items = subst (λ (q : TypedQuery). n < length q.items) (sym are.same) within in
+    elim (slice_get_cases stage.query.items n).1 [
+      | inl found ↦
+          (let kind = kind_there stage query read n d found.0 (λ kind. kind ≡ Avg) are.same items found.2 avg in
+          subst (FitsNarrow width) (sym (of_some (slice_get stage.query.items n) _ found.0 (told stage are.totals_are) found.2)) (ratios_fit stage n width found.0 few are.open_stage found.2 kind narrow))
+      | inr past ↦ (let beyond = past.0 in absurd (omega arith))
+    ]
 
 -- ---- all items
 

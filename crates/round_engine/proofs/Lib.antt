@@ -1,7 +1,5 @@
 pub mod RowPairs
 pub mod Openings
-pub mod ColumnSteps
-pub mod KeptItems
 pub mod Kept
 pub mod Certain
 pub mod Shown

@@ -7,7 +7,7 @@ use Rattle.std.proofs.lemmas.List.FromFn.{length-map-range_with_len}
 use Rattle.std.proofs.lemmas.Option.{same_Some}
 use Rattle.std.specs.declared.option.Option.{Option}
 use Rattle.interval_calc.specs.Intervals.{Interval, interval_of}
-use Rattle.interval_calc.specs.declared.Span.{Span}
+use Rattle.interval_calc.specs.declared.Interval as code
 use Rattle.daq_table.specs.Tables.{Frame}
 use Rattle.query_model.specs.declared.bounds.Truth.{Truth}
 use Rattle.query_model.specs.declared.bounds.Truth.TheVariants.{False, Unknown, True}
@@ -22,8 +22,8 @@ use Rattle.query_model.specs.Knowledge.{Knowledge, IsKnowledge, ranges_of}
 use Rattle.query_model.specs.Laws.{PairsAreFew, SumsFit, SumsOfItemsFit}
 use Rattle.query_model.specs.Truths.{Ranges, and_of, span_of, truth_of}
 use Rattle.query_model.specs.Validity.{FitsItem, IsSumKind}
-use Rattle.known_column.specs.Columns.{KnownColumn, frame_over, knowledge_of, ranges_over}
-use Rattle.kleene_filter.specs.Filters.{is_certain, is_possible, truths_under}
+use Rattle.known_column.specs.KnownTables.{KnownTable}
+use Rattle.kleene_filter.specs.Filters.{is_certain, is_possible, truth_at, truths_under}
 use Rattle.aggregates.specs.Runnings.{IsAdded, MayAdd, StandsFor, Tallies}
 use Rattle.aggregates.specs.Tallies.{pair_with}
 
@@ -50,7 +50,7 @@ and_true True = refl
 plain_truth : (query : TypedQuery) (ranges : Ranges) → query.shape ≡ Plain → truth_of_row query [] ranges ≡ truth_of query.pred ranges
 plain_truth query ranges plain = ap (λ (shape : Shape). and_of (truth_of query.pred ranges) (truth_of_group (groups_of shape) [] ranges)) plain ∙ and_true (truth_of query.pred ranges)
 
-pair_if_possible : (t : Truth) (certain : Bool) (span : Span) → is_possible t ≡ true → certain ≡ is_certain t → pair_unless_false t (interval_of span) ≡ Some (pair_with certain span)
+pair_if_possible : (t : Truth) (certain : Bool) (span : code.Interval) → is_possible t ≡ true → certain ≡ is_certain t → pair_unless_false t (interval_of span) ≡ Some (pair_with certain span)
 pair_if_possible False certain span may must = (cc)
 pair_if_possible Unknown certain span may must = ap (λ b. Some (pair_with b span)) (sym must)
 pair_if_possible True certain span may must = ap (λ b. Some (pair_with b span)) (sym must)
@@ -60,18 +60,16 @@ none_if_impossible False span may = refl
 none_if_impossible Unknown span may = (cc)
 none_if_impossible True span may = (cc)
 
-pub rows_of_mask : (f : Truth → Bool) (mask : List Bool) (truths : List Truth) (pred : Pred) (rows : ℕ) (columns : List KnownColumn) → mask ≡ map f truths → truths ≡ truths_under pred rows columns → length mask ≡ rows
-rows_of_mask f mask truths pred rows columns is judged =
-    ap length is ∙ length-map truths f ∙ ap length judged ∙ length-map-range_with_len (λ row. truth_of pred (ranges_over columns row)) 0 rows
+pub rows_of_mask : (f : Truth → Bool) (mask : List Bool) (truths : List Truth) (pred : Pred) (columns : KnownTable) → mask ≡ map f truths → truths ≡ truths_under pred columns → length mask ≡ columns.frame.rows
+rows_of_mask f mask truths pred columns is judged = ap length is ∙ length-map truths f ∙ ap length judged ∙ length-map-range_with_len (truth_at pred columns) 0 columns.frame.rows
 
 -- a bit that a filter tells of a row
-pub bit_at_row : (f : Truth → Bool) (mask : List Bool) (truths : List Truth) (pred : Pred) (rows : ℕ) (columns : List KnownColumn) (row : ℕ) (bit : Bool) → mask ≡ map f truths → truths ≡ truths_under pred rows columns →
-    row < rows → slice_get mask row ≡ Some bit → bit ≡ f (truth_of pred (ranges_over columns row))
-bit_at_row f mask truths pred rows columns row bit is judged within told =
-    let truth = (λ (r : ℕ). truth_of pred (ranges_over columns r)) in
-    let all : slice_get (map f (truths_under pred rows columns)) row ≡ Some bit = ap (λ ts. slice_get (map f ts) row) (sym judged) ∙ ap (λ m. slice_get m row) (sym is) ∙ told in
+pub bit_at_row : (f : Truth → Bool) (mask : List Bool) (truths : List Truth) (pred : Pred) (columns : KnownTable) (row : ℕ) (bit : Bool) → mask ≡ map f truths → truths ≡ truths_under pred columns →
+    row < columns.frame.rows → slice_get mask row ≡ Some bit → bit ≡ f (truth_at pred columns row)
+bit_at_row f mask truths pred columns row bit is judged within told =
+    let all : slice_get (map f (truths_under pred columns)) row ≡ Some bit = ap (λ ts. slice_get (map f ts) row) (sym judged) ∙ ap (λ m. slice_get m row) (sym is) ∙ told in
     let start : 0 + row ≡ row = omega arith in
-    same_Some _ _ (sym all ∙ there f truth 0 rows row within ∙ ap (λ r. Some (f (truth r))) start)
+    same_Some _ _ (sym all ∙ there f (truth_at pred columns) 0 columns.frame.rows row within ∙ ap (λ r. Some (f (truth_at pred columns r))) start)
   where
     there : (f : Truth → Bool) (truth : ℕ → Truth) (a n i : ℕ) → i < n → slice_get (map f (map truth (range_with_len a n))) i ≡ Some (f (truth (a + i)))
     there f truth a zero i h = absurd (omega arith)
@@ -80,25 +78,31 @@ bit_at_row f mask truths pred rows columns row bit is judged within told =
 
 -- ---- the pairs below the next row
 
-pub pairs_with_row : (query : TypedQuery) (item : Item) (rows : ℕ) (columns : List KnownColumn) (row : ℕ) (certain : Bool) (span : Span) → query.shape ≡ Plain →
-    is_possible (truth_of query.pred (ranges_over columns row)) ≡ true → certain ≡ is_certain (truth_of query.pred (ranges_over columns row)) → interval_of span ≡ span_of item.arg (ranges_over columns row) →
-    pairs_below query item [] (frame_over rows columns) (knowledge_of columns) (row + 1) ≡ pairs_below query item [] (frame_over rows columns) (knowledge_of columns) row ++ pair_with certain span ∷ []
-pairs_with_row query item rows columns row certain span plain may must lies =
-    let give = (λ (r : ℕ). pair_of query item [] (ranges_of (frame_over rows columns) (knowledge_of columns) r)) in
-    let given : pair_of query item [] (ranges_over columns row) ≡ Some (pair_with certain span) =
-    ap (λ t. pair_unless_false t (span_of item.arg (ranges_over columns row))) (plain_truth query (ranges_over columns row) plain)
-    ∙ ap (pair_unless_false (truth_of query.pred (ranges_over columns row))) (sym lies) ∙ pair_if_possible _ certain span may must in
+-- those that the rows below one have
+abbrev pub pairs_to : TypedQuery → Item → KnownTable → ℕ → List Pair
+pairs_to query item columns row = pairs_below query item [] columns.frame columns.known row
+
+pub pairs_with_row : (query : TypedQuery) (item : Item) (columns : KnownTable) (row : ℕ) (certain : Bool) (span : code.Interval) → query.shape ≡ Plain →
+    is_possible (truth_at query.pred columns row) ≡ true → certain ≡ is_certain (truth_at query.pred columns row) → interval_of span ≡ span_of item.arg (ranges_of columns.frame columns.known row) →
+    pairs_to query item columns (row + 1) ≡ pairs_to query item columns row ++ pair_with certain span ∷ []
+pairs_with_row query item columns row certain span plain may must lies =
+    let ranges = ranges_of columns.frame columns.known row in
+    let give = (λ (r : ℕ). pair_of query item [] (ranges_of columns.frame columns.known r)) in
+    let given : pair_of query item [] ranges ≡ Some (pair_with certain span) =
+    ap (λ t. pair_unless_false t (span_of item.arg ranges)) (plain_truth query ranges plain)
+    ∙ ap (pair_unless_false (truth_of query.pred ranges)) (sym lies) ∙ pair_if_possible _ certain span may must in
     given-more give row ∙ ap (λ ps. filter_map give (range_with_len 0 row) ++ ps) (one give row (pair_with certain span) given)
   where
     one : (give : ℕ → Option Pair) (row : ℕ) (p : Pair) → give row ≡ Some p → filter_map give (row ∷ []) ≡ p ∷ []
     one give row p given = rw given refl
 
-pub pairs_without_row : (query : TypedQuery) (item : Item) (rows : ℕ) (columns : List KnownColumn) (row : ℕ) → query.shape ≡ Plain → is_possible (truth_of query.pred (ranges_over columns row)) ≡ false →
-    pairs_below query item [] (frame_over rows columns) (knowledge_of columns) (row + 1) ≡ pairs_below query item [] (frame_over rows columns) (knowledge_of columns) row
-pairs_without_row query item rows columns row plain may =
-    let give = (λ (r : ℕ). pair_of query item [] (ranges_of (frame_over rows columns) (knowledge_of columns) r)) in
-    let given : pair_of query item [] (ranges_over columns row) ≡ None =
-    ap (λ t. pair_unless_false t (span_of item.arg (ranges_over columns row))) (plain_truth query (ranges_over columns row) plain) ∙ none_if_impossible _ _ may in
+pub pairs_without_row : (query : TypedQuery) (item : Item) (columns : KnownTable) (row : ℕ) → query.shape ≡ Plain → is_possible (truth_at query.pred columns row) ≡ false →
+    pairs_to query item columns (row + 1) ≡ pairs_to query item columns row
+pairs_without_row query item columns row plain may =
+    let ranges = ranges_of columns.frame columns.known row in
+    let give = (λ (r : ℕ). pair_of query item [] (ranges_of columns.frame columns.known r)) in
+    let given : pair_of query item [] ranges ≡ None =
+    ap (λ t. pair_unless_false t (span_of item.arg ranges)) (plain_truth query ranges plain) ∙ none_if_impossible _ _ may in
     given-more give row ∙ none give row (filter_map give (range_with_len 0 row)) given
   where
     none : (give : ℕ → Option Pair) (row : ℕ) (ps : List Pair) → give row ≡ None → ps ++ filter_map give (row ∷ []) ≡ ps

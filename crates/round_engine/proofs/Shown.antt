@@ -6,7 +6,7 @@ use Rattle.std.proofs.lemmas.Int.{ints}
 use Rattle.interval_calc.specs.Intervals.{Interval, Within}
 use Rattle.daq_table.specs.Tables.{Frame, ends_at}
 use Rattle.query_model.specs.declared.bounds.Bound.{Bound}
-use Rattle.query_model.specs.declared.bounds.Presence.TheVariants.{Always}
+use Rattle.query_model.specs.declared.bounds.Nullity.TheVariants.{Always}
 use Rattle.query_model.specs.declared.bounds.Truth.{Truth}
 use Rattle.query_model.specs.declared.bounds.Truth.TheVariants.{False, Unknown, True}
 use Rattle.query_model.specs.declared.query.Expr.{Expr}
@@ -136,11 +136,11 @@ low_of_greatest_within i p ps h =
 
 -- ---- faces
 
-min_within : (i : Interval) (ps : List Pair) → AreWithin i ps → (bound_of Min ps).empty ≢ Always → Within i (bound_of Min ps).lo × Within i (bound_of Min ps).hi
+min_within : (i : Interval) (ps : List Pair) → AreWithin i ps → (bound_of Min ps).null ≢ Always → Within i (bound_of Min ps).lo × Within i (bound_of Min ps).hi
 min_within i [] h some = absurd (some refl)
 min_within i (p ∷ ps) h some = (least_low_within i p ps h, high_of_least_within i p ps h)
 
-max_within : (i : Interval) (ps : List Pair) → AreWithin i ps → (bound_of Max ps).empty ≢ Always → Within i (bound_of Max ps).lo × Within i (bound_of Max ps).hi
+max_within : (i : Interval) (ps : List Pair) → AreWithin i ps → (bound_of Max ps).null ≢ Always → Within i (bound_of Max ps).lo × Within i (bound_of Max ps).hi
 max_within i [] h some = absurd (some refl)
 max_within i (p ∷ ps) h some = (low_of_greatest_within i p ps h, greatest_high_within i p ps h)
 

@@ -2,4 +2,5 @@ pub mod Stages
 pub mod Narrowness
 pub mod Promises
 pub mod Progresses
+pub mod Totals
 pub mod Engines

@@ -3,27 +3,27 @@ use Rattle.std.specs.Prelude.{ℕ, ◌*◌, pos, ◌-ℤ◌, ◌*ℤ◌, int_le,
 use Rattle.std.specs.Int.{w128}
 use Rattle.std.specs.List.{list_all}
 use Rattle.query_model.specs.declared.bounds.Bound.{Bound}
-use Rattle.query_model.specs.declared.bounds.Presence.{Presence}
-use Rattle.query_model.specs.declared.bounds.Presence.TheVariants.{Never, Possibly, Always}
+use Rattle.query_model.specs.declared.bounds.Nullity.{Nullity}
+use Rattle.query_model.specs.declared.bounds.Nullity.TheVariants.{Never, Possibly, Always}
 use Rattle.query_model.specs.declared.query.ItemKind.{ItemKind}
 use Rattle.query_model.specs.declared.query.ItemKind.TheVariants.{Count, Sum, Min, Max, Avg}
 use Rattle.query_model.specs.Bounds.{AverageBound, Pair, average_bound_of, bound_of, pairs}
 use Rattle.round_engine.specs.Stages.{Stage}
 
 -- whether there is an answer is known, and where there is one, its ends are near
-abbrev pub is_told : Presence → Bool → Bool
+abbrev pub is_told : Nullity → Bool → Bool
 is_told Never near = near
 is_told Possibly near = false
 is_told Always near = true
 
 -- the ends are at most so far apart
 abbrev pub is_narrow_bound : ℕ → Bound → Bool
-is_narrow_bound width bound = is_told bound.empty (int_le (bound.hi -ℤ bound.lo) (pos width))
+is_narrow_bound width bound = is_told bound.null (int_le (bound.hi -ℤ bound.lo) (pos width))
 
 -- the difference of two fractions is compared by cross products
 abbrev pub is_narrow_average : ℕ → AverageBound → Bool
 is_narrow_average width bound =
-    is_told bound.empty (int_le ((bound.hi.num *ℤ pos bound.lo.den) -ℤ (bound.lo.num *ℤ pos bound.hi.den)) (pos (width * bound.lo.den * bound.hi.den)))
+    is_told bound.null (int_le ((bound.hi.num *ℤ pos bound.lo.den) -ℤ (bound.lo.num *ℤ pos bound.hi.den)) (pos (width * bound.lo.den * bound.hi.den)))
 
 -- the bound of an item over a list of pairs is narrow
 abbrev pub is_narrow_item : ℕ → ItemKind → List Pair → Bool

@@ -1,10 +1,10 @@
 -- How far an engine has come, as a choice of the next column sees it; and lists of steps.
 use Rattle.std.specs.Prelude.{◌≡◌, ℕ, ◌+◌, ◌<◌, ◌==◌, Bool, List, [], ◌∷◌, length, map, slice_get, slice_index, count_by, if◌then◌else◌}
 use Rattle.std.specs.declared.option.Option.TheVariants.{Some}
-use Rattle.std.specs.List.{list_any, filter_map, sum}
+use Rattle.std.specs.List.{filter_map, sum}
 use Rattle.std.specs.declared.option.Option.TheVariants as option
 use Rattle.daq_table.specs.Tables.{ends_at, planes, rows_of}
-use Rattle.kleene_filter.specs.Filters.{is_unknown}
+use Rattle.kleene_filter.specs.Filters.{is_unknown, stands_in}
 use Rattle.query_model.specs.declared.query.TypedQuery.{TypedQuery}
 use Rattle.query_model.specs.Answers.{groups_of}
 use Rattle.query_model.specs.Knowledge.{Knowledge, known_at, ranges_of, taken}
@@ -15,10 +15,6 @@ use Rattle.plane_schedule.specs.declared.progress.Progress.{Progress}
 use Rattle.plane_schedule.specs.declared.progress.Role.{Role}
 use Rattle.plane_schedule.specs.declared.progress.Role.TheVariants.{Filter, Group, Value}
 use Rattle.round_engine.specs.Stages.{Stage}
-
--- the number stands in the list
-abbrev pub stands_in : List ℕ → ℕ → Bool
-stands_in numbers n = list_any (λ m. m == n) numbers
 
 -- what a column is read for: the condition, else the groups, else values
 abbrev pub role_of : TypedQuery → ℕ → Role

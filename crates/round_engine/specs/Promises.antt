@@ -3,7 +3,7 @@ use Rattle.std.specs.Prelude.{◌≡◌, ◌≢◌, [], IsTrue}
 use Rattle.std.specs.declared.option.Option.TheVariants.{Some}
 use Rattle.interval_calc.specs.Intervals.{Within}
 use Rattle.daq_table.specs.Tables.{Cells, Frame, ends_at}
-use Rattle.query_model.specs.declared.bounds.Presence.TheVariants.{Always}
+use Rattle.query_model.specs.declared.bounds.Nullity.TheVariants.{Always}
 use Rattle.query_model.specs.declared.bounds.Bound.{Bound}
 use Rattle.query_model.specs.declared.query.Face.{Face}
 use Rattle.query_model.specs.declared.query.Face.TheVariants.{Number, OfColumn}
@@ -24,7 +24,7 @@ pub record IsCertainBound (stage : Stage) (item : Item) (frame : Frame) : Type 0
   pub tight : IsTrue (reads_each_once stage.query item) →
       IsExtremes (AgreesWith stage.query frame stage.known) (answer_on stage.query item [] frame) (bound_under stage.query item [] stage.frame stage.known)
   -- where all planes are read, the ends are the answer
-  pub exact : IsAllRead stage.frame stage.known → (bound_under stage.query item [] stage.frame stage.known).empty ≢ Always → (world : Cells) → AgreesWith stage.query frame stage.known world →
+  pub exact : IsAllRead stage.frame stage.known → (bound_under stage.query item [] stage.frame stage.known).null ≢ Always → (world : Cells) → AgreesWith stage.query frame stage.known world →
       (answer_on stage.query item [] frame world ≡ Some (bound_under stage.query item [] stage.frame stage.known).lo)
       × (answer_on stage.query item [] frame world ≡ Some (bound_under stage.query item [] stage.frame stage.known).hi)
 
@@ -32,7 +32,7 @@ pub record IsCertainBound (stage : Stage) (item : Item) (frame : Frame) : Type 0
 pub record IsCertainAverage (stage : Stage) (item : Item) (frame : Frame) : Type 0 where
   pub contains : (world : Cells) → AgreesWith stage.query frame stage.known world →
       AdmitsAverage (average_under stage.query item [] stage.frame stage.known) (average_on stage.query item [] frame world)
-  pub exact : IsAllRead stage.frame stage.known → (average_under stage.query item [] stage.frame stage.known).empty ≢ Always → (world : Cells) → AgreesWith stage.query frame stage.known world →
+  pub exact : IsAllRead stage.frame stage.known → (average_under stage.query item [] stage.frame stage.known).null ≢ Always → (world : Cells) → AgreesWith stage.query frame stage.known world →
       let bound = average_under stage.query item [] stage.frame stage.known in
       (average_on stage.query item [] frame world ≡ Some (bound.lo.num, bound.lo.den)) × (average_on stage.query item [] frame world ≡ Some (bound.hi.num, bound.hi.den))
 
@@ -49,4 +49,4 @@ pub record LiesWithin (old new : Stage) (item : Item) : Type 0 where
 -- the ends of a bound that is shown as a value of a column are numbers that the column may have
 abbrev pub IsShownWithin : Frame → Face → Bound → Type 0
 IsShownWithin frame (Number scale) bound = Unit {0}
-IsShownWithin frame (OfColumn c) bound = bound.empty ≢ Always → Within (declared_range (ends_at frame c)) bound.lo × Within (declared_range (ends_at frame c)) bound.hi
+IsShownWithin frame (OfColumn c) bound = bound.null ≢ Always → Within (declared_range (ends_at frame c)) bound.lo × Within (declared_range (ends_at frame c)) bound.hi

@@ -6,7 +6,7 @@ use Rattle.daq_table.specs.Tables.{Frame, ends_at, frame_of, planes}
 use Rattle.query_model.specs.declared.query.Item.{Item}
 use Rattle.query_model.specs.declared.query.Shape.TheVariants.{Plain}
 use Rattle.query_model.specs.declared.query.TypedQuery.{TypedQuery}
-use Rattle.query_model.specs.Knowledge.{Knowledge, IsLegal, known_at, longer, start, taken}
+use Rattle.query_model.specs.Knowledge.{IsKnowledge, IsLegal, Knowledge, known_at, longer, start, taken}
 use Rattle.query_model.specs.Meaning.{PredReadsBelow, ReadsBelow}
 use Rattle.query_model.specs.Projection.{projected_frame}
 use Rattle.query_model.specs.Validity.{FaceOf, FitsItem}
@@ -54,3 +54,8 @@ pub record IsOpenQuery (query : TypedQuery) (frame : Frame) : Type 0 where
   pub condition : PredReadsBelow (length frame.columns) query.pred
   pub plain : query.shape ≡ Plain
   pub items : AllByRecursion (IsOpenItem frame) query.items
+
+-- the query is open over its columns, and for each row of each column some cell's prefix is known
+pub record IsOpenStage (stage : Stage) : Type 0 where
+  pub open_query : IsOpenQuery stage.query stage.frame
+  pub knowledge : IsKnowledge stage.frame stage.known

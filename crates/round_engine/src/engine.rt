@@ -24,8 +24,7 @@ pub struct Engine {
 }
 
 impl Model for Engine {
-    ghost use Rattle.known_column.specs.Columns.{frame_over, knowledge_of};
-    ghost use Rattle.round_engine.specs.Engines.{IsEngine};
+    ghost use Rattle.round_engine.specs.Engines.{stage_of, IsEngine};
     ghost use Rattle.round_engine.specs.Stages.{Stage};
     ghost use Rattle.query_model.specs.contracts.query.Expr as expr;
     ghost use Rattle.query_model.specs.contracts.query.Pred as pred;
@@ -35,9 +34,9 @@ impl Model for Engine {
 
     ghost coded = { Prim.hlevel (codes, expr.the_row.coded, pred.the_row.coded) };
 
-    ghost view = { λ e. record { query = e.query; frame = frame_over e.state.rows e.state.knowns.items; known = knowledge_of e.state.knowns.items } };
+    ghost view = { λ e. stage_of e.query e.state.columns };
 
-    ghost invariant = { λ e. IsEngine e.query e.state.rows e.state.knowns.items e.state.filter e.state.runnings.items e.state.roles };
+    ghost invariant = { λ e. IsEngine e.query e.state };
 }
 
 impl Engine {

@@ -1,7 +1,7 @@
 //! One query in progress: planes are taken one by one, and at each moment its readers tell what is known of the answers.
 #![tactic(auto)]
 
-mod columns;
+mod answers;
 mod engine;
 mod filling;
 mod laws;
@@ -10,6 +10,7 @@ mod progress;
 mod readers;
 mod roles;
 mod state;
+mod totals;
 
 pub use engine::Engine;
 pub use laws::orders_agree;

@@ -5,7 +5,7 @@ ghost use Rattle.interval_calc.specs.Intervals.{interval_of};
 ghost use Rattle.daq_table.specs.declared.table_head.Head.{Head};
 ghost use Rattle.daq_table.specs.Tables.{frame_of};
 ghost use Rattle.query_model.specs.declared.query.ItemKind.TheVariants.{Avg};
-ghost use Rattle.query_model.specs.Bounds.{average_under, bound_under, ratios_of};
+ghost use Rattle.query_model.specs.Bounds.{average_under, bound_under, fractions_of};
 ghost use Rattle.query_model.specs.Knowledge.{ranges_of};
 ghost use Rattle.query_model.specs.Truths.{span_of, truth_of};
 ghost use Rattle.query_model.specs.Validity.{FitsHead};
@@ -14,10 +14,10 @@ ghost use Rattle.round_engine.specs.Progresses.{IsProgress};
 ghost use Rattle.round_engine.specs.Promises.{IsCertainAverage, IsCertainBound, IsShownWithin};
 
 use crate::engine::Engine;
-use interval_calc::Span;
+use interval_calc::Interval;
 use plane_schedule::Progress;
 use query_model::{
-    AvgBound, Bound, Truth, average_bounds_become_exact_on_tables,
+    AverageBound, Bound, Truth, average_bounds_become_exact_on_tables,
     average_bounds_contain_on_tables, bounds_are_extremes_on_tables, bounds_become_exact_on_tables,
     bounds_contain_on_tables, fitting_heads_have_parts,
 };
@@ -36,20 +36,20 @@ impl Engine {
         bounds_are_extremes_on_tables();
         bounds_become_exact_on_tables();
         fitting_heads_have_parts();
-        self.state.runnings[item].bound(0)
+        self.state.answers.totals().bound(item)
     }
 
     /// The bound of an average.
-    pub fn average(&self, item: usize) -> AvgBound
+    pub fn average(&self, item: usize) -> AverageBound
         requires item { item < length self.now.query.items }
         requires kind { IfSome (slice_get self.now.query.items item) (λ i. i.kind ≡ Avg) }
-        ensures bound { IfSome (slice_get self.now.query.items item) (λ i. ratios_of result ≡ average_under self.now.query i [] self.now.frame self.now.known) }
+        ensures bound { IfSome (slice_get self.now.query.items item) (λ i. fractions_of result ≡ average_under self.now.query i [] self.now.frame self.now.known) }
         ensures certain { IfSome (slice_get self.now.query.items item) (λ i. (head : Head) → FitsHead self.now.query self.now.frame head → IsCertainAverage self.now i (frame_of head)) }
     {
         average_bounds_contain_on_tables();
         average_bounds_become_exact_on_tables();
         fitting_heads_have_parts();
-        self.state.runnings[item].average(0)
+        self.state.answers.totals().average(item)
     }
 
     /// Whether each item's answer is known to be there or not, and where it is there, the ends of its bound are at most so far apart.
@@ -57,12 +57,7 @@ impl Engine {
         requires { width < 2 ^ 63 }
         ensures { result ≡ is_narrow width self.now }
     {
-        for item in 0..self.state.runnings.len() {
-            if !self.state.is_narrow(&self.query, item, width) {
-                return false;
-            }
-        }
-        true
+        self.state.answers.is_narrow(&self.query, width)
     }
 
     /// How far the query has come.
@@ -87,7 +82,7 @@ impl Engine {
     }
 
     /// Where the argument of an item lies at a row.
-    pub fn span(&self, item: usize, row: usize) -> Span
+    pub fn span(&self, item: usize, row: usize) -> Interval
         requires item { item < length self.now.query.items }
         requires row { row < self.now.frame.rows }
         ensures { IfSome (slice_get self.now.query.items item) (λ i. interval_of result ≡ span_of i.arg (ranges_of self.now.frame self.now.known row)) }
@@ -95,16 +90,16 @@ impl Engine {
         span_of(
             &self.query.items.as_slice()[item].arg,
             row,
-            &self.state.knowns,
+            &self.state.columns,
         )
     }
 
     /// Where the value of a column lies at a row.
-    pub fn range(&self, column: usize, row: usize) -> Span
+    pub fn range(&self, column: usize, row: usize) -> Interval
         requires column { column < length self.now.query.columns }
         requires row { row < self.now.frame.rows }
         ensures { interval_of result ≡ ranges_of self.now.frame self.now.known row column }
     {
-        self.state.knowns[column].range(row)
+        self.state.columns.range(column, row)
     }
 }

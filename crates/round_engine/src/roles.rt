@@ -2,37 +2,13 @@
 
 ghost use Rattle.std.specs.Prelude.{◌≡◌, ◌≤◌, length};
 ghost use Rattle.query_model.specs.Answers.{groups_of};
-ghost use Rattle.query_model.specs.Meaning.{columns_of_atom, columns_of_pred};
+ghost use Rattle.kleene_filter.specs.Filters.{stands_in};
 ghost use Rattle.round_engine.specs.Engines.{AreRoles};
-ghost use Rattle.round_engine.specs.Progresses.{role_of, stands_in};
+ghost use Rattle.round_engine.specs.Progresses.{role_of};
 
+use kleene_filter::pred_reads;
 use plane_schedule::Role;
-use query_model::{Atom, Pred, Shape, TypedQuery};
-
-// Whether an atom reads the column.
-fn atom_reads(atom: &Atom, wanted: u8) -> bool
-    ensures { result ≡ stands_in (columns_of_atom atom.now) wanted }
-{
-    match atom {
-        Atom::Compare { column, .. } => *column == wanted,
-        Atom::CompareColumns { left, right, .. } => *left == wanted || *right == wanted,
-        Atom::Between { column, .. } => *column == wanted,
-        Atom::OneOf { column, .. } => *column == wanted,
-    }
-}
-
-// Whether a condition reads the column.
-fn pred_reads(pred: &Pred, wanted: u8) -> bool
-    ensures { result ≡ stands_in (columns_of_pred pred.now) wanted }
-{
-    match pred {
-        Pred::All => false,
-        Pred::Atom(atom) => atom_reads(atom, wanted),
-        Pred::And(a, b) => pred_reads(a, wanted) || pred_reads(b, wanted),
-        Pred::Or(a, b) => pred_reads(a, wanted) || pred_reads(b, wanted),
-        Pred::Not(a) => pred_reads(a, wanted),
-    }
-}
+use query_model::{Shape, TypedQuery};
 
 // Whether the rows are grouped by the column.
 fn shape_reads(shape: &Shape, wanted: u8) -> bool
@@ -49,7 +25,7 @@ fn shape_reads(shape: &Shape, wanted: u8) -> bool
 fn role_of(query: &TypedQuery, column: u8) -> Role
     ensures { result ≡ role_of query.now column }
 {
-    if pred_reads(&query.pred, column) {
+    if pred_reads(&query.pred, column as usize) {
         Role::Filter
     } else if shape_reads(&query.shape, column) {
         Role::Group

@@ -1,6 +1,6 @@
 use Rattle.std.proofs.Common.{arith}
 use Rattle.round_engine.proofs.Openings.{opened_more}
-use Rattle.round_engine.proofs.state.opened_runnings.Goals as goal
+use Rattle.round_engine.proofs.totals.Totals.open.Goals as goal
 
 pub loop-item-preserved : goal.loop-item-preserved
 loop-item-preserved c =
