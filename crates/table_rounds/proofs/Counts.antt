@@ -89,3 +89,22 @@ sum_below (x ∷ xs) (e ∷ es) d same h =
     let old = sum_more x xs in
     let new = sum_more (planes e) (map planes es) in
     omega (arith, rest, first, old, new)
+
+-- and strictly so, where one of them is
+pub sum_less : (xs : List ℕ) (es : List Ends) (d : Ends) (i : ℕ) → length xs ≡ length es → ((c : ℕ) → c < length es → get_or xs c 0 ≤ planes (get_or es c d)) → i < length es →
+    get_or xs i 0 < planes (get_or es i d) → sum xs < sum (map planes es)
+sum_less [] [] d i same h inside less = absurd (omega (arith, inside))
+sum_less [] (e ∷ es) d i same h inside less = absurd (omega arith)
+sum_less (x ∷ xs) [] d i same h inside less = absurd (omega arith)
+sum_less (x ∷ xs) (e ∷ es) d zero same h inside less =
+    let rest = sum_below xs es d (omega arith) (λ c k. h (suc c) (omega arith)) in
+    let first : x < planes e = less in
+    let old = sum_more x xs in
+    let new = sum_more (planes e) (map planes es) in
+    omega (arith, rest, first, old, new)
+sum_less (x ∷ xs) (e ∷ es) d (suc i) same h inside less =
+    let rest = sum_less xs es d i (omega arith) (λ c k. h (suc c) (omega arith)) (omega (arith, inside)) less in
+    let first : x ≤ planes e = h 0 (omega arith) in
+    let old = sum_more x xs in
+    let new = sum_more (planes e) (map planes es) in
+    omega (arith, rest, first, old, new)

@@ -1,10 +1,11 @@
 pub mod Counts
-pub mod Widest
 pub mod Narrow
+pub mod Outlooks
+pub mod Listing
 pub mod Reached
 pub mod Going
 pub mod Certain
-pub mod Choosing
+pub mod One
 pub mod Taking
 pub mod Steps
-pub mod One
+pub mod Fewer

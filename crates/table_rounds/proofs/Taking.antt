@@ -1,97 +1,104 @@
--- The next plane of a column, cut from the table's cells, is the one that the query's part has.
-use Rattle.std.proofs.Common.{◌≡◌, ℕ, zero, suc, ◌+◌, ◌-◌, ◌/◌, ◌%◌, ◌^◌, ◌<◌, ◌==◌, Bool, List, [], ◌∷◌, length, map, get_or, set, refl, sym, ap, ◌∙◌, subst, arith, Ok, Err, IfErr, OnOk}
-use Rattle.std.proofs.lemmas.Bool.{false≢true}
+-- The next plane of a column of the table is the next of the query's part, so it can be taken, and it is one more that is known.
+use Rattle.std.proofs.Common.{◌≡◌, ℕ, ◌+◌, ◌<◌, Bool, List, [], length, map, get_or, set, refl, sym, ap, ◌∙◌, subst, arith}
 use Rattle.std.proofs.lemmas.List.{get_or-map, length-map}
-use Rattle.std.specs.List.{AllByRecursion}
-use Rattle.std.specs.declared.result.Result.{Result}
-use Rattle.std.specs.Result.{IsOk}
+use Rattle.std.specs.declared.option.Option.{Option}
+use Rattle.std.specs.declared.option.Option.TheVariants.{Some, None}
 use Rattle.daq_table.specs.Tables.{Cells, Frame, IsTable, ends_at, ends_of, frame_of, no_ends, planes}
-use Rattle.daq_table.specs.declared.head.ColumnHead.{ColumnHead}
 use Rattle.daq_table.specs.declared.table_head.Head.{Head}
-use Rattle.known_column.specs.declared.known.OverTop.{OverTop}
-use Rattle.plane_schedule.specs.declared.progress.Progress.{Progress}
-use Rattle.query_model.specs.Knowledge.{AreReads, CanTake, plane_of}
+use Rattle.query_model.specs.Knowledge.{AreCounts, CanTake, bit_at, known_at, plane_of}
 use Rattle.query_model.specs.Laws.{PlanesAreTaken, TablesAgree}
 use Rattle.query_model.specs.Projection.{projected}
 use Rattle.query_model.specs.Validity.{FitsHead}
 use Rattle.query_model.specs.Worlds.{NamesColumns}
 use Rattle.query_model.specs.declared.query.TypedQuery.{TypedQuery}
-use Rattle.round_engine.specs.Progresses.{IsProgress}
-use Rattle.round_engine.specs.Stages.{HasPlane, IsFirstOver, Stage, StaysLegal, stepped}
+use Rattle.round_engine.specs.Stages.{HasPlane, IsFirstOver, Stage, stepped}
 use Rattle.table_rounds.specs.Rounds.{stage_with}
+use Rattle.table_rounds.specs.Sources.{IsPlane, IsTold, KnowsTable, ToldTable}
+use Rattle.table_rounds.proofs.Listing.{all_at}
 use Rattle.table_rounds.proofs.Reached.{columns_of_part, part_of, plane_counts, read_there}
 
--- no row's prefix would pass the top, so the plane was taken
-pub is_taken : (r : Result (Unit {0}) OverTop) (stage : Stage) (c : ℕ) (bits : List Bool) → ((row : ℕ) → row < stage.frame.rows → StaysLegal stage c bits row) →
-    IfErr r (λ e. IsFirstOver stage c bits e.row) → IsOk r
-is_taken (Ok x) stage c bits legal over = refl
-is_taken (Err e) stage c bits legal over = absurd (over.over (legal e.row over.in_range))
+-- ---- where the plane stands
 
-pub of_ok : (T E : Type 0) (r : Result T E) (P : Type 0) → IsOk r → OnOk r P → P
-of_ok T E (Ok x) P is p = p
-of_ok T E (Err e) P is p = absurd (false≢true is)
+-- the ends of a column of the query's part are those of the table's column
+ends_there : (query : TypedQuery) (frame : Frame) (c : ℕ) → c < length query.columns → ends_at frame (get_or query.columns c 0) ≡ ends_at (part_of query frame) c
+ends_there query frame c h = sym (get_or-map (ends_at frame) query.columns c 0 no_ends h)
 
-all_at : (P : ℕ → Type 0) (xs : List ℕ) (c : ℕ) → AllByRecursion P xs → c < length xs → P (get_or xs c 0)
-all_at P [] c all h = absurd (omega arith)
-all_at P (x ∷ xs) zero all h = all.0
-all_at P (x ∷ xs) (suc c) all h = all_at P xs c all.1 (omega arith)
+-- a column with an unread plane is one of the query
+in_query : (query : TypedQuery) (head : Head) (stage : Stage) (c : ℕ) → FitsHead query stage.frame head → HasPlane stage c → c < length query.columns
+in_query query head stage c fits has = subst (λ n. c < n) (ap (λ f. length f.columns) (sym fits.same) ∙ length-map query.columns (ends_at (frame_of head))) has.column
 
--- the columns that a query names are there
-pub place_there : (query : TypedQuery) (head : Head) (stage : Stage) (c place : ℕ) → NamesColumns query (frame_of head) → FitsHead query stage.frame head → HasPlane stage c → place ≡ get_or query.columns c 0 →
-    place < length head.columns
-place_there query head stage c place named fits has is =
-    let parts : length stage.frame.columns ≡ length query.columns = ap (λ f. length f.columns) (sym fits.same) ∙ length-map query.columns (ends_at (frame_of head)) in
-    let c_in : c < length query.columns = subst (λ n. c < n) parts has.column in
-    let whole : length (frame_of head).columns ≡ length head.columns = length-map head.columns ends_of in
-    subst (λ i. i < length head.columns) (sym is) (subst (λ n. get_or query.columns c 0 < n) whole (all_at (λ i. i < length (frame_of head).columns) query.columns c named.in_range c_in))
+-- and the table has it
+pub place_there : (query : TypedQuery) (head : Head) (stage : Stage) (c : ℕ) → NamesColumns query (frame_of head) → FitsHead query stage.frame head → HasPlane stage c →
+    get_or query.columns c 0 < length head.columns
+place_there query head stage c named fits has =
+    subst (λ n. get_or query.columns c 0 < n) (length-map head.columns ends_of)
+    (all_at (λ i. i < length (frame_of head).columns) query.columns c named.in_range (in_query query head stage c fits has))
 
--- the digits that are cut from some cells
-abbrev pub digits_of : ℕ → ℕ → List ℕ → List Bool
-digits_of width j cells = map (λ cell. (cell / 2 ^ (width - (j + 1))) % 2 == 1) cells
+-- its planes are those of the part's column
+pub planes_there : (query : TypedQuery) (head : Head) (stage : Stage) (c : ℕ) → FitsHead query stage.frame head → HasPlane stage c →
+    planes (ends_at (frame_of head) (get_or query.columns c 0)) ≡ planes (ends_at stage.frame c)
+planes_there query head stage c fits has = ap planes (ends_there query (frame_of head) c (in_query query head stage c fits has)) ∙ ap (λ f. planes (ends_at f c)) fits.same
 
-module _ (agree : TablesAgree) (taking : PlanesAreTaken) (query : TypedQuery) (head : Head) (cells : Cells) (named : NamesColumns query (frame_of head)) (table : IsTable (frame_of head) cells) where
-  abbrev frame : Frame
-  frame = frame_of head
+-- ---- what it tells
 
-  -- a column of the query's part is a column of the table
-  ends_there : (c place : ℕ) (column : ColumnHead) → c < length query.columns → place ≡ get_or query.columns c 0 → place < length head.columns → column ≡ get_or head.columns place column →
-      ends_of column ≡ ends_at (part_of query frame) c
-  ends_there c place column h is there same =
-      ap ends_of same ∙ sym (get_or-map ends_of head.columns place column no_ends there) ∙ ap (ends_at frame) is ∙ sym (get_or-map (ends_at frame) query.columns c 0 no_ends h)
+module _ (agree : TablesAgree) (taking : PlanesAreTaken) (query : TypedQuery) (frame : Frame) (cells : Cells) (named : NamesColumns query frame) (table : IsTable frame cells) where
+  plane_there : (c j : ℕ) → c < length query.columns → plane_of frame cells (get_or query.columns c 0) j ≡ plane_of (part_of query frame) (projected query cells) c j
+  plane_there c j h =
+      ap (λ ends. map (bit_at ends j) (get_or cells (get_or query.columns c 0) [])) (ends_there query frame c h)
+      ∙ ap (map (bit_at (ends_at (part_of query frame) c) j)) (sym (get_or-map (λ i. get_or cells i []) query.columns c 0 [] h))
 
-  cells_there : (c place : ℕ) → c < length query.columns → place ≡ get_or query.columns c 0 → get_or cells place [] ≡ get_or (projected query cells) c []
-  cells_there c place h is = ap (λ i. get_or cells i []) is ∙ sym (get_or-map (λ i. get_or cells i []) query.columns c 0 [] h)
+  -- a stage that knows so many planes of the table, and the next plane of a column
+  pub record Takes (stage : Stage) (counts : List ℕ) (c : ℕ) (bits : List Bool) : Type 0 where
+    pub can : CanTake stage.frame stage.known c bits
+    pub known : stepped stage c bits ≡ stage_with query frame cells (set counts c (get_or counts c 0 + 1))
+    pub reads : AreCounts stage.frame (set counts c (get_or counts c 0 + 1))
 
-  cut_with : (counts : List ℕ) (c place width unread : ℕ) (column : ColumnHead) (numbers : List ℕ) (bits : List Bool) (p : Progress) →
-      AreReads (part_of query frame) counts → HasPlane (stage_with query frame cells counts) c → IsProgress (stage_with query frame cells counts) p →
-      place ≡ get_or query.columns c 0 → place < length head.columns → column ≡ get_or head.columns place column → width ≡ planes (ends_of column) → unread ≡ get_or p.unread c 0 →
-      numbers ≡ get_or cells place [] → bits ≡ digits_of width (width - unread) numbers →
-      CanTake (part_of query frame) (stage_with query frame cells counts).known c bits × (stepped (stage_with query frame cells counts) c bits ≡ stage_with query frame cells (set counts c (get_or counts c 0 + 1)))
-  cut_with counts c place width unread column numbers bits p are has is is_place there same wide left nums cut =
+  takes_with : (counts : List ℕ) (c : ℕ) (bits : List Bool) → AreCounts (part_of query frame) counts → HasPlane (stage_with query frame cells counts) c →
+      bits ≡ plane_of frame cells (get_or query.columns c 0) (known_at (stage_with query frame cells counts).known c).read → Takes (stage_with query frame cells counts) counts c bits
+  takes_with counts c bits are has cut =
       let part = part_of query frame in
       let k = get_or counts c 0 in
-      let c_in : c < length query.columns = subst (λ n. c < n) (columns_of_part query frame) has.column in
-      let w : width ≡ planes (ends_at part c) = wide ∙ ap planes (ends_there c place column c_in is_place there same) in
       let read = read_there query frame cells counts c has.column in
-      let progress = is.unread c has.column in
       let some = has.unread in
-      let j : width - unread ≡ k = omega (arith, w, read, progress, some, left) in
       let few : k < planes (ends_at part c) = omega (arith, read, some) in
-      let here : bits ≡ plane_of part (projected query cells) c k = cut ∙ ap (λ n. digits_of n (width - unread) numbers) w ∙ ap (λ n. digits_of (planes (ends_at part c)) n numbers) j
-      ∙ ap (digits_of (planes (ends_at part c)) k) (nums ∙ cells_there c place c_in is_place) in
-      let (can, taken, next) = plane_counts agree taking query frame cells named table counts c are has.column few in (
-        subst (CanTake part (stage_with query frame cells counts).known c) (sym here) can,
-        ap (stepped (stage_with query frame cells counts) c) here ∙ ap (λ known. record { query = query; frame = part; known = known }) taken,
-      )
+      let c_in : c < length query.columns = subst (λ n. c < n) (columns_of_part query frame) has.column in
+      let here : bits ≡ plane_of part (projected query cells) c k = cut ∙ ap (plane_of frame cells (get_or query.columns c 0)) read ∙ plane_there c k c_in in
+      let (can, taken, next) = plane_counts agree taking query frame cells named table counts c are has.column few in
+      record {
+        can = subst (CanTake part (stage_with query frame cells counts).known c) (sym here) can;
+        known = ap (stepped (stage_with query frame cells counts) c) here ∙ ap (λ known. record { query = query; frame = part; known = known }) taken;
+        reads = next;
+      }
 
-  pub cut : (stage : Stage) (counts : List ℕ) (c place width unread : ℕ) (column : ColumnHead) (numbers : List ℕ) (bits : List Bool) (p : Progress) →
-      stage ≡ stage_with query frame cells counts → AreReads stage.frame counts → HasPlane stage c → IsProgress stage p →
-      place ≡ get_or query.columns c 0 → place < length head.columns → column ≡ get_or head.columns place column → width ≡ planes (ends_of column) → unread ≡ get_or p.unread c 0 →
-      numbers ≡ get_or cells place [] → bits ≡ digits_of width (width - unread) numbers →
-      CanTake stage.frame stage.known c bits × (stepped stage c bits ≡ stage_with query frame cells (set counts c (get_or counts c 0 + 1)))
-  cut stage counts c place width unread column numbers bits p e =
-      subst (λ s. AreReads s.frame counts → HasPlane s c → IsProgress s p →
-      place ≡ get_or query.columns c 0 → place < length head.columns → column ≡ get_or head.columns place column → width ≡ planes (ends_of column) → unread ≡ get_or p.unread c 0 →
-      numbers ≡ get_or cells place [] → bits ≡ digits_of width (width - unread) numbers →
-      CanTake s.frame s.known c bits × (stepped s c bits ≡ stage_with query frame cells (set counts c (get_or counts c 0 + 1))))
-      (sym e) (cut_with counts c place width unread column numbers bits p)
+  pub takes : (stage : Stage) (counts : List ℕ) (c : ℕ) (bits : List Bool) → stage ≡ stage_with query frame cells counts → AreCounts stage.frame counts → HasPlane stage c →
+      bits ≡ plane_of frame cells (get_or query.columns c 0) (known_at stage.known c).read → Takes stage counts c bits
+  takes stage counts c bits e =
+      subst (λ s. AreCounts s.frame counts → HasPlane s c → bits ≡ plane_of frame cells (get_or query.columns c 0) (known_at s.known c).read → Takes s counts c bits)
+      (sym e) (takes_with counts c bits)
+
+-- ---- the table may be told or not
+
+module _ (agree : TablesAgree) (taking : PlanesAreTaken) (stage : Stage) (table : ToldTable) (named : NamesColumns stage.query (frame_of table.head)) (told : IsTold table) where
+  -- a plane of a told table is never refused
+  pub untold : (c row : ℕ) (bits : List Bool) → KnowsTable table stage → HasPlane stage c → IsPlane table (get_or stage.query.columns c 0) (known_at stage.known c).read bits →
+      IsFirstOver stage c bits row → table.cells ≡ None
+  untold c row bits knows has is over = by table.cells refl told knows is
+    where
+      by : (cells : Option Cells) → table.cells ≡ cells → IsTold (record { head = table.head; cells = cells }) → KnowsTable (record { head = table.head; cells = cells }) stage →
+          IsPlane (record { head = table.head; cells = cells }) (get_or stage.query.columns c 0) (known_at stage.known c).read bits → cells ≡ None
+      by None e told knows is = refl
+      by (Some cells) e told (counts, are, same) is =
+          let took = takes agree taking stage.query (frame_of table.head) cells named told stage counts c bits same are has is in
+          absurd (over.over (took.can.legal row over.in_range))
+
+  -- and then the table is known by one plane more
+  pub still_known : (new : Stage) (c : ℕ) (bits : List Bool) → KnowsTable table stage → HasPlane stage c → IsPlane table (get_or stage.query.columns c 0) (known_at stage.known c).read bits →
+      new ≡ stepped stage c bits → KnowsTable table new
+  still_known new c bits knows has is step = by table.cells told knows is
+    where
+      by : (cells : Option Cells) → IsTold (record { head = table.head; cells = cells }) → KnowsTable (record { head = table.head; cells = cells }) stage →
+          IsPlane (record { head = table.head; cells = cells }) (get_or stage.query.columns c 0) (known_at stage.known c).read bits → KnowsTable (record { head = table.head; cells = cells }) new
+      by None told knows is = tt
+      by (Some cells) told (counts, are, same) is =
+          let took = takes agree taking stage.query (frame_of table.head) cells named told stage counts c bits same are has is in
+          subst (KnowsTable (record { head = table.head; cells = Some cells })) (sym step) (set counts c (get_or counts c 0 + 1), took.reads, took.known)

@@ -1,11 +1,16 @@
-//! The rounds of a query over a table: what holds of them, and the step that reads the next plane.
+//! The rounds of a query by a plan: what holds of them over a table, and the step that reads the next plane from a source of planes.
 #![tactic(auto)]
 
 mod laws;
 mod reading;
+mod source;
 
 pub use laws::{
-    full_stages_are_narrow, rounds_are_certain, rounds_are_counted, rounds_are_one,
-    rounds_have_an_end,
+    full_stages_are_narrow, lists_are_read, rounds_are_certain, rounds_are_counted, rounds_are_one,
+    rounds_begin, rounds_have_an_end, rounds_have_planes, rounds_know_their_table,
 };
-pub use reading::read_next;
+pub use reading::{StepFault, ending, read_next};
+pub use source::PlaneSource;
+
+#[cfg(test)]
+mod tests;

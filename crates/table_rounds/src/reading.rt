@@ -1,61 +1,142 @@
-//! The step of a round: the next plane of a column is cut from the table's cells, and taken.
+//! The step of a round: the next plane of a column is read, and taken.
 
-ghost use Rattle.std.specs.Prelude.{◌≡◌, ◌+◌, ◌<◌, ◌++◌, ◌∷◌, ℕ, List, [], length, slice_index, slice_set, IsFalse};
-ghost use Rattle.daq_table.specs.Tables.{frame_of};
-ghost use Rattle.query_model.specs.Knowledge.{AreReads};
+ghost use Rattle.std.specs.Prelude.{◌≡◌, ◌<◌, ◌^◌, length, slice_index, IfOk, IfErr, IfNone, IsNone, OnOk, OnErr};
+ghost use Rattle.daq_table.specs.Tables.{ends_at, frame_of, planes};
+ghost use Rattle.plane_schedule.specs.declared.policy.Plan.{Plan};
+ghost use Rattle.plane_schedule.specs.declared.policy.Policy.{Policy};
+ghost use Rattle.plane_schedule.specs.Choices.{Chooses, HasChoice, HasUnread, IsUnread};
+ghost use Rattle.plane_schedule.specs.Keeping.{Follows, Keeps};
+ghost use Rattle.plane_schedule.specs.Plans.{IsReadable};
+ghost use Rattle.query_model.specs.Knowledge.{known_at};
 ghost use Rattle.query_model.specs.Validity.{FitsHead};
-ghost use Rattle.round_engine.specs.Narrowness.{is_narrow};
-ghost use Rattle.round_engine.specs.Stages.{HasPlane};
-ghost use Rattle.table_rounds.specs.Rounds.{IsAfter, stage_with};
+ghost use Rattle.round_engine.specs.Stages.{HasPlane, stepped};
+ghost use Rattle.table_rounds.specs.Rounds.{ending_at, outlook_at, unread_planes};
+ghost use Rattle.table_rounds.specs.Sources.{IsNextRound, IsOverTop, IsPlane, KnowsTable, OnOverTop};
 
-use crate::laws::full_stages_are_narrow;
-use daq_table::{Table, width};
-use plane_kernels::{Plane, transpose};
-use plane_schedule::widest;
+use crate::laws::rounds_have_planes;
+use crate::source::PlaneSource;
+use daq_table::{Head, width};
+use plane_kernels::Plane;
+use plane_schedule::{Chooser, Ending, Plan, Progress, policies_choose};
 use query_model::{planes_are_taken, tables_agree, valid_queries_name_columns};
 use round_engine::Engine;
 
-// Takes the next plane of a column of the query, as the table has it.
-fn take_plane(engine: &mut Engine, table: &Table, column: usize, plane: &mut Plane)
-    requires fits { FitsHead engine.old.query engine.old.frame table.now.head }
-    requires plane { HasPlane engine.old column }
-    requires rows { length plane.old ≡ engine.old.frame.rows }
-    requires known { (counts : List ℕ) × AreReads engine.old.frame counts × (engine.old ≡ stage_with engine.old.query (frame_of table.now.head) table.now.cells counts) }
-    ensures rows { length plane.new ≡ length plane.old }
-    ensures taken { (counts : List ℕ) → AreReads engine.old.frame counts → engine.old ≡ stage_with engine.old.query (frame_of table.now.head) table.now.cells counts
-        → engine.new ≡ stage_with engine.old.query (frame_of table.now.head) table.now.cells (slice_set counts column (slice_index counts column + 1)) }
-{
-    planes_are_taken();
-    tables_agree();
-    valid_queries_name_columns();
-    let place = engine.query().columns.as_slice()[column];
-    let planes = width(&table.head().columns.as_slice()[place]);
-    let unread = engine.progress().unread[column];
-    transpose(table.column(place), planes, planes - unread, plane);
-    engine.step(column, plane).unwrap();
+/// Why a round was not read. Columns are those of the table; all numbers count from 0.
+#[derive(Drop, Debug, PartialEq, Eq)]
+pub enum StepFault<E> {
+    /// The source did not give the plane.
+    Source(E),
+    /// With this plane the digits of a row would pass those of the column's top.
+    OverTop {
+        column: usize,
+        plane: u8,
+        row: usize,
+    },
 }
 
-/// Reads the next plane of the widest column of the query, where the last round was not narrow: the next round. Gives the number of
-/// the column.
-pub fn read_next(engine: &mut Engine, table: &Table, plane: &mut Plane) -> usize
-    requires fits { FitsHead engine.old.query engine.old.frame table.now.head }
+/// Why the rounds of the plan end here; none where they go on, and then a plane is unread.
+pub fn ending(engine: &Engine, plan: &Plan) -> Option<Ending>
+    requires { plan.now.width < 2 ^ 63 }
+    ensures ending { result ≡ ending_at plan.now engine.now }
+    ensures unread { IfNone result (HasUnread (outlook_at engine.now)) }
+{
+    rounds_have_planes();
+    // The query's clause says that what is known is a knowledge.
+    let _query = engine.query();
+    plan.ending(engine.narrow(plan.width), engine.progress().done)
+}
+
+// The table's column that a column of the query is, and the number of its next plane.
+fn next_place(engine: &Engine, head: &Head, number: usize) -> (usize, u8)
+    requires fits { FitsHead engine.now.query engine.now.frame head.now }
+    requires plane { HasPlane engine.now number }
+    ensures column { result.0 ≡ slice_index engine.now.query.columns number }
+    ensures inside { result.0 < length head.now.columns }
+    ensures plane { result.1 ≡ (known_at engine.now.known number).read }
+    ensures unread { result.1 < planes (ends_at (frame_of head.now) result.0) }
+{
+    valid_queries_name_columns();
+    let column = engine.query().columns.as_slice()[number];
+    let planes = width(&head.columns.as_slice()[column]);
+    (column, planes - engine.progress().unread[number])
+}
+
+// Reads the next plane of a column of the query, and takes it.
+fn take_next<S: PlaneSource>(
+    engine: &mut Engine,
+    source: &mut S,
+    number: usize,
+    plane: &mut Plane,
+) -> Result<(), StepFault<S::Error>>
+    requires fits { FitsHead engine.old.query engine.old.frame (S.table source.old).head }
+    requires knows { KnowsTable (S.table source.old) engine.old }
+    requires plane { HasPlane engine.old number }
     requires rows { length plane.old ≡ engine.old.frame.rows }
-    requires wider { IsFalse (is_narrow 0 engine.old) }
-    requires after { (reads : List ℕ) × IsAfter engine.old.query (frame_of table.now.head) table.now.cells reads engine.old }
     ensures rows { length plane.new ≡ length plane.old }
+    ensures table { S.table source.new ≡ S.table source.old }
+    ensures taken { OnOk result (engine.new ≡ stepped engine.old number plane.new) }
+    ensures bits { OnOk result (IsPlane (S.table source.old) (slice_index engine.old.query.columns number) (known_at engine.old.known number).read plane.new) }
+    ensures unchanged { OnErr result (engine.new ≡ engine.old) }
+    ensures over { IfErr result (λ fault. OnOverTop fault (IsOverTop (S.table source.old) engine.old plane.new)) }
+{
+    tables_agree();
+    planes_are_taken();
+    valid_queries_name_columns();
+    let (column, next) = next_place(engine, source.head(), number);
+    match source.read(column, next, plane) {
+        Ok(()) => match engine.step(number, plane) {
+            Ok(()) => Ok(()),
+            Err(over) => Err(StepFault::OverTop {
+                column,
+                plane: next,
+                row: over.row,
+            }),
+        },
+        Err(error) => Err(StepFault::Source(error)),
+    }
+}
+
+/// Reads the next plane of the column that the chooser names, and takes it: the next round of each plan that the chooser follows. Gives
+/// the number of the column. At an error the engine is unchanged; a source that tells its table's cells gives no plane that is refused.
+pub fn read_next<S: PlaneSource, F: Fn(&Progress) -> usize>(
+    engine: &mut Engine,
+    source: &mut S,
+    chooser: &Chooser<F>,
+    plane: &mut Plane,
+) -> Result<usize, StepFault<S::Error>>
+    requires fits { FitsHead engine.old.query engine.old.frame (S.table source.old).head }
+    requires knows { KnowsTable (S.table source.old) engine.old }
+    requires rows { length plane.old ≡ engine.old.frame.rows }
+    requires kept { Keeps F.Fn chooser.now.choose }
+    requires unread { HasUnread (outlook_at engine.old) }
+    ensures rows { length plane.new ≡ length plane.old }
+    ensures table { S.table source.new ≡ S.table source.old }
     ensures query { engine.new.query ≡ engine.old.query }
     ensures frame { engine.new.frame ≡ engine.old.frame }
-    ensures column { result < length engine.old.query.columns }
-    ensures next { (reads : List ℕ) → IsAfter engine.old.query (frame_of table.now.head) table.now.cells reads engine.old
-        → IsAfter engine.old.query (frame_of table.now.head) table.now.cells (reads ++ result ∷ []) engine.new }
+    ensures knows { KnowsTable (S.table source.new) engine.new }
+    ensures unread { IfOk result (λ column. IsUnread (outlook_at engine.old) column) }
+    ensures chosen { IfOk result (λ column. (policy : Policy) → Follows F.Fn chooser.now.choose policy → HasChoice policy (outlook_at engine.old)
+        → Chooses policy (outlook_at engine.old) column) }
+    ensures taken { IfOk result (λ column. engine.new ≡ stepped engine.old column plane.new) }
+    ensures fewer { OnOk result (unread_planes engine.new < unread_planes engine.old) }
+    ensures next { IfOk result (λ column. (plan : Plan) → Follows F.Fn chooser.now.choose plan.policy → IsReadable plan.policy engine.old.frame
+        → IsNone (ending_at plan engine.old) → IsNextRound plan (S.table source.old) engine.old engine.new column) }
+    ensures unchanged { OnErr result (engine.new ≡ engine.old) }
+    ensures over { IfErr result (λ fault. OnOverTop fault (IsOverTop (S.table source.old) engine.old plane.new)) }
 {
-    planes_are_taken();
     tables_agree();
+    planes_are_taken();
     valid_queries_name_columns();
-    full_stages_are_narrow();
-    // The head's clause says that the cells fit it.
-    let _head = table.head();
-    let column = widest(&engine.progress());
-    take_plane(engine, table, column, plane);
-    column
+    policies_choose();
+    rounds_have_planes();
+    // The head's clause says that told cells fit it, and the query's that what is known is a knowledge.
+    let _head = source.head();
+    let _query = engine.query();
+    let Some(number) = chooser.next(&engine.progress()) else {
+        unreachable!()
+    };
+    match take_next(engine, source, number, plane) {
+        Ok(()) => Ok(number),
+        Err(fault) => Err(fault),
+    }
 }

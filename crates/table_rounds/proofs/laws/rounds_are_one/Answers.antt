@@ -3,4 +3,4 @@ use Rattle.table_rounds.proofs.One.{rounds_are_one}
 use Rattle.table_rounds.proofs.laws.rounds_are_one.Goals as goal
 
 pub returns : goal.returns
-returns c = rounds_are_one
+returns c = rounds_are_one c.choices_are_one.ensures

@@ -1,0 +1,61 @@
+-- What a policy sees of a stage, and whether something is unread.
+use Rattle.std.proofs.Common.{◌⊎◌, ℕ, Bool, true, false, length, refl, sym, ◌∙◌, arith, inl, inr, IsNone, IsFalse}
+use Rattle.std.proofs.lemmas.Bool.{false≢true}
+use Rattle.plane_schedule.proofs.Best.{NoneBelow, WidestBelow, widest_below}
+use Rattle.plane_schedule.proofs.Same.{AreSame, same_choice, turned, unread_there}
+use Rattle.plane_schedule.specs.Choices.{Chooses, HasChoice, HasUnread, IsUnread, outlook_of}
+use Rattle.plane_schedule.specs.Plans.{first_ending}
+use Rattle.plane_schedule.specs.declared.policy.Policy.{Policy}
+use Rattle.plane_schedule.specs.declared.progress.Progress.{Progress}
+use Rattle.round_engine.specs.Narrowness.{is_narrow}
+use Rattle.round_engine.specs.Progresses.{IsProgress}
+use Rattle.round_engine.specs.Stages.{HasPlane, Stage}
+use Rattle.table_rounds.specs.Headline.{FullStagesAreNarrow, RoundsHavePlanes}
+use Rattle.table_rounds.specs.Rounds.{outlook_at, unread_of}
+
+-- a progress tells a policy what the stage does
+pub same_outlook : (stage : Stage) (p : Progress) → IsProgress stage p → AreSame (outlook_of p) (outlook_at stage)
+same_outlook stage p is = record {
+  columns = (let all = is.columns in let few = is.sound.columns in omega (arith, all, few));
+  unread = λ c h. (let all = is.columns in let few = is.sound.columns in let u = is.unread c (omega (arith, h, all, few)) in omega (arith, u));
+  role = λ c h. is.role c (let all = is.columns in let few = is.sound.columns in omega (arith, h, all, few));
+  unknown = is.unknown;
+  read = is.done;
+}
+
+pub some_unread : (stage : Stage) (p : Progress) → IsProgress stage p → HasUnread (outlook_at stage) → HasUnread (outlook_of p)
+some_unread stage p is (c, unread) = (c, unread_there (outlook_at stage) (outlook_of p) (turned (outlook_of p) (outlook_at stage) (same_outlook stage p is)) c unread)
+
+pub choice_there : (policy : Policy) (stage : Stage) (p : Progress) → IsProgress stage p → HasChoice policy (outlook_at stage) → HasChoice policy (outlook_of p)
+choice_there policy stage p is (c, chosen) = (c, same_choice policy (outlook_at stage) (outlook_of p) (turned (outlook_of p) (outlook_at stage) (same_outlook stage p is)) c chosen)
+
+pub choice_back : (policy : Policy) (stage : Stage) (p : Progress) (c : ℕ) → IsProgress stage p → Chooses policy (outlook_of p) c → Chooses policy (outlook_at stage) c
+choice_back policy stage p c is chosen = same_choice policy (outlook_of p) (outlook_at stage) (same_outlook stage p is) c chosen
+
+pub unread_back : (stage : Stage) (p : Progress) (c : ℕ) → IsProgress stage p → IsUnread (outlook_of p) c → IsUnread (outlook_at stage) c
+unread_back stage p c is unread = unread_there (outlook_of p) (outlook_at stage) (same_outlook stage p is) c unread
+
+pub unread_has_plane : (stage : Stage) (c : ℕ) → IsUnread (outlook_at stage) c → HasPlane stage c
+unread_has_plane stage c is = record { column = is.column; unread = (let u = is.unread in omega (arith, u)) }
+
+-- ---- where the rounds go on
+
+pub not_narrow : (narrow most end : Bool) → IsNone (first_ending narrow most end) → IsFalse narrow
+not_narrow true most end none = cc
+not_narrow false most end none = refl
+
+pub not_most : (narrow most end : Bool) → IsNone (first_ending narrow most end) → IsFalse end
+not_most true most end none = cc
+not_most false true end none = cc
+not_most false false true none = cc
+not_most false false false none = refl
+
+pub rounds_have_planes : FullStagesAreNarrow → RoundsHavePlanes
+rounds_have_planes full plan stage known none = by (widest_below (unread_of stage) (length stage.frame.columns))
+  where
+    wider : IsFalse (is_narrow plan.width stage)
+    wider = not_narrow (is_narrow plan.width stage) _ _ none
+
+    by : NoneBelow (unread_of stage) (length stage.frame.columns) ⊎ ((c : ℕ) × WidestBelow (unread_of stage) (length stage.frame.columns) c) → HasUnread (outlook_at stage)
+    by (inl nothing) = absurd (false≢true (sym wider ∙ full plan.width stage known (λ c h. let here = nothing c h in let few = known.read c h in omega (arith, here, few))))
+    by (inr (c, w)) = (c, record { column = w.below; unread = w.some })

@@ -1,0 +1,162 @@
+//! Rounds from a source that does not tell its table.
+
+ghost use Rattle.std.specs.Prelude.{◌≡◌, pos, [], ◌∷◌, length, map, slice_get, IfOk, Some, None};
+ghost use Rattle.daq_table.specs.declared.head.Kind.TheVariants.{Int};
+ghost use Rattle.query_model.specs.Validity.{FitsHead};
+ghost use Rattle.query_model.specs.declared.query.Atom.TheVariants.{Compare};
+ghost use Rattle.query_model.specs.declared.query.Comparison.TheVariants.{Ge};
+ghost use Rattle.query_model.specs.declared.query.Expr.TheVariants.{Literal};
+ghost use Rattle.query_model.specs.declared.query.Face.TheVariants.{Number};
+ghost use Rattle.query_model.specs.declared.query.ItemKind.TheVariants.{Count};
+ghost use Rattle.query_model.specs.declared.query.Pred.TheVariants.{Atom as OfAtom};
+ghost use Rattle.query_model.specs.declared.query.Shape.TheVariants.{Plain};
+
+use crate::{PlaneSource, StepFault, ending, read_next};
+use daq_table::{ColumnHead, ColumnHeads, Dictionary, Head, Kind, Name, width};
+use plane_kernels::{Plane, transpose};
+use plane_schedule::{Chooser, Plan, Progress, widest};
+use query_model::{
+    Atom, Comparison, Expr, Face, Item, ItemKind, Items, Pred, Shape, TableColumns, TypedQuery,
+};
+use round_engine::Engine;
+use std::alloc::{AllocError, Global};
+use std::test::Fail;
+
+// A head, and numbers of which some may be above the top. It fails where it is told to.
+#[derive(Drop)]
+struct Numbers {
+    head: Head,
+    cells: Vec<u64>,
+    fails: bool,
+}
+
+impl PlaneSource for Numbers {
+    type Error = u8;
+
+    ghost table = { λ s. record { head = s.head; cells = None } };
+
+    fn head(&self) -> &Head {
+        &self.head
+    }
+
+    fn read(&mut self, column: usize, number: u8, into: &mut Plane) -> Result<(), u8> {
+        if self.fails || self.cells.len() != into.rows() {
+            return Err(7);
+        }
+        let planes = width(&self.head.columns.as_slice()[column]);
+        transpose(&self.cells, planes, number, into);
+        Ok(())
+    }
+}
+
+// Two rows, and a column of numbers from 0 to 5.
+fn small_head(alloc: Global) -> Result<Head, AllocError>
+    ensures rows { IfOk result (λ head. head.rows ≡ 2) }
+    ensures columns { IfOk result (λ head. length head.columns ≡ 1) }
+    ensures kind { IfOk result (λ head. slice_get (map (λ column. column.kind) head.columns) 0 ≡ Some Int) }
+{
+    let column = ColumnHead {
+        name: Name::new(Vec::from_slice(alloc, b"v")?),
+        kind: Kind::Int,
+        base: 0,
+        top: 5,
+        names: Dictionary::new(Vec::new(alloc)),
+    };
+    Ok(Head {
+        rows: 2,
+        columns: ColumnHeads::new(vec![in alloc; column]?),
+    })
+}
+
+// How many numbers are at least 3.
+fn question(alloc: Global) -> Result<TypedQuery, AllocError>
+    ensures columns { IfOk result (λ query. query.columns ≡ 0 ∷ []) }
+    ensures items { IfOk result (λ query. query.items ≡ record { kind = Count; arg = Literal (pos 0); face = Number 0 } ∷ []) }
+    ensures condition { IfOk result (λ query. query.pred ≡ OfAtom (Compare 0 Ge (pos 3))) }
+    ensures plain { IfOk result (λ query. query.shape ≡ Plain) }
+{
+    let count = Item {
+        kind: ItemKind::Count,
+        arg: Expr::Literal(0),
+        face: Face::Number(0),
+    };
+    let at_least = Atom::Compare {
+        column: 0,
+        op: Comparison::Ge,
+        value: 3,
+    };
+    Ok(TypedQuery {
+        columns: TableColumns::new(vec![in alloc; 0]?),
+        items: Items::new(vec![in alloc; count]?),
+        pred: Pred::Atom(at_least),
+        shape: Shape::Plain,
+    })
+}
+
+// The query over the table, of which nothing is read.
+fn opened(alloc: Global, head: &Head) -> Result<Engine, AllocError>
+    requires rows { head.now.rows ≡ 2 }
+    requires columns { length head.now.columns ≡ 1 }
+    requires kind { slice_get (map (λ column. column.kind) head.now.columns) 0 ≡ Some Int }
+    ensures { IfOk result (λ engine. FitsHead engine.query engine.frame head.now) }
+{
+    Engine::open(alloc, question(alloc)?, head)
+}
+
+// The column of the next round, or none where there is no such round.
+fn next_column(
+    engine: &mut Engine,
+    source: &mut Numbers,
+    plane: &mut Plane,
+) -> Result<Option<usize>, StepFault<u8>>
+    requires fits { FitsHead engine.old.query engine.old.frame source.old.head }
+    requires rows { length plane.old ≡ engine.old.frame.rows }
+    ensures fits { FitsHead engine.new.query engine.new.frame source.new.head }
+    ensures rows { length plane.new ≡ engine.new.frame.rows }
+{
+    if ending(engine, &Plan::widest()).is_some() {
+        return Ok(None);
+    }
+    match read_next(
+        engine,
+        source,
+        &Chooser::new(|p: &Progress| widest(p)),
+        plane,
+    ) {
+        Ok(column) => Ok(Some(column)),
+        Err(fault) => Err(fault),
+    }
+}
+
+// The first plane is read; with the second the digits of 7 would pass those of 5. A fault of the source is handed on.
+#[test]
+fn faults_are_told(rt: HostRuntime) -> Result<(), Fail> {
+    let alloc = rt.alloc();
+    let head = small_head(alloc)?;
+    let mut engine = opened(alloc, &head)?;
+    let mut plane = Plane::blank(alloc, 2)?;
+    let mut source = Numbers {
+        head,
+        cells: vec![in alloc; 7, 2]?,
+        fails: false,
+    };
+    assert_eq!(rt;
+        next_column(&mut engine, &mut source, &mut plane),
+        Ok(Some(0))
+    );
+    let over = StepFault::OverTop {
+        column: 0,
+        plane: 1,
+        row: 0,
+    };
+    assert_eq!(rt;
+        next_column(&mut engine, &mut source, &mut plane),
+        Err(over)
+    );
+    source.fails = true;
+    assert_eq!(rt;
+        next_column(&mut engine, &mut source, &mut plane),
+        Err(StepFault::Source(7))
+    );
+    Ok(())
+}
