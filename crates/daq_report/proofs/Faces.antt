@@ -5,12 +5,13 @@ use Rattle.std.specs.List.{AllByRecursion}
 use Rattle.interval_calc.specs.Intervals.{Within}
 use Rattle.daq_table.specs.declared.head.ColumnHead.{ColumnHead}
 use Rattle.daq_table.specs.declared.table_head.Head.{Head}
+use Rattle.daq_table.specs.ValueTexts.{HeadHasTexts}
 use Rattle.daq_table.specs.Tables.{Frame, ends_at, ends_of, frame_of, no_ends}
 use Rattle.query_model.specs.Meaning.{ReadsBelow}
 use Rattle.query_model.specs.Validity.{FaceOf, FitsHead, declared_range}
 use Rattle.query_model.specs.declared.bounds.Bound.{Bound}
-use Rattle.query_model.specs.declared.bounds.Presence.{Presence}
-use Rattle.query_model.specs.declared.bounds.Presence.TheVariants.{Never, Possibly, Always}
+use Rattle.query_model.specs.declared.bounds.Nullity.{Nullity}
+use Rattle.query_model.specs.declared.bounds.Nullity.TheVariants.{Never, Possibly, Always}
 use Rattle.query_model.specs.declared.query.Expr.{Expr}
 use Rattle.query_model.specs.declared.query.Expr.TheVariants.{Column, Literal, Add', Sub', Mul'}
 use Rattle.query_model.specs.declared.query.Face.{Face}
@@ -21,7 +22,7 @@ use Rattle.query_model.specs.declared.query.ItemKind.TheVariants.{Count, Sum, Mi
 use Rattle.query_model.specs.declared.query.TypedQuery.{TypedQuery}
 use Rattle.round_engine.specs.Promises.{IsShownWithin}
 use Rattle.round_engine.specs.Stages.{IsOpenItem, IsOpenQuery}
-use Rattle.daq_report.specs.Blocks.{HeadHasTexts, column_of}
+use Rattle.daq_report.specs.Intervals.{column_of}
 use Rattle.daq_report.specs.Ends.{CanShowBound, CanShowEnds, HasNumber, IfShown, IsThere}
 
 -- ---- the columns of the query
@@ -97,7 +98,7 @@ own_column n Max (Add' p a q b) c (s, few, e) h = absurd (cc)
 own_column n Max (Sub' p a q b) c (s, few, e) h = absurd (cc)
 own_column n Max (Mul' p a q b) c (s, few, e) h = absurd (cc)
 
-if_shown : (word : Presence) (P : Type 0) → (word ≢ Always → P) → IfShown word P
+if_shown : (word : Nullity) (P : Type 0) → (word ≢ Always → P) → IfShown word P
 if_shown Never P h = h (λ e. cc)
 if_shown Possibly P h = h (λ e. cc)
 if_shown Always P h = tt
@@ -113,14 +114,14 @@ by_face : (head : Head) (query : TypedQuery) (part : Frame) (kind : ItemKind) (a
     ReadsBelow (length query.columns) arg → IsShownWithin part face bound → CanShowBound head query face bound
 by_face head query part kind arg (Number scale) bound fits texts face reads shown =
     let few = few_decimals kind arg scale face in
-    if_shown bound.empty (CanShowEnds head query (Number scale) bound.lo bound.hi) (λ some. record { low_end = few; high_end = few })
+    if_shown bound.null (CanShowEnds head query (Number scale) bound.lo bound.hi) (λ some. record { low_end = few; high_end = few })
 by_face head query part kind arg (OfColumn c) bound fits texts face reads shown =
     let at = column_there head query part c fits (own_column (length query.columns) kind arg c face reads) in
     let has = texts at.place at.column at.in_table in
     let number : (value : ℤ) → Within (declared_range (ends_at part c)) value → IfSome (column_of head query c) (λ column. HasNumber column value) =
     (λ value h. let w = subst (λ ends. Within (declared_range ends) value) at.ends h in
     subst (λ o. IfSome o (λ column. HasNumber column value)) (sym at.is) (record { above = w.above; below = w.below; texts = has })) in
-    if_shown bound.empty (CanShowEnds head query (OfColumn c) bound.lo bound.hi)
+    if_shown bound.null (CanShowEnds head query (OfColumn c) bound.lo bound.hi)
     (λ some. record { low_end = (at.there, number bound.lo (shown some).0); high_end = (at.there, number bound.hi (shown some).1) })
 
 pub bound_shows : (head : Head) (query : TypedQuery) (part : Frame) (place : ℕ) (item : Item) (bound : Bound) → FitsHead query part head → HeadHasTexts head → IsOpenQuery query part →

@@ -1,4 +1,3 @@
 pub mod Faces
 pub mod Lengths
 pub mod Lines
-pub mod Prefixes

@@ -1,14 +1,14 @@
 -- The lines of the items, one after the other.
-use Rattle.std.proofs.Common.{◌≡◌, ℕ, zero, suc, ◌+◌, ◌<◌, List, [], ◌∷◌, ◌++◌, length, get_or, take, drop, slice_get, Option, Some, refl, sym, ap, subst, ◌∙◌, arith, append_assoc, append-nil}
+use Rattle.std.proofs.Common.{◌≡◌, ℕ, zero, suc, ◌+◌, ◌<◌, List, [], ◌∷◌, ◌++◌, length, get_or, take, drop, slice_get, Some, Ok, Err, IsErr, refl, sym, ap, subst, ◌∙◌, arith, append_assoc, append-nil}
 use Rattle.std.proofs.lemmas.Option.{slice_get-get_or}
 use Rattle.query_model.specs.declared.query.Item.{Item}
 use Rattle.daq_table.specs.declared.table_head.Head.{Head}
-use Rattle.outer_world.specs.Whole.{AppendsPrefix}
+use Rattle.outer_world.proofs.Writes.{writes_both, writes_cut}
+use Rattle.outer_world.specs.Device.{SinkState}
+use Rattle.outer_world.specs.Whole.{Writes}
 use Rattle.round_engine.specs.Stages.{Stage}
-use Rattle.std.specs.Io.KnownBytes.{Appends}
-use Rattle.std.proofs.KnownBytes.{Appends-trans}
-use Rattle.daq_report.specs.Blocks.{item_line, item_lines}
-use Rattle.daq_report.proofs.Prefixes.{prefix_after, prefix_more}
+use Rattle.std.specs.declared.result.Result.{Result}
+use Rattle.daq_report.specs.Totals.{item_line, item_lines}
 
 -- the item at a place of the same list
 pub item_there : (items held : List Item) (place : ℕ) (item : Item) → held ≡ items → place < length held → item ≡ get_or held place item → slice_get items place ≡ Some item
@@ -37,16 +37,23 @@ parted head stage n (i ∷ is) (suc place) =
     ap (λ l. item_line head stage n i ++ l) (parted head stage (n + 1) is place ∙ ap (λ (k : ℕ). item_lines head stage (n + 1) (take place is) ++ item_lines head stage k (drop place is)) later)
     ∙ sym (append_assoc (item_line head stage n i) (item_lines head stage (n + 1) (take place is)) (item_lines head stage (suc place + n) (drop place is)))
 
-pub line_after : (head : Head) (stage : Stage) (items : List Item) (place : ℕ) (item : Item) (a b c : Option (List ℕ)) → slice_get items place ≡ Some item →
-    Appends a b (item_lines head stage 1 (take place items)) → Appends b c (item_line head stage (place + 1) item) → Appends a c (item_lines head stage 1 (take (place + 1) items))
-line_after head stage items place item a b c there before line =
+-- the lines so far, and one more
+pub line_after : {A B C E : Type 0} (x : A) (y : B) (z : C) (head : Head) (stage : Stage) (items : List Item) (place : ℕ) (item : Item) (a b c : SinkState) →
+    slice_get items place ≡ Some item → Writes {E = E} (Ok x) a b (item_lines head stage 1 (take place items)) →
+    Writes {E = E} (Ok y) b c (item_line head stage (place + 1) item) → Writes {E = E} (Ok z) a c (item_lines head stage 1 (take (place + 1) items))
+line_after {E = E} x y z head stage items place item a b c there before line =
     let next : suc place ≡ place + 1 = omega arith in
-    subst (λ (k : ℕ). Appends a c (item_lines head stage 1 (take k items))) next
-    (subst (Appends a c) (sym (one_more head stage 1 items place item there)) (Appends-trans a b c _ _ before line))
+    let both = writes_both x (Ok y) a b c _ _ before line in
+    let text = one_more head stage 1 items place item there in
+    subst (λ (k : ℕ). Writes {E = E} (Ok z) a c (item_lines head stage 1 (take k items))) next
+    (subst (Writes {E = E} (Ok z) a c) (sym text) (record { done = both.done; part = tt; cause = record { later = both.cause.later; failed = tt } }))
 
-pub line_cut : (head : Head) (stage : Stage) (items : List Item) (place : ℕ) (item : Item) (a b c : Option (List ℕ)) → slice_get items place ≡ Some item →
-    Appends a b (item_lines head stage 1 (take place items)) → AppendsPrefix b c (item_line head stage (place + 1) item) → AppendsPrefix a c (item_lines head stage 1 items)
-line_cut head stage items place item a b c there before line =
-    subst (AppendsPrefix a c) (sym (parted head stage 1 items (suc place)))
-    (prefix_more a c (item_lines head stage 1 (take (suc place) items)) _
-    (subst (AppendsPrefix a c) (sym (one_more head stage 1 items place item there)) (prefix_after a b c _ _ before line)))
+-- the lines so far, and a part of one more
+pub line_cut : {A T E F : Type 0} (x : A) (e : F) (result : Result T E) (head : Head) (stage : Stage) (items : List Item) (place : ℕ) (item : Item) (a b c : SinkState) →
+    slice_get items place ≡ Some item → Writes {E = E} (Ok x) a b (item_lines head stage 1 (take place items)) → IsErr result →
+    Writes {T = T} (Err e) b c (item_line head stage (place + 1) item) → Writes result a c (item_lines head stage 1 items)
+line_cut x e result head stage items place item a b c there before failed line =
+    let lines = item_lines head stage 1 (take place items) in
+    let rest = item_lines head stage (suc place + 1) (drop (suc place) items) in
+    let text = parted head stage 1 items (suc place) ∙ ap (λ l. l ++ rest) (one_more head stage 1 items place item there) ∙ append_assoc lines (item_line head stage (place + 1) item) rest in
+    subst (Writes result a c) (sym text) (writes_both x result a b c lines _ before (writes_cut e result b c _ _ failed line))

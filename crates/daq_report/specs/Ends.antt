@@ -1,7 +1,8 @@
 -- Which ends of a bound can be shown under a face.
 use Rattle.std.specs.Prelude.{ℕ, ◌≤◌, ◌<◌, ℤ, ◌≤ℤ◌, List, length, slice_index, IfSome}
-use Rattle.interval_calc.specs.Intervals.{Ratio}
-use Rattle.interval_calc.specs.declared.Frac.{Frac}
+use Rattle.interval_calc.specs.Intervals.{Fraction}
+use Rattle.interval_calc.specs.declared.Fraction as fractions
+use Rattle.daq_table.specs.ValueTexts.{HasTexts}
 use Rattle.daq_table.specs.declared.head.ColumnHead.{ColumnHead}
 use Rattle.daq_table.specs.declared.head.Kind.{Kind}
 use Rattle.daq_table.specs.declared.head.Kind.TheVariants.{Int, Dec, Date, Text}
@@ -9,11 +10,11 @@ use Rattle.daq_table.specs.declared.table_head.Head.{Head}
 use Rattle.query_model.specs.declared.query.Face.{Face}
 use Rattle.query_model.specs.declared.query.Face.TheVariants.{Number, OfColumn}
 use Rattle.query_model.specs.declared.query.TypedQuery.{TypedQuery}
-use Rattle.query_model.specs.declared.bounds.AvgBound.{AvgBound}
+use Rattle.query_model.specs.declared.bounds.AverageBound as averages
 use Rattle.query_model.specs.declared.bounds.Bound.{Bound}
-use Rattle.query_model.specs.declared.bounds.Presence.{Presence}
-use Rattle.query_model.specs.declared.bounds.Presence.TheVariants.{Never, Possibly, Always}
-use Rattle.daq_report.specs.Blocks.{HasTexts, column_of, ends_text}
+use Rattle.query_model.specs.declared.bounds.Nullity.{Nullity}
+use Rattle.query_model.specs.declared.bounds.Nullity.TheVariants.{Never, Possibly, Always}
+use Rattle.daq_report.specs.Intervals.{column_of, ends_text}
 use Rattle.daq_report.specs.declared.intervals.Ends.{Ends}
 
 -- the decimals of the numbers of a kind
@@ -45,20 +46,20 @@ pub record CanShowEnds (head : Head) (query : TypedQuery) (face : Face) (low hig
   pub high_end : CanShow head query face high
 
 -- where there may be an answer, the ends are shown
-abbrev pub IfShown : Presence → Type 0 → Type 0
+abbrev pub IfShown : Nullity → Type 0 → Type 0
 IfShown Never P = P
 IfShown Possibly P = P
 IfShown Always P = Unit {0}
 
 abbrev pub CanShowBound : Head → TypedQuery → Face → Bound → Type 0
-CanShowBound head query face bound = IfShown bound.empty (CanShowEnds head query face bound.lo bound.hi)
+CanShowBound head query face bound = IfShown bound.null (CanShowEnds head query face bound.lo bound.hi)
 
-abbrev pub CanShowAverage : Head → TypedQuery → Face → AvgBound → Type 0
-CanShowAverage head query face bound = IfShown bound.empty (CanShowEnds head query face bound.lo.num bound.hi.num)
+abbrev pub CanShowAverage : Head → TypedQuery → Face → averages.AverageBound → Type 0
+CanShowAverage head query face bound = IfShown bound.null (CanShowEnds head query face bound.lo.num bound.hi.num)
 
 -- a sum over a number of rows
-abbrev pub ratio_of : Frac → Ratio
-ratio_of fraction = record { num = fraction.num; den = fraction.den }
+abbrev pub fraction_of : fractions.Fraction → Fraction
+fraction_of fraction = record { num = fraction.num; den = fraction.den }
 
 -- the texts of two ends, laid out
 abbrev pub text_of_ends : Ends → List ℕ

@@ -1,2 +1,4 @@
 pub mod Blocks
 pub mod Ends
+pub mod Intervals
+pub mod Totals

@@ -3,7 +3,9 @@
 
 mod block;
 mod intervals;
+mod round_line;
 mod texts;
+mod totals;
 
 pub use block::write_block;
 

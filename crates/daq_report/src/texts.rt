@@ -3,25 +3,12 @@
 ghost use Rattle.std.specs.Prelude.{◌≡◌, ◌≤◌, Some, decimal, length};
 ghost use Rattle.daq_table.specs.Numbers.{scaled_text};
 ghost use Rattle.daq_table.specs.ValueTexts.{text_of_value};
-ghost use Rattle.daq_report.specs.Blocks.{column_of, face_text, fraction_text};
-ghost use Rattle.daq_report.specs.Ends.{CanShow, HasNumber, IsThere, decimals_of, ratio_of};
+ghost use Rattle.daq_report.specs.Intervals.{column_of, face_text, fraction_text};
+ghost use Rattle.daq_report.specs.Ends.{CanShow, HasNumber, IsThere, decimals_of, fraction_of};
 
-use daq_table::{ColumnHead, Head, Kind, NoRoom, TextBuf, number_text, value_text};
-use interval_calc::Frac;
+use daq_table::{ColumnHead, Head, Kind, NoRoom, TextBuf, value_text, written_number};
+use interval_calc::Fraction;
 use query_model::{Face, TypedQuery};
-
-// A number with so many decimals.
-fn written_number(value: i128, scale: u8) -> TextBuf
-    requires { scale ≤ 18 }
-    ensures text { result ≡ scaled_text scale value }
-    ensures short { length result ≤ 100 }
-{
-    let mut text = TextBuf::new();
-    match number_text(value, scale, &mut text) {
-        Ok(()) => text,
-        Err(NoRoom) => unreachable!(),
-    }
-}
 
 // A number that counts.
 pub(crate) fn written_count(count: u64) -> TextBuf
@@ -76,9 +63,14 @@ pub(crate) fn written_end(head: &Head, query: &TypedQuery, face: Face, value: i1
 }
 
 // An end of the interval of an average: a sum over a number of rows.
-pub(crate) fn written_fraction(head: &Head, query: &TypedQuery, face: Face, ratio: Frac) -> TextBuf
+pub(crate) fn written_fraction(
+    head: &Head,
+    query: &TypedQuery,
+    face: Face,
+    ratio: Fraction,
+) -> TextBuf
     requires { CanShow head.now query.now face ratio.num }
-    ensures { result ≡ fraction_text head.now query.now face (ratio_of ratio) }
+    ensures { result ≡ fraction_text head.now query.now face (fraction_of ratio) }
 {
     let mut text = written_end(head, query, face, ratio.num);
     text.append(b"/");

@@ -1,20 +1,14 @@
--- A prefix of the block is written, whichever of its parts fails.
-use Rattle.std.proofs.Common.{subst}
-use Rattle.std.proofs.lemmas.Result.{err_from_is_err_and}
-use Rattle.outer_world.specs.Whole.{AppendsPrefix}
-use Rattle.std.specs.Io.KnownBytes.{Appends}
-use Rattle.daq_report.specs.Blocks.{round_line}
-use Rattle.daq_report.proofs.Prefixes.{prefix_after, prefix_more}
+-- The line of the round, and then the lines of the form.
+use Rattle.std.proofs.Common.{List, ℕ, ◌++◌, ◌∙◌, subst}
+use Rattle.outer_world.proofs.Writes.{writes_both}
+use Rattle.outer_world.specs.Whole.{Writes}
+use Rattle.daq_report.specs.Blocks.{form_text}
 use Rattle.daq_report.proofs.block.write_block.Goals as goal
 
-pub returns-in_err-write_text-clause-part : goal.returns-in_err-write_text-clause-part
-returns-in_err-write_text-clause-part g c =
-    let line = round_line c.args.head.now c.args.engine.now c.args.round c.args.last in
-    let p = err_from_is_err_and c.from_residual.result c.from_residual.ensures.1 in
-    rw p.1 (prefix_more _ _ line _ (subst (AppendsPrefix _ _) c.written_round.ensures c.in_err-write_text.ensures.part))
-
-pub returns-in_err-write_items-clause-part : goal.returns-in_err-write_items-clause-part
-returns-in_err-write_items-clause-part g c =
-    let line = round_line c.args.head.now c.args.engine.now c.args.round c.args.last in
-    let p = err_from_is_err_and c.from_residual-in_err-write_items.result c.from_residual-in_err-write_items.ensures.1 in
-    rw p.1 (prefix_after _ _ _ line _ (subst (Appends _ _) c.written_round.ensures c.in_ok-write_text.ensures.done) c.in_err-write_items.ensures.part)
+pub returns : goal.returns
+returns g c =
+    let old = g.K.Sink.state c.args.out.now in
+    let new = g.K.Sink.state c.write_totals.new.out in
+    let rest = form_text c.args.head.now c.args.engine.now in
+    subst (λ (line : List ℕ). Writes c.write_totals.result old new (line ++ rest)) (c.bytes.ensures.text ∙ c.written_round.ensures)
+    (writes_both _ _ _ _ _ _ rest c.in_ok-write_whole.ensures c.write_totals.ensures)

@@ -5,7 +5,7 @@ use Rattle.query_model.specs.declared.query.TypedQuery.{TypedQuery}
 use Rattle.round_engine.specs.Promises.{IsShownWithin}
 use Rattle.daq_report.specs.Ends.{CanShowBound}
 use Rattle.daq_report.proofs.Faces.{bound_shows}
-use Rattle.daq_report.proofs.block.write_answer.Goals as goal
+use Rattle.daq_report.proofs.totals.write_answer.Goals as goal
 
 pub write_bound-requires : goal.write_bound-requires
 write_bound-requires g c =
