@@ -1,10 +1,8 @@
 -- Blocks of a report, written one after the other.
-use Rattle.std.proofs.Common.{◌≡◌, ℕ, zero, suc, ◌+◌, ◌-◌, ◌<◌, ◌≤◌, List, [], ◌∷◌, ◌++◌, length, refl, sym, ap, ◌∙◌, subst, arith, append_assoc, append-nil, slice_get, Some, Option}
+use Rattle.std.proofs.Common.{◌≡◌, ℕ, zero, suc, ◌+◌, ◌-◌, ◌<◌, ◌≤◌, List, [], ◌∷◌, ◌++◌, length, refl, sym, ap, ◌∙◌, arith, append_assoc, append-nil, slice_get, Some}
 use Rattle.daq_table.specs.Tables.{Cells, frame_of}
 use Rattle.daq_table.specs.declared.table_head.Head.{Head}
-use Rattle.daq_report.proofs.Prefixes.{prefix_more}
 use Rattle.daq_report.specs.Blocks.{block_text}
-use Rattle.outer_world.specs.Whole.{AppendsPrefix}
 use Rattle.query_model.specs.declared.query.TypedQuery.{TypedQuery}
 use Rattle.table_rounds.proofs.Going.{same_before}
 use Rattle.table_rounds.specs.Rounds.{column_read, stage_after}
@@ -24,14 +22,12 @@ module _ (head : Head) (query : TypedQuery) (cells : Cells) where
         ap (blocks_below head query cells reads) grown ∙ ap (λ l. l ++ block_of head query cells reads (i + d)) e ∙ append_assoc (blocks_below head query cells reads i) rest (block_of head query cells reads (i + d)),
       )
 
-  -- a prefix of some blocks is one of more blocks and what follows them
-  pub prefix_of_blocks : (a c : Option (List ℕ)) (reads : List ℕ) (i n : ℕ) (end : List ℕ) → i ≤ n →
-      AppendsPrefix a c (blocks_below head query cells reads i) → AppendsPrefix a c (blocks_below head query cells reads n ++ end)
-  prefix_of_blocks a c reads i n end le p =
+  -- more blocks begin with fewer
+  pub blocks_rest : (reads : List ℕ) (i n : ℕ) → i ≤ n → (rest : List ℕ) × (blocks_below head query cells reads n ≡ blocks_below head query cells reads i ++ rest)
+  blocks_rest reads i n le =
       let (rest, e) = blocks_go_on reads i (n - i) in
-      let whole : i + (n - i) ≡ n = omega arith in
-      prefix_more a c (blocks_below head query cells reads n) end
-      (subst (AppendsPrefix a c) (sym e ∙ ap (blocks_below head query cells reads) whole) (prefix_more a c (blocks_below head query cells reads i) rest p))
+      let all : i + (n - i) ≡ n = omega arith in
+      (rest, ap (blocks_below head query cells reads) (sym all) ∙ e)
 
   pub no_blocks : (reads : List ℕ) → blocks_below head query cells reads 0 ≡ []
   unfolding blocks_below

@@ -1,146 +1,106 @@
 -- How far the rounds of a report have come.
-use Rattle.std.proofs.Common.{◌≡◌, ℕ, ◌+◌, ◌-◌, ◌<◌, List, [], ◌∷◌, ◌++◌, length, refl, sym, ap, ◌∙◌, subst, arith, Option, Some, None, IsTrue, length-append, map, replicate, zero, suc}
-use Rattle.std.proofs.KnownBytes.{Appends-nil, Appends-trans}
-use Rattle.std.proofs.lemmas.List.{length-map}
-use Rattle.std.specs.List.{range_with_len}
-use Rattle.std.specs.Io.KnownBytes.{Appends}
-use Rattle.daq_report.proofs.Prefixes.{prefix_after, prefix_more}
+use Rattle.std.proofs.Common.{◌≡◌, ℕ, ◌+◌, List, [], ◌∷◌, ◌++◌, length, refl, sym, ap, ◌∙◌, subst, arith, Option, Some, None, IsSome, length-append, append_assoc}
+use Rattle.std.proofs.KnownBytes.{Appends-nil}
 use Rattle.daq_report.specs.Blocks.{block_text}
-use Rattle.daq_table.specs.Tables.{Cells, IsTable, ends_at, frame_of}
+use Rattle.daq_table.specs.Tables.{Cells, IsTable, frame_of}
 use Rattle.daq_table.specs.declared.table_head.Head.{Head}
-use Rattle.outer_world.specs.Whole.{AppendsPrefix}
-use Rattle.query_model.specs.Knowledge.{known_of, start}
-use Rattle.query_model.specs.Laws.{StartIsKnown, TablesHaveParts}
-use Rattle.query_model.specs.Projection.{projected, projected_frame}
+use Rattle.outer_world.proofs.Writes.{writes_both, writes_cut}
+use Rattle.outer_world.specs.Device.{SinkState}
+use Rattle.outer_world.specs.Whole.{Writes}
+use Rattle.daq_cli.specs.Worlds.{Extent, partly, whole}
+use Rattle.plane_schedule.specs.Plans.{IsReadable}
+use Rattle.plane_schedule.specs.declared.policy.Ending.{Ending}
+use Rattle.plane_schedule.specs.declared.policy.Plan.{Plan}
+use Rattle.query_model.specs.Projection.{projected_frame}
 use Rattle.query_model.specs.Worlds.{NamesColumns}
 use Rattle.query_model.specs.declared.query.TypedQuery.{TypedQuery}
-use Rattle.round_engine.specs.Narrowness.{is_narrow}
 use Rattle.round_engine.specs.Progresses.{planes_read}
-use Rattle.round_engine.specs.Stages.{Stage, opened}
-use Rattle.table_rounds.specs.Headline.{RoundsAreCertain, RoundsAreCounted, RoundsHaveAnEnd, all_planes}
-use Rattle.table_rounds.specs.Rounds.{AreAllRounds, IsAfter, column_read, counts_after}
-use Rattle.daq_cli.specs.Report.{WritesAll, WritesPart, block_of, blocks_below, end_line, query_line, report, rounds_text}
-use Rattle.daq_cli.proofs.Blocks.{blocks_before, column_last, next_block, no_blocks, prefix_of_blocks}
+use Rattle.round_engine.specs.Stages.{Stage}
+use Rattle.table_rounds.specs.Headline.{RoundsAreCounted, RoundsHaveAnEnd}
+use Rattle.table_rounds.specs.Rounds.{IsAfter, column_read, ending_at, stage_after}
+use Rattle.daq_cli.specs.Report.{WritesRounds, block_of, blocks_below, end_line, ending_line, query_line, report, rounds_text}
+use Rattle.daq_cli.proofs.Blocks.{blocks_before, blocks_rest, column_last, next_block, no_blocks}
 
 -- the blocks of the rounds so far but for the last are written: these columns were read, and that is what is known
-pub record Reached (head : Head) (query : TypedQuery) (cells : Cells) (stage : Stage) (last : Option ℕ) (old new : Option (List ℕ)) : Type 0 where
+pub record Reached (plan : Plan) (head : Head) (query : TypedQuery) (cells : Cells) (stage : Stage) (last : Option ℕ) (old new : SinkState) : Type 0 where
   pub reads : List ℕ
-  pub after : IsAfter query (frame_of head) cells reads stage
+  pub after : IsAfter plan query (frame_of head) cells reads stage
   pub last_is : last ≡ column_read reads (length reads)
-  pub text : Appends old new (blocks_below head query cells reads (length reads))
+  pub text : Writes whole old new (blocks_below head query cells reads (length reads))
 
--- the same said of a query that is the same
-pub after_of : (query other : TypedQuery) (head : Head) (cells : Cells) (reads : List ℕ) (stage : Stage) → query ≡ other → IsAfter query (frame_of head) cells reads stage → IsAfter other (frame_of head) cells reads stage
-after_of query other head cells reads stage same = subst (λ q. IsAfter q (frame_of head) cells reads stage) same
+module _ (plan : Plan) (head : Head) (query : TypedQuery) (cells : Cells) where
+  -- the same said of a query that is the same
+  pub after_of : (reads : List ℕ) (stage : Stage) (one : TypedQuery) → one ≡ query → IsAfter plan one (frame_of head) cells reads stage → IsAfter plan query (frame_of head) cells reads stage
+  after_of reads stage one same = subst (λ q. IsAfter plan q (frame_of head) cells reads stage) same
 
-all_zero : (a n : ℕ) (f : ℕ → ℕ) → ((c : ℕ) → f c ≡ 0) → map f (range_with_len a n) ≡ replicate n 0
-all_zero a zero f h = refl
-all_zero a (suc n) f h = ap (λ x. x ∷ map f (range_with_len (a + 1) n)) (h a) ∙ ap (λ xs. 0 ∷ xs) (all_zero (a + 1) n f h)
-
-module _ (head : Head) (query : TypedQuery) (cells : Cells) where
-  -- nothing is read before the first round
-  none_counted : counts_after query [] 0 ≡ replicate (length (projected_frame query (frame_of head)).columns) 0
-  none_counted = all_zero 0 (length query.columns) _ (λ c. refl) ∙ ap (λ n. replicate n 0) (sym (length-map query.columns (ends_at (frame_of head))))
-
-  pub start_after : StartIsKnown → TablesHaveParts → NamesColumns query (frame_of head) → IsTable (frame_of head) cells → IsAfter query (frame_of head) cells [] (opened query head)
-  start_after start parts named table =
-      let part = projected_frame query (frame_of head) in
-      let here = start part (projected query cells) ((parts query (frame_of head) named).part cells table) in
-      record {
-        rounds = record { wider = λ round h. absurd (omega arith); widest = λ round h. absurd (omega arith) };
-        known = ap (λ known. record { query = query; frame = part; known = known }) (sym (ap (known_of part (projected query cells)) none_counted ∙ here));
-      }
-
-  pub first_reached : (old : Option (List ℕ)) → IsAfter query (frame_of head) cells [] (opened query head) → Reached head query cells (opened query head) None old old
-  first_reached old after = record { reads = []; after = after; last_is = refl; text = subst (Appends old old) (sym (no_blocks head query cells [])) (Appends-nil old) }
+  pub first_reached : (stage : Stage) (old : SinkState) → IsAfter plan query (frame_of head) cells [] stage → Reached plan head query cells stage None old old
+  first_reached stage old after = record {
+    reads = [];
+    after = after;
+    last_is = refl;
+    text = subst (Writes whole old old) (sym (no_blocks head query cells [])) (record { done = Appends-nil old.written; part = tt; cause = record { later = omega arith; failed = tt } });
+  }
 
   -- the block that is written is the round's
-  pub block_is : RoundsAreCounted → NamesColumns query (frame_of head) → IsTable (frame_of head) cells → (stage : Stage) (last : Option ℕ) (old now : Option (List ℕ)) (done : ℕ) →
-      (r : Reached head query cells stage last old now) → done ≡ planes_read stage.known → block_text head stage done last ≡ block_of head query cells r.reads (length r.reads)
+  pub block_is : RoundsAreCounted → NamesColumns query (frame_of head) → IsTable (frame_of head) cells → (stage : Stage) (last : Option ℕ) (old now : SinkState) (done : ℕ) →
+      (r : Reached plan head query cells stage last old now) → done ≡ planes_read stage.known → block_text head stage done last ≡ block_of head query cells r.reads (length r.reads)
   block_is counted named table stage last old now done r is =
       let round = length r.reads in
-      let n : done ≡ round = is ∙ counted query (frame_of head) cells r.reads stage named table r.after in
+      let n : done ≡ round = is ∙ counted plan query (frame_of head) cells r.reads stage named table r.after in
       ap (λ k. block_text head stage k last) n ∙ ap (block_text head stage round) r.last_is ∙ ap (λ s. block_text head s round (column_read r.reads round)) r.after.known
 
+  -- all blocks so far, after that of the last round
+  all_blocks : (result : Extent) (stage : Stage) (last : Option ℕ) (old mid now : SinkState) → (r : Reached plan head query cells stage last old mid) →
+      Writes result mid now (block_of head query cells r.reads (length r.reads)) → Writes result old now (blocks_below head query cells r.reads (length r.reads + 1))
+  all_blocks result stage last old mid now r written = subst (Writes result old now) (sym (next_block head query cells r.reads (length r.reads))) (writes_both tt result old mid now _ _ r.text written)
+
   -- with its block written and the next plane read, the rounds have come one further
-  pub next_reached : (stage new : Stage) (last : Option ℕ) (c : ℕ) (old mid now : Option (List ℕ)) → (r : Reached head query cells stage last old mid) →
-      Appends mid now (block_of head query cells r.reads (length r.reads)) → IsAfter query (frame_of head) cells (r.reads ++ c ∷ []) new → Reached head query cells new (Some c) old now
+  pub next_reached : (stage new : Stage) (last : Option ℕ) (c : ℕ) (old mid now : SinkState) → (r : Reached plan head query cells stage last old mid) →
+      Writes whole mid now (block_of head query cells r.reads (length r.reads)) → IsAfter plan query (frame_of head) cells (r.reads ++ c ∷ []) new →
+      Reached plan head query cells new (Some c) old now
   next_reached stage new last c old mid now r written after =
       let long : length (r.reads ++ c ∷ []) ≡ length r.reads + 1 = length-append r.reads (c ∷ []) in
-      let blocks : Appends old now (blocks_below head query cells r.reads (length r.reads + 1)) = subst (Appends old now) (sym (next_block head query cells r.reads (length r.reads))) (Appends-trans old mid now _ _ r.text written) in
       let same = blocks_before head query cells r.reads (c ∷ []) (length r.reads + 1) (omega arith) in
       record {
         reads = r.reads ++ c ∷ [];
         after = after;
         last_is = sym (ap (column_read (r.reads ++ c ∷ [])) long ∙ column_last head query cells r.reads c);
-        text = subst (Appends old now) (sym (ap (blocks_below head query cells (r.reads ++ c ∷ [])) long ∙ same)) blocks;
+        text = subst (Writes whole old now) (sym (ap (blocks_below head query cells (r.reads ++ c ∷ [])) long ∙ same)) (all_blocks whole stage last old mid now r written);
       }
 
-  -- a narrow round is the last
-  pub all_rounds : (stage : Stage) (last : Option ℕ) (old mid : Option (List ℕ)) → (r : Reached head query cells stage last old mid) → IsTrue (is_narrow 0 stage) → AreAllRounds query (frame_of head) cells r.reads
-  all_rounds stage last old mid r narrow = record { rounds = r.after.rounds; narrow = subst (λ s. IsTrue (is_narrow 0 s)) r.after.known narrow }
-
-  pub all_blocks : (stage : Stage) (last : Option ℕ) (old mid now : Option (List ℕ)) → (r : Reached head query cells stage last old mid) → Appends mid now (block_of head query cells r.reads (length r.reads)) →
-      Appends old now (blocks_below head query cells r.reads (length r.reads + 1))
-  all_blocks stage last old mid now r written = subst (Appends old now) (sym (next_block head query cells r.reads (length r.reads))) (Appends-trans old mid now _ _ r.text written)
-
-  pub all_written : (stage : Stage) (last : Option ℕ) (old mid now end : Option (List ℕ)) → (r : Reached head query cells stage last old mid) → Appends mid now (block_of head query cells r.reads (length r.reads)) →
-      IsTrue (is_narrow 0 stage) → Appends now end end_line → WritesAll (rounds_text head query cells) head query cells old end
-  all_written stage last old mid now end r written narrow ended = record {
-    reads = r.reads;
-    rounds = all_rounds stage last old mid r narrow;
-    whole = Appends-trans old now end _ _ (all_blocks stage last old mid now r written) ended;
-  }
-
-  -- the end line was not written whole
-  pub end_in_part : (stage : Stage) (last : Option ℕ) (old mid now end : Option (List ℕ)) → (r : Reached head query cells stage last old mid) → Appends mid now (block_of head query cells r.reads (length r.reads)) →
-      IsTrue (is_narrow 0 stage) → AppendsPrefix now end end_line → WritesPart (rounds_text head query cells) head query cells old end
-  end_in_part stage last old mid now end r written narrow ended = record {
-    reads = r.reads;
-    rounds = all_rounds stage last old mid r narrow;
-    part = prefix_after old now end _ _ (all_blocks stage last old mid now r written) ended;
-  }
-
-  -- nor was a block
-  pub block_in_part : RoundsHaveAnEnd → NamesColumns query (frame_of head) → IsTable (frame_of head) cells → (stage : Stage) (last : Option ℕ) (old mid now : Option (List ℕ)) → (r : Reached head query cells stage last old mid) →
-      AppendsPrefix mid now (block_of head query cells r.reads (length r.reads)) → WritesPart (rounds_text head query cells) head query cells old now
-  block_in_part ends named table stage last old mid now r written =
-      let (rest, all) = ends query (frame_of head) cells r.reads named table r.after.rounds in
-      let reads = r.reads ++ rest in
-      let longer : length reads ≡ length r.reads + length rest = length-append r.reads rest in
-      let begun : AppendsPrefix old now (blocks_below head query cells r.reads (length r.reads + 1)) = subst (AppendsPrefix old now) (sym (next_block head query cells r.reads (length r.reads))) (prefix_after old mid now _ _ r.text written) in
-      let same = blocks_before head query cells r.reads rest (length r.reads + 1) (omega arith) in
+  -- the last round's block was written, and the end line whole or in part
+  pub all_written : (result : Extent) (stage : Stage) (last : Option ℕ) (ending : Ending) (old mid now end : SinkState) → (r : Reached plan head query cells stage last old mid) →
+      Writes whole mid now (block_of head query cells r.reads (length r.reads)) → ending_at plan stage ≡ Some ending → Writes result now end (ending_line ending) →
+      WritesRounds (rounds_text head plan query cells) head plan query cells result old end
+  all_written result stage last ending old mid now end r written ended line =
+      let is : ending_at plan (stage_after query (frame_of head) cells r.reads (length r.reads)) ≡ Some ending = ap (ending_at plan) (sym r.after.known) ∙ ended in
       record {
-        reads = reads;
-        rounds = all;
-        part = prefix_of_blocks head query cells old now reads (length r.reads + 1) (length reads + 1) end_line (omega (arith, longer)) (subst (AppendsPrefix old now) (sym same) begun);
+        reads = r.reads;
+        rounds = record { rounds = r.after.rounds; ended = subst IsSome (sym is) refl };
+        written = writes_both tt result old now end _ _ (all_blocks whole stage last old mid now r written) (subst (λ e. Writes result now end (end_line e)) (sym is) line);
       }
 
-  -- each round that reads a plane leaves fewer
-  pub fewer_left : RoundsAreCounted → RoundsAreCertain → NamesColumns query (frame_of head) → IsTable (frame_of head) cells → (stage new : Stage) (reads : List ℕ) (c : ℕ) →
-      IsAfter query (frame_of head) cells reads stage → IsAfter query (frame_of head) cells (reads ++ c ∷ []) new → all_planes query (frame_of head) - planes_read new.known < all_planes query (frame_of head) - planes_read stage.known
-  fewer_left counted certain named table stage new reads c after next =
-      let long : length (reads ++ c ∷ []) ≡ length reads + 1 = length-append reads (c ∷ []) in
-      let here = counted query (frame_of head) cells reads stage named table after in
-      let there = counted query (frame_of head) cells (reads ++ c ∷ []) new named table next in
-      let few = (certain query (frame_of head) cells (reads ++ c ∷ []) named table next.rounds).few in
-      omega (arith, long, here, there, few)
-
-  -- ---- the report
+  -- the last block was not written whole
+  pub block_in_part : RoundsHaveAnEnd → NamesColumns query (frame_of head) → IsTable (frame_of head) cells → IsReadable plan.policy (projected_frame query (frame_of head)) →
+      (stage : Stage) (last : Option ℕ) (old mid now : SinkState) → (r : Reached plan head query cells stage last old mid) →
+      Writes partly mid now (block_of head query cells r.reads (length r.reads)) → WritesRounds (rounds_text head plan query cells) head plan query cells partly old now
+  block_in_part ends named table readable stage last old mid now r written =
+      let (rest, all) = ends plan query (frame_of head) cells r.reads named table readable r.after.rounds in
+      let reads = r.reads ++ rest in
+      let n = length r.reads + 1 in
+      let longer : length reads ≡ length r.reads + length rest = length-append r.reads rest in
+      let begun = all_blocks partly stage last old mid now r written in
+      let same = blocks_before head query cells r.reads rest n (omega arith) in
+      let (more, whole_is) = blocks_rest head query cells reads n (length reads + 1) (omega (arith, longer)) in
+      let end = end_line (ending_at plan (stage_after query (frame_of head) cells reads (length reads))) in
+      let all_is : rounds_text head plan query cells reads ≡ blocks_below head query cells r.reads n ++ (more ++ end) =
+      ap (λ l. l ++ end) (whole_is ∙ ap (λ l. l ++ more) same) ∙ append_assoc (blocks_below head query cells r.reads n) more end in
+      record { reads = reads; rounds = all; written = subst (Writes partly old now) (sym all_is) (writes_cut tt partly old now _ (more ++ end) refl begun) }
 
   -- the query's line was not written whole
-  pub query_in_part : RoundsHaveAnEnd → NamesColumns query (frame_of head) → IsTable (frame_of head) cells → IsAfter query (frame_of head) cells [] (opened query head) →
-      (sql : List ℕ) (old now : Option (List ℕ)) → AppendsPrefix old now (query_line sql) → WritesPart (report sql head query cells) head query cells old now
-  query_in_part ends named table after sql old now part =
-      let (rest, all) = ends query (frame_of head) cells [] named table after.rounds in
-      record { reads = rest; rounds = all; part = prefix_more old now (query_line sql) (rounds_text head query cells rest) part }
-
-  -- it was, and then all rounds
-  pub report_written : (sql : List ℕ) (old mid now : Option (List ℕ)) → Appends old mid (query_line sql) → WritesAll (rounds_text head query cells) head query cells mid now →
-      WritesAll (report sql head query cells) head query cells old now
-  report_written sql old mid now line rounds = record { reads = rounds.reads; rounds = rounds.rounds; whole = Appends-trans old mid now _ _ line rounds.whole }
-
-  -- or a part of them
-  pub report_in_part : (sql : List ℕ) (old mid now : Option (List ℕ)) → Appends old mid (query_line sql) → WritesPart (rounds_text head query cells) head query cells mid now →
-      WritesPart (report sql head query cells) head query cells old now
-  report_in_part sql old mid now line rounds = record { reads = rounds.reads; rounds = rounds.rounds; part = prefix_after old mid now _ _ line rounds.part }
+  pub line_in_part : RoundsHaveAnEnd → NamesColumns query (frame_of head) → IsTable (frame_of head) cells → IsReadable plan.policy (projected_frame query (frame_of head)) →
+      (stage : Stage) → IsAfter plan query (frame_of head) cells [] stage → (sql : List ℕ) (old now : SinkState) → Writes partly old now (query_line sql) →
+      WritesRounds (report sql head plan query cells) head plan query cells partly old now
+  line_in_part ends named table readable stage after sql old now written =
+      let (rest, all) = ends plan query (frame_of head) cells [] named table readable after.rounds in
+      record { reads = rest; rounds = all; written = writes_cut tt partly old now _ (rounds_text head plan query cells rest) refl written }

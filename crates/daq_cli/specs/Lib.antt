@@ -1,5 +1,9 @@
-pub mod Command
-pub mod Report
-pub mod Forms
+pub mod Worlds
+pub mod Faults
 pub mod Refusals
-pub mod Outcome
+pub mod Steps
+pub mod Report
+pub mod Questions
+pub mod commands
+pub mod Runs
+pub mod Laws

@@ -1,27 +1,32 @@
--- The line and the status of each refusal.
-use Rattle.std.specs.Prelude.{ℕ, ◌+◌, pos, List, ◌++◌, codes}
+-- The line and the status of each refusal, and how a run tells of it.
+use Rattle.std.specs.Prelude.{◌≡◌, ◌⊎◌, ℕ, ◌+◌, pos, List, ◌++◌, codes}
 use Rattle.std.specs.Fmt.{signed_decimal}
 use Rattle.daq_table.specs.declared.schema_fault.SchemaFault.{SchemaFault}
 use Rattle.daq_table.specs.declared.schema_fault.SchemaFault.TheVariants as schema
 use Rattle.csv_load.specs.declared.fault.TableFault.{TableFault}
 use Rattle.csv_load.specs.declared.fault.TableFault.TheVariants as table
+use Rattle.outer_world.specs.Device.{SinkState}
+use Rattle.outer_world.specs.Whole.{Writes}
+use Rattle.plane_reads.specs.declared.fault.ReadsFault.{ReadsFault}
+use Rattle.plane_reads.specs.declared.fault.ReadsFault.TheVariants as reads
+use Rattle.sql_text.specs.declared.fault.SqlFault.{SqlFault}
+use Rattle.sql_text.specs.declared.fault.SqlFault.TheVariants as text
 use Rattle.sql_typing.specs.declared.fault.TypeFault.{TypeFault}
 use Rattle.sql_typing.specs.declared.fault.TypeFault.TheVariants as typing
-use Rattle.daq_cli.specs.declared.refusal.QueryFault.{QueryFault}
-use Rattle.daq_cli.specs.declared.refusal.QueryFault.TheVariants as q
+use Rattle.daq_cli.specs.Worlds.{partly, whole}
 use Rattle.daq_cli.specs.declared.refusal.Refusal.{Refusal}
-use Rattle.daq_cli.specs.declared.refusal.Refusal.TheVariants.{Usage, Query, Schema, Table, Typing, TooLong, ReadFault, WriteFault, NoMemory}
-use Rattle.daq_cli.specs.declared.refusal.Status.{Status}
-use Rattle.daq_cli.specs.declared.refusal.Status.TheVariants as s
+use Rattle.daq_cli.specs.declared.refusal.Refusal.TheVariants.{Usage, Query, Schema, TooLong, Table, TooManyRows, Typing, NotBuilt, Reads, ReadFault, WriteFault, NoMemory}
+use Rattle.daq_cli.specs.declared.status.Status.{Status}
+use Rattle.daq_cli.specs.declared.status.Status.TheVariants as s
 
-abbrev pub query_fault_text : QueryFault → List ℕ
-query_fault_text q.TooLong = codes "query refused: longer than 4096 bytes"
-query_fault_text (q.Syntax at) = codes "query refused: syntax at " ++ signed_decimal (pos at)
-query_fault_text (q.TooDeep at) = codes "query refused: nested too deep at " ++ signed_decimal (pos at)
-query_fault_text (q.NumberTooLarge at) = codes "query refused: number too large at " ++ signed_decimal (pos at)
-query_fault_text q.NotBuilt = codes "query refused: not built"
+abbrev pub text_fault_text : SqlFault → List ℕ
+text_fault_text text.TooLong = codes "query refused: longer than 4096 bytes"
+text_fault_text (text.Syntax at) = codes "query refused: syntax at " ++ signed_decimal (pos at)
+text_fault_text (text.TooDeep at) = codes "query refused: nested too deep at " ++ signed_decimal (pos at)
+text_fault_text (text.LiteralTooLarge at) = codes "query refused: number too large at " ++ signed_decimal (pos at)
+text_fault_text text.NoMemory = codes "no memory"
 
--- records, columns and items count from 1 in a line
+-- records, columns, items and reads count from 1 in a line
 abbrev pub schema_fault_text : SchemaFault → List ℕ
 schema_fault_text (schema.BadItem at) = codes "table refused: schema item at " ++ signed_decimal (pos at)
 schema_fault_text (schema.TooMany count) = codes "table refused: " ++ signed_decimal (pos count) ++ codes " schema items"
@@ -41,7 +46,6 @@ table_fault_text (table.BadCell entry column) =
 table_fault_text (table.TooManyNames column) = codes "table refused: column " ++ signed_decimal (pos (column + 1)) ++ codes " has too many names"
 table_fault_text table.NoMemory = codes "no memory"
 
--- items count from 1
 abbrev pub type_fault_text : TypeFault → List ℕ
 type_fault_text (typing.UnknownTable at) = codes "query refused: unknown table at " ++ signed_decimal (pos at)
 type_fault_text (typing.UnknownColumn at) = codes "query refused: unknown column at " ++ signed_decimal (pos at)
@@ -56,13 +60,21 @@ type_fault_text (typing.GroupTooWide bits) = codes "query refused: group of " ++
 type_fault_text (typing.TooWide item) = codes "query refused: item " ++ signed_decimal (pos (item + 1)) ++ codes " too wide"
 type_fault_text typing.NoMemory = codes "no memory"
 
+abbrev pub reads_fault_text : ReadsFault → List ℕ
+reads_fault_text (reads.UnknownName place) = codes "query refused: read " ++ signed_decimal (pos (place + 1)) ++ codes " names no column of the query"
+reads_fault_text (reads.PastEnd place) = codes "query refused: read " ++ signed_decimal (pos (place + 1)) ++ codes " is past its column's last plane"
+reads_fault_text reads.NoMemory = codes "no memory"
+
 abbrev pub fault_text : Refusal → List ℕ
 fault_text (Usage place) = codes "usage: word " ++ signed_decimal (pos place)
-fault_text (Query fault) = query_fault_text fault
+fault_text (Query fault) = text_fault_text fault
 fault_text (Schema fault) = schema_fault_text fault
-fault_text (Table fault) = table_fault_text fault
-fault_text (Typing fault) = type_fault_text fault
 fault_text (TooLong limit) = codes "table refused: longer than " ++ signed_decimal (pos limit) ++ codes " bytes"
+fault_text (Table fault) = table_fault_text fault
+fault_text TooManyRows = codes "table refused: more than 16777216 rows"
+fault_text (Typing fault) = type_fault_text fault
+fault_text NotBuilt = codes "query refused: not built"
+fault_text (Reads fault) = reads_fault_text fault
 fault_text ReadFault = codes "read fault"
 fault_text WriteFault = codes "write fault"
 fault_text NoMemory = codes "no memory"
@@ -74,9 +86,28 @@ abbrev pub status_of : Refusal → Status
 status_of (Usage place) = s.Usage
 status_of (Query fault) = s.QueryRefused
 status_of (Schema fault) = s.TableRefused
-status_of (Table fault) = s.TableRefused
-status_of (Typing fault) = s.QueryRefused
 status_of (TooLong limit) = s.TableRefused
+status_of (Table fault) = s.TableRefused
+status_of TooManyRows = s.TableRefused
+status_of (Typing fault) = s.QueryRefused
+status_of NotBuilt = s.QueryRefused
+status_of (Reads fault) = s.QueryRefused
 status_of ReadFault = s.ReadFault
 status_of WriteFault = s.WriteFault
 status_of NoMemory = s.NoMemory
+
+-- the number that the process ends with
+abbrev pub code_of : Status → ℕ
+code_of s.Done = 0
+code_of s.Usage = 2
+code_of s.QueryRefused = 3
+code_of s.TableRefused = 4
+code_of s.FileRefused = 5
+code_of s.ReadFault = 6
+code_of s.WriteFault = 7
+code_of s.NoMemory = 8
+
+-- the refusal's line was written and the status is its own, or a part of the line was written and the status is WriteFault
+abbrev pub IsTold : Refusal → Status → SinkState → SinkState → Type 0
+IsTold why status err err' =
+    ((status ≡ status_of why) × Writes whole err err' (fault_line why)) ⊎ ((status ≡ s.WriteFault) × Writes partly err err' (fault_line why))

@@ -1,30 +1,46 @@
-//! What the line of each fault of a query, a schema and a table says.
+//! What the line of each fault of a query, a schema, a table and a list of reads says.
 
 ghost use Rattle.std.specs.Prelude.{◌≡◌, ◌≤◌, ◌+◌, ◌++◌, length, pos};
 ghost use Rattle.std.specs.Fmt.{signed_decimal};
-ghost use Rattle.daq_cli.specs.Refusals.{query_fault_text, schema_fault_text, table_fault_text, type_fault_text};
+ghost use Rattle.daq_cli.specs.Refusals.{reads_fault_text, schema_fault_text, table_fault_text, text_fault_text, type_fault_text};
 
-use crate::numbers::written_number;
-use crate::refusal::QueryFault;
 use csv_load::TableFault;
-use daq_table::{SchemaFault, TextBuf};
+use daq_table::{SchemaFault, TextBuf, written_number};
+use plane_reads::ReadsFault;
+use sql_text::SqlFault;
 use sql_typing::TypeFault;
 
-// What is said of a text that is no query, or is not built.
-pub(crate) fn written_query_fault(fault: &QueryFault) -> TextBuf
-    ensures text { result ≡ query_fault_text fault.now }
+// What is said of a text that is no query.
+pub(crate) fn written_text_fault(fault: &SqlFault) -> TextBuf
+    ensures text { result ≡ text_fault_text fault.now }
     ensures short { length result ≤ 500 }
 {
     match fault {
-        QueryFault::TooLong => plain(b"query refused: longer than 4096 bytes"),
-        QueryFault::Syntax { at } => with_number(b"query refused: syntax at ", counted(*at), b""),
-        QueryFault::TooDeep { at } => {
-            with_number(b"query refused: nested too deep at ", counted(*at), b"")
-        }
-        QueryFault::NumberTooLarge { at } => {
-            with_number(b"query refused: number too large at ", counted(*at), b"")
-        }
-        QueryFault::NotBuilt => plain(b"query refused: not built"),
+        SqlFault::TooLong => plain(b"query refused: longer than 4096 bytes"),
+        SqlFault::Syntax { at } => placed(b"query refused: syntax at ", *at),
+        SqlFault::TooDeep { at } => placed(b"query refused: nested too deep at ", *at),
+        SqlFault::LiteralTooLarge { at } => placed(b"query refused: number too large at ", *at),
+        SqlFault::NoMemory => plain(b"no memory"),
+    }
+}
+
+// What is said of a list of columns to be read.
+pub(crate) fn written_reads_fault(fault: &ReadsFault) -> TextBuf
+    ensures text { result ≡ reads_fault_text fault.now }
+    ensures short { length result ≤ 500 }
+{
+    match fault {
+        ReadsFault::UnknownName { place } => with_number(
+            b"query refused: read ",
+            after(*place),
+            b" names no column of the query",
+        ),
+        ReadsFault::PastEnd { place } => with_number(
+            b"query refused: read ",
+            after(*place),
+            b" is past its column's last plane",
+        ),
+        ReadsFault::NoMemory => plain(b"no memory"),
     }
 }
 
@@ -153,13 +169,13 @@ pub(crate) fn plain(words: &[u8]) -> TextBuf
 pub(crate) fn with_number(front: &[u8], number: u128, back: &[u8]) -> TextBuf
     requires front { length front.now ≤ 340 }
     requires number { number ≤ 18446744073709551616 }
-    requires back { length back.now ≤ 30 }
+    requires back { length back.now ≤ 40 }
     ensures text { result ≡ front.now ++ signed_decimal (pos number) ++ back.now }
     ensures short { length result ≤ length front.now + length back.now + 100 }
 {
     let mut text = TextBuf::new();
     text.append(front);
-    text.append(written_number(number as i128).bytes());
+    text.append(written_number(number as i128, 0).bytes());
     text.append(back);
     text
 }

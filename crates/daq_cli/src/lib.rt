@@ -1,14 +1,20 @@
 //! The commands of `daq`, over devices that are handed in.
 #![tactic(auto)]
 
-mod ask;
+mod commands;
 mod fault_lines;
-mod numbers;
+mod laws;
+mod lines;
+mod question;
 mod refusal;
+mod report;
+mod status;
+mod stop;
 mod top;
-mod words;
-mod writing;
+mod world;
 
-pub use refusal::Status;
-pub use top::{World, run};
-pub use words::Words;
+pub use command_line::Words;
+pub use laws::steps_are_exact;
+pub use status::{Status, code};
+pub use top::run;
+pub use world::World;

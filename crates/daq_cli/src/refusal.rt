@@ -1,113 +1,158 @@
-//! Why a command stops: the status that it ends with and the line that says so.
+//! Why a run stops: what each step's fault is to the run, and the status that it ends with.
 
-ghost use Rattle.std.specs.Prelude.{◌≡◌, ◌≤◌, length};
-ghost use Rattle.daq_cli.specs.Outcome.{IsTold, sink_of};
-ghost use Rattle.daq_cli.specs.Refusals.{fault_line, fault_text, status_of};
+ghost use Rattle.std.specs.Prelude.{◌≡◌};
+ghost use Rattle.daq_cli.specs.Refusals.{status_of};
+ghost use Rattle.daq_cli.specs.Faults as of;
+ghost use Rattle.daq_cli.specs.declared.refusal.Refusal.TheVariants as refusals;
 
-use crate::fault_lines::{
-    plain, with_number, written_query_fault, written_schema_fault, written_table_fault,
-    written_type_fault,
-};
+use crate::status::Status;
+use command_line::Usage;
 use csv_load::TableFault;
-use daq_table::{SchemaFault, TextBuf};
-use outer_world::{Sink, write_whole};
+use daq_table::SchemaFault;
+use outer_world::{Failed, ReadAll};
+use plane_reads::ReadsFault;
+use sql_text::SqlFault;
 use sql_typing::TypeFault;
+use std::alloc::AllocError;
+use table_gen::GenFault;
 
-/// How a run ends.
-#[derive(Clone, Copy, Debug, PartialEq, Eq)]
-pub enum Status {
-    Done = 0,
-    Usage = 2,
-    QueryRefused = 3,
-    TableRefused = 4,
-    FileRefused = 5,
-    ReadFault = 6,
-    WriteFault = 7,
-    NoMemory = 8,
-}
-
-/// Why an SQL text is refused. Places are bytes of the text.
-#[derive(Clone, Copy, Debug, PartialEq, Eq)]
-pub enum QueryFault {
-    TooLong,
-    Syntax { at: usize },
-    TooDeep { at: usize },
-    NumberTooLarge { at: usize },
-    /// It is a query, but of a form that is not answered yet.
-    NotBuilt,
-}
-
-/// Why a command stopped.
+/// Why a run stops. Want of memory in a step is `NoMemory`, and never that step's own fault.
 #[derive(Debug, PartialEq, Eq, Drop)]
 pub enum Refusal {
     /// The words are no command from this word on, counted from 1.
     Usage { place: usize },
-    Query(QueryFault),
+    /// The SQL is no query.
+    Query(SqlFault),
     Schema(SchemaFault),
-    Table(TableFault),
-    Typing(TypeFault),
     /// The input has more bytes than so many.
     TooLong { limit: usize },
+    Table(TableFault),
+    /// More rows are asked of the generator than a table may have.
+    TooManyRows,
+    Typing(TypeFault),
+    /// The query is of a form that is not answered yet.
+    NotBuilt,
+    Reads(ReadsFault),
     ReadFault,
     WriteFault,
     NoMemory,
 }
 
-// Writes the line of a refusal, and gives the status.
-pub(crate) fn refuse<K: Sink>(why: &Refusal, err: &mut K) -> Status
-    ensures told { IsTold why.now result
-        (sink_of K.written K.faults err.old) (sink_of K.written K.faults err.new) }
-    ensures faults { K.faults err.old ≤ K.faults err.new }
-{
-    if write_whole(err, written_line(why).bytes()).is_err() {
-        return Status::WriteFault;
+impl From<Usage> for Refusal {
+    ghost from_gives = { λ usage why. why ≡ refusals.Usage usage.place };
+
+    fn from(usage: Usage) -> Self {
+        Refusal::Usage { place: usage.place }
     }
-    own_status(why)
+}
+
+impl From<SqlFault> for Refusal {
+    ghost from_gives = { λ fault why. why ≡ of.text fault };
+
+    fn from(fault: SqlFault) -> Self {
+        match fault {
+            SqlFault::NoMemory => Refusal::NoMemory,
+            fault => Refusal::Query(fault),
+        }
+    }
+}
+
+impl From<SchemaFault> for Refusal {
+    ghost from_gives = { λ fault why. why ≡ of.schema fault };
+
+    fn from(fault: SchemaFault) -> Self {
+        match fault {
+            SchemaFault::NoMemory => Refusal::NoMemory,
+            fault => Refusal::Schema(fault),
+        }
+    }
+}
+
+impl From<ReadAll> for Refusal {
+    ghost from_gives = { λ fault why. why ≡ of.input fault };
+
+    fn from(fault: ReadAll) -> Self {
+        match fault {
+            ReadAll::Fault => Refusal::ReadFault,
+            ReadAll::TooLong { limit } => Refusal::TooLong { limit },
+            ReadAll::NoMemory => Refusal::NoMemory,
+        }
+    }
+}
+
+impl From<TableFault> for Refusal {
+    ghost from_gives = { λ fault why. why ≡ of.table fault };
+
+    fn from(fault: TableFault) -> Self {
+        match fault {
+            TableFault::NoMemory => Refusal::NoMemory,
+            fault => Refusal::Table(fault),
+        }
+    }
+}
+
+impl From<GenFault> for Refusal {
+    ghost from_gives = { λ fault why. why ≡ of.generator fault };
+
+    fn from(fault: GenFault) -> Self {
+        match fault {
+            GenFault::TooMany => Refusal::TooManyRows,
+            GenFault::NoMemory => Refusal::NoMemory,
+        }
+    }
+}
+
+impl From<TypeFault> for Refusal {
+    ghost from_gives = { λ fault why. why ≡ of.typing fault };
+
+    fn from(fault: TypeFault) -> Self {
+        match fault {
+            TypeFault::NoMemory => Refusal::NoMemory,
+            fault => Refusal::Typing(fault),
+        }
+    }
+}
+
+impl From<ReadsFault> for Refusal {
+    ghost from_gives = { λ fault why. why ≡ of.reads fault };
+
+    fn from(fault: ReadsFault) -> Self {
+        match fault {
+            ReadsFault::NoMemory => Refusal::NoMemory,
+            fault => Refusal::Reads(fault),
+        }
+    }
+}
+
+impl From<AllocError> for Refusal {
+    ghost from_gives = { λ _ why. why ≡ refusals.NoMemory };
+
+    fn from(_: AllocError) -> Self {
+        Refusal::NoMemory
+    }
+}
+
+impl From<Failed> for Refusal {
+    ghost from_gives = { λ _ why. why ≡ refusals.WriteFault };
+
+    fn from(_: Failed) -> Self {
+        Refusal::WriteFault
+    }
 }
 
 // The status that a refusal ends with.
-fn own_status(why: &Refusal) -> Status
+pub(crate) fn status_of(why: &Refusal) -> Status
     ensures { result ≡ status_of why.now }
 {
     match why {
         Refusal::Usage { .. } => Status::Usage,
-        Refusal::Query(_) | Refusal::Typing(_) => Status::QueryRefused,
-        Refusal::Schema(_) | Refusal::Table(_) | Refusal::TooLong { .. } => Status::TableRefused,
+        Refusal::Query(_) | Refusal::Typing(_) | Refusal::NotBuilt | Refusal::Reads(_) => {
+            Status::QueryRefused
+        }
+        Refusal::Schema(_) | Refusal::TooLong { .. } | Refusal::Table(_) | Refusal::TooManyRows =>
+            Status::TableRefused,
         Refusal::ReadFault => Status::ReadFault,
         Refusal::WriteFault => Status::WriteFault,
         Refusal::NoMemory => Status::NoMemory,
-    }
-}
-
-// The line that tells of a refusal.
-fn written_line(why: &Refusal) -> TextBuf
-    ensures { result ≡ fault_line why.now }
-{
-    let mut text = TextBuf::new();
-    text.append(b"daq: ");
-    text.append(written_cause(why).bytes());
-    text.append(b"\n");
-    text
-}
-
-// What the line says after the name of the program.
-fn written_cause(why: &Refusal) -> TextBuf
-    ensures text { result ≡ fault_text why.now }
-    ensures short { length result ≤ 500 }
-{
-    match why {
-        Refusal::Usage { place } => with_number(b"usage: word ", *place as u128, b""),
-        Refusal::Query(fault) => written_query_fault(fault),
-        Refusal::Schema(fault) => written_schema_fault(fault),
-        Refusal::Table(fault) => written_table_fault(fault),
-        Refusal::Typing(fault) => written_type_fault(fault),
-        Refusal::TooLong { limit } => with_number(
-            b"table refused: longer than ",
-            *limit as u128,
-            b" bytes",
-        ),
-        Refusal::ReadFault => plain(b"read fault"),
-        Refusal::WriteFault => plain(b"write fault"),
-        Refusal::NoMemory => plain(b"no memory"),
     }
 }

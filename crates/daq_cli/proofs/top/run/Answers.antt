@@ -1,134 +1,72 @@
--- Each status comes exactly where its cause is shown.
-use Rattle.daq_cli.proofs.Causes.{Laws, answered_command, answered_other, answered_schema, answered_table, answered_text, other_is_told, query_only, schema_is_told, table_is_answered, table_is_told, table_only, text_is_told, usage_is_told}
+-- What is shown is told, and what is accepted is answered.
+use Rattle.std.proofs.Common.{◌∙◌, ap, subst, refl, inl}
+use Rattle.daq_cli.specs.Refusals.{IsTold}
+use Rattle.daq_cli.specs.Worlds.{WorldState}
+use Rattle.daq_cli.proofs.Runs.{accepted_is, completes, done_apart, done_is, ends_so, same_cause, shown_is, unwritten}
 use Rattle.daq_cli.proofs.top.run.Goals as goal
 
-pub returns-in-Ok-clause-usage : goal.returns-in-Ok-clause-usage
-returns-in-Ok-clause-usage g c = λ none.
-    absurd (answered_command _ _ _ _ _ c.in-Ok.ensures.answered none)
+pub returns-in-Ok-clause-exact : goal.returns-in-Ok-clause-exact
+returns-in-Ok-clause-exact g c = λ why shows.
+    absurd (done_apart c.steps_are_exact.ensures c.one_command.ensures.commands c.one_command.ensures.places c.args.words.now c.args.world.now c.perform.new.world why c.in-Ok.ensures.done shows)
 
-pub returns-in-Ok-clause-text : goal.returns-in-Ok-clause-text
-returns-in-Ok-clause-text g c = λ why cause.
-    let law : Laws = record {
-      queries = c.one_answer.ensures.queries;
-      apart = c.one_answer.ensures.apart;
-      columns = c.schemas_are_exact.ensures.same;
-      schemas = c.schemas_are_exact.ensures.none;
-      tables = c.faults_are_exact.ensures.none;
-      types = c.typing_is_exact.ensures.none;
-      typed = c.typing_is_exact.ensures.once;
+pub returns-in-Ok-clause-complete : goal.returns-in-Ok-clause-complete
+returns-in-Ok-clause-complete g c = λ question accepts.
+    inl (refl, done_is c.steps_are_exact.ensures c.one_command.ensures.commands c.one_command.ensures.places c.args.words.now c.args.world.now c.perform.new.world question c.in-Ok.ensures.done accepts)
+
+pub returns-in-Err-clause-refused : goal.returns-in-Err-clause-refused
+returns-in-Err-clause-refused g c = λ other.
+    let after : WorldState = record {
+      input = g.S.Source.state c.world.inside.input;
+      side = g.S.Source.state c.world.inside.side;
+      planes = g.P.Store.state c.world.inside.planes;
+      made = g.K.Sink.state c.world.inside.made;
+      out = g.K.Sink.state c.world.inside.out;
+      err = g.K.Sink.state c.refuse.new.err;
     } in
-    absurd (answered_text law _ _ _ _ _ why c.in-Ok.ensures.answered cause)
+    let told = subst (λ e. IsTold c.in-Err.why c.refuse.result e (g.K.Sink.state c.refuse.new.err)) (ap (λ w. w.err) c.world.view_is ∙ c.in-Err.ensures.quiet) c.refuse.ensures in
+    (c.in-Err.why, same_cause c.args.words.now c.args.world.now c.perform.new.world after c.in-Err.why (ap (λ w. w.input) c.world.view_is) (ap (λ w. w.out) c.world.view_is) c.in-Err.ensures.refused, told)
 
-pub returns-in-Ok-clause-schema : goal.returns-in-Ok-clause-schema
-returns-in-Ok-clause-schema g c = λ why cause.
-    let law : Laws = record {
-      queries = c.one_answer.ensures.queries;
-      apart = c.one_answer.ensures.apart;
-      columns = c.schemas_are_exact.ensures.same;
-      schemas = c.schemas_are_exact.ensures.none;
-      tables = c.faults_are_exact.ensures.none;
-      types = c.typing_is_exact.ensures.none;
-      typed = c.typing_is_exact.ensures.once;
+pub returns-in-Err-clause-exact : goal.returns-in-Err-clause-exact
+returns-in-Err-clause-exact g c = λ why shows.
+    let after : WorldState = record {
+      input = g.S.Source.state c.world.inside.input;
+      side = g.S.Source.state c.world.inside.side;
+      planes = g.P.Store.state c.world.inside.planes;
+      made = g.K.Sink.state c.world.inside.made;
+      out = g.K.Sink.state c.world.inside.out;
+      err = g.K.Sink.state c.refuse.new.err;
     } in
-    absurd (answered_schema law _ _ _ _ _ why c.in-Ok.ensures.answered cause)
-
-pub returns-in-Ok-clause-table : goal.returns-in-Ok-clause-table
-returns-in-Ok-clause-table g c = λ query columns bytes tells none.
-    let law : Laws = record {
-      queries = c.one_answer.ensures.queries;
-      apart = c.one_answer.ensures.apart;
-      columns = c.schemas_are_exact.ensures.same;
-      schemas = c.schemas_are_exact.ensures.none;
-      tables = c.faults_are_exact.ensures.none;
-      types = c.typing_is_exact.ensures.none;
-      typed = c.typing_is_exact.ensures.once;
-    } in
-    absurd (answered_table law _ _ _ _ _ c.in-Ok.ensures.answered query columns bytes tells none)
-
-pub returns-in-Ok-clause-query : goal.returns-in-Ok-clause-query
-returns-in-Ok-clause-query g c = λ query columns bytes tells text other.
-    let law : Laws = record {
-      queries = c.one_answer.ensures.queries;
-      apart = c.one_answer.ensures.apart;
-      columns = c.schemas_are_exact.ensures.same;
-      schemas = c.schemas_are_exact.ensures.none;
-      tables = c.faults_are_exact.ensures.none;
-      types = c.typing_is_exact.ensures.none;
-      typed = c.typing_is_exact.ensures.once;
-    } in
-    absurd (answered_other law _ _ _ _ _ c.in-Ok.ensures.answered query columns bytes tells other)
-
-pub returns-in-Err-clause-usage : goal.returns-in-Err-clause-usage
-returns-in-Err-clause-usage g c = λ none.
-    usage_is_told _ _ _ _ _ _ _ c.in-Err.why c.refuse.result none c.in-Err.ensures.refused c.refuse.ensures.told
-
-pub returns-in-Err-clause-text : goal.returns-in-Err-clause-text
-returns-in-Err-clause-text g c = λ why cause.
-    let law : Laws = record {
-      queries = c.one_answer.ensures.queries;
-      apart = c.one_answer.ensures.apart;
-      columns = c.schemas_are_exact.ensures.same;
-      schemas = c.schemas_are_exact.ensures.none;
-      tables = c.faults_are_exact.ensures.none;
-      types = c.typing_is_exact.ensures.none;
-      typed = c.typing_is_exact.ensures.once;
-    } in
-    text_is_told law _ _ _ _ _ _ _ c.in-Err.why c.refuse.result why cause c.in-Err.ensures.refused c.refuse.ensures.told
-
-pub returns-in-Err-clause-schema : goal.returns-in-Err-clause-schema
-returns-in-Err-clause-schema g c = λ why cause.
-    let law : Laws = record {
-      queries = c.one_answer.ensures.queries;
-      apart = c.one_answer.ensures.apart;
-      columns = c.schemas_are_exact.ensures.same;
-      schemas = c.schemas_are_exact.ensures.none;
-      tables = c.faults_are_exact.ensures.none;
-      types = c.typing_is_exact.ensures.none;
-      typed = c.typing_is_exact.ensures.once;
-    } in
-    schema_is_told law _ _ _ _ _ _ _ c.in-Err.why c.refuse.result why cause c.in-Err.ensures.refused c.refuse.ensures.told
-
-pub returns-in-Err-clause-table : goal.returns-in-Err-clause-table
-returns-in-Err-clause-table g c = λ query columns bytes tells none.
-    let law : Laws = record {
-      queries = c.one_answer.ensures.queries;
-      apart = c.one_answer.ensures.apart;
-      columns = c.schemas_are_exact.ensures.same;
-      schemas = c.schemas_are_exact.ensures.none;
-      tables = c.faults_are_exact.ensures.none;
-      types = c.typing_is_exact.ensures.none;
-      typed = c.typing_is_exact.ensures.once;
-    } in
-    table_is_told law _ _ _ _ _ _ _ c.in-Err.why c.refuse.result query columns bytes tells none c.in-Err.ensures.refused c.refuse.ensures.told
-
-pub returns-in-Err-clause-query : goal.returns-in-Err-clause-query
-returns-in-Err-clause-query g c = λ query columns bytes tells text other.
-    let law : Laws = record {
-      queries = c.one_answer.ensures.queries;
-      apart = c.one_answer.ensures.apart;
-      columns = c.schemas_are_exact.ensures.same;
-      schemas = c.schemas_are_exact.ensures.none;
-      tables = c.faults_are_exact.ensures.none;
-      types = c.typing_is_exact.ensures.none;
-      typed = c.typing_is_exact.ensures.once;
-    } in
-    other_is_told law _ _ _ _ _ _ _ c.in-Err.why c.refuse.result query columns bytes tells text other c.in-Err.ensures.refused c.refuse.ensures.told
+    let told = subst (λ e. IsTold c.in-Err.why c.refuse.result e (g.K.Sink.state c.refuse.new.err)) (ap (λ w. w.err) c.world.view_is ∙ c.in-Err.ensures.quiet) c.refuse.ensures in
+    let cause = same_cause c.args.words.now c.args.world.now c.perform.new.world after c.in-Err.why (ap (λ w. w.input) c.world.view_is) (ap (λ w. w.out) c.world.view_is) c.in-Err.ensures.refused in
+    ends_so c.in-Err.why why c.refuse.result c.args.world.now after told
+    (shown_is c.steps_are_exact.ensures c.one_command.ensures.commands c.one_command.ensures.places c.args.words.now c.args.world.now after c.in-Err.why why cause shows)
 
 pub returns-in-Err-clause-complete : goal.returns-in-Err-clause-complete
-returns-in-Err-clause-complete g c = λ query columns bytes tells text sums.
-    let law : Laws = record {
-      queries = c.one_answer.ensures.queries;
-      apart = c.one_answer.ensures.apart;
-      columns = c.schemas_are_exact.ensures.same;
-      schemas = c.schemas_are_exact.ensures.none;
-      tables = c.faults_are_exact.ensures.none;
-      types = c.typing_is_exact.ensures.none;
-      typed = c.typing_is_exact.ensures.once;
+returns-in-Err-clause-complete g c = λ question accepts.
+    let after : WorldState = record {
+      input = g.S.Source.state c.world.inside.input;
+      side = g.S.Source.state c.world.inside.side;
+      planes = g.P.Store.state c.world.inside.planes;
+      made = g.K.Sink.state c.world.inside.made;
+      out = g.K.Sink.state c.world.inside.out;
+      err = g.K.Sink.state c.refuse.new.err;
     } in
-    table_is_answered law _ _ _ _ _ _ _ c.in-Err.why c.refuse.result query columns bytes tells text sums c.in-Err.ensures.refused c.refuse.ensures.told
+    let told = subst (λ e. IsTold c.in-Err.why c.refuse.result e (g.K.Sink.state c.refuse.new.err)) (ap (λ w. w.err) c.world.view_is ∙ c.in-Err.ensures.quiet) c.refuse.ensures in
+    let cause = same_cause c.args.words.now c.args.world.now c.perform.new.world after c.in-Err.why (ap (λ w. w.input) c.world.view_is) (ap (λ w. w.out) c.world.view_is) c.in-Err.ensures.refused in
+    completes c.in-Err.why question c.refuse.result c.args.world.now after told
+    (accepted_is c.steps_are_exact.ensures c.one_command.ensures.commands c.one_command.ensures.places c.args.words.now c.args.world.now after c.in-Err.why question cause accepts)
 
-pub returns-in-Err-clause-table_only : goal.returns-in-Err-clause-table_only
-returns-in-Err-clause-table_only g c = λ is. table_only _ _ _ _ _ _ _ c.in-Err.why c.refuse.result c.in-Err.ensures.refused c.refuse.ensures.told is
-
-pub returns-in-Err-clause-query_only : goal.returns-in-Err-clause-query_only
-returns-in-Err-clause-query_only g c = λ is. query_only _ _ _ _ _ _ _ c.in-Err.why c.refuse.result c.in-Err.ensures.refused c.refuse.ensures.told is
+pub returns-in-Err-clause-early : goal.returns-in-Err-clause-early
+returns-in-Err-clause-early g c = λ done fault.
+    let after : WorldState = record {
+      input = g.S.Source.state c.world.inside.input;
+      side = g.S.Source.state c.world.inside.side;
+      planes = g.P.Store.state c.world.inside.planes;
+      made = g.K.Sink.state c.world.inside.made;
+      out = g.K.Sink.state c.world.inside.out;
+      err = g.K.Sink.state c.refuse.new.err;
+    } in
+    let told = subst (λ e. IsTold c.in-Err.why c.refuse.result e (g.K.Sink.state c.refuse.new.err)) (ap (λ w. w.err) c.world.view_is ∙ c.in-Err.ensures.quiet) c.refuse.ensures in
+    let cause = same_cause c.args.words.now c.args.world.now c.perform.new.world after c.in-Err.why (ap (λ w. w.input) c.world.view_is) (ap (λ w. w.out) c.world.view_is) c.in-Err.ensures.refused in
+    unwritten c.args.words.now c.args.world.now after c.in-Err.why c.refuse.result
+    (λ refused. (ap (λ w. w.input) c.world.view_is ∙ (c.in-Err.ensures.untouched refused).0, ap (λ w. w.out) c.world.view_is ∙ (c.in-Err.ensures.untouched refused).1)) cause told fault

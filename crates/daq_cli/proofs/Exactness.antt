@@ -1,0 +1,249 @@
+-- Each step of a command is exact: it accepts one value at most or shows one refusal at most, and never does both.
+use Rattle.std.proofs.Common.{◌≡◌, ◌≢◌, ℕ, ◌<◌, ◌==◌, List, [], length, map, slice_index, slice_index_or, count_by, Ok, Err, Result, refl, sym, ap, ◌∙◌, subst, arith, inl, inr, ◌⊎◌}
+use Rattle.command_line.specs.Commands.{Ask, Demo, Options, reads}
+use Rattle.csv_load.specs.Laws as table_laws
+use Rattle.daq_table.specs.SchemaLaws as schema_laws
+use Rattle.daq_table.specs.Tables.{Contents, ends_at, frame_of, planes}
+use Rattle.daq_table.specs.declared.table_head.Head.{Head}
+use Rattle.daq_table.specs.declared.schema_column.SchemaColumn.{SchemaColumn}
+use Rattle.plane_reads.specs.Reads as reads_laws
+use Rattle.plane_reads.specs.Reads.{AreFirstReads, IsAnswer, IsNamed}
+use Rattle.plane_reads.specs.declared.fault.ReadsFault.{ReadsFault}
+use Rattle.plane_reads.specs.declared.fault.ReadsFault.TheVariants as r
+use Rattle.plane_schedule.specs.Plans.{IsReadableList}
+use Rattle.plane_schedule.specs.declared.policy.Policy.{Policy}
+use Rattle.query_model.specs.Projection.{projected_frame}
+use Rattle.query_model.specs.Validity.{IsValid}
+use Rattle.query_model.specs.declared.query.TypedQuery.{TypedQuery}
+use Rattle.sql_text.specs.Answer.{Breaks, IsFault, IsText, fault_of}
+use Rattle.sql_text.specs.Tree as sql
+use Rattle.sql_text.specs.declared.fault.Cause.{Cause}
+use Rattle.sql_text.specs.declared.fault.Cause.TheVariants as causes
+use Rattle.sql_text.specs.declared.fault.SqlFault.{SqlFault}
+use Rattle.sql_text.specs.declared.fault.SqlFault.TheVariants as q
+use Rattle.sql_typing.specs.Laws as typing_laws
+use Rattle.sql_typing.specs.Refusals.{IsTyped}
+use Rattle.table_gen.specs.Laws as seed_laws
+use Rattle.daq_cli.specs.Questions.{IsAnswerable, IsPolicyOf, Question, RefusesOrder, ShowsQuestion, question_of, question_step, sql_step}
+use Rattle.daq_cli.specs.Laws.{StepsAreExact}
+use Rattle.daq_cli.specs.Steps.{IsExact}
+use Rattle.daq_cli.specs.commands.Ask.{IsTableText, ask_step, limits, schema_step, table_step, words_step}
+use Rattle.daq_cli.specs.commands.Demo.{demo_step, generator_step}
+use Rattle.daq_cli.specs.declared.refusal.Refusal.{Refusal}
+use Rattle.daq_cli.specs.declared.refusal.Refusal.TheVariants.{Query, Schema, Table, Typing, Reads}
+use Rattle.daq_cli.proofs.Steps.{then_exact}
+
+-- what is known of each step from the crate that carries it out
+pub record Laws : Type 0 where
+  pub queries : (text : List ℕ) (a b : sql.Query) → IsText text a → IsText text b → a ≡ b
+  pub faults : (text : List ℕ) (c d : Cause) (i j : ℕ) → Breaks text c i → Breaks text d j → (c ≡ d) × (i ≡ j)
+  pub apart : (text : List ℕ) (c : Cause) (i : ℕ) (a : sql.Query) → Breaks text c i → IsText text a → ⊥
+  pub schemas : schema_laws.DeclaresOnce
+  pub schema_faults : schema_laws.HasOneFault
+  pub good_schemas : schema_laws.IsFaultless
+  pub tables : table_laws.StandsOnce
+  pub table_faults : table_laws.HasOneFault
+  pub good_tables : table_laws.IsFaultless
+  pub typings : typing_laws.IsTypedOnce
+  pub type_faults : typing_laws.HasOneFault
+  pub good_typings : typing_laws.IsFaultless
+  pub seeds : seed_laws.StandsOnce
+  pub reads : reads_laws.AnswersAreOne
+
+-- ---- the SQL
+
+-- a fault is one of length, or a break
+breaks : (text : List ℕ) (a : SqlFault) → a ≢ q.NoMemory → IsFault text a →
+    ((a ≡ q.TooLong) × (4096 < length text)) ⊎ ((c : Cause) × (i : ℕ) × (a ≡ fault_of c i) × Breaks text c i)
+breaks text q.TooLong shown faulty = inl (refl, faulty)
+breaks text (q.Syntax at) shown faulty = inr (causes.Syntax, at, refl, faulty)
+breaks text (q.TooDeep at) shown faulty = inr (causes.TooDeep, at, refl, faulty)
+breaks text (q.LiteralTooLarge at) shown faulty = inr (causes.TooLarge, at, refl, faulty)
+breaks text q.NoMemory shown faulty = absurd (shown refl)
+
+one_fault : Laws → (text : List ℕ) (a b : SqlFault) → a ≢ q.NoMemory → b ≢ q.NoMemory → IsFault text a → IsFault text b → a ≡ b
+one_fault law text a b a_shown b_shown p r = by (breaks text a a_shown p) (breaks text b b_shown r)
+  where
+    Kinds : SqlFault → Type 0
+    Kinds f = ((f ≡ q.TooLong) × (4096 < length text)) ⊎ ((c : Cause) × (i : ℕ) × (f ≡ fault_of c i) × Breaks text c i)
+
+    by : Kinds a → Kinds b → a ≡ b
+    by (inl (e, long)) (inl (f, other)) = e ∙ sym f
+    by (inl (e, long)) (inr (c, i, f, broken)) = let few = broken.short in absurd (omega (arith, few, long))
+    by (inr (c, i, e, broken)) (inl (f, long)) = let few = broken.short in absurd (omega (arith, few, long))
+    by (inr (c, i, e, broken)) (inr (d, j, f, other)) =
+        let (same, places) = law.faults text c d i j broken other in
+        e ∙ ap (λ x. fault_of x i) same ∙ ap (fault_of d) places ∙ sym f
+
+no_fault : Laws → (text : List ℕ) (a : SqlFault) (query : sql.Query) → a ≢ q.NoMemory → IsFault text a → IsText text query → ⊥
+no_fault law text a query shown p is = by (breaks text a shown p)
+  where
+    by : ((a ≡ q.TooLong) × (4096 < length text)) ⊎ ((c : Cause) × (i : ℕ) × (a ≡ fault_of c i) × Breaks text c i) → ⊥
+    by (inl (e, long)) = let few = is.short in omega (arith, few, long)
+    by (inr (c, i, e, broken)) = law.apart text c i query broken is
+
+pub sql_exact : Laws → (text : List ℕ) → IsExact (sql_step text)
+sql_exact law text = record {
+  once = law.queries text;
+  same = λ why other p r. p.is ∙ ap Query (one_fault law text p.fault r.fault p.shown r.shown p.faulty r.faulty) ∙ sym r.is;
+  apart = λ query why is p. no_fault law text p.fault query p.shown p.faulty is;
+}
+
+-- ---- the schema
+
+pub schema_exact : Laws → (text : List ℕ) → IsExact (schema_step text)
+schema_exact law text = record {
+  once = law.schemas text;
+  same = λ why other p r. p.is ∙ ap Schema (law.schema_faults text p.fault r.fault p.shown r.shown p.faulty r.faulty) ∙ sym r.is;
+  apart = λ columns why is p. law.good_schemas text columns p.fault p.shown is p.faulty;
+}
+
+-- ---- the table of the input
+
+module _ (law : Laws) (columns : List SchemaColumn) (bytes : List ℕ) where
+  table_same : (x y : Refusal) → (table_step columns bytes).shows x → (table_step columns bytes).shows y → x ≡ y
+  table_same x y (inl p) (inl r) = p.is ∙ sym r.is
+  table_same x y (inl p) (inr r) = let long = p.longer in let few = r.small in absurd (omega (arith, long, few))
+  table_same x y (inr p) (inl r) = let long = r.longer in let few = p.small in absurd (omega (arith, long, few))
+  table_same x y (inr p) (inr r) = p.is ∙ ap Table (law.table_faults bytes columns limits p.fault r.fault p.shown r.shown p.faulty r.faulty) ∙ sym r.is
+
+  table_apart : (table : Contents) (y : Refusal) → IsTableText columns bytes table → (table_step columns bytes).shows y → ⊥
+  table_apart table y is (inl r) = let long = r.longer in let few = is.small in omega (arith, long, few)
+  table_apart table y is (inr r) = law.good_tables bytes columns limits r.fault table r.shown is.is_table r.faulty
+
+  pub table_exact : IsExact (table_step columns bytes)
+  table_exact = record { once = λ a b p r. law.tables bytes columns limits a b p.is_table r.is_table; same = table_same; apart = table_apart }
+
+-- ---- the table of a seed
+
+pub generator_exact : Laws → (seed rows : ℕ) → IsExact (generator_step seed rows)
+generator_exact law seed rows = record {
+  once = λ a b p r. law.seeds seed rows a b p.is_table r.is_table;
+  same = λ why other p r. p.is ∙ sym r.is;
+  apart = λ table why is p. let few = is.few in let many = p.many in omega (arith, few, many);
+}
+
+-- ---- the reads
+
+-- what a word lists depends on the columns of a query alone
+module _ (word : List ℕ) (head : Head) (one other : TypedQuery) (same : other.columns ≡ one.columns) where
+  named_too : (c : ℕ) (name : List ℕ) → IsNamed other head c name → IsNamed one head c name
+  named_too c name n = record {
+    in_query = subst (λ columns. c < length columns) same n.in_query;
+    same = subst (λ columns. slice_index_or (map (λ column. column.name) head.columns) (slice_index columns c) [] ≡ name) same n.same;
+  }
+
+  named_back : (c : ℕ) (name : List ℕ) → IsNamed one head c name → IsNamed other head c name
+  named_back c name n = record {
+    in_query = subst (λ columns. c < length columns) (sym same) n.in_query;
+    same = subst (λ columns. slice_index_or (map (λ column. column.name) head.columns) (slice_index columns c) [] ≡ name) (sym same) n.same;
+  }
+
+  first_too : (columns : List ℕ) → AreFirstReads word other head columns → AreFirstReads word one head columns
+  first_too columns f = record {
+    within = f.within;
+    named = λ i h. named_too _ _ (f.named i h);
+    readable = subst (λ numbers. IsReadableList columns (projected_frame (record one { columns = numbers }) (frame_of head))) same f.readable;
+  }
+
+  answer_too : (answer : Result (List ℕ) ReadsFault) → IsAnswer word other head answer → IsAnswer word one head answer
+  answer_too (Ok columns) a = record { first = first_too columns a.first; all = a.all }
+  answer_too (Err (r.UnknownName place)) a = record {
+    before = a.before;
+    first = first_too a.before a.first;
+    place_is = a.place_is;
+    within = a.within;
+    unknown = λ c n. a.unknown c (named_back _ _ n);
+  }
+  answer_too (Err (r.PastEnd place)) a = record {
+    before = a.before;
+    first = first_too a.before a.first;
+    place_is = a.place_is;
+    within = a.within;
+    column = a.column;
+    named = named_too _ _ a.named;
+    ended = subst (λ numbers. count_by (λ d. d == a.column) a.before ≡ planes (ends_at (projected_frame (record one { columns = numbers }) (frame_of head)) a.column)) same a.ended;
+  }
+  answer_too (Err r.NoMemory) a = a
+
+fault_answers : (word : List ℕ) (query : TypedQuery) (head : Head) (fault : ReadsFault) → fault ≢ r.NoMemory → reads_laws.Refuses word query head fault → IsAnswer word query head (Err fault)
+fault_answers word query head (r.UnknownName place) shown faulty = faulty
+fault_answers word query head (r.PastEnd place) shown faulty = faulty
+fault_answers word query head r.NoMemory shown faulty = absurd (shown refl)
+
+-- ---- the question
+
+injected : {a b : List ℕ} → reads a ≡ reads b → a ≡ b
+injected e = cc
+
+module _ (law : Laws) (query : sql.Query) (options : Options) (table : Contents) where
+  abbrev asked : Question
+  asked = question_of query options table
+
+  -- it is typed in one way, but for the place in memory
+  same_shape : (one other : TypedQuery) → IsTyped query table.head one → IsTyped query table.head other → one.shape ≡ other.shape
+  same_shape one other p r = ap (λ m. m.shape) (law.typings query table.head one other p r)
+
+  same_columns : (one other : TypedQuery) → IsTyped query table.head one → IsTyped query table.head other → one.columns ≡ other.columns
+  same_columns one other p r = ap (λ m. m.columns) (law.typings query table.head one other p r)
+
+  -- the list of its reads is refused once
+  same_reads : (one other : TypedQuery) (a b : ReadsFault) → IsValid table.head one → one.columns ≡ other.columns → a ≢ r.NoMemory → b ≢ r.NoMemory →
+      RefusesOrder options.order one table.head a → RefusesOrder options.order other table.head b → a ≡ b
+  same_reads one other a b valid columns a_shown b_shown f g =
+      let names : g.names ≡ f.names = injected (sym g.listed ∙ f.listed) in
+      let second = answer_too f.names table.head one other (sym columns) (Err b) (subst (λ w. IsAnswer w other table.head (Err b)) names (fault_answers g.names other table.head b b_shown g.faulty)) in
+      let both = law.reads f.names one table.head (Err a) (Err b) valid (fault_answers f.names one table.head a a_shown f.faulty) second in
+      cc
+
+  -- and not where a policy is made of it
+  no_reads : (one other : TypedQuery) (a : ReadsFault) (policy : Policy) → IsValid table.head one → one.columns ≡ other.columns → a ≢ r.NoMemory →
+      RefusesOrder options.order one table.head a → IsPolicyOf options.order other table.head policy → ⊥
+  no_reads one other a policy valid columns shown f is =
+      let listed : IsPolicyOf (reads f.names) other table.head policy = subst (λ o. IsPolicyOf o other table.head policy) f.listed is in
+      let (list, policy_is, all) = listed in
+      let second = answer_too f.names table.head one other (sym columns) (Ok list) all in
+      let both = law.reads f.names one table.head (Err a) (Ok list) valid (fault_answers f.names one table.head a shown f.faulty) second in
+      absurd cc
+
+  question_same : (x y : Refusal) → ShowsQuestion asked x → ShowsQuestion asked y → x ≡ y
+  question_same x y (inl p) (inl r) = p.is ∙ ap Typing (law.type_faults query table.head p.fault r.fault p.shown r.shown p.faulty r.faulty) ∙ sym r.is
+  question_same x y (inl p) (inr (inl r)) = absurd (law.good_typings query table.head p.fault r.typed p.shown r.is_typed p.faulty)
+  question_same x y (inl p) (inr (inr r)) = absurd (law.good_typings query table.head p.fault r.typed p.shown r.is_typed p.faulty)
+  question_same x y (inr (inl p)) (inl r) = absurd (law.good_typings query table.head r.fault p.typed r.shown p.is_typed r.faulty)
+  question_same x y (inr (inl p)) (inr (inl r)) = p.is ∙ sym r.is
+  question_same x y (inr (inl p)) (inr (inr r)) = absurd (p.other (same_shape p.typed r.typed p.is_typed r.is_typed ∙ r.plain))
+  question_same x y (inr (inr p)) (inl r) = absurd (law.good_typings query table.head r.fault p.typed r.shown p.is_typed r.faulty)
+  question_same x y (inr (inr p)) (inr (inl r)) = absurd (r.other (same_shape r.typed p.typed r.is_typed p.is_typed ∙ p.plain))
+  question_same x y (inr (inr p)) (inr (inr r)) = p.is ∙ ap Reads (same_reads p.typed r.typed p.fault r.fault p.valid (same_columns p.typed r.typed p.is_typed r.is_typed) p.shown r.shown p.faulty r.faulty) ∙ sym r.is
+
+  question_apart : (y : Refusal) → IsAnswerable asked → ShowsQuestion asked y → ⊥
+  question_apart y a (inl r) = law.good_typings query table.head r.fault a.typed r.shown a.planned.is_typed r.faulty
+  question_apart y a (inr (inl r)) = r.other (same_shape r.typed a.typed r.is_typed a.planned.is_typed ∙ a.planned.plain)
+  question_apart y a (inr (inr r)) = no_reads r.typed a.typed r.fault a.plan.policy r.valid (same_columns r.typed a.typed r.is_typed a.planned.is_typed) r.shown r.faulty a.planned.planned.policy
+
+  pub question_exact : IsExact (question_step query options table)
+  question_exact = record {
+    once = λ a b p r. p.0 ∙ sym r.0;
+    same = question_same;
+    apart = λ a y p r. question_apart y p.1 r;
+  }
+
+-- ---- the commands
+
+words_exact : Laws → (ask : Ask) → IsExact (words_step ask)
+words_exact law ask = then_exact (sql_step ask.sql) (λ query. schema_step ask.schema) (sql_exact law ask.sql) (λ query. schema_exact law ask.schema)
+
+ask_exact : Laws → (ask : Ask) (bytes : List ℕ) → IsExact (ask_step ask bytes)
+ask_exact law ask bytes =
+    then_exact _ _ (sql_exact law ask.sql) (λ query.
+    then_exact _ _ (schema_exact law ask.schema) (λ columns.
+    then_exact _ _ (table_exact law columns bytes) (λ table. question_exact law query ask.options table)))
+
+demo_exact : Laws → (demo : Demo) → IsExact (demo_step demo)
+demo_exact law demo =
+    then_exact _ _ (sql_exact law demo.sql) (λ query.
+    then_exact _ _ (generator_exact law demo.seed demo.rows) (λ table. question_exact law query demo.options table))
+
+pub steps_exact : Laws → StepsAreExact
+steps_exact law = record { words = words_exact law; ask = ask_exact law; demo = demo_exact law }

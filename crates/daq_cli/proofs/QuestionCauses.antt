@@ -1,0 +1,80 @@
+-- What the faults of a question's typing and of its reads show.
+use Rattle.std.proofs.Common.{◌≡◌, ◌≢◌, ◌∙◌, refl, sym, subst, inl, inr}
+use Rattle.command_line.specs.Commands.{ReadOrder, widest, in_order, filter_first, reads}
+use Rattle.daq_table.specs.Tables.{frame_of}
+use Rattle.daq_table.specs.declared.table_head.Head.{Head}
+use Rattle.outer_world.specs.Device.{SinkState}
+use Rattle.plane_reads.specs.declared.fault.ReadsFault.{ReadsFault}
+use Rattle.plane_reads.specs.declared.fault.ReadsFault.TheVariants as r
+use Rattle.plane_schedule.specs.Plans.{IsReadable}
+use Rattle.plane_schedule.specs.declared.policy.Plan.{Plan}
+use Rattle.plane_schedule.specs.declared.policy.Policy.{Policy}
+use Rattle.query_model.specs.Projection.{projected_frame}
+use Rattle.query_model.specs.Validity.{IsValid}
+use Rattle.query_model.specs.declared.query.Shape.TheVariants.{Plain}
+use Rattle.query_model.specs.declared.query.TypedQuery.{TypedQuery}
+use Rattle.sql_typing.specs.Refusals as typing
+use Rattle.sql_typing.specs.Refusals.{IsTyped}
+use Rattle.sql_typing.specs.declared.fault.TypeFault.{TypeFault}
+use Rattle.sql_typing.specs.declared.fault.TypeFault.TheVariants as y
+use Rattle.daq_cli.specs.Faults as of
+use Rattle.daq_cli.specs.Questions.{IsPlanned, IsPolicyOf, Question, QuestionCause, RefusesOrder, Reports, ReportsRounds, step, no_memory}
+use Rattle.daq_cli.specs.Worlds.{Extent}
+use Rattle.daq_cli.specs.declared.refusal.Refusal.{Refusal}
+use Rattle.daq_cli.specs.declared.refusal.Refusal.TheVariants.{NoMemory, NotBuilt, Reads, Typing}
+
+module _ (question : Question) (out : SinkState) where
+  -- memory ran out before anything was written
+  pub lacking : (why : Refusal) → why ≡ NoMemory → QuestionCause question out out why
+  lacking why e = subst (QuestionCause question out out) (sym e) (no_memory refl)
+
+  untyped : (fault : TypeFault) (why : Refusal) → fault ≢ y.NoMemory → typing.Refuses question.query question.table.head fault → why ≡ of.typing fault → of.typing fault ≡ Typing fault →
+      QuestionCause question out out why
+  untyped fault why shown faulty is same = step (inl (record { fault = fault; shown = shown; is = is ∙ same; faulty = faulty })) refl
+
+  pub typing_cause : (fault : TypeFault) (why : Refusal) → typing.Refuses question.query question.table.head fault → why ≡ of.typing fault → QuestionCause question out out why
+  typing_cause (y.UnknownTable at) why faulty is = untyped (y.UnknownTable at) why (λ n. cc) faulty is refl
+  typing_cause (y.UnknownColumn at) why faulty is = untyped (y.UnknownColumn at) why (λ n. cc) faulty is refl
+  typing_cause y.TooManyColumns why faulty is = untyped y.TooManyColumns why (λ n. cc) faulty is refl
+  typing_cause y.TooManyItems why faulty is = untyped y.TooManyItems why (λ n. cc) faulty is refl
+  typing_cause (y.KindsDiffer at) why faulty is = untyped (y.KindsDiffer at) why (λ n. cc) faulty is refl
+  typing_cause (y.ScaleTooFine at) why faulty is = untyped (y.ScaleTooFine at) why (λ n. cc) faulty is refl
+  typing_cause (y.NotGrouped at) why faulty is = untyped (y.NotGrouped at) why (λ n. cc) faulty is refl
+  typing_cause (y.TooManyValues at) why faulty is = untyped (y.TooManyValues at) why (λ n. cc) faulty is refl
+  typing_cause (y.LimitOutOfRange at) why faulty is = untyped (y.LimitOutOfRange at) why (λ n. cc) faulty is refl
+  typing_cause (y.GroupTooWide bits) why faulty is = untyped (y.GroupTooWide bits) why (λ n. cc) faulty is refl
+  typing_cause (y.TooWide item) why faulty is = untyped (y.TooWide item) why (λ n. cc) faulty is refl
+  typing_cause y.NoMemory why faulty is = lacking why is
+
+  module _ (typed : TypedQuery) (is_typed : IsTyped question.query question.table.head typed) (valid : IsValid question.table.head typed) where
+    -- it has groups or an order
+    pub form_cause : typed.shape ≢ Plain → QuestionCause question out out NotBuilt
+    form_cause other = step (inr (inl (record { typed = typed; is_typed = is_typed; other = other; is = refl }))) refl
+
+    unread : (fault : ReadsFault) (why : Refusal) → typed.shape ≡ Plain → fault ≢ r.NoMemory → RefusesOrder question.options.order typed question.table.head fault →
+        why ≡ of.reads fault → of.reads fault ≡ Reads fault → QuestionCause question out out why
+    unread fault why plain shown faulty is same =
+        step (inr (inr (record { typed = typed; is_typed = is_typed; valid = valid; plain = plain; fault = fault; shown = shown; is = is ∙ same; faulty = faulty }))) refl
+
+    pub reads_cause : (fault : ReadsFault) (why : Refusal) → typed.shape ≡ Plain → RefusesOrder question.options.order typed question.table.head fault → why ≡ of.reads fault →
+        QuestionCause question out out why
+    reads_cause (r.UnknownName place) why plain faulty is = unread (r.UnknownName place) why plain (λ n. cc) faulty is refl
+    reads_cause (r.PastEnd place) why plain faulty is = unread (r.PastEnd place) why plain (λ n. cc) faulty is refl
+    reads_cause r.NoMemory why plain faulty is = lacking why is
+
+-- the policy of a plan can be followed to its end
+pub readable_of : (order : ReadOrder) (typed : TypedQuery) (head : Head) (policy : Policy) → IsPolicyOf order typed head policy → IsReadable policy (projected_frame typed (frame_of head))
+readable_of widest typed head policy is = subst (λ p. IsReadable p (projected_frame typed (frame_of head))) (sym is) tt
+readable_of in_order typed head policy is = subst (λ p. IsReadable p (projected_frame typed (frame_of head))) (sym is) tt
+readable_of filter_first typed head policy is = subst (λ p. IsReadable p (projected_frame typed (frame_of head))) (sym is) tt
+readable_of (reads names) typed head policy (list, is, all) = subst (λ p. IsReadable p (projected_frame typed (frame_of head))) (sym is) all.first.readable
+
+-- the report of the rounds is that of the question
+pub reports_of : (question : Question) (typed other : TypedQuery) (plan : Plan) (extent : Extent) (old new : SinkState) → other ≡ typed → IsPlanned question typed plan →
+    ReportsRounds question.query other plan question.table extent old new → Reports question extent old new
+reports_of question typed other plan extent old new same planned report = record {
+  typed = typed;
+  plan = plan;
+  planned = planned;
+  report = subst (λ t. ReportsRounds question.query t plan question.table extent old new) same report;
+}

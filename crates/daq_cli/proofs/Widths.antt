@@ -1,0 +1,26 @@
+-- The width of a command's options is below 2 ^ 63.
+use Rattle.std.proofs.Common.{ℕ, ◌≤◌, List, Option, Some, None, IfSome, unwrap_or, zero-le}
+use Rattle.command_line.specs.Commands.{Command, Given, Gives, IsCommand, Options, ask, demo, most_width, no_more, more_width, more_rounds, more_policy, more_reads, more_list}
+
+abbrev pub options_of_command : Command → Options
+options_of_command (ask a) = a.options
+options_of_command (demo d) = d.options
+
+abbrev IsSmall : Given → Type 0
+IsSmall g = IfSome g.width (λ n. n ≤ most_width)
+
+small_given : {g h : Given} {words : List (List ℕ)} → Gives g words h → IsSmall g → IsSmall h
+small_given no_more s = s
+small_given (more_width none number rest) s = small_given rest number.small
+small_given (more_rounds none number rest) s = small_given rest s
+small_given (more_policy none is rest) s = small_given rest s
+small_given (more_reads none rest) s = small_given rest s
+small_given (more_list none rest) s = small_given rest s
+
+small_width : (width : Option ℕ) → IfSome width (λ n. n ≤ most_width) → unwrap_or width 0 ≤ most_width
+small_width None s = zero-le
+small_width (Some n) s = s
+
+pub width_is_small : (words : List (List ℕ)) (command : Command) → IsCommand words command → (options_of_command command).width ≤ most_width
+width_is_small words (ask a) is = rw is.options.say (small_width is.options.given.width (small_given is.options.gives tt))
+width_is_small words (demo d) is = rw is.options.say (small_width is.options.given.width (small_given is.options.gives tt))

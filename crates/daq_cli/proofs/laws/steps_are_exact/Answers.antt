@@ -1,0 +1,20 @@
+use Rattle.daq_cli.proofs.Exactness.{steps_exact}
+use Rattle.daq_cli.proofs.laws.steps_are_exact.Goals as goal
+
+pub returns : goal.returns
+returns c = steps_exact (record {
+  queries = c.one_answer.ensures.queries;
+  faults = c.one_answer.ensures.faults;
+  apart = c.one_answer.ensures.apart;
+  schemas = c.schemas_are_exact.ensures.same;
+  schema_faults = c.schemas_are_exact.ensures.one;
+  good_schemas = c.schemas_are_exact.ensures.none;
+  tables = c.tables_are_one.ensures;
+  table_faults = c.faults_are_exact.ensures.one;
+  good_tables = c.faults_are_exact.ensures.none;
+  typings = c.typing_is_exact.ensures.once;
+  type_faults = c.typing_is_exact.ensures.one;
+  good_typings = c.typing_is_exact.ensures.none;
+  seeds = c.tables_are_one-2.ensures;
+  reads = c.answers_are_one.ensures;
+})

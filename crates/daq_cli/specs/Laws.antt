@@ -1,0 +1,12 @@
+-- That the steps of each command are exact, so that a run has one answer.
+use Rattle.std.specs.Prelude.{ℕ, List}
+use Rattle.command_line.specs.Commands.{Ask, Demo}
+use Rattle.daq_cli.specs.Steps.{IsExact}
+use Rattle.daq_cli.specs.commands.Ask.{ask_step, words_step}
+use Rattle.daq_cli.specs.commands.Demo.{demo_step}
+
+-- words, and words with an input, are accepted as one question at most or show one refusal at most, and never both
+pub record StepsAreExact : Type 0 where
+  pub words : (ask : Ask) → IsExact (words_step ask)
+  pub ask : (ask : Ask) (bytes : List ℕ) → IsExact (ask_step ask bytes)
+  pub demo : (demo : Demo) → IsExact (demo_step demo)

@@ -1,0 +1,140 @@
+-- A question: a query over a table, with its options. What it shows where it is refused, and its report where it is answered.
+use Rattle.std.specs.Prelude.{◌≡◌, ◌≢◌, ◌⊎◌, ℕ, List}
+use Rattle.command_line.specs.Commands.{Options, ReadOrder, widest, in_order, filter_first, reads}
+use Rattle.daq_table.specs.Tables.{Contents, frame_of}
+use Rattle.daq_table.specs.declared.table_head.Head.{Head}
+use Rattle.outer_world.specs.Device.{SinkState}
+use Rattle.plane_schedule.specs.declared.policy.Plan.{Plan}
+use Rattle.plane_schedule.specs.declared.policy.Policy.{Policy}
+use Rattle.plane_schedule.specs.declared.policy.Policy.TheVariants as p
+use Rattle.plane_reads.specs.declared.fault.ReadsFault.{ReadsFault}
+use Rattle.plane_reads.specs.declared.fault.ReadsFault.TheVariants as r
+use Rattle.plane_reads.specs.Reads as lists
+use Rattle.plane_reads.specs.Reads.{AreAllReads}
+use Rattle.query_model.specs.Validity.{IsValid}
+use Rattle.query_model.specs.declared.query.Shape.TheVariants.{Plain}
+use Rattle.query_model.specs.declared.query.TypedQuery.{TypedQuery}
+use Rattle.sql_text.specs.Answer.{IsFault, IsText}
+use Rattle.sql_print.specs.Printed.{printed}
+use Rattle.sql_text.specs.Tree as sql
+use Rattle.sql_text.specs.declared.fault.SqlFault.{SqlFault}
+use Rattle.sql_text.specs.declared.fault.SqlFault.TheVariants as q
+use Rattle.sql_typing.specs.Refusals as typing
+use Rattle.sql_typing.specs.Refusals.{IsTyped}
+use Rattle.sql_typing.specs.declared.fault.TypeFault.{TypeFault}
+use Rattle.sql_typing.specs.declared.fault.TypeFault.TheVariants as y
+use Rattle.table_rounds.specs.Headline.{AreCertain}
+use Rattle.daq_cli.specs.Report.{WritesRounds, report}
+use Rattle.daq_cli.specs.Steps.{Step}
+use Rattle.daq_cli.specs.Worlds.{Extent, partly}
+use Rattle.daq_cli.specs.declared.refusal.Refusal.{Refusal}
+use Rattle.daq_cli.specs.declared.refusal.Refusal.TheVariants.{Query, Typing, NotBuilt, Reads, WriteFault, NoMemory}
+
+pub record Question : Type 0 where
+  pub query : sql.Query
+  pub options : Options
+  pub table : Contents
+
+abbrev pub question_of : sql.Query → Options → Contents → Question
+question_of query options table = record { query = query; options = options; table = table }
+
+-- ---- the SQL
+
+-- the text is no query
+pub record ShowsText (text : List ℕ) (why : Refusal) : Type 0 where
+  pub fault : SqlFault
+  pub shown : fault ≢ q.NoMemory
+  pub is : why ≡ Query fault
+  pub faulty : IsFault text fault
+
+abbrev pub sql_step : List ℕ → Step sql.Query
+sql_step text = record { accepts = IsText text; shows = ShowsText text }
+
+-- ---- the question
+
+-- the policy of this order, where the query is typed so on tables with the head
+abbrev pub IsPolicyOf : ReadOrder → TypedQuery → Head → Policy → Type 0
+IsPolicyOf widest typed head policy = policy ≡ p.Widest
+IsPolicyOf in_order typed head policy = policy ≡ p.InOrder
+IsPolicyOf filter_first typed head policy = policy ≡ p.FilterFirst
+IsPolicyOf (reads names) typed head policy = (list : List ℕ) × (policy ≡ p.Listed list) × AreAllReads names typed head list
+
+-- the order is a list of names, which is refused
+pub record RefusesOrder (order : ReadOrder) (typed : TypedQuery) (head : Head) (fault : ReadsFault) : Type 0 where
+  pub names : List ℕ
+  pub listed : order ≡ reads names
+  pub faulty : lists.Refuses names typed head fault
+
+-- the plan of the options
+pub record IsPlanOf (options : Options) (typed : TypedQuery) (head : Head) (plan : Plan) : Type 0 where
+  pub policy : IsPolicyOf options.order typed head plan.policy
+  pub width : plan.width ≡ options.width
+  pub most : plan.most ≡ options.rounds
+
+-- the query is typed as one of aggregates over all rows that meet its condition, and there is a plan of the options
+pub record IsPlanned (question : Question) (typed : TypedQuery) (plan : Plan) : Type 0 where
+  pub is_typed : IsTyped question.query question.table.head typed
+  pub valid : IsValid question.table.head typed
+  pub plain : typed.shape ≡ Plain
+  pub planned : IsPlanOf question.options typed question.table.head plan
+
+-- it cannot be typed
+pub record ShowsTyping (question : Question) (why : Refusal) : Type 0 where
+  pub fault : TypeFault
+  pub shown : fault ≢ y.NoMemory
+  pub is : why ≡ Typing fault
+  pub faulty : typing.Refuses question.query question.table.head fault
+
+-- it has groups or an order
+pub record ShowsForm (question : Question) (why : Refusal) : Type 0 where
+  pub typed : TypedQuery
+  pub is_typed : IsTyped question.query question.table.head typed
+  pub other : typed.shape ≢ Plain
+  pub is : why ≡ NotBuilt
+
+-- the columns to be read are none, or not so often
+pub record ShowsReads (question : Question) (why : Refusal) : Type 0 where
+  pub typed : TypedQuery
+  pub is_typed : IsTyped question.query question.table.head typed
+  pub valid : IsValid question.table.head typed
+  pub plain : typed.shape ≡ Plain
+  pub fault : ReadsFault
+  pub shown : fault ≢ r.NoMemory
+  pub is : why ≡ Reads fault
+  pub faulty : RefusesOrder question.options.order typed question.table.head fault
+
+-- the typing of the question comes first, then its form, then its reads
+abbrev pub ShowsQuestion : Question → Refusal → Type 0
+ShowsQuestion question why = ShowsTyping question why ⊎ ShowsForm question why ⊎ ShowsReads question why
+
+-- it has a typing, and a plan
+pub record IsAnswerable (question : Question) : Type 0 where
+  pub typed : TypedQuery
+  pub plan : Plan
+  pub planned : IsPlanned question typed plan
+
+abbrev pub question_step : sql.Query → Options → Contents → Step Question
+question_step query options table =
+    let asked = question_of query options table in
+    record { accepts = λ question. (question ≡ asked) × IsAnswerable asked; shows = ShowsQuestion asked }
+
+-- ---- the answer
+
+-- the report of all rounds of the plan was written, whole or in part: a block for each. Each interval in it is certain
+pub record ReportsRounds (query : sql.Query) (typed : TypedQuery) (plan : Plan) (table : Contents) (extent : Extent)
+    (out out' : SinkState) : Type 0 where
+  pub written : WritesRounds (report (printed query) table.head plan typed table.cells) table.head plan typed table.cells extent out out'
+  pub headline : AreCertain typed (frame_of table.head) table.cells written.reads
+
+-- so was the question's
+pub record Reports (question : Question) (extent : Extent) (out out' : SinkState) : Type 0 where
+  pub typed : TypedQuery
+  pub plan : Plan
+  pub planned : IsPlanned question typed plan
+  pub report : ReportsRounds question.query typed plan question.table extent out out'
+
+-- why the report of a question is not written whole; but for a failed write nothing was written
+pub data QuestionCause (question : Question) (out out' : SinkState) : Refusal → Type 0 where
+  step : {why : Refusal} → ShowsQuestion question why → out' ≡ out → QuestionCause question out out' why
+  write_fault : Reports question partly out out' → QuestionCause question out out' WriteFault
+  no_memory : out' ≡ out → QuestionCause question out out' NoMemory

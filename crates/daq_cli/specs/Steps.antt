@@ -1,0 +1,20 @@
+-- The steps of a command. Each accepts what it is given, as a value, or shows a refusal; the first that shows one is the run's.
+use Rattle.std.specs.Prelude.{◌≡◌, ◌⊎◌}
+use Rattle.daq_cli.specs.declared.refusal.Refusal.{Refusal}
+
+pub record Step (A : Type 0) : Type 1 where
+  pub accepts : A → Type 0
+  pub shows : Refusal → Type 0
+
+-- the second step is taken where the first accepts, and with its value
+abbrev pub then : {A B : Type 0} → Step A → (A → Step B) → Step B
+then first second = record {
+  accepts = λ b. (a : _) × first.accepts a × (second a).accepts b;
+  shows = λ why. first.shows why ⊎ ((a : _) × first.accepts a × (second a).shows why);
+}
+
+-- a step accepts one value at most or shows one refusal at most, and never does both
+pub record IsExact {A : Type 0} (step : Step A) : Type 0 where
+  pub once : (a b : A) → step.accepts a → step.accepts b → a ≡ b
+  pub same : (why other : Refusal) → step.shows why → step.shows other → why ≡ other
+  pub apart : (a : A) (why : Refusal) → step.accepts a → step.shows why → ⊥

@@ -1,0 +1,59 @@
+//! The line that tells why a run stops.
+
+ghost use Rattle.std.specs.Prelude.{◌≡◌, ◌≤◌, length};
+ghost use Rattle.daq_cli.specs.Refusals.{IsTold, fault_line, fault_text};
+
+use crate::fault_lines::{
+    plain, with_number, written_reads_fault, written_schema_fault, written_table_fault,
+    written_text_fault, written_type_fault,
+};
+use crate::refusal::{Refusal, status_of};
+use crate::status::Status;
+use daq_table::TextBuf;
+use outer_world::{Sink, write_whole};
+
+// Writes the line of a refusal, and gives the status.
+pub(crate) fn refuse<K: Sink>(why: &Refusal, err: &mut K) -> Status
+    ensures { IsTold why.now result (K.state err.old) (K.state err.new) }
+{
+    match write_whole(err, written_line(why).bytes()) {
+        Ok(()) => status_of(why),
+        Err(_) => Status::WriteFault,
+    }
+}
+
+// The line that tells of a refusal.
+fn written_line(why: &Refusal) -> TextBuf
+    ensures { result ≡ fault_line why.now }
+{
+    let mut text = TextBuf::new();
+    text.append(b"daq: ");
+    text.append(written_cause(why).bytes());
+    text.append(b"\n");
+    text
+}
+
+// What the line says after the name of the program.
+fn written_cause(why: &Refusal) -> TextBuf
+    ensures text { result ≡ fault_text why.now }
+    ensures short { length result ≤ 500 }
+{
+    match why {
+        Refusal::Usage { place } => with_number(b"usage: word ", *place as u128, b""),
+        Refusal::Query(fault) => written_text_fault(fault),
+        Refusal::Schema(fault) => written_schema_fault(fault),
+        Refusal::TooLong { limit } => with_number(
+            b"table refused: longer than ",
+            *limit as u128,
+            b" bytes",
+        ),
+        Refusal::Table(fault) => written_table_fault(fault),
+        Refusal::TooManyRows => plain(b"table refused: more than 16777216 rows"),
+        Refusal::Typing(fault) => written_type_fault(fault),
+        Refusal::NotBuilt => plain(b"query refused: not built"),
+        Refusal::Reads(fault) => written_reads_fault(fault),
+        Refusal::ReadFault => plain(b"read fault"),
+        Refusal::WriteFault => plain(b"write fault"),
+        Refusal::NoMemory => plain(b"no memory"),
+    }
+}

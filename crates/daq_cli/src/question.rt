@@ -1,0 +1,121 @@
+//! A question: a query over a table, with its options. It is typed and planned, and its report is written.
+
+ghost use Rattle.std.specs.Prelude.{◌≡◌, ◌↔◌, ◌<◌, ◌^◌, Err, IfOk, IfErr, IsTrue, IsUtf8, OnOk, length};
+ghost use Rattle.command_line.specs.Values.{options_of, order_of};
+ghost use Rattle.daq_table.specs.ValueTexts.{HeadHasTexts};
+ghost use Rattle.daq_cli.specs.Questions.{IsPlanOf, IsPolicyOf, QuestionCause, RefusesOrder, Reports, question_of};
+ghost use Rattle.daq_cli.specs.Worlds.{whole};
+ghost use Rattle.query_model.specs.Validity.{IsValid};
+ghost use Rattle.query_model.specs.declared.query.Shape.TheVariants.{Plain};
+ghost use Rattle.sql_text.specs.Answer.{IsFault, IsText};
+ghost use Rattle.sql_print.specs.Printed.{printed};
+ghost use Rattle.sql_text.specs.Tree.{query_of};
+ghost use Rattle.sql_text.specs.declared.fault.SqlFault.{SqlFault};
+ghost use Rattle.sql_typing.specs.Refusals.{IsWellFormed};
+
+use crate::refusal::Refusal;
+use crate::report::report_table;
+use command_line::{Options, ReadOrder};
+use daq_table::{Head, Table};
+use outer_world::Sink;
+use plane_kernels::Plane;
+use plane_reads::{ReadsFault, check_reads};
+use plane_schedule::{Plan, Policy};
+use query_model::{Shape, TypedQuery};
+use round_engine::Engine;
+use sql_print::{print, reads_back};
+use sql_text::{SqlFault, Tree, parse};
+use sql_typing::{texts_are_well_formed, type_query};
+use std::alloc::Global;
+
+// The query of a text.
+pub(crate) fn read_query(alloc: Global, text: &str) -> Result<Tree, SqlFault>
+    ensures query { IfOk result (λ tree. IsText text.now (query_of tree)) }
+    ensures well_formed { IfOk result (λ tree. IsWellFormed (query_of tree)) }
+    ensures printable { IfOk result (λ tree. IsUtf8 (printed (query_of tree))) }
+    ensures refused { IfErr result (IsFault text.now) }
+    ensures too_long { (result ≡ Err SqlFault.TooLong) ↔ (4096 < length text.now) }
+{
+    texts_are_well_formed();
+    reads_back();
+    // Their clause says that they are UTF-8.
+    let _bytes = text.as_bytes();
+    parse(alloc, text)
+}
+
+// The policy of an order, with the list of its columns checked.
+fn policy_of(
+    alloc: Global,
+    order: &ReadOrder,
+    typed: &TypedQuery,
+    head: &Head,
+) -> Result<Policy, ReadsFault>
+    requires { IsValid head.now typed.now }
+    ensures ok { IfOk result (λ policy. IsPolicyOf (order_of order.now) typed.now head.now policy) }
+    ensures refused { IfErr result (λ fault. RefusesOrder (order_of order.now) typed.now head.now fault) }
+{
+    match order {
+        ReadOrder::Widest => Ok(Policy::Widest),
+        ReadOrder::InOrder => Ok(Policy::InOrder),
+        ReadOrder::FilterFirst => Ok(Policy::FilterFirst),
+        ReadOrder::Reads(names) => {
+            let list = check_reads(alloc, names.as_bytes(), typed, head)?;
+            Ok(Policy::Listed(list))
+        }
+    }
+}
+
+// The plan of the options.
+fn plan_of(
+    alloc: Global,
+    options: &Options,
+    typed: &TypedQuery,
+    head: &Head,
+) -> Result<Plan, ReadsFault>
+    requires { IsValid head.now typed.now }
+    ensures ok { IfOk result (λ plan. IsPlanOf (options_of options.now) typed.now head.now plan) }
+    ensures refused { IfErr result (λ fault. RefusesOrder (order_of options.now.order) typed.now head.now fault) }
+{
+    let policy = policy_of(alloc, &options.order, typed, head)?;
+    Ok(Plan {
+        policy,
+        width: options.width,
+        most: options.rounds,
+    })
+}
+
+// Whether the query is one of aggregates over all rows.
+fn is_plain(typed: &TypedQuery) -> bool
+    ensures { IsTrue result ↔ (typed.now.shape ≡ Plain) }
+{
+    matches!(typed.shape, Shape::Plain)
+}
+
+// Writes the report of the query over the table, by the plan of the options. All memory is taken before the first byte.
+pub(crate) fn answer<K: Sink>(
+    alloc: Global,
+    query: &Tree,
+    options: &Options,
+    table: &Table,
+    out: &mut K,
+) -> Result<(), Refusal>
+    requires well_formed { IsWellFormed (query_of query.now) }
+    requires printable { IsUtf8 (printed (query_of query.now)) }
+    requires texts { HeadHasTexts table.now.head }
+    requires width { options.now.width < 2 ^ 63 }
+    ensures done { OnOk result (Reports (question_of (query_of query.now) (options_of options.now) table.now) whole
+        (K.state out.old) (K.state out.new)) }
+    ensures refused { IfErr result (QuestionCause (question_of (query_of query.now) (options_of options.now) table.now)
+        (K.state out.old) (K.state out.new)) }
+{
+    let typed = type_query(alloc, query, table.head())?;
+    if !is_plain(&typed) {
+        return Err(Refusal::NotBuilt);
+    }
+    let plan = plan_of(alloc, options, &typed, table.head())?;
+    let sql = print(alloc, query)?;
+    let mut plane = Plane::blank(alloc, table.head().rows as usize)?;
+    let mut engine = Engine::open(alloc, typed, table.head())?;
+    report_table(sql.as_bytes(), &plan, &mut engine, table, &mut plane, out)?;
+    Ok(())
+}

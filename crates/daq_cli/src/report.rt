@@ -1,0 +1,198 @@
+//! The report of a query: its line, a block for each round of a plan, and why the rounds ended.
+
+ghost use Rattle.std.specs.Prelude.{◌≡◌, ◌^◌, ◌<◌, OnOk, OnErr, length};
+ghost use Rattle.daq_table.specs.ValueTexts.{HeadHasTexts};
+ghost use Rattle.outer_world.specs.Whole.{Writes};
+ghost use Rattle.plane_schedule.specs.Keeping.{Follows, Keeps};
+ghost use Rattle.plane_schedule.specs.Plans.{IsReadable};
+ghost use Rattle.query_model.specs.Validity.{IsValid};
+ghost use Rattle.round_engine.specs.Stages.{opened};
+ghost use Rattle.daq_cli.specs.Questions.{ReportsRounds};
+ghost use Rattle.daq_cli.specs.Report.{EndsTold, ending_line, query_line, report, rounds_text};
+ghost use Rattle.daq_cli.specs.Worlds.{partly, whole};
+ghost use Rattle.sql_print.specs.Printed.{printed};
+ghost use Rattle.sql_text.specs.Tree.{Query};
+
+use crate::stop::Stop;
+use daq_report::write_block;
+use daq_table::Table;
+use outer_world::{Failed, Sink, write_pieces, write_whole};
+use plane_kernels::Plane;
+use plane_schedule::{
+    Chooser, Ending, Plan, Policy, Progress, filter_first, in_order, listed, widest,
+};
+use query_model::valid_queries_name_columns;
+use round_engine::Engine;
+use table_rounds::{
+    PlaneSource, StepFault, ending, read_next, rounds_are_certain, rounds_are_counted,
+    rounds_begin, rounds_have_an_end,
+};
+
+// Writes the line of the query with that printed form.
+fn write_query<K: Sink>(sql: &[u8], out: &mut K) -> Result<(), Failed>
+    ensures { Writes result (K.state out.old) (K.state out.new) (query_line sql.now) }
+{
+    write_pieces(out, &[b"query ", sql, b"\n"])
+}
+
+// Writes the line that says why the rounds ended.
+fn write_ending<K: Sink>(ending: Ending, out: &mut K) -> Result<(), Failed>
+    ensures { Writes result (K.state out.old) (K.state out.new) (ending_line ending) }
+{
+    match ending {
+        Ending::Narrow => write_whole(out, b"end narrow\n"),
+        Ending::Rounds => write_whole(out, b"end rounds\n"),
+        Ending::Reads => write_whole(out, b"end reads\n"),
+    }
+}
+
+// Writes the blocks of the rounds of a plan, whose policy the chooser follows, and the line that says why they ended. Nothing is
+// read at first.
+fn write_rounds<S: PlaneSource, F: Fn(&Progress) -> usize, K: Sink>(
+    plan: &Plan,
+    engine: &mut Engine,
+    source: &mut S,
+    chooser: &Chooser<F>,
+    plane: &mut Plane,
+    out: &mut K,
+) -> Result<(), Stop<S::Error>>
+    requires valid { IsValid (S.table source.old).head engine.old.query }
+    requires opened { engine.old ≡ opened engine.old.query (S.table source.old).head }
+    requires texts { HeadHasTexts (S.table source.old).head }
+    requires rows { length plane.old ≡ engine.old.frame.rows }
+    requires width { plan.now.width < 2 ^ 63 }
+    requires readable { IsReadable plan.now.policy engine.old.frame }
+    requires kept { Keeps F.Fn chooser.now.choose }
+    requires follows { Follows F.Fn chooser.now.choose plan.now.policy }
+    ensures { EndsTold rounds_text plan.now engine.old.query (S.table source.old) result (K.state out.old) (K.state out.new) }
+{
+    rounds_begin();
+    rounds_have_an_end();
+    rounds_are_counted();
+    valid_queries_name_columns();
+    // The head's clause says that told cells are a table's.
+    let _told = source.head();
+    let mut last = None;
+    'rounds: loop {
+        let ended = ending(engine, plan);
+        write_block(engine, source.head(), engine.progress().done, last, out)?;
+        match ended {
+            Some(why) => {
+                write_ending(why, out)?;
+                return Ok(());
+            }
+            None => last = Some(read_next(engine, source, chooser, plane)?),
+        }
+    }
+}
+
+// Writes the blocks and the end line with the chooser of the plan's policy.
+fn write_planned<S: PlaneSource, K: Sink>(
+    plan: &Plan,
+    engine: &mut Engine,
+    source: &mut S,
+    plane: &mut Plane,
+    out: &mut K,
+) -> Result<(), Stop<S::Error>>
+    requires valid { IsValid (S.table source.old).head engine.old.query }
+    requires opened { engine.old ≡ opened engine.old.query (S.table source.old).head }
+    requires texts { HeadHasTexts (S.table source.old).head }
+    requires rows { length plane.old ≡ engine.old.frame.rows }
+    requires width { plan.now.width < 2 ^ 63 }
+    requires readable { IsReadable plan.now.policy engine.old.frame }
+    ensures { EndsTold rounds_text plan.now engine.old.query (S.table source.old) result (K.state out.old) (K.state out.new) }
+{
+    match &plan.policy {
+        Policy::Widest => write_rounds(
+            plan,
+            engine,
+            source,
+            &Chooser::new(|p: &Progress| widest(p)),
+            plane,
+            out,
+        ),
+        Policy::InOrder => write_rounds(
+            plan,
+            engine,
+            source,
+            &Chooser::new(|p: &Progress| in_order(p)),
+            plane,
+            out,
+        ),
+        Policy::FilterFirst => write_rounds(
+            plan,
+            engine,
+            source,
+            &Chooser::new(|p: &Progress| filter_first(p)),
+            plane,
+            out,
+        ),
+        Policy::Listed(list) => write_rounds(
+            plan,
+            engine,
+            source,
+            &Chooser::new(|p: &Progress| listed(list, p)),
+            plane,
+            out,
+        ),
+    }
+}
+
+// Writes the report of a query with that printed form, which was opened on the source's table.
+pub(crate) fn write_report<S: PlaneSource, K: Sink>(
+    sql: &[u8],
+    plan: &Plan,
+    engine: &mut Engine,
+    source: &mut S,
+    plane: &mut Plane,
+    out: &mut K,
+) -> Result<(), Stop<S::Error>>
+    requires valid { IsValid (S.table source.old).head engine.old.query }
+    requires opened { engine.old ≡ opened engine.old.query (S.table source.old).head }
+    requires texts { HeadHasTexts (S.table source.old).head }
+    requires rows { length plane.old ≡ engine.old.frame.rows }
+    requires width { plan.now.width < 2 ^ 63 }
+    requires readable { IsReadable plan.now.policy engine.old.frame }
+    ensures { EndsTold (report sql.now) plan.now engine.old.query (S.table source.old) result (K.state out.old) (K.state out.new) }
+{
+    rounds_begin();
+    rounds_have_an_end();
+    valid_queries_name_columns();
+    // The head's clause says that told cells are a table's.
+    let _told = source.head();
+    write_query(sql, out)?;
+    write_planned(plan, engine, source, plane, out)
+}
+
+// Writes the report of a query with that printed form over a table, on which it was opened. A table in memory gives each plane.
+pub(crate) fn report_table<K: Sink>(
+    sql: &[u8],
+    plan: &Plan,
+    engine: &mut Engine,
+    table: &Table,
+    plane: &mut Plane,
+    out: &mut K,
+) -> Result<(), Failed>
+    requires valid { IsValid table.now.head engine.old.query }
+    requires opened { engine.old ≡ opened engine.old.query table.now.head }
+    requires texts { HeadHasTexts table.now.head }
+    requires rows { length plane.old ≡ engine.old.frame.rows }
+    requires width { plan.now.width < 2 ^ 63 }
+    requires readable { IsReadable plan.now.policy engine.old.frame }
+    ensures done { OnOk result ((query : Query) → sql.now ≡ printed query
+        → ReportsRounds query engine.old.query plan.now table.now whole (K.state out.old) (K.state out.new)) }
+    ensures failed { OnErr result ((query : Query) → sql.now ≡ printed query
+        → ReportsRounds query engine.old.query plan.now table.now partly (K.state out.old) (K.state out.new)) }
+{
+    rounds_are_certain();
+    valid_queries_name_columns();
+    // The head's clause says that the cells fit it.
+    let _told = table.head();
+    let mut source = table;
+    match write_report(sql, plan, engine, &mut source, plane, out) {
+        Ok(()) => Ok(()),
+        Err(Stop::Failed) => Err(Failed),
+        Err(Stop::Step(StepFault::Source(never))) => match never {},
+        Err(Stop::Step(StepFault::OverTop { .. })) => unreachable!(),
+    }
+}
