@@ -1,7 +1,8 @@
 //! The devices over files and the standard streams. They tell no content, and count their faults.
 
-ghost use Rattle.std.specs.Prelude.{None, ◌≤◌, length, IfSome};
+ghost use Rattle.std.specs.Prelude.{None};
 
+use crate::faults::Faults;
 use outer_world::{Failed, Sink, Source, Store};
 use std::fs;
 use std::fs::File;
@@ -12,7 +13,7 @@ use std::rt::{Stderr, Stdout};
 #[derive(Drop)]
 pub struct FileSource {
     file: Option<File>,
-    faults: u64,
+    faults: Faults,
 }
 
 impl FileSource {
@@ -20,7 +21,7 @@ impl FileSource {
     pub fn open(rt: &HostRuntime, path: &str) -> FileSource {
         FileSource {
             file: fs::open(rt, path).ok(),
-            faults: 0,
+            faults: Faults::none(),
         }
     }
 
@@ -28,58 +29,48 @@ impl FileSource {
     pub fn closed() -> FileSource {
         FileSource {
             file: None,
-            faults: 0,
+            faults: Faults::none(),
         }
     }
 }
 
 impl Source for FileSource {
-    ghost left = { λ s. None };
-
-    ghost faults = { λ s. s.faults };
+    ghost state = { λ s. record { left = None; faults = s.faults.count } };
 
     fn read(&mut self, buf: &mut [u8]) -> Result<usize, Failed> {
-        if let Some(file) = &mut self.file {
-            if let Ok(count) = file.read(buf) {
-                return Ok(count);
-            }
+        match &mut self.file {
+            Some(file) => self.faults.after_read(file.read(buf)),
+            None => Err(self.faults.add()),
         }
-        self.faults = self.faults.saturating_add(1);
-        Err(Failed)
     }
 }
 
 /// A file of planes. No command opens one yet, so each call fails.
 #[derive(Drop)]
 pub struct FileStore {
-    faults: u64,
+    faults: Faults,
     ends: u64,
 }
 
 impl FileStore {
     /// No file.
     pub fn closed() -> FileStore {
-        FileStore { faults: 0, ends: 0 }
+        FileStore {
+            faults: Faults::none(),
+            ends: 0,
+        }
     }
 }
 
 impl Store for FileStore {
-    ghost held = { λ s. None };
-
-    ghost pieces = { λ s. None };
-
-    ghost faults = { λ s. s.faults };
-
-    ghost ends = { λ s. s.ends };
+    ghost state = { λ s. record { held = None; pieces = None; faults = s.faults.count; ends = s.ends } };
 
     fn size(&mut self) -> Result<u64, Failed> {
-        self.faults = self.faults.saturating_add(1);
-        Err(Failed)
+        Err(self.faults.add())
     }
 
     fn read_at(&mut self, _at: u64, _buf: &mut [u8]) -> Result<usize, Failed> {
-        self.faults = self.faults.saturating_add(1);
-        Err(Failed)
+        Err(self.faults.add())
     }
 }
 
@@ -95,7 +86,7 @@ enum Target {
 #[derive(Drop)]
 pub struct FileSink {
     target: Target,
-    faults: u64,
+    faults: Faults,
 }
 
 impl FileSink {
@@ -103,7 +94,7 @@ impl FileSink {
     pub fn closed() -> FileSink {
         FileSink {
             target: Target::Closed,
-            faults: 0,
+            faults: Faults::none(),
         }
     }
 
@@ -111,7 +102,7 @@ impl FileSink {
     pub fn out(rt: &HostRuntime) -> FileSink {
         FileSink {
             target: Target::Out(rt.stdout()),
-            faults: 0,
+            faults: Faults::none(),
         }
     }
 
@@ -119,35 +110,20 @@ impl FileSink {
     pub fn err(rt: &HostRuntime) -> FileSink {
         FileSink {
             target: Target::Err(rt.stderr()),
-            faults: 0,
+            faults: Faults::none(),
         }
-    }
-}
-
-// Hands the piece on, and says how much of it was taken.
-fn send(target: &mut Target, piece: &[u8]) -> Option<usize>
-    ensures { IfSome result (λ n. n ≤ length piece.now) }
-{
-    match target {
-        Target::Out(out) => out.write(piece).ok(),
-        Target::Err(err) => err.write(piece).ok(),
-        Target::Closed => None,
     }
 }
 
 impl Sink for FileSink {
-    ghost written = { λ s. None };
-
-    ghost faults = { λ s. s.faults };
+    ghost state = { λ s. record { written = None; faults = s.faults.count } };
 
     fn write(&mut self, piece: &[u8]) -> Result<usize, Failed> {
-        if let Some(count) = send(&mut self.target, piece) {
-            if count > 0 || piece.is_empty() {
-                return Ok(count);
-            }
+        match &mut self.target {
+            Target::Out(out) => self.faults.after_write(piece, out.write(piece)),
+            Target::Err(err) => self.faults.after_write(piece, err.write(piece)),
+            Target::Closed => Err(self.faults.add()),
         }
-        self.faults = self.faults.saturating_add(1);
-        Err(Failed)
     }
 }
 
@@ -156,12 +132,14 @@ mod tests {
     use super::*;
 
     #[test]
-    fn a_missing_file_fails_at_each_read(rt: HostRuntime) {
-        let mut source = FileSource::open(&rt, "no such file");
-        let mut buf = [0u8; 4];
-        assert_eq!(rt; source.read(&mut buf), Err(Failed));
-        assert_eq!(rt; source.read(&mut buf), Err(Failed));
-        assert_eq!(rt; source.faults, 2);
+    fn no_file_and_a_directory_fail_at_each_read(rt: HostRuntime) {
+        for path in ["no such file", "/"] {
+            let mut source = FileSource::open(&rt, path);
+            let mut buf = [0u8; 4];
+            assert_eq!(rt; source.read(&mut buf), Err(Failed));
+            assert_eq!(rt; source.read(&mut buf), Err(Failed));
+            assert_eq!(rt; source.faults.count, 2);
+        }
     }
 
     #[test]
@@ -169,7 +147,7 @@ mod tests {
         let mut source = FileSource::open(&rt, "/dev/null");
         let mut buf = [0u8; 4];
         assert_eq!(rt; source.read(&mut buf), Ok(0));
-        assert_eq!(rt; source.faults, 0);
+        assert_eq!(rt; source.faults.count, 0);
     }
 
     #[test]
@@ -178,7 +156,7 @@ mod tests {
         let mut buf = [0u8; 4];
         assert_eq!(rt; store.size(), Err(Failed));
         assert_eq!(rt; store.read_at(0, &mut buf), Err(Failed));
-        assert_eq!(rt; store.faults, 2);
+        assert_eq!(rt; store.faults.count, 2);
     }
 
     #[test]
@@ -187,6 +165,6 @@ mod tests {
         assert_eq!(rt; out.write(b"one\n"), Ok(4));
         let mut nowhere = FileSink::closed();
         assert_eq!(rt; nowhere.write(b"one\n"), Err(Failed));
-        assert_eq!(rt; nowhere.faults, 1);
+        assert_eq!(rt; nowhere.faults.count, 1);
     }
 }

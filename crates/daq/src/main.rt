@@ -1,9 +1,11 @@
 //! The program `daq`: hands the words of the command line, files and streams to `run`, and ends with its status.
 #![tactic(auto)]
 
+mod faults;
 mod files;
 
-use daq_cli::{Status, Words, World, run};
+use command_line::{Command, Words};
+use daq_cli::{Status, World, code, run};
 use files::{FileSink, FileSource, FileStore};
 use std::alloc::{AllocError, Global};
 use std::env;
@@ -21,19 +23,19 @@ fn read_words(rt: &HostRuntime, alloc: Global) -> Result<Option<Words>, AllocErr
     Ok(Some(words))
 }
 
-// The file of the second word.
+// The file that the words name as input.
 fn open_input(rt: &HostRuntime, words: &Words) -> FileSource {
-    if words.len() < 2 {
-        return FileSource::closed();
+    match Command::parse(words) {
+        Ok(Command::Ask(ask)) => FileSource::open(rt, ask.csv),
+        Ok(Command::Demo(_)) | Err(_) => FileSource::closed(),
     }
-    FileSource::open(rt, words.word(1))
 }
 
 // Says why the program ends before its words are known.
 fn give_up(rt: &HostRuntime, line: &str, status: Status) -> ExitCode {
     match rt.eprintln(line) {
-        Ok(()) => ExitCode::from(status as u8),
-        Err(_) => ExitCode::from(Status::WriteFault as u8),
+        Ok(()) => ExitCode::from(code(status)),
+        Err(_) => ExitCode::from(code(Status::WriteFault)),
     }
 }
 
@@ -51,5 +53,5 @@ fn main(rt: HostRuntime) -> ExitCode {
         out: FileSink::out(&rt),
         err: FileSink::err(&rt),
     };
-    ExitCode::from(run(rt.alloc(), &words, &mut world) as u8)
+    ExitCode::from(code(run(rt.alloc(), &words, &mut world)))
 }

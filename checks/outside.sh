@@ -1,0 +1,112 @@
+#!/bin/sh
+# Tries a built program from outside: what it writes, the line of each refusal and the status that it ends with.
+# checks/outside.sh PROGRAM prints a line for each check, and ends with 0 only where all hold.
+
+program=$1
+[ -x "$program" ] || { echo "usage: checks/outside.sh PROGRAM" >&2; exit 2; }
+here=$(CDPATH='' cd -- "$(dirname -- "$0")/.." && pwd) || exit 1
+work=$(mktemp -d) || exit 1
+trap 'rm -rf "$work"' EXIT
+failed=0
+sum='SELECT SUM(price) FROM t'
+prices=$here/examples/p.csv
+
+# Whether the last run ended with this status, wrote these bytes, and wrote this line to standard error (none, where it is empty).
+holds() {
+    name=$1 status=$2 out=$3 line=$4
+    printf '%s' "$out" >"$work/want.out"
+    if [ -n "$line" ]; then printf '%s\n' "$line"; fi >"$work/want.err"
+    if [ "$ended" -eq "$status" ] && cmp -s "$work/want.out" "$work/out" && cmp -s "$work/want.err" "$work/err"; then
+        echo "ok: $name"
+    else
+        echo "FAILED: $name: ended with $ended, wanted $status; standard error: $(cat "$work/err")"
+        failed=1
+    fi
+}
+
+# Runs the program with these words.
+run() {
+    "$program" "$@" >"$work/out" 2>"$work/err" </dev/null
+    ended=$?
+}
+
+# Checks that the words are refused: a name, a status and a line, then the words.
+refused() {
+    name=$1 status=$2 line=$3
+    shift 3
+    run "$@"
+    holds "$name" "$status" '' "$line"
+}
+
+report="query $sum
+round 0
+1 [12, 48]
+round 1 price 1/4
+1 [20, 42]
+round 2 price 2/4
+1 [24, 34]
+round 3 price 3/4
+1 [28, 32]
+round 4 price 4/4
+1 29
+end narrow
+"
+
+run ask "$prices" price:int "$sum"
+holds 'a report' 0 "$report" ''
+
+# ---- words
+
+refused 'no words' 2 'daq: usage: word 1'
+refused 'another command' 2 'daq: usage: word 1' sum "$prices" price:int "$sum"
+refused 'too few words' 2 'daq: usage: word 4' ask "$prices" price:int
+refused 'too many words' 2 'daq: usage: word 5' ask "$prices" price:int "$sum" more
+refused 'a word that is no text' 2 'daq: usage: word 1' ask "$(printf '\377')" price:int "$sum"
+
+# ---- query
+
+refused 'no query' 3 'daq: query refused: syntax at 17' ask "$prices" price:int 'SELECT SUM(price FROM t'
+refused 'an unknown column' 3 'daq: query refused: unknown column at 11' ask "$prices" price:int 'SELECT SUM(cost) FROM t'
+refused 'a form that is not built' 3 'daq: query refused: not built' \
+    ask "$prices" price:int 'SELECT price, COUNT(*) FROM t GROUP BY price'
+
+# ---- table
+
+printf 'price\n5\nx\n' >"$work/bad.csv"
+refused 'no schema' 4 'daq: table refused: schema item at 0' ask "$prices" price "$sum"
+refused 'no value of the kind' 4 'daq: table refused: record 2 column 1 is no value of its kind' ask "$work/bad.csv" price:int "$sum"
+refused 'another header' 4 'daq: table refused: header differs at column 1' ask "$prices" cost:int "$sum"
+
+# ---- devices
+
+refused 'a missing file' 6 'daq: read fault' ask "$work/missing.csv" price:int "$sum"
+refused 'a directory' 6 'daq: read fault' ask "$work" price:int "$sum"
+
+"$program" ask "$prices" price:int "$sum" >&- 2>"$work/err" </dev/null
+ended=$?
+: >"$work/out"
+holds 'a closed standard output' 7 '' 'daq: write fault'
+
+"$program" ask "$prices" price:int 2>&- >"$work/out" </dev/null
+ended=$?
+: >"$work/err"
+holds 'a closed standard error' 7 '' ''
+
+if [ -e /dev/full ]; then
+    "$program" ask "$prices" price:int "$sum" >/dev/full 2>"$work/err" </dev/null
+    ended=$?
+    holds 'a full standard output' 7 '' 'daq: write fault'
+    "$program" ask "$prices" price:int >"$work/out" 2>/dev/full </dev/null
+    ended=$?
+    : >"$work/err"
+    holds 'a full standard error' 7 '' ''
+fi
+
+# ---- memory: 40 million bytes in 32 million
+
+{ echo price; yes 1 | head -n 20000000; } >"$work/long.csv"
+(ulimit -v 32768 && exec "$program" ask "$work/long.csv" price:int "$sum") >"$work/out" 2>"$work/err" </dev/null
+ended=$?
+holds 'no memory' 8 '' 'daq: no memory'
+
+exit "$failed"
