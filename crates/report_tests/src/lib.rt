@@ -1,4 +1,4 @@
-//! Whole reports of queries over small tables.
+//! Whole reports of queries over small tables, and the beginnings and ends of those over large ones; by plans, and of a generated table.
 #![tactic(auto)]
 
 #[cfg(test)]
@@ -9,6 +9,10 @@ mod counts;
 mod expressions;
 #[cfg(test)]
 mod extremes;
+#[cfg(test)]
+mod large;
+#[cfg(test)]
+mod plans;
 #[cfg(test)]
 mod sheets;
 #[cfg(test)]

@@ -1,6 +1,8 @@
 //! The tables of these tests, and whether a report over one is as expected. The expected reports were worked out by the definitions of
 //! prefixes, ranges, truths and bounds, apart from the program.
 
+ghost use Rattle.std.specs.Prelude.{◌≤◌};
+
 use daq_cli::{Status, Words, World, run};
 use outer_world::{MemSink, MemSource, MemStore};
 use std::alloc::{AllocError, Global};
@@ -70,26 +72,57 @@ pub(crate) const PAIR: Sheet = Sheet {
 
 type MemWorld = World<MemSource, MemStore, MemSink>;
 
-// Devices that work, with the sheet as input.
-fn world_of(alloc: Global, csv: &str) -> Result<MemWorld, AllocError> {
+/// Devices that work: the input gives the bytes in pieces of up to that length, and the output has room for so many.
+pub(crate) fn world_of(
+    alloc: Global,
+    csv: Vec<u8>,
+    piece: usize,
+    room: usize,
+) -> Result<MemWorld, AllocError>
+    requires { 1 ≤ piece }
+{
     Ok(World {
-        input: MemSource::new(csv.as_bytes().to_vec(alloc)?, 50, Vec::new(alloc)),
+        input: MemSource::new(csv, piece, Vec::new(alloc)),
         side: MemSource::new(Vec::new(alloc), 1, Vec::new(alloc)),
         planes: MemStore::new(alloc, Vec::new(alloc), 1, Vec::new(alloc), 0)?,
         made: MemSink::with_room(alloc, 0, 1, Vec::new(alloc))?,
-        out: MemSink::with_room(alloc, 4000, 100, Vec::new(alloc))?,
+        out: MemSink::with_room(alloc, room, 100, Vec::new(alloc))?,
         err: MemSink::with_room(alloc, 200, 100, Vec::new(alloc))?,
     })
 }
 
-// Whether the command writes this report.
-fn is_reported(alloc: Global, case: &Case) -> Result<bool, AllocError> {
+/// How the command of these words, one a line, ends in the world.
+pub(crate) fn ended(
+    alloc: Global,
+    lines: &str,
+    world: &mut MemWorld,
+) -> Result<Status, AllocError> {
     let mut words = Words::new(alloc);
-    for word in ["ask", "t.csv", case.sheet.schema, case.sql] {
+    for word in lines.lines() {
         words.push(word)?;
     }
-    let mut world = world_of(alloc, case.sheet.csv)?;
-    let ended = run(alloc, &words, &mut world);
+    Ok(run(alloc, &words, world))
+}
+
+/// How the query over the table of that schema ends in the world.
+pub(crate) fn asked(
+    alloc: Global,
+    schema: &str,
+    sql: &str,
+    world: &mut MemWorld,
+) -> Result<Status, AllocError> {
+    let mut words = Words::new(alloc);
+    for word in ["ask", "t.csv", schema, sql] {
+        words.push(word)?;
+    }
+    Ok(run(alloc, &words, world))
+}
+
+// Whether the command writes this report.
+fn is_reported(alloc: Global, case: &Case) -> Result<bool, AllocError> {
+    let csv = case.sheet.csv.as_bytes().to_vec(alloc)?;
+    let mut world = world_of(alloc, csv, 50, 4000)?;
+    let ended = asked(alloc, case.sheet.schema, case.sql, &mut world)?;
     Ok(ended == Status::Done && world.out.contents() == case.report.as_bytes())
 }
 
