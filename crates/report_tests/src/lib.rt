@@ -1,4 +1,4 @@
-//! Whole reports of queries over small tables, and the beginnings and ends of those over large ones.
+//! Whole reports of queries over small tables, and the beginnings and ends of those over large ones; by plans, and of a generated table.
 #![tactic(auto)]
 
 #[cfg(test)]
@@ -11,6 +11,8 @@ mod expressions;
 mod extremes;
 #[cfg(test)]
 mod large;
+#[cfg(test)]
+mod plans;
 #[cfg(test)]
 mod sheets;
 #[cfg(test)]

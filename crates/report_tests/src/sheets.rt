@@ -91,6 +91,19 @@ pub(crate) fn world_of(
     })
 }
 
+/// How the command of these words, one a line, ends in the world.
+pub(crate) fn ended(
+    alloc: Global,
+    lines: &str,
+    world: &mut MemWorld,
+) -> Result<Status, AllocError> {
+    let mut words = Words::new(alloc);
+    for word in lines.lines() {
+        words.push(word)?;
+    }
+    Ok(run(alloc, &words, world))
+}
+
 /// How the query over the table of that schema ends in the world.
 pub(crate) fn asked(
     alloc: Global,
