@@ -72,9 +72,10 @@ refused 'a form that is not built' 3 'daq: query refused: not built' \
 
 # ---- table
 
+# The header is the first record.
 printf 'price\n5\nx\n' >"$work/bad.csv"
 refused 'no schema' 4 'daq: table refused: schema item at 0' ask "$prices" price "$sum"
-refused 'no value of the kind' 4 'daq: table refused: record 2 column 1 is no value of its kind' ask "$work/bad.csv" price:int "$sum"
+refused 'no value of the kind' 4 'daq: table refused: record 3 column 1 is no value of its kind' ask "$work/bad.csv" price:int "$sum"
 refused 'another header' 4 'daq: table refused: header differs at column 1' ask "$prices" cost:int "$sum"
 
 # ---- devices
