@@ -8,7 +8,7 @@ use Rattle.std.proofs.lemmas.List.Sums.{fails_before_first, prefix_len-le-length
 use Rattle.std.specs.Char.{is_ascii_digit}
 use Rattle.std.specs.List.{after_first, before_first, cons_option, position_or_len, slice_split, starts_with}
 use Rattle.std.specs.Str.{bytes_eq}
-use Rattle.daq_table.specs.Schemas.{bad_place, column_named, column_of, columns_of, fit_scales, fits_scale, is_dec_word, is_schema_name, items_of, kind_of}
+use Rattle.daq_table.specs.Schemas.{bad_place, column_named, column_of, column_worded, columns_of, fit_scales, fits_scale, is_dec_word, is_nullable_word, is_schema_name, items_of, kind_of, kind_word}
 use Rattle.daq_table.specs.declared.head.Kind.{Kind}
 use Rattle.daq_table.specs.declared.head.Kind.TheVariants.{Int, Dec, Date, Text}
 use Rattle.daq_table.specs.declared.schema_column.SchemaColumn.{SchemaColumn}
@@ -115,16 +115,19 @@ kind_fits word =
     by_word (bytes_eq word (codes "int")) (bytes_eq word (codes "date")) (bytes_eq word (codes "text")) (is_dec_word word) (slice_index word 3 - 48)
     (λ e. digit_scale (slice_index word 3) (and_parts ((length word == 4) && starts_with nat_eq word (codes "dec")) (is_ascii_digit (slice_index word 3)) e).1)
 
-by_good : (good : Bool) (name : List ℕ) (kind : Kind) → IsTrue (fits_scale kind) → ColumnFits (cond good (Some (record { name = name; kind = kind })) None)
-by_good true name kind h = h
-by_good false name kind h = tt
+by_good : (good : Bool) (name : List ℕ) (kind : Kind) (nullable : Bool) → IsTrue (fits_scale kind) → ColumnFits (cond good (Some (record { name = name; kind = kind; nullable = nullable })) None)
+by_good true name kind nullable h = h
+by_good false name kind nullable h = tt
 
-by_name : (name : List ℕ) (kind : Option Kind) → KindFits kind → ColumnFits (column_named name kind)
-by_name name None h = tt
-by_name name (Some kind) h = by_good (is_schema_name name) name kind h
+by_name : (name : List ℕ) (kind : Option Kind) (nullable : Bool) → KindFits kind → ColumnFits (column_named name kind nullable)
+by_name name None nullable h = tt
+by_name name (Some kind) nullable h = by_good (is_schema_name name) name kind nullable h
+
+worded_fits : (name word : List ℕ) → ColumnFits (column_worded name word)
+worded_fits name word = by_name name (kind_of (kind_word word)) (is_nullable_word word) (kind_fits (kind_word word))
 
 column_fits : (item : List ℕ) → ColumnFits (column_of item)
-column_fits item = by_name (before_first (λ c. c == 58) item) (kind_of (after_first (λ c. c == 58) item)) (kind_fits (after_first (λ c. c == 58) item))
+column_fits item = worded_fits (before_first (λ c. c == 58) item) (after_first (λ c. c == 58) item)
 
 scale_step : (c : Option SchemaColumn) (columns : List SchemaColumn) → ColumnFits c → IsTrue (fit_scales columns) → IsTrue (fit_scales (cons_option c columns))
 scale_step None columns h rest = rest

@@ -1,5 +1,5 @@
 -- The text of a schema declares columns or has a fault.
-use Rattle.std.proofs.Common.{◌≡◌, ◌≢◌, ℕ, zero, suc, ◌+◌, ◌<◌, ◌≤◌, Option, Some, None, position, List, [], length, take, get_or, refl, subst, inl, inr, ◌⊎◌, arith, IsTrue}
+use Rattle.std.proofs.Common.{◌≡◌, ◌≢◌, ℕ, zero, suc, ◌+◌, ◌<◌, ◌≤◌, false, Option, Some, None, position, List, [], length, take, get_or, refl, subst, inl, inr, ◌⊎◌, arith, IsTrue}
 use Rattle.std.proofs.lemmas.Bool.{cases_lt}
 use Rattle.std.proofs.lemmas.List.{get_or_default, take_all}
 use Rattle.std.specs.Str.{bytes_eq}
@@ -20,11 +20,11 @@ Parts columns = IsTrue (all_differ (names_of columns)) ⊎ ((first : ℕ) × (se
 
 module _ (columns : List SchemaColumn) where
   column_at : ℕ → SchemaColumn
-  column_at place = get_or columns place (record { name = []; kind = Int })
+  column_at place = get_or columns place (record { name = []; kind = Int; nullable = false })
 
   there : (place : ℕ) → place < length columns → column_at place ≡ get_or columns place (column_at place)
   unfolding column_at
-  there place lt = get_or_default columns place (record { name = []; kind = Int }) (column_at place) lt
+  there place lt = get_or_default columns place (record { name = []; kind = Int; nullable = false }) (column_at place) lt
 
   -- by the columns that are left, where the names before them differ
   seek : (left second : ℕ) → left + second ≡ length columns → IsTrue (all_differ (names_of (take second columns))) → Parts columns

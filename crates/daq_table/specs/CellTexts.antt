@@ -91,11 +91,11 @@ abbrev pub date_value : List ℕ → ℤ
 date_value bytes = days_from_civil (pos (digits_value 10 (year_digits bytes))) (digits_value 10 (month_digits bytes)) (digits_value 10 (day_digits bytes))
 
 -- the bytes have the form of the kind's cells, and their number is one of 64 bits; a cell of texts has none
-abbrev pub IsCell : Kind → List ℕ → Type 0
-IsCell Int bytes = IsIntCell bytes
-IsCell (Dec scale) bytes = IsDecCell scale bytes
-IsCell Date bytes = IsDateCell bytes
-IsCell Text bytes = ⊥
+abbrev pub IsCellText : Kind → List ℕ → Type 0
+IsCellText Int bytes = IsIntCell bytes
+IsCellText (Dec scale) bytes = IsDecCell scale bytes
+IsCellText Date bytes = IsDateCell bytes
+IsCellText Text bytes = ⊥
 
 -- the number that a cell of the kind stands for
 abbrev pub cell_number : Kind → List ℕ → ℤ

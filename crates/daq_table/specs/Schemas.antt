@@ -1,7 +1,7 @@
--- The text of a schema: items parted by `,`, each a name, `:` and a kind.
+-- The text of a schema: items parted by `,`, each a name, `:` and a kind, with `?` behind it where the column is nullable.
 use Rattle.std.specs.Prelude.{◌≡◌, ℕ, ◌+◌, ◌-◌, ◌<◌, ◌≤◌, ◌==◌, nat_eq, nat_le, Bool, true, not, ◌&&◌, if◌then◌else◌, IsTrue, Option, Some, None, is_some, List, [], ◌∷◌, length, map, take, codes, slice_get, slice_index}
 use Rattle.std.specs.Char.{is_ascii_digit}
-use Rattle.std.specs.List.{after_first, before_first, filter_map, list_all, slice_split, starts_with}
+use Rattle.std.specs.List.{after_first, before_first, ends_with, filter_map, list_all, slice_split, starts_with}
 use Rattle.std.specs.Str.{bytes_eq}
 use Rattle.daq_table.specs.HeadFacts.{all_differ}
 use Rattle.daq_table.specs.declared.head.Kind.{Kind}
@@ -28,13 +28,25 @@ kind_of word =
     else (if bytes_eq word (codes "text") then Some Text
     else (if is_dec_word word then Some (Dec (slice_index word 3 - 48)) else None)))
 
-abbrev pub column_named : List ℕ → Option Kind → Option SchemaColumn
-column_named name None = None
-column_named name (Some kind) = if is_schema_name name then Some (record { name = name; kind = kind }) else None
+-- a word with `?` at its end declares a nullable column
+abbrev pub is_nullable_word : List ℕ → Bool
+is_nullable_word word = ends_with nat_eq word (codes "?")
+
+-- what stands before that `?`
+abbrev pub kind_word : List ℕ → List ℕ
+kind_word word = if is_nullable_word word then take (length word - 1) word else word
+
+abbrev pub column_named : List ℕ → Option Kind → Bool → Option SchemaColumn
+column_named name None nullable = None
+column_named name (Some kind) nullable = if is_schema_name name then Some (record { name = name; kind = kind; nullable = nullable }) else None
+
+-- the column that a name and the word behind it declare
+abbrev pub column_worded : List ℕ → List ℕ → Option SchemaColumn
+column_worded name word = column_named name (kind_of (kind_word word)) (is_nullable_word word)
 
 -- the column that an item declares, if it has the form of one
 abbrev pub column_of : List ℕ → Option SchemaColumn
-column_of item = column_named (before_first (λ c. c == 58) item) (kind_of (after_first (λ c. c == 58) item))
+column_of item = column_worded (before_first (λ c. c == 58) item) (after_first (λ c. c == 58) item)
 
 -- the items of a schema, in order
 abbrev pub items_of : List ℕ → List (List ℕ)

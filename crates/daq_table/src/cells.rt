@@ -5,7 +5,7 @@ ghost use Rattle.std.specs.Int.{w64};
 ghost use Rattle.std.specs.List.{list_all};
 ghost use Rattle.std.specs.Option.{SomeIff};
 ghost use Rattle.std.specs.Str.Parse.{AllDigits, digits_value_after, without_leading_sign};
-ghost use Rattle.daq_table.specs.CellTexts.{IsIntCell, int_value, IsDecCell, dec_value, IsCell, cell_number, with_sign, is_zero_digit, HasUnits, IsDecimal, signed_units, units};
+ghost use Rattle.daq_table.specs.CellTexts.{IsIntCell, int_value, IsDecCell, dec_value, IsCellText, cell_number, with_sign, is_zero_digit, HasUnits, IsDecimal, signed_units, units};
 ghost use Rattle.daq_table.specs.declared.head.Kind.TheVariants.{Text};
 
 use crate::dates::date_cell;
@@ -139,7 +139,7 @@ fn dec_cell(scale: u8, bytes: &[u8]) -> Option<i64>
 /// The number of a cell of the kind. None where the bytes have not the kind's form.
 pub fn cell_value(kind: &Kind, bytes: &[u8]) -> Option<i64>
     requires { kind.now ≢ Text }
-    ensures { SomeIff result (IsCell kind.now bytes.now) (cell_number kind.now bytes.now) }
+    ensures { SomeIff result (IsCellText kind.now bytes.now) (cell_number kind.now bytes.now) }
 {
     match kind {
         Kind::Int => int_cell(bytes),

@@ -23,7 +23,7 @@ mod values;
 
 pub use buffer::{NoRoom, TextBuf};
 pub use cells::{cell_value, int_cell};
-pub use column::{ends, width};
+pub use column::{ends, planes, width};
 pub use exactness::{schemas_are_exact, schemas_have_meanings};
 pub use head::{ColumnHead, ColumnHeads, Ends, Kind};
 pub use listed::Listed;

@@ -4,11 +4,12 @@ use crate::head::Kind;
 use crate::listed::Listed;
 use crate::names::Name;
 
-/// A column's name and kind.
+/// A column's name and kind, and whether its cells may be null.
 #[derive(Drop, Debug)]
 pub struct SchemaColumn {
     pub name: Name,
     pub kind: Kind,
+    pub nullable: bool,
 }
 
 /// The columns of a schema, in order.

@@ -3,7 +3,7 @@
 ghost use Rattle.std.specs.Prelude.{◌≡◌, ◌==◌, ◌≤◌, drop, length, IfOk, IfErr};
 ghost use Rattle.std.specs.List.{before_first, list_all};
 ghost use Rattle.daq_table.specs.SchemaFaults.{Refuses};
-ghost use Rattle.daq_table.specs.Schemas.{AreColumnsOf, column_of, is_dec_word, is_name_byte, is_schema_name, kind_of};
+ghost use Rattle.daq_table.specs.Schemas.{AreColumnsOf, column_of, column_worded, is_dec_word, is_name_byte, is_nullable_word, is_schema_name, kind_of, kind_word};
 
 use crate::head::Kind;
 use crate::names::Name;
@@ -57,21 +57,45 @@ fn read_kind(word: &[u8]) -> Option<Kind>
     }
 }
 
-// The column that an item declares, if it has the form of one.
-fn read_item(alloc: Global, item: &[u8]) -> Result<Option<SchemaColumn>, AllocError>
-    ensures { IfOk result (λ column. column ≡ column_of item.now) }
+// The word of the kind, and whether a `?` behind it says that the column is nullable.
+fn parted_word(word: &[u8]) -> (&[u8], bool)
+    ensures kind { result.0.now ≡ kind_word word.now }
+    ensures nullable { result.1 ≡ is_nullable_word word.now }
 {
-    let (name, word) = around_first(item, b':');
+    if word.ends_with(b"?") {
+        (&word[..word.len() - 1], true)
+    } else {
+        (word, false)
+    }
+}
+
+// The column that a name and the word behind it declare, if they have the form.
+fn read_column(alloc: Global, name: &[u8], word: &[u8]) -> Result<Option<SchemaColumn>, AllocError>
+    ensures { IfOk result (λ column. column ≡ column_worded name.now word.now) }
+{
+    let (word, nullable) = parted_word(word);
     match read_kind(word) {
         Some(kind) => {
             if !is_name(name) {
                 return Ok(None);
             }
             let name = Name::new(Vec::from_slice(alloc, name)?);
-            Ok(Some(SchemaColumn { name, kind }))
+            Ok(Some(SchemaColumn {
+                name,
+                kind,
+                nullable,
+            }))
         }
         None => Ok(None),
     }
+}
+
+// The column that an item declares, if it has the form of one.
+fn read_item(alloc: Global, item: &[u8]) -> Result<Option<SchemaColumn>, AllocError>
+    ensures { IfOk result (λ column. column ≡ column_of item.now) }
+{
+    let (name, word) = around_first(item, b':');
+    read_column(alloc, name, word)
 }
 
 // The item that stands at that place.

@@ -16,6 +16,7 @@ fn date_head(alloc: Global) -> Result<ColumnHead, AllocError>
     Ok(ColumnHead {
         name: Name::new(Vec::from_slice(alloc, b"day")?),
         kind: Kind::Date,
+        nullable: false,
         base: -719_528,
         top: 2_932_896,
         names: Dictionary::new(Vec::new(alloc)),
@@ -117,11 +118,23 @@ fn schemas(rt: HostRuntime) -> Result<(), Fail> {
     assert_eq!(rt; columns.len(), 4);
     assert_eq!(rt; columns[1].name.as_slice(), b"b b".as_slice());
     assert_eq!(rt; columns[1].kind, Kind::Dec(2));
+    assert!(rt; !columns[1].nullable);
     for (text, want) in [
         ("", SchemaFault::BadItem { at: 0 }),
         ("a:int,b:flo", SchemaFault::BadItem { at: 6 }),
         ("a:int,", SchemaFault::BadItem { at: 6 }),
         ("a:dec10", SchemaFault::BadItem { at: 0 }),
+        ("a:?", SchemaFault::BadItem { at: 0 }),
+        ("a:int,b:int??", SchemaFault::BadItem { at: 6 }),
+        ("a:int ?", SchemaFault::BadItem { at: 0 }),
+        ("a:?int", SchemaFault::BadItem { at: 0 }),
+        (
+            "a:int?,a:int",
+            SchemaFault::RepeatedName {
+                first: 0,
+                second: 1,
+            },
+        ),
         (
             "a:int,b:int,b:date,a:int",
             SchemaFault::RepeatedName {
@@ -139,6 +152,18 @@ fn schemas(rt: HostRuntime) -> Result<(), Fail> {
     ] {
         assert_eq!(rt; Schema::parse(alloc, text).err(), Some(want), "at {text}");
     }
+    Ok(())
+}
+
+#[test]
+fn nullable_columns(rt: HostRuntime) -> Result<(), Fail> {
+    let schema = Schema::parse(rt.alloc(), "a?:int,b:dec9?,c:date?,d:text?")?;
+    let columns = schema.columns.as_slice();
+    assert_eq!(rt; columns.len(), 4);
+    assert_eq!(rt; columns[0].name.as_slice(), b"a?".as_slice());
+    assert_eq!(rt; [columns[0].nullable, columns[3].nullable], [false, true]);
+    assert_eq!(rt; columns[1].kind, Kind::Dec(9));
+    assert!(rt; columns[1].nullable);
     Ok(())
 }
 
