@@ -1,3 +1,12 @@
-pub mod Digits
+pub mod CodeDigits
+pub mod Growing
+pub mod Steps
+pub mod MarkSteps
+pub mod RowDigits
+pub mod FirstMarks
+pub mod Nulls
+pub mod BlockSteps
+pub mod NumberBlocks
 pub mod Several
-pub mod Takings
+pub mod Joining
+pub mod TableBlocks

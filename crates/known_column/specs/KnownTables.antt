@@ -2,7 +2,7 @@
 use Rattle.std.specs.Prelude.{ℕ, ◌≤◌, Bool, List, map}
 use Rattle.daq_table.specs.Tables.{Frame, ends_at}
 use Rattle.query_model.specs.Knowledge.{IsKnowledge, Knowledge, known_at, start, taken}
-use Rattle.known_column.specs.Columns.{KnownColumn}
+use Rattle.known_column.specs.Columns.{KnownColumn, unread_column}
 
 -- the columns are numbered in their order
 pub record KnownTable : Type 0 where
@@ -23,6 +23,10 @@ column_at table c = record { ends = ends_at table.frame c; known = known_at tabl
 -- what is declared of the columns at these places of a table
 abbrev pub frame_at : Frame → List ℕ → Frame
 frame_at frame places = record { rows = frame.rows; columns = map (ends_at frame) places }
+
+-- the columns at these places, of which nothing is read
+abbrev pub unread_columns : Frame → List ℕ → List KnownColumn
+unread_columns frame places = map (λ place. unread_column (ends_at frame place) frame.rows) places
 
 -- nothing is read of columns of which this is declared
 abbrev pub unread_table : Frame → KnownTable

@@ -1,25 +1,26 @@
 //! Several columns of a table that are known in part.
 
-ghost use Rattle.std.specs.Prelude.{◌≡◌, ◌<◌, ◌≤◌, ◌+◌, length, map, IfOk, OnOk, IfErr, OnErr};
+ghost use Rattle.std.specs.Prelude.{◌≡◌, ◌<◌, ◌+◌, length, IfOk, OnOk, IfErr, OnErr};
 ghost use Rattle.std.specs.List.{AllByRecursion};
 ghost use Rattle.interval_calc.specs.Intervals.{interval_of};
 ghost use Rattle.daq_table.specs.Tables.{ends_at, frame_of, planes};
 ghost use Rattle.query_model.specs.Knowledge.{known_at, ranges_of, CanTake};
 ghost use Rattle.query_model.specs.Truths.{IsInside};
 ghost use Rattle.query_model.specs.Validity.{declared_ranges};
-ghost use Rattle.known_column.specs.Columns.{rows_of_column, unread_column, IsFirstOver};
-ghost use Rattle.known_column.specs.KnownTables.{column_at, frame_at, read_column, unread_table, IsKnownTable};
+ghost use Rattle.known_column.specs.Columns.{rows_of_column, IsFirstOver};
+ghost use Rattle.known_column.specs.KnownTables.{column_at, frame_at, read_column, unread_columns, unread_table, IsKnownTable};
 
 use crate::known::{Known, OverTop};
 use daq_table::Head;
 use interval_calc::Interval;
 use plane_kernels::Plane;
+use query_model::Nullity;
 use std::alloc::{AllocError, Global};
 use std::marker::Model;
 
 /// What is declared of some columns of a table, and what is known of them after some of their planes. They are numbered
 /// in the order in which they were named.
-#[derive(Drop, Debug)]
+#[derive(Drop)]
 pub struct KnownColumns {
     rows: usize,
     columns: Vec<Known>,
@@ -38,7 +39,7 @@ impl Model for KnownColumns {
 // A known column for each of these places of a table.
 fn open_each(alloc: Global, places: &[usize], head: &Head) -> Result<Vec<Known>, AllocError>
     requires { AllByRecursion (λ place. place < length head.now.columns) places.now }
-    ensures { IfOk result (λ columns. columns.items ≡ map (λ place. unread_column (ends_at (frame_of head.now) place) head.now.rows) places.now) }
+    ensures { IfOk result (λ columns. columns.items ≡ unread_columns (frame_of head.now) places.now) }
 {
     let rows = head.rows as usize;
     let mut columns = Vec::with_capacity(alloc, places.len())?;
@@ -106,13 +107,22 @@ impl KnownColumns {
         self.column(column).unread()
     }
 
-    /// Where a row's number in a column lies.
+    /// Where a row's number in a column lies, if it is not null.
     pub fn range(&self, column: usize, row: usize) -> Interval
         requires column { column < length self.now.frame.columns }
         requires row { row < self.now.frame.rows }
-        ensures range { interval_of result ≡ ranges_of self.now.frame self.now.known row column }
-        ensures within { IsInside (interval_of result) (declared_ranges self.now.frame column) }
+        ensures range { interval_of result ≡ (ranges_of self.now.frame self.now.known row column).numbers }
+        ensures within { IsInside (interval_of result) (declared_ranges self.now.frame column).numbers }
     {
         self.column(column).range(row)
+    }
+
+    /// Whether a row is null in a column.
+    pub fn missing(&self, column: usize, row: usize) -> Nullity
+        requires column { column < length self.now.frame.columns }
+        requires row { row < self.now.frame.rows }
+        ensures { result ≡ (ranges_of self.now.frame self.now.known row column).null }
+    {
+        self.column(column).missing(row)
     }
 }

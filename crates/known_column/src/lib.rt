@@ -1,12 +1,21 @@
-//! What is known of columns after some of their planes: a prefix of each row's digits, and the range that it leaves.
+//! What is known of columns after some of their planes: the planes themselves, and marks of the rows that they tell apart.
 #![tactic(auto)]
 
+mod blocks;
+mod codes;
+mod column_block;
 mod known;
 mod known_columns;
-mod prefixes;
+mod known_rows;
+mod marks;
+mod row_block;
 
 pub use known::{Known, OverTop};
 pub use known_columns::KnownColumns;
+pub use known_rows::KnownRows;
+pub use row_block::{RowBlock, blocks_have_their_rows};
 
+#[cfg(test)]
+mod block_tests;
 #[cfg(test)]
 mod tests;

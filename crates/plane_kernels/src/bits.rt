@@ -1,10 +1,11 @@
 // A truth value for each row, as words of 64 bits: row r is bit r % 64 of word r / 64, and the bits past the last row are 0.
-ghost use Rattle.std.specs.Prelude.{◌≡◌, ◌<◌, ◌&&◌, ◌||◌, ◌↔◌, not, false, length, map, replicate, count_by, position, slice_get, slice_set, Some, IfOk, IsNone};
+ghost use Rattle.std.specs.Prelude.{◌≡◌, ◌<◌, ◌-◌, ◌*◌, ◌&&◌, ◌||◌, ◌↔◌, min, not, false, length, map, replicate, take, drop, count_by, position, slice_get, slice_set, Some, IfOk, IsNone};
 ghost use Rattle.std.specs.Simd.Lanes.{zip2};
-ghost use Rattle.plane_kernels.specs.Rows.{digit_at};
+ghost use Rattle.plane_kernels.specs.Rows.{bits_of, digit_at};
 
 use crate::lanes::{and_not_words, and_words, count_both_words, count_words, or_words};
-use crate::words::{first_one, flip_words, gather_words, with_bit};
+use crate::triples::{first_past, first_rest, or_rest_words, or_shared_words};
+use crate::words::{first_one, flip_words, gather_unset_words, gather_words, with_bit};
 use std::alloc::{AllocError, Global};
 use std::marker::Model;
 
@@ -114,6 +115,51 @@ impl Bits {
         first_one(&self.words)
     }
 
+    // Adds the rows that two others share.
+    pub fn or_shared(&mut self, left: &Bits, right: &Bits)
+        requires left { length left.now ≡ length self.old }
+        requires right { length right.now ≡ length self.old }
+        ensures { self.new ≡ zip2 (λ a b. a || b) self.old (zip2 (λ a b. a && b) left.now right.now) }
+    {
+        or_shared_words(&mut self.words, &left.words, &right.words);
+    }
+
+    // Adds the rows that one has and another has not.
+    pub fn or_rest(&mut self, left: &Bits, right: &Bits)
+        requires left { length left.now ≡ length self.old }
+        requires right { length right.now ≡ length self.old }
+        ensures { self.new ≡ zip2 (λ a b. a || b) self.old (zip2 (λ a b. a && not b) left.now right.now) }
+    {
+        or_rest_words(&mut self.words, &left.words, &right.words);
+    }
+
+    // The first row that `other` has not.
+    pub fn first_rest(&self, other: &Bits) -> Option<usize>
+        requires { length other.now ≡ length self.now }
+        ensures { result ≡ position (λ b. b) (zip2 (λ a b. a && not b) self.now other.now) }
+    {
+        let _rows = self.rows;
+        first_rest(&self.words, &other.words)
+    }
+
+    // The first row that is not in `within`, or is in `without`.
+    pub fn first_past(&self, within: &Bits, without: &Bits) -> Option<usize>
+        requires within { length within.now ≡ length self.now }
+        requires without { length without.now ≡ length self.now }
+        ensures { result ≡ position (λ b. b) (zip2 (λ a b. a && not b) self.now (zip2 (λ a b. a && not b) within.now without.now)) }
+    {
+        let _rows = self.rows;
+        first_past(&self.words, &within.words, &without.words)
+    }
+
+    // The word with the bits of a block of 64 rows.
+    pub fn word(&self, block: usize) -> u64
+        requires { 64 * block < length self.now }
+        ensures { bits_of (min 64 (length self.now - 64 * block)) result ≡ take 64 (drop (64 * block) self.now) }
+    {
+        self.words[block]
+    }
+
     // The bit of each row is a digit of its cell.
     pub fn gather(&mut self, cells: &[u64], shift: u32)
         requires shift { shift < 64 }
@@ -121,5 +167,13 @@ impl Bits {
         ensures { self.new ≡ map (digit_at shift) cells.now }
     {
         gather_words(cells, shift, &mut self.words);
+    }
+
+    // The bit of each row is 1 where its mark is false.
+    pub fn gather_unset(&mut self, marks: &[bool])
+        requires { length marks.now ≡ length self.old }
+        ensures { self.new ≡ map not marks.now }
+    {
+        gather_unset_words(marks, &mut self.words);
     }
 }

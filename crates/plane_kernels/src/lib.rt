@@ -5,10 +5,11 @@ mod bits;
 mod lanes;
 mod mask;
 mod plane;
+mod triples;
 mod words;
 
-pub use mask::Mask;
-pub use plane::{Plane, transpose};
+pub use mask::{Mask, split, step_compare};
+pub use plane::{Plane, transpose, validity};
 
 #[cfg(test)]
 mod tests;

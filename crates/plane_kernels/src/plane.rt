@@ -1,7 +1,10 @@
 // A plane: one binary digit of each row of a column.
-ghost use Rattle.std.specs.Prelude.{◌≡◌, ◌≤◌, ◌<◌, ◌+◌, ◌-◌, ◌/◌, ◌%◌, ◌^◌, ◌==◌, false, length, map, replicate, slice_get, Some, IfOk};
+ghost use Rattle.std.specs.Prelude.{◌≡◌, ◌≤◌, ◌<◌, ◌+◌, ◌-◌, ◌*◌, ◌/◌, ◌%◌, ◌^◌, ◌==◌, ◌&&◌, min, not, false, length, map, replicate, take, drop, position, slice_get, Some, IfOk};
+ghost use Rattle.std.specs.Simd.Lanes.{zip2};
+ghost use Rattle.plane_kernels.specs.Rows.{bits_of};
 
 use crate::bits::Bits;
+use crate::mask::Mask;
 use std::alloc::{AllocError, Global};
 use std::marker::Model;
 
@@ -51,6 +54,31 @@ impl Plane {
     {
         self.bits.copy_from(&other.bits);
     }
+
+    /// The first row with a bit of 1 that the mask has not.
+    pub fn first_outside(&self, mask: &Mask) -> Option<usize>
+        requires { length mask.now ≡ length self.now }
+        ensures { result ≡ position (λ b. b) (zip2 (λ a b. a && not b) self.now mask.now) }
+    {
+        self.bits.first_rest(&mask.bits)
+    }
+
+    /// The first row with a bit of 1 that is not in `within`, or is in `without`.
+    pub fn first_past(&self, within: &Mask, without: &Mask) -> Option<usize>
+        requires within { length within.now ≡ length self.now }
+        requires without { length without.now ≡ length self.now }
+        ensures { result ≡ position (λ b. b) (zip2 (λ a b. a && not b) self.now (zip2 (λ a b. a && not b) within.now without.now)) }
+    {
+        self.bits.first_past(&within.bits, &without.bits)
+    }
+
+    /// The bits of a block of 64 rows, the first row's lowest.
+    pub fn word(&self, block: usize) -> u64
+        requires { 64 * block < length self.now }
+        ensures { bits_of (min 64 (length self.now - 64 * block)) result ≡ take 64 (drop (64 * block) self.now) }
+    {
+        self.bits.word(block)
+    }
 }
 
 /// Gives each row the digit `j`, counted from the highest, of its cell of `width` binary digits.
@@ -61,4 +89,12 @@ pub fn transpose(cells: &[u64], width: u8, j: u8, out: &mut Plane)
     ensures { out.new ≡ map (λ cell. (cell / 2 ^ (width - (j + 1))) % 2 == 1) cells.now }
 {
     out.bits.gather(cells, u32::from(width - (j + 1)));
+}
+
+/// Gives each row the bit 1 where its cell is not null: the plane that tells null.
+pub fn validity(nulls: &[bool], out: &mut Plane)
+    requires { length nulls.now ≡ length out.old }
+    ensures { out.new ≡ map not nulls.now }
+{
+    out.bits.gather_unset(nulls);
 }
