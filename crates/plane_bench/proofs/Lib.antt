@@ -1,3 +1,4 @@
 pub mod WideCells
 pub mod Counts
 pub mod Steps
+pub mod Sums

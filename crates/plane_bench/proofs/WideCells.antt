@@ -6,6 +6,7 @@ use Rattle.std.proofs.lemmas.Nat.{mod_below}
 use Rattle.daq_table.specs.declared.head.Ends.{Ends}
 use Rattle.daq_table.specs.Tables.{Frame, binary_digits, ends_at, planes, spread}
 use Rattle.query_model.specs.Knowledge.{known_at}
+use Rattle.query_model.proofs.Blocks.{plain_column}
 use Rattle.known_column.specs.KnownTables.{KnownTable, unread_table}
 use Rattle.plane_bench.specs.Planes.{alone, cell_of, cells_of, table_after, AreWide}
 
@@ -14,7 +15,7 @@ wide_spread ends wide = ap (λ z. nat_abs (z -ℤ ends.base)) wide.top ∙ ap (�
 
 pub wide_planes : (ends : Ends) → AreWide ends → planes ends ≡ 32
 unfolding binary_digits
-wide_planes ends wide = ap binary_digits (wide_spread ends wide)
+wide_planes ends wide = (plain_column ends wide.plain).0 ∙ ap binary_digits (wide_spread ends wide)
 
 pub length-cells : (rows : ℕ) → length (cells_of rows) ≡ rows
 length-cells rows = length-map-range_with_len cell_of 0 rows

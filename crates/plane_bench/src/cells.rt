@@ -40,6 +40,7 @@ pub(crate) fn open_column(alloc: Global, rows: usize) -> Result<KnownColumns, Al
     let column = ColumnHead {
         name: Name::new(b"v".to_vec(alloc)?),
         kind: Kind::Int,
+        nullable: false,
         base: 0,
         top: i64::from(u32::MAX),
         names: Dictionary::new(Vec::new(alloc)),

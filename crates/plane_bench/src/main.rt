@@ -1,13 +1,15 @@
-//! The program `plane_bench`: cuts planes from cells, takes them, or has a filter follow them, so often as its words say,
-//! for `bench/planes.sh`, which times it.
+//! The program `plane_bench`: cuts planes from cells, takes them, has a filter follow them, or reads the numbers that they tell,
+//! so often as its words say, for `bench/planes.sh`, which times it.
 #![tactic(auto)]
 
 mod cells;
 mod cutting;
 mod reading;
+mod summing;
 mod words;
 
 ghost use Rattle.std.specs.Prelude.{◌≡◌, ◌≤◌, IfOk};
+ghost use Rattle.query_model.specs.Queries.{condition_of};
 ghost use Rattle.plane_bench.specs.Planes.{below_limit, IsResult};
 
 use cells::{make_cells, open_column};
@@ -16,6 +18,7 @@ use query_model::{Atom, Comparison, Pred};
 use reading::{follow_planes, read_planes};
 use std::alloc::{AllocError, Global};
 use std::process::ExitCode;
+use summing::sum_readings;
 use words::{Work, read_words};
 
 // A third of the way up the numbers of 32 digits: no few planes decide of every row whether it is below.
@@ -23,7 +26,7 @@ const LIMIT: i128 = 1_431_655_765;
 
 // The condition that the number is below the limit.
 fn make_condition() -> Pred
-    ensures { result ≡ below_limit }
+    ensures { condition_of result ≡ below_limit }
 {
     Pred::Atom(Atom::Compare {
         column: 0,
@@ -51,6 +54,11 @@ fn do_work(alloc: Global, work: Work, rows: usize, rounds: u8) -> Result<u64, Al
             let columns = open_column(alloc, rows)?;
             let filter = follow_planes(alloc, &make_condition(), columns, &cells, rounds)?;
             Ok(filter.unknown())
+        }
+        Work::Sum => {
+            let columns = open_column(alloc, rows)?;
+            let read = read_planes(alloc, columns, &cells, rounds)?;
+            Ok(sum_readings(read.column(0)))
         }
     }
 }

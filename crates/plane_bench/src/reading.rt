@@ -1,10 +1,11 @@
 // Planes of a column, read one after the other, with or without a filter that follows.
 
-ghost use Rattle.std.specs.Prelude.{◌≡◌, ◌≤◌, ◌<◌, ◌+◌, length, IfOk};
+ghost use Rattle.std.specs.Prelude.{◌≡◌, ◌≤◌, ◌<◌, ◌+◌, length, IfOk, IsFalse};
 ghost use Rattle.std.specs.List.{All};
 ghost use Rattle.daq_table.specs.Tables.{ends_at, planes, spread};
 ghost use Rattle.query_model.specs.Knowledge.{known_at, CanTake};
 ghost use Rattle.query_model.specs.Meaning.{PredReadsBelow};
+ghost use Rattle.query_model.specs.Queries.{condition_of};
 ghost use Rattle.known_column.specs.KnownTables.{read_column, unread_table};
 ghost use Rattle.plane_bench.specs.Planes.{alone, table_after, truths_after};
 
@@ -16,6 +17,7 @@ use std::alloc::{AllocError, Global};
 
 // Cuts the next plane of the one column from its cells, and takes it.
 fn read_next(columns: &mut KnownColumns, cells: &[u64], plane: &mut Plane)
+    requires plain { IsFalse (ends_at columns.old.frame 0).nullable }
     requires unread { (known_at columns.old.known 0).read < planes (ends_at columns.old.frame 0) }
     requires cells { All (λ cell. cell ≤ spread (ends_at columns.old.frame 0)) cells.now }
     requires stands { columns.old ≡ table_after (ends_at columns.old.frame 0) cells.now (known_at columns.old.known 0).read }
@@ -38,6 +40,7 @@ pub(crate) fn read_planes(
     cells: &[u64],
     rounds: u8,
 ) -> Result<KnownColumns, AllocError>
+    requires plain { IsFalse (ends_at columns.frame 0).nullable }
     requires few { rounds ≤ planes (ends_at columns.frame 0) }
     requires cells { All (λ cell. cell ≤ spread (ends_at columns.frame 0)) cells.now }
     requires start { columns ≡ unread_table (alone (ends_at columns.frame 0) cells.now) }
@@ -59,11 +62,12 @@ pub(crate) fn follow_planes(
     cells: &[u64],
     rounds: u8,
 ) -> Result<Filter, AllocError>
-    requires condition { PredReadsBelow 1 pred.now }
+    requires condition { PredReadsBelow 1 (condition_of pred.now) }
+    requires plain { IsFalse (ends_at columns.frame 0).nullable }
     requires few { rounds ≤ planes (ends_at columns.frame 0) }
     requires cells { All (λ cell. cell ≤ spread (ends_at columns.frame 0)) cells.now }
     requires start { columns ≡ unread_table (alone (ends_at columns.frame 0) cells.now) }
-    ensures { IfOk result (λ filter. filter ≡ truths_after pred.now (ends_at columns.frame 0) cells.now rounds) }
+    ensures { IfOk result (λ filter. filter ≡ truths_after (condition_of pred.now) (ends_at columns.frame 0) cells.now rounds) }
 {
     start_is_known();
     let mut plane = Plane::blank(alloc, cells.len())?;

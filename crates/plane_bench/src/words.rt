@@ -13,6 +13,8 @@ pub(crate) enum Work {
     Take,
     // The same, and a filter follows.
     Follow,
+    // The planes are cut and taken, and then the numbers of all rows are read over and over and summed.
+    Sum,
 }
 
 // What is timed, over how many rows and how often.
@@ -28,6 +30,7 @@ fn read_work(word: &str) -> Option<Work> {
         "cut" => Some(Work::Cut),
         "take" => Some(Work::Take),
         "follow" => Some(Work::Follow),
+        "sum" => Some(Work::Sum),
         _ => None,
     }
 }

@@ -2,6 +2,7 @@
 use Rattle.std.proofs.Common.{false, length, sym, ap, ◌∙◌}
 use Rattle.std.proofs.lemmas.List.{length-replicate}
 use Rattle.daq_table.specs.Tables.{ends_at}
+use Rattle.query_model.specs.Queries.{condition_of}
 use Rattle.kleene_filter.specs.Filters.{truths_under}
 use Rattle.plane_bench.proofs.Steps.{nothing_read}
 use Rattle.plane_bench.proofs.reading.follow_planes.Goals as goal
@@ -12,13 +13,13 @@ loop-init c =
     record {
       read = none;
       rows = ap length c.in_ok-plane.ensures ∙ length-replicate (length c.args.cells.now) false;
-      filter = c.in_ok-filter.ensures ∙ ap (truths_under c.args.pred.now) none;
+      filter = c.in_ok-filter.ensures ∙ ap (truths_under (condition_of c.args.pred.now)) none;
     }
 
 pub refresh-requires-clause-stood : goal.refresh-requires-clause-stood
 refresh-requires-clause-stood c = record {
   before = c.loop.columns;
-  stood = c.loop.invariant.filter ∙ ap (truths_under c.args.pred.now) (sym c.loop.invariant.read);
+  stood = c.loop.invariant.filter ∙ ap (truths_under (condition_of c.args.pred.now)) (sym c.loop.invariant.read);
   could = c.read_next.ensures.legal;
   taken = c.read_next.ensures.taken;
 }

@@ -1,5 +1,6 @@
 use Rattle.std.proofs.Common.{◌≡◌, length}
 use Rattle.daq_table.specs.Tables.{ends_at}
+use Rattle.query_model.specs.Queries.{condition_of}
 use Rattle.plane_bench.specs.Planes.{table_after, truths_after}
 use Rattle.plane_bench.proofs.reading.follow_planes.Given as goal
 
@@ -7,5 +8,5 @@ abbrev pub invariant-loop : goal.invariant-loop
 invariant-loop l = record {
   read : l.columns ≡ table_after (ends_at l.fn.columns.frame 0) l.cells l.counter;
   rows : length l.plane ≡ length l.cells;
-  filter : l.filter ≡ truths_after l.pred (ends_at l.fn.columns.frame 0) l.cells l.counter;
+  filter : l.filter ≡ truths_after (condition_of l.pred) (ends_at l.fn.columns.frame 0) l.cells l.counter;
 }
