@@ -71,6 +71,10 @@ pub select_cut : Cuts Any (codes "SELECT ") (FIXED fixed.Select ∷ [])
 unfolding class_of word_of one_sign two_sign Blanked
 select_cut = cuts_append (Follow no_letter) Any (83 ∷ 69 ∷ 76 ∷ 69 ∷ 67 ∷ 84 ∷ []) (32 ∷ []) (FIXED fixed.Select ∷ []) ([]) (λ w h. refl) (cuts_word 83 (69 ∷ 76 ∷ 69 ∷ 67 ∷ 84 ∷ []) (FIXED fixed.Select) refl (refl, (refl, (refl, (refl, (refl, (refl, tt)))))) refl) cuts_blank
 
+pub count_of_cut : Cuts Any (codes "COUNT(") (FIXED fixed.Count ∷ FIXED fixed.Open ∷ [])
+unfolding class_of word_of one_sign two_sign Blanked
+count_of_cut = cuts_append (Follow no_letter) Any (67 ∷ 79 ∷ 85 ∷ 78 ∷ 84 ∷ []) (40 ∷ []) (FIXED fixed.Count ∷ []) (FIXED fixed.Open ∷ []) (λ w h. refl) (cuts_word 67 (79 ∷ 85 ∷ 78 ∷ 84 ∷ []) (FIXED fixed.Count) refl (refl, (refl, (refl, (refl, (refl, tt))))) refl) (cuts_sign Any 40 fixed.Open refl refl (λ w s c v e. refl))
+
 pub count_cut : Cuts Any (codes "COUNT(*)") (FIXED fixed.Count ∷ FIXED fixed.Open ∷ FIXED fixed.Star ∷ FIXED fixed.Close ∷ [])
 unfolding class_of word_of one_sign two_sign Blanked
 count_cut = cuts_append (Follow no_letter) Any (67 ∷ 79 ∷ 85 ∷ 78 ∷ 84 ∷ []) (40 ∷ 42 ∷ 41 ∷ []) (FIXED fixed.Count ∷ []) (FIXED fixed.Open ∷ FIXED fixed.Star ∷ FIXED fixed.Close ∷ []) (λ w h. refl) (cuts_word 67 (79 ∷ 85 ∷ 78 ∷ 84 ∷ []) (FIXED fixed.Count) refl (refl, (refl, (refl, (refl, (refl, tt))))) refl) (cuts_append Any Any (40 ∷ []) (42 ∷ 41 ∷ []) (FIXED fixed.Open ∷ []) (FIXED fixed.Star ∷ FIXED fixed.Close ∷ []) (λ w h. tt) (cuts_sign Any 40 fixed.Open refl refl (λ w s c v e. refl)) (cuts_append Any Any (42 ∷ []) (41 ∷ []) (FIXED fixed.Star ∷ []) (FIXED fixed.Close ∷ []) (λ w h. tt) (cuts_sign Any 42 fixed.Star refl refl (λ w s c v e. refl)) (cuts_sign Any 41 fixed.Close refl refl (λ w s c v e. refl))))
@@ -110,6 +114,14 @@ in_list_cut = cuts_append Any Any (32 ∷ []) (73 ∷ 78 ∷ 32 ∷ 40 ∷ []) (
 pub not_in_list_cut : Cuts Any (codes " NOT IN (") (FIXED fixed.Not ∷ FIXED fixed.In ∷ FIXED fixed.Open ∷ [])
 unfolding class_of word_of one_sign two_sign Blanked
 not_in_list_cut = cuts_append Any Any (32 ∷ []) (78 ∷ 79 ∷ 84 ∷ 32 ∷ 73 ∷ 78 ∷ 32 ∷ 40 ∷ []) ([]) (FIXED fixed.Not ∷ FIXED fixed.In ∷ FIXED fixed.Open ∷ []) (λ w h. tt) cuts_blank (cuts_append (Follow no_letter) Any (78 ∷ 79 ∷ 84 ∷ []) (32 ∷ 73 ∷ 78 ∷ 32 ∷ 40 ∷ []) (FIXED fixed.Not ∷ []) (FIXED fixed.In ∷ FIXED fixed.Open ∷ []) (λ w h. refl) (cuts_word 78 (79 ∷ 84 ∷ []) (FIXED fixed.Not) refl (refl, (refl, (refl, tt))) refl) (cuts_append Any Any (32 ∷ []) (73 ∷ 78 ∷ 32 ∷ 40 ∷ []) ([]) (FIXED fixed.In ∷ FIXED fixed.Open ∷ []) (λ w h. tt) cuts_blank (cuts_append (Follow no_letter) Any (73 ∷ 78 ∷ []) (32 ∷ 40 ∷ []) (FIXED fixed.In ∷ []) (FIXED fixed.Open ∷ []) (λ w h. refl) (cuts_word 73 (78 ∷ []) (FIXED fixed.In) refl (refl, (refl, tt)) refl) (cuts_append Any Any (32 ∷ []) (40 ∷ []) ([]) (FIXED fixed.Open ∷ []) (λ w h. tt) cuts_blank (cuts_sign Any 40 fixed.Open refl refl (λ w s c v e. refl))))))
+
+pub null_cut : Cuts (Follow no_letter) (codes " IS NULL") (FIXED fixed.Is ∷ FIXED fixed.Null ∷ [])
+unfolding class_of word_of one_sign two_sign Blanked
+null_cut = cuts_append Any (Follow no_letter) (32 ∷ []) (73 ∷ 83 ∷ 32 ∷ 78 ∷ 85 ∷ 76 ∷ 76 ∷ []) ([]) (FIXED fixed.Is ∷ FIXED fixed.Null ∷ []) (λ w h. tt) cuts_blank (cuts_append (Follow no_letter) (Follow no_letter) (73 ∷ 83 ∷ []) (32 ∷ 78 ∷ 85 ∷ 76 ∷ 76 ∷ []) (FIXED fixed.Is ∷ []) (FIXED fixed.Null ∷ []) (λ w h. refl) (cuts_word 73 (83 ∷ []) (FIXED fixed.Is) refl (refl, (refl, tt)) refl) (cuts_append Any (Follow no_letter) (32 ∷ []) (78 ∷ 85 ∷ 76 ∷ 76 ∷ []) ([]) (FIXED fixed.Null ∷ []) (λ w h. tt) cuts_blank (cuts_word 78 (85 ∷ 76 ∷ 76 ∷ []) (FIXED fixed.Null) refl (refl, (refl, (refl, (refl, tt)))) refl)))
+
+pub not_null_cut : Cuts (Follow no_letter) (codes " IS NOT NULL") (FIXED fixed.Is ∷ FIXED fixed.Not ∷ FIXED fixed.Null ∷ [])
+unfolding class_of word_of one_sign two_sign Blanked
+not_null_cut = cuts_append Any (Follow no_letter) (32 ∷ []) (73 ∷ 83 ∷ 32 ∷ 78 ∷ 79 ∷ 84 ∷ 32 ∷ 78 ∷ 85 ∷ 76 ∷ 76 ∷ []) ([]) (FIXED fixed.Is ∷ FIXED fixed.Not ∷ FIXED fixed.Null ∷ []) (λ w h. tt) cuts_blank (cuts_append (Follow no_letter) (Follow no_letter) (73 ∷ 83 ∷ []) (32 ∷ 78 ∷ 79 ∷ 84 ∷ 32 ∷ 78 ∷ 85 ∷ 76 ∷ 76 ∷ []) (FIXED fixed.Is ∷ []) (FIXED fixed.Not ∷ FIXED fixed.Null ∷ []) (λ w h. refl) (cuts_word 73 (83 ∷ []) (FIXED fixed.Is) refl (refl, (refl, tt)) refl) (cuts_append Any (Follow no_letter) (32 ∷ []) (78 ∷ 79 ∷ 84 ∷ 32 ∷ 78 ∷ 85 ∷ 76 ∷ 76 ∷ []) ([]) (FIXED fixed.Not ∷ FIXED fixed.Null ∷ []) (λ w h. tt) cuts_blank (cuts_append (Follow no_letter) (Follow no_letter) (78 ∷ 79 ∷ 84 ∷ []) (32 ∷ 78 ∷ 85 ∷ 76 ∷ 76 ∷ []) (FIXED fixed.Not ∷ []) (FIXED fixed.Null ∷ []) (λ w h. refl) (cuts_word 78 (79 ∷ 84 ∷ []) (FIXED fixed.Not) refl (refl, (refl, (refl, tt))) refl) (cuts_append Any (Follow no_letter) (32 ∷ []) (78 ∷ 85 ∷ 76 ∷ 76 ∷ []) ([]) (FIXED fixed.Null ∷ []) (λ w h. tt) cuts_blank (cuts_word 78 (85 ∷ 76 ∷ 76 ∷ []) (FIXED fixed.Null) refl (refl, (refl, (refl, (refl, tt)))) refl)))))
 
 pub group_by_cut : Cuts Any (codes " GROUP BY ") (FIXED fixed.Group ∷ FIXED fixed.By ∷ [])
 unfolding class_of word_of one_sign two_sign Blanked

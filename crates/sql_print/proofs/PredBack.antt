@@ -9,11 +9,11 @@ use Rattle.sql_text.specs.declared.tree.Comparison.{Comparison}
 use Rattle.sql_text.specs.declared.tree.Comparison.TheVariants as cmps
 use Rattle.sql_print.specs.declared.printing.Side.{Side}
 use Rattle.sql_print.specs.declared.printing.Side.TheVariants.{Left, Middle, Right}
-use Rattle.sql_text.specs.Tree.{Name, Operand, Numeric, Str, Day, Pred, Compare, Columns, Between, OneOf, Negation, Both, Either}
+use Rattle.sql_text.specs.Tree.{Name, Operand, Numeric, Str, Day, Pred, Compare, Columns, Between, OneOf, IsNull, Negation, Both, Either}
 use Rattle.sql_print.specs.Bare.{bare_name, bare_operand, bare_pred}
 use Rattle.sql_text.specs.Number.{is, is_name, is_string, is_cmp, cmp_of, is_small}
 use Rattle.sql_text.specs.Rule.{InPred, InNeg, Rule, give, one, number, either, deeper, next, start, further, IsOf}
-use Rattle.sql_text.specs.Grammar.{listed, value, between, members, ranged, compared, condition, atom, neg, conj, pred, Inside, Is}
+use Rattle.sql_text.specs.Grammar.{listed, value, between, members, ranged, nullness, compared, condition, atom, neg, conj, pred, Inside, Is}
 use Rattle.sql_print.specs.Printed.{wraps_loose, wraps_tight}
 use Rattle.sql_text.proofs.RuleFine.{Parts}
 use Rattle.sql_print.proofs.Back.{Spells, gone, mark_at, marks_of, sp_give, sp_one, sp_number, sp_go, sp_stay, sp_next, sp_deeper, sp_deeper_stay, sp_start, sp_further}
@@ -51,6 +51,7 @@ members_marks vs = FIXED fixed.In ∷ (FIXED fixed.Open ∷ (listed_marks operan
 abbrev pub negated_marks : Pred → List Mark → List Mark
 negated_marks (Between c low high) w = NAME c.name ∷ (FIXED fixed.Not ∷ between_marks low high)
 negated_marks (OneOf c vs) w = NAME c.name ∷ (FIXED fixed.Not ∷ members_marks vs)
+negated_marks (IsNull c) w = NAME c.name ∷ (FIXED fixed.Is ∷ (FIXED fixed.Not ∷ (FIXED fixed.Null ∷ [])))
 negated_marks _ w = FIXED fixed.Not ∷ w
 
 abbrev pub pred_marks : Side → Pred → List Mark
@@ -58,6 +59,7 @@ pred_marks side (Compare c op v) = NAME c.name ∷ (FIXED (sign_of op) ∷ opera
 pred_marks side (Columns c op d) = NAME c.name ∷ (FIXED (sign_of op) ∷ (NAME d.name ∷ []))
 pred_marks side (Between c low high) = NAME c.name ∷ between_marks low high
 pred_marks side (OneOf c vs) = NAME c.name ∷ members_marks vs
+pred_marks side (IsNull c) = NAME c.name ∷ (FIXED fixed.Is ∷ (FIXED fixed.Null ∷ []))
 pred_marks side (Negation a) = negated_marks a (pred_marks Right a)
 pred_marks side (Both a b) = wrapped (wraps_tight side) (pred_marks Middle a ++ (FIXED fixed.And ∷ pred_marks Right b))
 pred_marks side (Either a b) = wrapped (wraps_loose side) (pred_marks Left a ++ (FIXED fixed.Or ∷ pred_marks Middle b))
@@ -67,6 +69,7 @@ pred_marks side (Either a b) = wrapped (wraps_loose side) (pred_marks Left a ++ 
 abbrev pub negated_need : Pred → ℕ → ℕ
 negated_need (Between c low high) n = 0
 negated_need (OneOf c vs) n = 0
+negated_need (IsNull c) n = 0
 negated_need _ n = suc n
 
 abbrev pub pred_need : Side → Pred → ℕ
@@ -74,6 +77,7 @@ pred_need side (Compare c op v) = 0
 pred_need side (Columns c op d) = 0
 pred_need side (Between c low high) = 0
 pred_need side (OneOf c vs) = 0
+pred_need side (IsNull c) = 0
 pred_need side (Negation a) = negated_need a (pred_need Right a)
 pred_need side (Both a b) = one_more (wraps_tight side) (max (pred_need Middle a) (pred_need Right b))
 pred_need side (Either a b) = one_more (wraps_loose side) (max (pred_need Left a) (pred_need Middle b))
@@ -83,6 +87,7 @@ negated_most (Compare c op v) n = omega arith
 negated_most (Columns c op d) n = omega arith
 negated_most (Between c low high) n = omega arith
 negated_most (OneOf c vs) n = omega arith
+negated_most (IsNull c) n = omega arith
 negated_most (Negation a) n = omega arith
 negated_most (Both a b) n = omega arith
 negated_most (Either a b) n = omega arith
@@ -92,6 +97,7 @@ left_need (Compare c op v) = omega arith
 left_need (Columns c op d) = omega arith
 left_need (Between c low high) = omega arith
 left_need (OneOf c vs) = omega arith
+left_need (IsNull c) = omega arith
 left_need (Negation a) = omega arith
 left_need (Both a b) = omega arith
 left_need (Either a b) = omega arith
@@ -101,6 +107,7 @@ middle_need (Compare c op v) = omega arith
 middle_need (Columns c op d) = omega arith
 middle_need (Between c low high) = omega arith
 middle_need (OneOf c vs) = omega arith
+middle_need (IsNull c) = omega arith
 middle_need (Negation a) = omega arith
 middle_need (Both a b) = omega arith
 middle_need (Either a b) = omega arith
@@ -110,6 +117,7 @@ right_need (Compare c op v) = omega arith
 right_need (Columns c op d) = omega arith
 right_need (Between c low high) = omega arith
 right_need (OneOf c vs) = omega arith
+right_need (IsNull c) = omega arith
 right_need (Negation a) = omega arith
 right_need (Both a b) = omega arith
 right_need (Either a b) = omega arith
@@ -145,6 +153,7 @@ module _ (Ok : Mark → Type 0) where
   PredOk (Columns c op d) = Ok (NAME c.name) × Ok (NAME d.name)
   PredOk (Between c low high) = Ok (NAME c.name) × OperandOk low × OperandOk high
   PredOk (OneOf c vs) = Ok (NAME c.name) × SomeOk OperandOk vs
+  PredOk (IsNull c) = Ok (NAME c.name)
   PredOk (Negation a) = PredOk a
   PredOk (Both a b) = PredOk a × PredOk b
   PredOk (Either a b) = PredOk a × PredOk b
@@ -202,6 +211,11 @@ module _ (Ok : Mark → Type 0) where
         let parts = all_parts Ok w h.0 h.1 h.3 all in
         subst (λ a. (pred_need Right a ≤ 0) × PredOk a) (sym h.5.1) (omega arith, (ok, value_ok h.0 h.2 parts.0 h.4))
 
+    nullness_ok : (c : Name) (w : List Lexeme) (a : Pred) → Ok (NAME c.name) → IsOf is_small I (nullness c) w a → (pred_need Right a ≤ 0) × PredOk a
+    unfolding nullness
+    nullness_ok c w a ok (inl h) = subst (λ a. (pred_need Right a ≤ 0) × PredOk a) (sym h.5.5.1) (omega arith, ok)
+    nullness_ok c w a ok (inr h) = subst (λ a. (pred_need Right a ≤ 0) × PredOk a) (sym h.5.1) (omega arith, ok)
+
     condition_ok : (c : Name) (w : List Lexeme) (a : Pred) → Ok (NAME c.name) → AllOk Ok (marks_of w) → IsOf is_small I (condition c) w a → (pred_need Right a ≤ 0) × PredOk a
     unfolding condition
     condition_ok c w a ok all (inl h) =
@@ -210,7 +224,8 @@ module _ (Ok : Mark → Type 0) where
         subst (λ a. (pred_need Right a ≤ 0) × PredOk a) (sym n.5.1)
         (ranged_ok c (λ b. (pred_need Right (Negation b) ≤ 0) × PredOk (Negation b)) (λ low high p q. (omega arith, (ok, p, q))) (λ vs p. (omega arith, (ok, p))) n.0 n.2 parts.0 n.4)
     condition_ok c w a ok all (inr (inl h)) = compared_ok c h.1 h.2 a ok (all_tail Ok w h.2 h.0 h.3 all) h.5
-    condition_ok c w a ok all (inr (inr h)) = ranged_ok c (λ b. (pred_need Right b ≤ 0) × PredOk b) (λ low high p q. (omega arith, (ok, p, q))) (λ vs p. (omega arith, (ok, p))) w a all h
+    condition_ok c w a ok all (inr (inr (inl h))) = nullness_ok c h.2 a ok h.5
+    condition_ok c w a ok all (inr (inr (inr h))) = ranged_ok c (λ b. (pred_need Right b ≤ 0) × PredOk b) (λ low high p q. (omega arith, (ok, p, q))) (λ vs p. (omega arith, (ok, p))) w a all h
 
     atom_ok : (w : List Lexeme) (a : Pred) → AllOk Ok (marks_of w) → IsOf is_small I atom w a → (pred_need Right a ≤ 0) × PredOk a
     unfolding atom
@@ -290,7 +305,7 @@ in_parentheses n a ms h =
     (λ b same. sp_next is_small I bare_pred (bare_pred a) (one (is fixed.Close)) (λ _. give b) gone true (FIXED fixed.Close ∷ []) []
     (sp_one is_small I gone true (is fixed.Close) (FIXED fixed.Close) (λ p. (p, refl, refl))) (λ p k. sp_give is_small I bare_pred b (bare_pred a) same)))
 
--- NOT before what is no condition with BETWEEN or IN
+-- NOT before what is no condition with BETWEEN, IN or IS
 not_back : (n : ℕ) (a : Pred) (ms : List Mark) → Prints n Right a ms → Prints (suc n) Right (Negation a) (FIXED fixed.Not ∷ ms)
 unfolding Prints neg is
 not_back n a ms h =
@@ -399,17 +414,22 @@ module _ (I : Parts) where
       sp_stay is_small I bare_pred (bare_pred (OneOf c vs)) (is fixed.Between) (λ _. between d) (next (one (is fixed.In)) (λ _. members d)) (members_marks vs)
       (fixed_back bare_pred (bare_pred (OneOf c vs)) fixed.In (λ p. refl) (members d) (FIXED fixed.Open ∷ (listed_marks operand_marks vs ++ (FIXED fixed.Close ∷ []))) (members_back Ok c d vs same p))
 
+  -- a condition with no NOT at its front
+  abbrev signed : Name → Rule Pred
+  signed d = either is_cmp (λ op. compared d op) (either (is fixed.Is) (λ _. nullness d) (ranged d))
+
   -- a condition with BETWEEN or IN, and NOT before it
   plain_back : (d : Name) (t : Pred) (ms : List Mark) → Spells (IsOf is_small I (ranged d)) bare_pred t ms → Spells (IsOf is_small I (condition d)) bare_pred t ms
   unfolding condition
   plain_back d t ms h =
-      sp_stay is_small I bare_pred t (is fixed.Not) (λ _. next (ranged d) (λ a. give (Negation a))) (either is_cmp (λ op. compared d op) (ranged d)) ms
-      (sp_stay is_small I bare_pred t is_cmp (λ op. compared d op) (ranged d) ms h)
+      sp_stay is_small I bare_pred t (is fixed.Not) (λ _. next (ranged d) (λ a. give (Negation a))) (signed d) ms
+      (sp_stay is_small I bare_pred t is_cmp (λ op. compared d op) (either (is fixed.Is) (λ _. nullness d) (ranged d)) ms
+      (sp_stay is_small I bare_pred t (is fixed.Is) (λ _. nullness d) (ranged d) ms h))
 
   negated_back : (d : Name) (a : Pred) (ms : List Mark) → Spells (IsOf is_small I (ranged d)) bare_pred (bare_pred a) ms → Spells (IsOf is_small I (condition d)) bare_pred (bare_pred (Negation a)) (FIXED fixed.Not ∷ ms)
   unfolding condition is
   negated_back d a ms h =
-      sp_go is_small I bare_pred (bare_pred (Negation a)) (is fixed.Not) (FIXED fixed.Not) (λ _. next (ranged d) (λ a. give (Negation a))) (either is_cmp (λ op. compared d op) (ranged d)) ms
+      sp_go is_small I bare_pred (bare_pred (Negation a)) (is fixed.Not) (FIXED fixed.Not) (λ _. next (ranged d) (λ a. give (Negation a))) (signed d) ms
       (λ x. (
         x,
         refl,
@@ -438,8 +458,8 @@ module _ (I : Parts) where
   compared_back : (d : Name) (op : Comparison) (t : Pred) (ms : List Mark) → Spells (IsOf is_small I (compared d op)) bare_pred t ms → Spells (IsOf is_small I (condition d)) bare_pred t (FIXED (sign_of op) ∷ ms)
   unfolding condition
   compared_back d op t ms h =
-      sp_stay is_small I bare_pred t (is fixed.Not) (λ _. next (ranged d) (λ a. give (Negation a))) (either is_cmp (λ op. compared d op) (ranged d)) (FIXED (sign_of op) ∷ ms)
-      (sp_go is_small I bare_pred t is_cmp (FIXED (sign_of op)) (λ op. compared d op) (ranged d) ms (λ p. (op, cmp_there op p, h)))
+      sp_stay is_small I bare_pred t (is fixed.Not) (λ _. next (ranged d) (λ a. give (Negation a))) (signed d) (FIXED (sign_of op) ∷ ms)
+      (sp_go is_small I bare_pred t is_cmp (FIXED (sign_of op)) (λ op. compared d op) (either (is fixed.Is) (λ _. nullness d) (ranged d)) ms (λ p. (op, cmp_there op p, h)))
 
   compare_back : (Ok : Mark → Type 0) (c d : Name) (op : Comparison) (v : Operand) → bare_name d ≡ bare_name c → OperandOk Ok v → Spells (IsOf is_small I (condition d)) bare_pred (bare_pred (Compare c op v)) (FIXED (sign_of op) ∷ operand_marks v)
   unfolding compared
@@ -456,6 +476,33 @@ module _ (I : Parts) where
       let t : Pred = bare_pred (Columns c op e) in
       compared_back d op t (NAME e.name ∷ [])
       (sp_go is_small I bare_pred t is_name (NAME e.name) (λ e. give (Columns d op e)) (next value (λ v. give (Compare d op v))) [] (λ p. (record { at = p; name = e.name }, refl, sp_give is_small I bare_pred (Columns d op (record { at = p; name = e.name })) t (rw same refl))))
+
+  -- what follows IS
+  after_is : (d : Name) (t : Pred) (ms : List Mark) → Spells (IsOf is_small I (nullness d)) bare_pred t ms → Spells (IsOf is_small I (condition d)) bare_pred t (FIXED fixed.Is ∷ ms)
+  unfolding condition is
+  after_is d t ms h =
+      sp_stay is_small I bare_pred t (is fixed.Not) (λ _. next (ranged d) (λ a. give (Negation a))) (signed d) (FIXED fixed.Is ∷ ms)
+      (sp_stay is_small I bare_pred t is_cmp (λ op. compared d op) (either (is fixed.Is) (λ _. nullness d) (ranged d)) (FIXED fixed.Is ∷ ms)
+      (sp_go is_small I bare_pred t (is fixed.Is) (FIXED fixed.Is) (λ _. nullness d) (ranged d) ms (λ p. (p, refl, h))))
+
+  null_back : (d : Name) (a : Pred) (t : Pred) → bare_pred a ≡ t → Spells (IsOf is_small I (next (one (is fixed.Null)) (λ _. give a))) bare_pred t (FIXED fixed.Null ∷ [])
+  unfolding is
+  null_back d a t same = fixed_back bare_pred t fixed.Null (λ p. refl) (give a) [] (sp_give is_small I bare_pred a t same)
+
+  is_null_back : (c d : Name) → bare_name d ≡ bare_name c → Spells (IsOf is_small I (condition d)) bare_pred (bare_pred (IsNull c)) (FIXED fixed.Is ∷ (FIXED fixed.Null ∷ []))
+  unfolding nullness
+  is_null_back c d same =
+      let t : Pred = bare_pred (IsNull c) in
+      after_is d t (FIXED fixed.Null ∷ [])
+      (sp_stay is_small I bare_pred t (is fixed.Not) (λ _. next (one (is fixed.Null)) (λ _. give (Negation (IsNull d)))) (next (one (is fixed.Null)) (λ _. give (IsNull d))) (FIXED fixed.Null ∷ []) (null_back d (IsNull d) t (rw same refl)))
+
+  is_not_null_back : (c d : Name) → bare_name d ≡ bare_name c → Spells (IsOf is_small I (condition d)) bare_pred (bare_pred (Negation (IsNull c))) (FIXED fixed.Is ∷ (FIXED fixed.Not ∷ (FIXED fixed.Null ∷ [])))
+  unfolding nullness is
+  is_not_null_back c d same =
+      let t : Pred = bare_pred (Negation (IsNull c)) in
+      after_is d t (FIXED fixed.Not ∷ (FIXED fixed.Null ∷ []))
+      (sp_go is_small I bare_pred t (is fixed.Not) (FIXED fixed.Not) (λ _. next (one (is fixed.Null)) (λ _. give (Negation (IsNull d)))) (next (one (is fixed.Null)) (λ _. give (IsNull d))) (FIXED fixed.Null ∷ [])
+      (λ p. (p, refl, null_back d (Negation (IsNull d)) t (rw same refl))))
 
 atom_back : (n : ℕ) (c : Name) (a : Pred) (ms : List Mark) → ((d : Name) → bare_name d ≡ bare_name c → Spells (Is is_small n (condition d)) bare_pred (bare_pred a) ms) → Prints n Right a (NAME c.name ∷ ms)
 unfolding Prints neg atom is_name
@@ -502,6 +549,9 @@ module _ (Ok : Mark → Type 0) where
   negation n side (OneOf c vs) le ok h =
       at_side n side (Negation (OneOf c vs)) (NAME c.name ∷ (FIXED fixed.Not ∷ members_marks vs))
       (atom_back n c (Negation (OneOf c vs)) (FIXED fixed.Not ∷ members_marks vs) (λ d same. negated_back (Inside is_small n) d (OneOf c vs) (members_marks vs) (ranged_members (Inside is_small n) Ok c d vs same ok.1)))
+  negation n side (IsNull c) le ok h =
+      at_side n side (Negation (IsNull c)) (NAME c.name ∷ (FIXED fixed.Is ∷ (FIXED fixed.Not ∷ (FIXED fixed.Null ∷ []))))
+      (atom_back n c (Negation (IsNull c)) (FIXED fixed.Is ∷ (FIXED fixed.Not ∷ (FIXED fixed.Null ∷ []))) (λ d same. is_not_null_back (Inside is_small n) c d same))
   negation n side (Compare c op v) le ok h = not_at n side (Compare c op v) le h
   negation n side (Columns c op d) le ok h = not_at n side (Columns c op d) le h
   negation n side (Negation a) le ok h = not_at n side (Negation a) le h
@@ -521,6 +571,9 @@ module _ (Ok : Mark → Type 0) where
   prints n side (OneOf c vs) le ok =
       at_side n side (OneOf c vs) (NAME c.name ∷ members_marks vs)
       (atom_back n c (OneOf c vs) (members_marks vs) (λ d same. plain_back (Inside is_small n) d (bare_pred (OneOf c vs)) (members_marks vs) (ranged_members (Inside is_small n) Ok c d vs same ok.1)))
+  prints n side (IsNull c) le ok =
+      at_side n side (IsNull c) (NAME c.name ∷ (FIXED fixed.Is ∷ (FIXED fixed.Null ∷ [])))
+      (atom_back n c (IsNull c) (FIXED fixed.Is ∷ (FIXED fixed.Null ∷ [])) (λ d same. is_null_back (Inside is_small n) c d same))
   prints n side (Negation a) le ok = negation n side a le ok (λ m l. prints m Right a l ok)
   prints n side (Both a b) le ok =
       tight n (max (pred_need Middle a) (pred_need Right b)) side (Both a b) (pred_marks Middle a ++ (FIXED fixed.And ∷ pred_marks Right b)) le

@@ -13,7 +13,7 @@ use Rattle.sql_text.specs.Tree.{Name, Expr, Item, Plain, CountAll, Call, Head, I
 use Rattle.sql_print.specs.Bare.{bare_name, bare_expr, bare_item, bare_head, bare_pred, bare_filter, bare_ending, bare}
 use Rattle.sql_text.specs.Number.{Written, is, is_name, is_call, call_of, is_small, number_of}
 use Rattle.sql_text.specs.Rule.{Rule, give, one, number, either, next, IsOf}
-use Rattle.sql_text.specs.Grammar.{listed, expr, pred, count, call, item, filter, grouping, direction, ordering, semicolon, source, query, Inside, Is}
+use Rattle.sql_text.specs.Grammar.{listed, expr, pred, argument, count, call, item, filter, grouping, direction, ordering, semicolon, source, query, Inside, Is}
 use Rattle.sql_text.proofs.RuleFine.{Parts}
 use Rattle.sql_print.proofs.Back.{Spells, marks_of, sp_give, sp_one, sp_number, sp_go, sp_stay, sp_next}
 use Rattle.sql_print.proofs.ExprBack.{units_marks, expr_marks, expr_need, AllOk, ExprOk, all_parts, all_tail, all_head, name_ok, number_there, small_pos, is_expr_ok, expr_back}
@@ -22,6 +22,7 @@ use Rattle.sql_print.proofs.PredBack.{listed_marks, pred_marks, pred_need, SomeO
 -- ---- marks
 
 abbrev pub call_fixed : CallKind → Fixed
+call_fixed calls.Count = fixed.Count
 call_fixed calls.Sum = fixed.Sum
 call_fixed calls.Avg = fixed.Avg
 call_fixed calls.Min = fixed.Min
@@ -91,17 +92,27 @@ module _ (Ok : Mark → Type 0) (n : ℕ) where
   name_item : (w : List Lexeme) (s : Name) → AllOk Ok (marks_of w) → IsOf is_small (Inside is_small n) (one is_name) w s → Ok (NAME s.name)
   name_item w s all h = name_ok Ok h.0 s h.2 (all_head Ok w [] h.0 h.1 all)
 
+  argument_ok : (kind : CallKind) (w : List Lexeme) (i : Item) → AllOk Ok (marks_of w) → IsOf is_small (Inside is_small n) (argument kind) w i → ItemOk i
+  unfolding argument
+  argument_ok kind w i all h = subst ItemOk (sym h.5.5.1) (is_expr_ok Ok n h.0 h.2 (all_parts Ok w h.0 h.1 h.3 all).0 h.4)
+
+  count_ok : (w : List Lexeme) (i : Item) → AllOk Ok (marks_of w) → IsOf is_small (Inside is_small n) count w i → ItemOk i
+  unfolding count
+  count_ok w i all h = go h.1 (all_parts Ok w h.0 h.1 h.3 all).1 h.5
+    where
+      go : (v : List Lexeme) → AllOk Ok (marks_of v) → IsOf is_small (Inside is_small n) (either (is fixed.Star) (λ _. next (one (is fixed.Close)) (λ _. give CountAll)) (argument calls.Count)) v i → ItemOk i
+      go v ok (inl k) = subst ItemOk (sym k.5.5.1) tt
+      go v ok (inr k) = argument_ok calls.Count v i ok k
+
   item_ok : (w : List Lexeme) (i : Item) → AllOk Ok (marks_of w) → IsOf is_small (Inside is_small n) item w i → ItemOk i
-  unfolding item count call
+  unfolding item call
   item_ok w i all (inl h) = subst ItemOk (sym h.5.1) (name_ok Ok h.0 h.1 h.4 (all_head Ok w h.2 h.0 h.3 all))
-  item_ok w i all (inr (inl h)) = subst ItemOk (sym h.5.5.5.5.1) tt
+  item_ok w i all (inr (inl h)) = count_ok h.2 i (all_tail Ok w h.2 h.0 h.3 all) h.5
   item_ok w i all (inr (inr h)) =
       let a = all_parts Ok w h.0 h.1 h.3 all in
       let x = h.5 in
       let b = all_parts Ok h.1 x.0 x.1 x.3 a.1 in
-      let y = x.5 in
-      let c = all_parts Ok x.1 y.0 y.1 y.3 b.1 in
-      subst ItemOk (sym y.5.5.1) (is_expr_ok Ok n y.0 y.2 c.0 y.4)
+      argument_ok h.2 x.1 i b.1 x.5
 
   filter_ok : (w : List Lexeme) (f : Option Pred) → AllOk Ok (marks_of w) → IsOf is_small (Inside is_small n) filter w f → FilterOk f
   unfolding filter
@@ -184,51 +195,59 @@ module _ (Ok : Mark → Type 0) (n : ℕ) where
   unfolding is_name
   name_back s ok = sp_one is_small (Inside is_small n) bare_name (bare_name s) is_name (NAME s.name) (λ p. (record { at = p; name = s.name }, refl, refl))
 
-  call_there : (kind : CallKind) (p : ℕ) → is_call (token p (FIXED (call_fixed kind))) ≡ Some kind
-  unfolding call_of
-  call_there calls.Sum p = refl
-  call_there calls.Avg p = refl
-  call_there calls.Min p = refl
-  call_there calls.Max p = refl
+  -- the argument of a call, and what closes it
+  argument_back : (kind k : CallKind) (e : Expr) → k ≡ kind → ItemOk Ok n (Call kind e) → Spells (IsOf is_small (Inside is_small n) (argument k)) bare_item (bare_item (Call kind e)) (expr_marks Left e ++ (FIXED fixed.Close ∷ []))
+  unfolding argument is
+  argument_back kind k e same ok =
+      let J : Parts = Inside is_small n in
+      let c : Item = bare_item (Call kind e) in
+      sp_next is_small J bare_item c expr (λ e. next (one (is fixed.Close)) (λ _. give (Call k e))) bare_expr (bare_expr e) (expr_marks Left e) (FIXED fixed.Close ∷ []) (expr_back Ok n e ok.0 ok.1)
+      (λ d ed. fixed_back J bare_item c fixed.Close (λ p. refl) (give (Call k d)) [] (sp_give is_small J bare_item (Call k d) c (rw (same, ed) refl)))
 
-  no_count : (kind : CallKind) (p : ℕ) → is fixed.Count (token p (FIXED (call_fixed kind))) ≡ None
-  unfolding is
-  no_count calls.Sum p = refl
-  no_count calls.Avg p = refl
-  no_count calls.Min p = refl
-  no_count calls.Max p = refl
+  -- an item that begins with COUNT
+  counted : (c : Item) (ms : List Mark) → Spells (IsOf is_small (Inside is_small n) (either (is fixed.Star) (λ _. next (one (is fixed.Close)) (λ _. give CountAll)) (argument calls.Count))) bare_item c ms
+      → Spells (IsOf is_small (Inside is_small n) item) bare_item c (FIXED fixed.Count ∷ (FIXED fixed.Open ∷ ms))
+  unfolding item count is
+  counted c ms h =
+      let J : Parts = Inside is_small n in
+      sp_stay is_small J bare_item c is_name (λ n. give (Plain n)) (either (is fixed.Count) (λ _. count) call) (FIXED fixed.Count ∷ (FIXED fixed.Open ∷ ms))
+      (sp_go is_small J bare_item c (is fixed.Count) (FIXED fixed.Count) (λ _. count) call (FIXED fixed.Open ∷ ms)
+      (λ p. (p, refl, fixed_back J bare_item c fixed.Open (λ p. refl) (either (is fixed.Star) (λ _. next (one (is fixed.Close)) (λ _. give CountAll)) (argument calls.Count)) ms h)))
+
+  -- an item that begins with SUM, AVG, MIN or MAX
+  called : (kind : CallKind) (e : Expr) (k : Fixed) → ((p : ℕ) → is_call (token p (FIXED k)) ≡ Some kind) → ItemOk Ok n (Call kind e)
+      → Spells (IsOf is_small (Inside is_small n) item) bare_item (bare_item (Call kind e)) (FIXED k ∷ (FIXED fixed.Open ∷ (expr_marks Left e ++ (FIXED fixed.Close ∷ []))))
+  unfolding item call is
+  called kind e k there ok =
+      let J : Parts = Inside is_small n in
+      let c : Item = bare_item (Call kind e) in
+      let ms : List Mark = FIXED fixed.Open ∷ (expr_marks Left e ++ (FIXED fixed.Close ∷ [])) in
+      sp_stay is_small J bare_item c is_name (λ n. give (Plain n)) (either (is fixed.Count) (λ _. count) call) (FIXED k ∷ ms)
+      (sp_stay is_small J bare_item c (is fixed.Count) (λ _. count) call (FIXED k ∷ ms)
+      (sp_next is_small J bare_item c (one is_call) (λ kind. next (one (is fixed.Open)) (λ _. argument kind)) (λ (k : CallKind). k) kind (FIXED k ∷ []) ms
+      (sp_one is_small J (λ (k : CallKind). k) kind is_call (FIXED k) (λ p. (kind, there p, refl)))
+      (λ j same. fixed_back J bare_item c fixed.Open (λ p. refl) (argument j) (expr_marks Left e ++ (FIXED fixed.Close ∷ [])) (argument_back kind j e same ok))))
 
   item_back : (i : Item) → ItemOk Ok n i → Spells (IsOf is_small (Inside is_small n) item) bare_item (bare_item i) (item_marks i)
-  unfolding item count call is is_name
+  unfolding item is is_name call_of
   item_back (Plain s) ok =
       let c : Item = bare_item (Plain s) in
       sp_go is_small (Inside is_small n) bare_item c is_name (NAME s.name) (λ n. give (Plain n)) (either (is fixed.Count) (λ _. count) call) []
       (λ p. (record { at = p; name = s.name }, refl, sp_give is_small (Inside is_small n) bare_item (Plain (record { at = p; name = s.name })) c refl))
   item_back CountAll ok =
       let J : Parts = Inside is_small n in
-      let ms : List Mark = FIXED fixed.Open ∷ (FIXED fixed.Star ∷ (FIXED fixed.Close ∷ [])) in
       let last : Rule Item = next (one (is fixed.Close)) (λ _. give CountAll) in
-      let middle : Rule Item = next (one (is fixed.Star)) (λ _. last) in
-      sp_stay is_small J bare_item CountAll is_name (λ n. give (Plain n)) (either (is fixed.Count) (λ _. count) call) (FIXED fixed.Count ∷ ms)
-      (sp_go is_small J bare_item CountAll (is fixed.Count) (FIXED fixed.Count) (λ _. count) call ms
-      (λ p. (
-        p,
-        refl,
-        fixed_back J bare_item CountAll fixed.Open (λ p. refl) middle (FIXED fixed.Star ∷ (FIXED fixed.Close ∷ []))
-            (fixed_back J bare_item CountAll fixed.Star (λ p. refl) last (FIXED fixed.Close ∷ []) (fixed_back J bare_item CountAll fixed.Close (λ p. refl) (give CountAll) [] (sp_give is_small J bare_item CountAll CountAll refl))),
-      )))
-  item_back (Call kind e) ok =
-      let J : Parts = Inside is_small n in
-      let c : Item = bare_item (Call kind e) in
-      let ms : List Mark = FIXED fixed.Open ∷ (expr_marks Left e ++ (FIXED fixed.Close ∷ [])) in
-      let last : CallKind → Expr → Rule Item = λ kind e. next (one (is fixed.Close)) (λ _. give (Call kind e)) in
-      sp_stay is_small J bare_item c is_name (λ n. give (Plain n)) (either (is fixed.Count) (λ _. count) call) (FIXED (call_fixed kind) ∷ ms)
-      (sp_stay is_small J bare_item c (is fixed.Count) (λ _. count) call (FIXED (call_fixed kind) ∷ ms)
-      (sp_next is_small J bare_item c (one is_call) (λ kind. next (one (is fixed.Open)) (λ _. next expr (last kind))) (λ (k : CallKind). k) kind (FIXED (call_fixed kind) ∷ []) ms
-      (sp_one is_small J (λ (k : CallKind). k) kind is_call (FIXED (call_fixed kind)) (λ p. (kind, call_there kind p, refl)))
-      (λ k same. fixed_back J bare_item c fixed.Open (λ p. refl) (next expr (last k)) (expr_marks Left e ++ (FIXED fixed.Close ∷ []))
-      (sp_next is_small J bare_item c expr (last k) bare_expr (bare_expr e) (expr_marks Left e) (FIXED fixed.Close ∷ []) (expr_back Ok n e ok.0 ok.1)
-      (λ d ed. fixed_back J bare_item c fixed.Close (λ p. refl) (give (Call k d)) [] (sp_give is_small J bare_item (Call k d) c (rw (same, ed) refl)))))))
+      counted CountAll (FIXED fixed.Star ∷ (FIXED fixed.Close ∷ []))
+      (sp_go is_small J bare_item CountAll (is fixed.Star) (FIXED fixed.Star) (λ _. last) (argument calls.Count) (FIXED fixed.Close ∷ [])
+      (λ p. (p, refl, fixed_back J bare_item CountAll fixed.Close (λ p. refl) (give CountAll) [] (sp_give is_small J bare_item CountAll CountAll refl))))
+  item_back (Call calls.Count e) ok =
+      let ms : List Mark = expr_marks Left e ++ (FIXED fixed.Close ∷ []) in
+      counted (bare_item (Call calls.Count e)) ms
+      (sp_stay is_small (Inside is_small n) bare_item (bare_item (Call calls.Count e)) (is fixed.Star) (λ _. next (one (is fixed.Close)) (λ _. give CountAll)) (argument calls.Count) ms (argument_back calls.Count calls.Count e refl ok))
+  item_back (Call calls.Sum e) ok = called calls.Sum e fixed.Sum (λ p. refl) ok
+  item_back (Call calls.Avg e) ok = called calls.Avg e fixed.Avg (λ p. refl) ok
+  item_back (Call calls.Min e) ok = called calls.Min e fixed.Min (λ p. refl) ok
+  item_back (Call calls.Max e) ok = called calls.Max e fixed.Max (λ p. refl) ok
 
   filter_back : (f : Option Pred) → FilterOk Ok n f → Spells (IsOf is_small (Inside is_small n) filter) bare_filter (bare_filter f) (filter_marks f)
   unfolding filter is

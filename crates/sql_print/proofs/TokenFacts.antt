@@ -137,7 +137,7 @@ none_is (Some k) e = absurd cc
 each_whole : (p : ℕ → Bool) (s : List ℕ) → prefix_len p s ≡ length s → Each p s
 each_whole p s e = subst (Each p) (ap (λ n. take n s) e ∙ take_all (length s) s (omega arith)) (each_taken p s)
 
-safe_letter : (w : List ℕ) → Safe w → Follow no_letter w
+pub safe_letter : (w : List ℕ) → Safe w → Follow no_letter w
 safe_letter [] h = tt
 safe_letter (c ∷ w) h = safe_cases (λ c. no_letter c ≡ true) refl refl refl c h
 

@@ -12,16 +12,16 @@ use Rattle.sql_text.specs.declared.tree.CallKind.{CallKind}
 use Rattle.sql_text.specs.declared.tree.CallKind.TheVariants as calls
 use Rattle.sql_print.specs.declared.printing.Side.{Side}
 use Rattle.sql_print.specs.declared.printing.Side.TheVariants.{Left, Middle, Right}
-use Rattle.sql_text.specs.Tree.{Name, Expr, Column, Number, Add, Sub, Mul, Item, Plain, CountAll, Call, Head, Items, Star, Operand, Numeric, Str, Day, Pred, Compare, Columns, Between, OneOf, Negation, Both, Either, Ending, Nothing, Grouped, Ordered, Query}
-use Rattle.sql_print.specs.Printed.{name_text, string_text, num_text, operand_text, listed_text, opening, closing, wraps_loose, wraps_tight, expr_text, call_text, item_text, head_text, cmp_text, between_word, in_word, between_text, members_text, negated_text, pred_text, filter_text, direction_text, ending_text, printed}
+use Rattle.sql_text.specs.Tree.{Name, Expr, Column, Number, Add, Sub, Mul, Item, Plain, CountAll, Call, Head, Items, Star, Operand, Numeric, Str, Day, Pred, Compare, Columns, Between, OneOf, IsNull, Negation, Both, Either, Ending, Nothing, Grouped, Ordered, Query}
+use Rattle.sql_print.specs.Printed.{name_text, string_text, num_text, operand_text, listed_text, opening, closing, wraps_loose, wraps_tight, expr_text, call_text, item_text, head_text, cmp_text, between_word, in_word, null_word, between_text, members_text, null_text, negated_text, pred_text, filter_text, direction_text, ending_text, printed}
 use Rattle.sql_print.specs.Bare.{bare}
 use Rattle.sql_text.specs.Answer.{most_levels, IsText}
 use Rattle.sql_print.proofs.ExprBack.{units_marks, wrapped, expr_marks, UnitsOk, ExprOk}
 use Rattle.sql_print.proofs.PredBack.{operand_marks, sign_of, more_marks, listed_marks, negated_marks, pred_marks, EachOk, SomeOk, OperandOk, PredOk}
 use Rattle.sql_print.proofs.QueryBack.{item_marks, head_marks, filter_marks, name_marks, direction_marks, ending_marks, query_marks, call_fixed, ItemOk, FilterOk, LimitOk, HeadOk, QueryOk, query_ok, query_back}
-use Rattle.sql_print.proofs.Spelled.{Safe, Any, Cuts, cuts_nil, cuts_less, cuts_append, cuts_string}
+use Rattle.sql_print.proofs.Spelled.{Safe, Any, Follow, no_letter, Cuts, cuts_nil, cuts_less, cuts_append, cuts_string}
 use Rattle.sql_print.proofs.Numerals.{KeepsUnits, cuts_number}
-use Rattle.sql_print.proofs.TokenFacts.{MarkOk, all_ok, name_cut}
+use Rattle.sql_print.proofs.TokenFacts.{MarkOk, all_ok, safe_letter, name_cut}
 use Rattle.sql_print.proofs.Pieces as piece
 
 -- ---- pieces
@@ -126,9 +126,13 @@ members_cut negated c vs ms word safe n p =
     let marks : List Mark = listed_marks operand_marks vs ++ (FIXED fixed.Close ∷ []) in
     before (name_text c.name) (in_word negated ++ rest) (NAME c.name ∷ []) (ms ++ marks) (λ w h. safe rest w) (name_cut c.name n) (behind (in_word negated) rest ms marks word (closed_list vs p))
 
+null_cut : (negated : Bool) (c : Name) (ms : List Mark) → Cuts (Follow no_letter) (null_word negated) ms → ((w : List ℕ) → Safe (null_word negated ++ w)) → MarkOk (NAME c.name) → Cuts Safe (null_text negated c) (NAME c.name ∷ ms)
+null_cut negated c ms word safe n = before (name_text c.name) (null_word negated) (NAME c.name ∷ []) ms (λ w h. safe w) (name_cut c.name n) (cuts_less (Follow no_letter) Safe (null_word negated) ms safe_letter word)
+
 negated_cut : (a : Pred) (t : List ℕ) (ms : List Mark) → PredOk MarkOk a → Cuts Safe t ms → Cuts Safe (negated_text a t) (negated_marks a ms)
 negated_cut (Between c low high) t ms ok h = between_cut true c low high (FIXED fixed.Not ∷ (FIXED fixed.Between ∷ [])) piece.not_between_cut (λ x w. refl) ok.0 ok.1 ok.2
 negated_cut (OneOf c vs) t ms ok h = members_cut true c vs (FIXED fixed.Not ∷ (FIXED fixed.In ∷ (FIXED fixed.Open ∷ []))) piece.not_in_list_cut (λ x w. refl) ok.0 ok.1
+negated_cut (IsNull c) t ms ok h = null_cut true c (FIXED fixed.Is ∷ (FIXED fixed.Not ∷ (FIXED fixed.Null ∷ []))) piece.not_null_cut (λ w. refl) ok
 negated_cut (Compare c op v) t ms ok h = behind (codes "NOT ") t (FIXED fixed.Not ∷ []) ms piece.not_cut h
 negated_cut (Columns c op d) t ms ok h = behind (codes "NOT ") t (FIXED fixed.Not ∷ []) ms piece.not_cut h
 negated_cut (Negation a) t ms ok h = behind (codes "NOT ") t (FIXED fixed.Not ∷ []) ms piece.not_cut h
@@ -140,6 +144,7 @@ pred_cut side (Compare c op v) ok = binary (name_text c.name) (cmp_text op) (ope
 pred_cut side (Columns c op d) ok = binary (name_text c.name) (cmp_text op) (name_text d.name) (NAME c.name ∷ []) (NAME d.name ∷ []) (FIXED (sign_of op)) (cmp_safe op (name_text d.name)) (name_cut c.name ok.0) (cmp_cut op) (name_cut d.name ok.1)
 pred_cut side (Between c low high) ok = between_cut false c low high (FIXED fixed.Between ∷ []) piece.between_cut (λ x w. refl) ok.0 ok.1 ok.2
 pred_cut side (OneOf c vs) ok = members_cut false c vs (FIXED fixed.In ∷ (FIXED fixed.Open ∷ [])) piece.in_list_cut (λ x w. refl) ok.0 ok.1
+pred_cut side (IsNull c) ok = null_cut false c (FIXED fixed.Is ∷ (FIXED fixed.Null ∷ [])) piece.null_cut (λ w. refl) ok
 pred_cut side (Negation a) ok = negated_cut a (pred_text Right a) (pred_marks Right a) ok (pred_cut Right a ok)
 pred_cut side (Both a b) ok =
     wrapped_cut (wraps_tight side) (pred_text Middle a) (codes " AND ") (pred_text Right b) (pred_marks Middle a) (pred_marks Right b) (FIXED fixed.And) (λ x w. refl) (pred_cut Middle a ok.0) piece.and_cut (pred_cut Right b ok.1)
@@ -149,6 +154,7 @@ pred_cut side (Either a b) ok =
 -- ---- queries
 
 call_cut : (kind : CallKind) → Cuts Any (call_text kind) (FIXED (call_fixed kind) ∷ (FIXED fixed.Open ∷ []))
+call_cut calls.Count = piece.count_of_cut
 call_cut calls.Sum = piece.sum_cut
 call_cut calls.Avg = piece.avg_cut
 call_cut calls.Min = piece.min_cut

@@ -12,8 +12,8 @@ use Rattle.sql_text.specs.declared.tree.CallKind.{CallKind}
 use Rattle.sql_text.specs.declared.tree.CallKind.TheVariants as calls
 use Rattle.sql_print.specs.declared.printing.Side.{Side}
 use Rattle.sql_print.specs.declared.printing.Side.TheVariants.{Left, Middle, Right}
-use Rattle.sql_text.specs.Tree.{Name, Expr, Column, Number, Add, Sub, Mul, Item, Plain, CountAll, Call, Head, Items, Star, Operand, Numeric, Str, Day, Pred, Compare, Columns, Between, OneOf, Negation, Both, Either, Ending, Nothing, Grouped, Ordered, Query}
-use Rattle.sql_print.specs.Printed.{name_text, string_text, sign_text, size_of, digits_of, pointed, num_text, operand_text, listed_text, opening, closing, wraps_loose, wraps_tight, expr_text, call_text, item_text, head_text, cmp_text, between_word, in_word, between_text, members_text, negated_text, pred_text, filter_text, direction_text, ending_text, printed}
+use Rattle.sql_text.specs.Tree.{Name, Expr, Column, Number, Add, Sub, Mul, Item, Plain, CountAll, Call, Head, Items, Star, Operand, Numeric, Str, Day, Pred, Compare, Columns, Between, OneOf, IsNull, Negation, Both, Either, Ending, Nothing, Grouped, Ordered, Query}
+use Rattle.sql_print.specs.Printed.{name_text, string_text, sign_text, size_of, digits_of, pointed, num_text, operand_text, listed_text, opening, closing, wraps_loose, wraps_tight, expr_text, call_text, item_text, head_text, cmp_text, between_word, in_word, null_word, between_text, members_text, null_text, negated_text, pred_text, filter_text, direction_text, ending_text, printed}
 use Rattle.sql_text.specs.Answer.{most_levels, IsText}
 use Rattle.sql_print.proofs.ExprBack.{UnitsOk, ExprOk}
 use Rattle.sql_print.proofs.PredBack.{EachOk, SomeOk, OperandOk, PredOk}
@@ -101,12 +101,16 @@ members_utf8 t c vs word n p =
     both (name_text c.name) (in_word t ++ (listed_text operand_text [] vs ++ codes ")")) (name_utf8 c.name n)
     (both (in_word t) (listed_text operand_text [] vs ++ codes ")") word (both (listed_text operand_text [] vs) (codes ")") (listed_utf8 operand_text (OperandOk Utf8Ok) operand_utf8 vs p) (literal (codes ")") refl)))
 
+null_utf8 : (t : Bool) (c : Name) → IsUtf8 (null_word t) → IsUtf8 c.name → IsUtf8 (null_text t c)
+null_utf8 t c word n = both (name_text c.name) (null_word t) (name_utf8 c.name n) word
+
 not_utf8 : (t : List ℕ) → IsUtf8 t → IsUtf8 (codes "NOT " ++ t)
 not_utf8 t u = both (codes "NOT ") t (literal (codes "NOT ") refl) u
 
 negated_utf8 : (a : Pred) (t : List ℕ) → PredOk Utf8Ok a → IsUtf8 t → IsUtf8 (negated_text a t)
 negated_utf8 (Between c low high) t ok u = between_utf8 true c low high (literal (codes " NOT BETWEEN ") refl) ok.0 ok.1 ok.2
 negated_utf8 (OneOf c vs) t ok u = members_utf8 true c vs (literal (codes " NOT IN (") refl) ok.0 ok.1
+negated_utf8 (IsNull c) t ok u = null_utf8 true c (literal (codes " IS NOT NULL") refl) ok
 negated_utf8 (Compare c op v) t ok u = not_utf8 t u
 negated_utf8 (Columns c op d) t ok u = not_utf8 t u
 negated_utf8 (Negation a) t ok u = not_utf8 t u
@@ -118,11 +122,13 @@ pred_utf8 side (Compare c op v) ok = both (name_text c.name) (cmp_text op ++ ope
 pred_utf8 side (Columns c op d) ok = both (name_text c.name) (cmp_text op ++ name_text d.name) (name_utf8 c.name ok.0) (both (cmp_text op) (name_text d.name) (cmp_utf8 op) (name_utf8 d.name ok.1))
 pred_utf8 side (Between c low high) ok = between_utf8 false c low high (literal (codes " BETWEEN ") refl) ok.0 ok.1 ok.2
 pred_utf8 side (OneOf c vs) ok = members_utf8 false c vs (literal (codes " IN (") refl) ok.0 ok.1
+pred_utf8 side (IsNull c) ok = null_utf8 false c (literal (codes " IS NULL") refl) ok
 pred_utf8 side (Negation a) ok = negated_utf8 a (pred_text Right a) ok (pred_utf8 Right a ok)
 pred_utf8 side (Both a b) ok = wrapped_utf8 (wraps_tight side) (pred_text Middle a) (codes " AND ") (pred_text Right b) (pred_utf8 Middle a ok.0) (literal (codes " AND ") refl) (pred_utf8 Right b ok.1)
 pred_utf8 side (Either a b) ok = wrapped_utf8 (wraps_loose side) (pred_text Left a) (codes " OR ") (pred_text Middle b) (pred_utf8 Left a ok.0) (literal (codes " OR ") refl) (pred_utf8 Middle b ok.1)
 
 call_utf8 : (kind : CallKind) → IsUtf8 (call_text kind)
+call_utf8 calls.Count = literal (codes "COUNT(") refl
 call_utf8 calls.Sum = literal (codes "SUM(") refl
 call_utf8 calls.Avg = literal (codes "AVG(") refl
 call_utf8 calls.Min = literal (codes "MIN(") refl

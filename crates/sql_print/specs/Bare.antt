@@ -1,7 +1,7 @@
 -- The same query but for places.
 use Rattle.std.specs.Prelude.{map, Option, Some, None}
 use Rattle.sql_text.specs.declared.tree.Num.{Num}
-use Rattle.sql_text.specs.Tree.{Name, Expr, Column, Number, Add, Sub, Mul, Item, Plain, CountAll, Call, Head, Items, Star, Operand, Numeric, Str, Day, Pred, Compare, Columns, Between, OneOf, Negation, Both, Either, Ending, Nothing, Grouped, Ordered, Query}
+use Rattle.sql_text.specs.Tree.{Name, Expr, Column, Number, Add, Sub, Mul, Item, Plain, CountAll, Call, Head, Items, Star, Operand, Numeric, Str, Day, Pred, Compare, Columns, Between, OneOf, IsNull, Negation, Both, Either, Ending, Nothing, Grouped, Ordered, Query}
 
 abbrev pub bare_name : Name → Name
 bare_name n = record { at = 0; name = n.name }
@@ -35,6 +35,7 @@ bare_pred (Compare c op v) = Compare (bare_name c) op (bare_operand v)
 bare_pred (Columns c op d) = Columns (bare_name c) op (bare_name d)
 bare_pred (Between c low high) = Between (bare_name c) (bare_operand low) (bare_operand high)
 bare_pred (OneOf c vs) = OneOf (bare_name c) (map bare_operand vs)
+bare_pred (IsNull c) = IsNull (bare_name c)
 bare_pred (Negation a) = Negation (bare_pred a)
 bare_pred (Both a b) = Both (bare_pred a) (bare_pred b)
 bare_pred (Either a b) = Either (bare_pred a) (bare_pred b)

@@ -5,10 +5,10 @@ use Rattle.sql_text.specs.declared.tree.Num.{Num}
 use Rattle.sql_text.specs.declared.tree.Comparison.{Comparison}
 use Rattle.sql_text.specs.declared.tree.Comparison.TheVariants.{Eq, Ne, Lt, Le, Gt, Ge}
 use Rattle.sql_text.specs.declared.tree.CallKind.{CallKind}
-use Rattle.sql_text.specs.declared.tree.CallKind.TheVariants.{Sum, Avg, Min, Max}
+use Rattle.sql_text.specs.declared.tree.CallKind.TheVariants.{Count, Sum, Avg, Min, Max}
 use Rattle.sql_print.specs.declared.printing.Side.{Side}
 use Rattle.sql_print.specs.declared.printing.Side.TheVariants.{Left, Middle, Right}
-use Rattle.sql_text.specs.Tree.{Name, Expr, Column, Number, Add, Sub, Mul, Item, Plain, CountAll, Call, Head, Items, Star, Operand, Numeric, Str, Day, Pred, Compare, Columns, Between, OneOf, Negation, Both, Either, Ending, Nothing, Grouped, Ordered, Query}
+use Rattle.sql_text.specs.Tree.{Name, Expr, Column, Number, Add, Sub, Mul, Item, Plain, CountAll, Call, Head, Items, Star, Operand, Numeric, Str, Day, Pred, Compare, Columns, Between, OneOf, IsNull, Negation, Both, Either, Ending, Nothing, Grouped, Ordered, Query}
 
 -- ---- names, numbers and values
 
@@ -80,6 +80,7 @@ expr_text side (Sub a b) = opening (wraps_loose side) ++ (expr_text Left a ++ (c
 expr_text side (Mul at a b) = opening (wraps_tight side) ++ (expr_text Middle a ++ (codes " * " ++ (expr_text Right b ++ closing (wraps_tight side))))
 
 abbrev pub call_text : CallKind → List ℕ
+call_text Count = codes "COUNT("
 call_text Sum = codes "SUM("
 call_text Avg = codes "AVG("
 call_text Min = codes "MIN("
@@ -112,16 +113,24 @@ abbrev pub in_word : Bool → List ℕ
 in_word true = codes " NOT IN ("
 in_word false = codes " IN ("
 
+abbrev pub null_word : Bool → List ℕ
+null_word true = codes " IS NOT NULL"
+null_word false = codes " IS NULL"
+
 abbrev pub between_text : Bool → Name → Operand → Operand → List ℕ
 between_text negated c low high = name_text c.name ++ (between_word negated ++ (operand_text low ++ (codes " AND " ++ operand_text high)))
 
 abbrev pub members_text : Bool → Name → List Operand → List ℕ
 members_text negated c vs = name_text c.name ++ (in_word negated ++ (listed_text operand_text [] vs ++ codes ")"))
 
--- NOT stands before BETWEEN and IN
+abbrev pub null_text : Bool → Name → List ℕ
+null_text negated c = name_text c.name ++ null_word negated
+
+-- NOT stands before BETWEEN, IN and NULL
 abbrev pub negated_text : Pred → List ℕ → List ℕ
 negated_text (Between c low high) w = between_text true c low high
 negated_text (OneOf c vs) w = members_text true c vs
+negated_text (IsNull c) w = null_text true c
 negated_text _ w = codes "NOT " ++ w
 
 abbrev pub pred_text : Side → Pred → List ℕ
@@ -129,6 +138,7 @@ pred_text side (Compare c op v) = name_text c.name ++ (cmp_text op ++ operand_te
 pred_text side (Columns c op d) = name_text c.name ++ (cmp_text op ++ name_text d.name)
 pred_text side (Between c low high) = between_text false c low high
 pred_text side (OneOf c vs) = members_text false c vs
+pred_text side (IsNull c) = null_text false c
 pred_text side (Negation a) = negated_text a (pred_text Right a)
 pred_text side (Both a b) = opening (wraps_tight side) ++ (pred_text Middle a ++ (codes " AND " ++ (pred_text Right b ++ closing (wraps_tight side))))
 pred_text side (Either a b) = opening (wraps_loose side) ++ (pred_text Left a ++ (codes " OR " ++ (pred_text Middle b ++ closing (wraps_loose side))))

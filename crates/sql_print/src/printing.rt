@@ -7,7 +7,7 @@ ghost use Rattle.sql_text.specs.Tree.{Query, name_of, operand_of, expr_of, item_
 ghost use Rattle.sql_print.specs.Bare.{bare};
 ghost use Rattle.sql_text.specs.Answer.{IsText};
 ghost use Rattle.sql_print.specs.declared.printing.Side.TheVariants.{Right};
-ghost use Rattle.sql_print.specs.Printed.{name_text, string_text, sign_text, size_of, digits_of, pointed, num_text, operand_text, listed_text, opening, closing, wraps_loose, wraps_tight, expr_text, call_text, item_text, head_text, cmp_text, between_word, in_word, between_text, members_text, negated_text, pred_text, filter_text, direction_text, ending_text, printed};
+ghost use Rattle.sql_print.specs.Printed.{name_text, string_text, sign_text, size_of, digits_of, pointed, num_text, operand_text, listed_text, opening, closing, wraps_loose, wraps_tight, expr_text, call_text, item_text, head_text, cmp_text, between_word, in_word, null_word, between_text, members_text, null_text, negated_text, pred_text, filter_text, direction_text, ending_text, printed};
 
 use itoa::Buffer;
 use sql_text::{
@@ -189,6 +189,7 @@ fn put_call(out: &mut Vec<u8>, kind: CallKind) -> Result<(), AllocError>
     ensures { OnOk result (out.new.items ≡ out.old.items ++ call_text kind) }
 {
     match kind {
+        CallKind::Count => put(out, b"COUNT("),
         CallKind::Sum => put(out, b"SUM("),
         CallKind::Avg => put(out, b"AVG("),
         CallKind::Min => put(out, b"MIN("),
@@ -313,6 +314,18 @@ fn put_members(
     put(out, b")")
 }
 
+fn put_null(out: &mut Vec<u8>, negated: bool, column: &Named) -> Result<(), AllocError>
+    ensures { OnOk result (out.new.items ≡ out.old.items ++ null_text negated (name_of column.now)) }
+{
+    put_name(out, column.name.as_slice())?;
+    let word: &[u8] = if negated {
+        b" IS NOT NULL"
+    } else {
+        b" IS NULL"
+    };
+    put(out, word)
+}
+
 fn put_compare(
     alloc: Global,
     out: &mut Vec<u8>,
@@ -350,6 +363,7 @@ fn put_negated(alloc: Global, out: &mut Vec<u8>, pred: &PredTree) -> Result<(), 
         PredTree::OneOf { column, values } => {
             put_members(alloc, out, true, column, values.as_slice())
         }
+        PredTree::IsNull { column } => put_null(out, true, column),
         PredTree::Compare { .. }
         | PredTree::Columns { .. }
         | PredTree::Not(_)
@@ -374,6 +388,7 @@ fn put_pred(alloc: Global, out: &mut Vec<u8>, side: Side, pred: &PredTree) -> Re
         PredTree::OneOf { column, values } => {
             put_members(alloc, out, false, column, values.as_slice())
         }
+        PredTree::IsNull { column } => put_null(out, false, column),
         PredTree::Not(inner) => put_negated(alloc, out, inner),
         PredTree::And(left, right) => {
             put_opening(out, side.wraps_tight())?;

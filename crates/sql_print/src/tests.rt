@@ -26,7 +26,7 @@ fn all_print(rt: &impl Abort, alloc: Global, table: &[(&str, &str)]) -> Result<(
 }
 
 /// Texts and the printed forms of their queries.
-static FORMS: [(&str, &str); 18] = [
+static FORMS: [(&str, &str); 28] = [
     (
         "select sum( price ) from t where not (price<1 or price>2) and qty=1",
         "SELECT SUM(price) FROM t WHERE NOT (price < 1 OR price > 2) AND qty = 1",
@@ -90,6 +90,46 @@ static FORMS: [(&str, &str); 18] = [
     (
         "select a from t where c in ('it''s' , date '2020-01-01',3)",
         "SELECT a FROM t WHERE c IN ('it''s', DATE '2020-01-01', 3)",
+    ),
+    (
+        "select a from t where x is null",
+        "SELECT a FROM t WHERE x IS NULL",
+    ),
+    (
+        "select a from t where x is not null",
+        "SELECT a FROM t WHERE x IS NOT NULL",
+    ),
+    (
+        "select a from t where not x is null",
+        "SELECT a FROM t WHERE x IS NOT NULL",
+    ),
+    (
+        "select a from t where not (x is null)",
+        "SELECT a FROM t WHERE x IS NOT NULL",
+    ),
+    (
+        "select a from t where not (x is not null)",
+        "SELECT a FROM t WHERE NOT x IS NOT NULL",
+    ),
+    (
+        "select a from t where not not x is null",
+        "SELECT a FROM t WHERE NOT x IS NOT NULL",
+    ),
+    (
+        "select a from t where not not not x is null",
+        "SELECT a FROM t WHERE NOT NOT x IS NOT NULL",
+    ),
+    (
+        "select a from t where ((x is null) or (\"null\" is not null)) and not y in (1)",
+        "SELECT a FROM t WHERE (x IS NULL OR \"null\" IS NOT NULL) AND y NOT IN (1)",
+    ),
+    (
+        "select count( x ), count((a+b)*c), count ( * ) from t",
+        "SELECT COUNT(x), COUNT((a + b) * c), COUNT(*) FROM t",
+    ),
+    (
+        "select a from t where x is null group by a",
+        "SELECT a FROM t WHERE x IS NULL GROUP BY a",
     ),
     (
         "select * from t order by a asc limit 3;",

@@ -5,12 +5,13 @@ use Rattle.sql_tokens.specs.declared.token.Fixed.TheVariants as fixed
 use Rattle.sql_tokens.specs.Lexeme.{Lexeme, token, FIXED, NAME, NUMBER, STRING}
 use Rattle.sql_text.specs.declared.fault.Cause.TheVariants.{TooDeep}
 use Rattle.sql_text.specs.declared.tree.Comparison.{Comparison}
+use Rattle.sql_text.specs.declared.tree.CallKind.{CallKind}
 use Rattle.sql_text.specs.declared.tree.CallKind.TheVariants as calls
 use Rattle.sql_text.specs.Tree.{Name}
 use Rattle.sql_text.specs.Tree as tree
 use Rattle.sql_text.specs.Number.{is, same, is_name, is_string, is_number, is_cmp, is_sum, cmp_of, call_of, sum_of}
 use Rattle.sql_text.specs.Rule.{Part, InExpr, InPred, InNeg, Rule, give, one, number, either, deeper, next}
-use Rattle.sql_text.specs.Grammar.{listed, factor, term, expr, value, between, members, ranged, compared, condition, atom, neg, conj, pred, count, call, item, filter, grouping, direction, ordering, semicolon, source, query, rule_of}
+use Rattle.sql_text.specs.Grammar.{listed, factor, term, expr, value, between, members, ranged, nullness, compared, condition, atom, neg, conj, pred, argument, count, call, item, filter, grouping, direction, ordering, semicolon, source, query, rule_of}
 use Rattle.sql_text.specs.Sentence.{IsLimitAt}
 use Rattle.sql_text.proofs.Keywords.{same_is}
 use Rattle.sql_text.proofs.Clear.{Null, First, EndsPart, Ends, Clear}
@@ -118,6 +119,10 @@ factor_some : Null factor → ⊥
 unfolding factor
 factor_some h = h
 
+factor_begins : (t : Lexeme) → First factor t → is fixed.Star t ≡ None
+unfolding factor is is_name is_number
+factor_begins t f = none_if fixed.Star t (λ x e. or sees (or sees (or sees sees)) (subst (First factor) e f))
+
 term_clear : Clear term
 unfolding term
 term_clear = (factor_clear, factor_some, λ t x e. factor_ends t)
@@ -197,6 +202,18 @@ ranged_ends c t = (
   λ h. absurd h.0,
 )
 
+nullness_clear : (c : Name) → Clear (nullness c)
+unfolding nullness is
+nullness_clear c = (
+  λ _. ((token 0 (FIXED fixed.Null), 0, refl), λ _. tt, λ _ _ _. tt),
+  ((token 0 (FIXED fixed.Null), 0, refl), λ _. tt, λ _ _ _. tt),
+  λ t f. starts fixed.Null (λ _. give (tree.IsNull c)) (λ s. is fixed.Not s ≡ None) (λ x. refl) t f,
+)
+
+nullness_ends : (c : Name) (t : Lexeme) → Ends (nullness c) t
+unfolding nullness
+nullness_ends c t = (λ _. (λ _. tt, λ _ _. tt), (λ _. tt, λ _ _. tt), λ h. absurd h.0)
+
 -- what begins a condition with BETWEEN or IN
 ranged_begins : (c : Name) (E : Lexeme → Type 0) → ((x : ℕ) → E (token x (FIXED fixed.Between))) → ((x : ℕ) → E (token x (FIXED fixed.In))) → (t : Lexeme) → First (ranged c) t → E t
 unfolding ranged
@@ -223,10 +240,18 @@ condition_clear : (c : Name) → Clear (condition c)
 unfolding condition is cmp_of
 condition_clear c = (
   λ _. (ranged_clear c, λ a. tt, λ b t f. absurd f),
-  (λ op. compared_clear c op, ranged_clear c, λ t f. ranged_begins c (λ s. is_cmp s ≡ None) (λ x. refl) (λ x. refl) t f),
-  λ t f. none_if fixed.Not t (λ x e. or sees (λ h. not_there x h) (subst (First (either is_cmp (λ op. compared c op) (ranged c))) e f)),
+  (
+    λ op. compared_clear c op,
+    (λ _. nullness_clear c, ranged_clear c, λ t f. ranged_begins c (λ s. is fixed.Is s ≡ None) (λ x. refl) (λ x. refl) t f),
+    λ t f. no_sign t f,
+  ),
+  λ t f. none_if fixed.Not t (λ x e. or sees (or sees (λ h. not_there x h)) (subst (First (either is_cmp (λ op. compared c op) (either (is fixed.Is) (λ _. nullness c) (ranged c)))) e f)),
 )
   where
+    no_sign : (t : Lexeme) → First (either (is fixed.Is) (λ _. nullness c) (ranged c)) t → is_cmp t ≡ None
+    no_sign t (inl h) = rw (is_there fixed.Is t h.0 h.1) refl
+    no_sign t (inr h) = ranged_begins c (λ s. is_cmp s ≡ None) (λ x. refl) (λ x. refl) t h
+
     not_there : (x : ℕ) → First (ranged c) (token x (FIXED fixed.Not)) → ⊥
     not_there x h = ranged_begins c (λ s. s ≡ token x (FIXED fixed.Not) → ⊥) (λ y i. let k : fixed.Between ≡ fixed.Not = cc in cc) (λ y i. let k : fixed.In ≡ fixed.Not = cc in cc) (token x (FIXED fixed.Not)) h refl
 
@@ -236,7 +261,7 @@ ranged_some c h = h.0
 
 condition_ends : (c : Name) (t : Lexeme) → Ends (condition c) t
 unfolding condition
-condition_ends c t = (λ _. (λ a. tt, λ a h. ranged_ends c t), (λ op. compared_ends c op t, ranged_ends c t, λ h. absurd (ranged_some c h)), λ h. absurd (ranged_some c h))
+condition_ends c t = (λ _. (λ a. tt, λ a h. ranged_ends c t), (λ op. compared_ends c op t, (λ _. nullness_ends c t, ranged_ends c t, λ h. absurd (ranged_some c h)), λ h. absurd (ranged_some c h)), λ h. absurd (ranged_some c h))
 
 atom_clear : Clear atom
 unfolding atom is_name
@@ -303,21 +328,42 @@ pred_ends t h = ((neg_ends t, h.0), h.1)
 
 -- ---- items
 
+argument_clear : (kind : CallKind) → Clear (argument kind)
+unfolding argument
+argument_clear kind = (expr_clear, λ e. closes (tree.Call kind e), λ e t f. starts fixed.Close (λ _. give (tree.Call kind e)) (Ends expr) (λ x. expr_ends (token x (FIXED fixed.Close)) (close_expr x)) t f)
+
+argument_some : (kind : CallKind) → Null (argument kind) → ⊥
+unfolding argument expr term
+argument_some kind h = factor_some h.0
+
+argument_ends : (kind : CallKind) (t : Lexeme) → Ends (argument kind) t
+unfolding argument
+argument_ends kind t = (λ e. (λ _. tt, λ _ _. tt), λ e h. absurd h.0)
+
+argument_begins : (kind : CallKind) (t : Lexeme) → First (argument kind) t → is fixed.Star t ≡ None
+unfolding argument expr term
+argument_begins kind t (inl h) = factor_begins t h
+argument_begins kind t (inr h) = elim (factor_some h.0) [ ]
+
 count_clear : Clear count
 unfolding count is
-count_clear = ((token 0 (FIXED fixed.Open), 0, refl), λ _. ((token 0 (FIXED fixed.Star), 0, refl), λ _. closes tree.CountAll, λ _ _ _. tt), λ _ _ _. tt)
+count_clear = ((token 0 (FIXED fixed.Open), 0, refl), λ _. (λ _. closes tree.CountAll, argument_clear calls.Count, λ t f. argument_begins calls.Count t f), λ _ _ _. tt)
+
+count_ends : (t : Lexeme) → Ends count t
+unfolding count
+count_ends t = (λ _. (λ _. (λ _. tt, λ _ _. tt), argument_ends calls.Count t, λ h. absurd (argument_some calls.Count h)), λ _ _. tt)
 
 call_clear : Clear call
 unfolding call is call_of
-call_clear = (
-  (token 0 (FIXED fixed.Sum), calls.Sum, refl),
-  λ kind. (
-    (token 0 (FIXED fixed.Open), 0, refl),
-    λ _. (expr_clear, λ e. closes (tree.Call kind e), λ e t f. starts fixed.Close (λ _. give (tree.Call kind e)) (Ends expr) (λ x. expr_ends (token x (FIXED fixed.Close)) (close_expr x)) t f),
-    λ _ _ _. tt,
-  ),
-  λ _ _ _. tt,
-)
+call_clear = ((token 0 (FIXED fixed.Sum), calls.Sum, refl), λ kind. ((token 0 (FIXED fixed.Open), 0, refl), λ _. argument_clear kind, λ _ _ _. tt), λ _ _ _. tt)
+
+call_some : Null call → ⊥
+unfolding call
+call_some h = h.0
+
+call_ends : (t : Lexeme) → Ends call t
+unfolding call
+call_ends t = (λ kind. (λ _. argument_ends kind t, λ _ _. tt), λ _ _. tt)
 
 call_begins : (t : Lexeme) → First call t → (is fixed.Count t ≡ None) × (is_name t ≡ None) × (is fixed.Star t ≡ None)
 unfolding call call_of is_name
@@ -340,16 +386,12 @@ item_clear = (
     no_name t (inr h) = (call_begins t h).1
 
 item_ends : (t : Lexeme) → Ends item t
-unfolding item count call
-item_ends t = (
-  λ _. tt,
-  (λ _. (λ _. (λ _. (λ _. tt, λ _ _. tt), λ _ _. tt), λ _ _. tt), (λ kind. (λ _. (λ e. (λ _. tt, λ _ _. tt), λ e h. absurd h.0), λ _ _. tt), λ _ _. tt), λ h. absurd h.0),
-  λ h. absurd h.0,
-)
+unfolding item
+item_ends t = (λ _. tt, (λ _. count_ends t, call_ends t, λ h. absurd (call_some h)), λ h. absurd (call_some h))
 
 item_some : Null item → ⊥
-unfolding item call
-item_some h = h.0
+unfolding item
+item_some h = call_some h
 
 item_begins : (t : Lexeme) → First item t → is fixed.Star t ≡ None
 unfolding item is

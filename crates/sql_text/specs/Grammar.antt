@@ -1,7 +1,10 @@
 -- The grammar of queries, rule by rule.
 use Rattle.std.specs.Prelude.{ℕ, zero, suc, Bool, true, false, List, [], ◌∷◌, ◌++◌, Option, Some, None}
 use Rattle.sql_tokens.specs.declared.token.Fixed.TheVariants.{Select, From, Where, Group, By, Order, Asc, Desc, Limit, And, Or, Not, Between, In, Date, Count, Open, Close, Comma, Star, Minus, Semicolon}
+use Rattle.sql_tokens.specs.declared.token.Fixed.TheVariants as fixed
 use Rattle.sql_text.specs.declared.tree.Comparison.{Comparison}
+use Rattle.sql_text.specs.declared.tree.CallKind.{CallKind}
+use Rattle.sql_text.specs.declared.tree.CallKind.TheVariants as calls
 use Rattle.sql_text.specs.Tree as tree
 use Rattle.sql_text.specs.Tree.{Name, Expr, Item, Operand, Pred, Ending, Query}
 use Rattle.sql_text.specs.Number.{is, is_name, is_string, is_cmp, is_call, is_sum}
@@ -49,15 +52,21 @@ members c = next (one (is Open)) (λ _. next (listed value) (λ vs. next (one (i
 unfoldable pub ranged : Name → Rule Pred
 ranged c = either (is Between) (λ _. between c) (next (one (is In)) (λ _. members c))
 
+-- [NOT] NULL
+unfoldable pub nullness : Name → Rule Pred
+nullness c = either (is Not) (λ _. next (one (is fixed.Null)) (λ _. give (tree.Negation (tree.IsNull c))))
+    (next (one (is fixed.Null)) (λ _. give (tree.IsNull c)))
+
 -- name | value
 unfoldable pub compared : Name → Comparison → Rule Pred
 compared c op = either is_name (λ d. give (tree.Columns c op d)) (next value (λ v. give (tree.Compare c op v)))
 
--- NOT ranged | cmp (name | value) | ranged
+-- NOT ranged | cmp (name | value) | IS [NOT] NULL | ranged
 unfoldable pub condition : Name → Rule Pred
 condition c = either (is Not) (λ _. next (ranged c) (λ a. give (tree.Negation a)))
     (either is_cmp (λ op. compared c op)
-    (ranged c))
+    (either (is fixed.Is) (λ _. nullness c)
+    (ranged c)))
 
 -- atom = name condition
 unfoldable pub atom : Rule Pred
@@ -77,13 +86,19 @@ conj = many (is And) (λ a. a) (λ a _ b. tree.Both a b) neg
 unfoldable pub pred : Rule Pred
 pred = many (is Or) (λ a. a) (λ a _ b. tree.Either a b) conj
 
--- item = name | COUNT "(" "*" ")" | (SUM | AVG | MIN | MAX) "(" expr ")"
+-- expr ")"
+unfoldable pub argument : CallKind → Rule Item
+argument kind = next expr (λ e. next (one (is Close)) (λ _. give (tree.Call kind e)))
+
+-- "(" ("*" | expr) ")"
 unfoldable pub count : Rule Item
-count = next (one (is Open)) (λ _. next (one (is Star)) (λ _. next (one (is Close)) (λ _. give tree.CountAll)))
+count = next (one (is Open)) (λ _. either (is Star) (λ _. next (one (is Close)) (λ _. give tree.CountAll)) (argument calls.Count))
 
+-- (SUM | AVG | MIN | MAX) "(" expr ")"
 unfoldable pub call : Rule Item
-call = next (one is_call) (λ kind. next (one (is Open)) (λ _. next expr (λ e. next (one (is Close)) (λ _. give (tree.Call kind e)))))
+call = next (one is_call) (λ kind. next (one (is Open)) (λ _. argument kind))
 
+-- item = name | COUNT "(" ("*" | expr) ")" | (SUM | AVG | MIN | MAX) "(" expr ")"
 unfoldable pub item : Rule Item
 item = either is_name (λ n. give (tree.Plain n)) (either (is Count) (λ _. count) call)
 

@@ -48,6 +48,7 @@ pub data Pred : Type 0 where
   Columns : Name → Comparison → Name → Pred
   Between : Name → (low high : Operand) → Pred
   OneOf : Name → List Operand → Pred
+  IsNull : Name → Pred
   Negation : Pred → Pred
   Both : Pred → Pred → Pred
   Either : Pred → Pred → Pred
@@ -94,6 +95,7 @@ pred_of (preds.Compare n op v) = Compare (name_of n) op (operand_of v)
 pred_of (preds.Columns l op r) = Columns (name_of l) op (name_of r)
 pred_of (preds.Between n low high) = Between (name_of n) (operand_of low) (operand_of high)
 pred_of (preds.OneOf n vs) = OneOf (name_of n) (map operand_of vs.items)
+pred_of (preds.IsNull n) = IsNull (name_of n)
 pred_of (preds.Not' p a) = Negation (pred_of a)
 pred_of (preds.And' p a q b) = Both (pred_of a) (pred_of b)
 pred_of (preds.Or' p a q b) = Either (pred_of a) (pred_of b)

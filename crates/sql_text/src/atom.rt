@@ -5,7 +5,7 @@ ghost use Rattle.sql_tokens.specs.declared.token.Fixed.TheVariants.{Comma};
 ghost use Rattle.sql_tokens.specs.Lexeme.{views};
 ghost use Rattle.sql_text.specs.Tree.{name_of, operand_of, pred_of};
 ghost use Rattle.sql_text.specs.Number.{is};
-ghost use Rattle.sql_text.specs.Grammar.{listed, value, between, members, ranged, compared, condition, atom};
+ghost use Rattle.sql_text.specs.Grammar.{listed, value, between, members, ranged, nullness, compared, condition, atom};
 ghost use Rattle.sql_text.specs.Reading.{Gives, seen, chain, turns, flat};
 
 use crate::fault::Refusal;
@@ -93,6 +93,20 @@ fn ranged(alloc: Global, column: Named, tokens: &[Token]) -> Result<(PredTree, &
     members(alloc, column, rest)
 }
 
+/// What follows the column and IS.
+#[tactic(auto, unfolding(crate::specs::Reading::reads, crate::specs::Grammar::nullness))]
+fn nullness(alloc: Global, column: Named, tokens: &[Token]) -> Result<(PredTree, &[Token]), Refusal>
+    ensures { Gives (seen pred_of) result (flat (nullness (name_of column)) (views tokens.now)) }
+{
+    if let Some((_, rest)) = after(tokens, Fixed::Not) {
+        let (_, rest) = expect(rest, Fixed::Null)?;
+        let null = PredTree::IsNull { column };
+        return Ok((PredTree::Not(Box::new(alloc, null)?), rest));
+    }
+    let (_, rest) = expect(tokens, Fixed::Null)?;
+    Ok((PredTree::IsNull { column }, rest))
+}
+
 #[tactic(auto, unfolding(crate::specs::Reading::reads, crate::specs::Grammar::compared))]
 fn compared(
     alloc: Global,
@@ -124,6 +138,9 @@ fn condition(
     }
     if let Some((op, rest)) = comparison(tokens) {
         return compared(alloc, column, op, rest);
+    }
+    if let Some((_, rest)) = after(tokens, Fixed::Is) {
+        return nullness(alloc, column, rest);
     }
     ranged(alloc, column, tokens)
 }

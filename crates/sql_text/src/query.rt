@@ -6,18 +6,46 @@ ghost use Rattle.sql_tokens.specs.Lexeme.{views};
 ghost use Rattle.sql_text.specs.Tree.{name_of, item_of, pred_option, ending_of, query_of, Star, Items};
 ghost use Rattle.sql_text.specs.Number.{is, is_name, is_small};
 ghost use Rattle.sql_text.specs.Rule.{one};
-ghost use Rattle.sql_text.specs.Grammar.{count, call, item, listed, filter, grouping, direction, ordering, semicolon, source, query};
+ghost use Rattle.sql_text.specs.Grammar.{argument, count, call, item, listed, filter, grouping, direction, ordering, semicolon, source, query};
 ghost use Rattle.sql_text.specs.Reading.{Gives, seen, chain, turns, by, flat, ended, sentence};
 
 use crate::expression::expr;
 use crate::fault::{Cause, Refusal, stop_at};
 use crate::look::{TURNS, after, call, expect, name, name_token, numeral};
 use crate::predicate::pred;
-use crate::tree::{Ending, ItemTree, Named, PredTree, Select, Tree};
+use crate::tree::{CallKind, Ending, ItemTree, Named, PredTree, Select, Tree};
 use sql_tokens::{Fixed, Token};
 use std::alloc::Global;
 
-#[tactic(auto, unfolding(crate::specs::Reading::reads, crate::specs::Grammar::item, crate::specs::Grammar::count, crate::specs::Grammar::call))]
+/// The argument of a call and its closing parenthesis.
+#[tactic(auto, unfolding(crate::specs::Reading::reads, crate::specs::Grammar::argument))]
+fn argument(
+    alloc: Global,
+    levels: u8,
+    kind: CallKind,
+    tokens: &[Token],
+) -> Result<(ItemTree, &[Token]), Refusal>
+    ensures { Gives (seen item_of) result (by levels (argument kind) (views tokens.now)) }
+{
+    let (arg, rest) = expr(alloc, levels, tokens)?;
+    let (_, rest) = expect(rest, Fixed::Close)?;
+    Ok((ItemTree::Call { kind, arg }, rest))
+}
+
+/// What follows COUNT.
+#[tactic(auto, unfolding(crate::specs::Reading::reads, crate::specs::Grammar::count))]
+fn count(alloc: Global, levels: u8, tokens: &[Token]) -> Result<(ItemTree, &[Token]), Refusal>
+    ensures { Gives (seen item_of) result (by levels count (views tokens.now)) }
+{
+    let (_, rest) = expect(tokens, Fixed::Open)?;
+    if let Some((_, rest)) = after(rest, Fixed::Star) {
+        let (_, rest) = expect(rest, Fixed::Close)?;
+        return Ok((ItemTree::Count, rest));
+    }
+    argument(alloc, levels, CallKind::Count, rest)
+}
+
+#[tactic(auto, unfolding(crate::specs::Reading::reads, crate::specs::Grammar::item, crate::specs::Grammar::call))]
 fn item(alloc: Global, levels: u8, tokens: &[Token]) -> Result<(ItemTree, &[Token]), Refusal>
     ensures { Gives (seen item_of) result (by levels item (views tokens.now)) }
 {
@@ -25,16 +53,11 @@ fn item(alloc: Global, levels: u8, tokens: &[Token]) -> Result<(ItemTree, &[Toke
         return Ok((ItemTree::Column(name), rest));
     }
     if let Some((_, rest)) = after(tokens, Fixed::Count) {
-        let (_, rest) = expect(rest, Fixed::Open)?;
-        let (_, rest) = expect(rest, Fixed::Star)?;
-        let (_, rest) = expect(rest, Fixed::Close)?;
-        return Ok((ItemTree::Count, rest));
+        return count(alloc, levels, rest);
     }
     let (kind, rest) = call(tokens)?;
     let (_, rest) = expect(rest, Fixed::Open)?;
-    let (arg, rest) = expr(alloc, levels, rest)?;
-    let (_, rest) = expect(rest, Fixed::Close)?;
-    Ok((ItemTree::Call { kind, arg }, rest))
+    argument(alloc, levels, kind, rest)
 }
 
 fn more_items<'a>(

@@ -29,10 +29,11 @@ fn all_are_refused(rt: &impl Abort, alloc: Global, table: &[(&str, &str)]) -> Re
     Ok(())
 }
 
-static QUERIES: [&str; 23] = [
+static QUERIES: [&str; 30] = [
     "SELECT a FROM t",
     "select a, b from t;",
     "SELECT COUNT(*) FROM t",
+    "SELECT COUNT(a), count( a + 1 ), COUNT((a) * -2), COUNT( * ) FROM t",
     "SELECT SUM(- 5), AVG(a - -5), MIN((a)), max(1.50) FROM t",
     "SELECT SUM(-9223372036854775808) FROM t",
     "SELECT SUM(9223372036854775807) FROM t",
@@ -46,6 +47,12 @@ static QUERIES: [&str; 23] = [
     "SELECT a FROM t WHERE \"is\" <> 'it''s'",
     "SELECT a FROM t WHERE (a = 1 OR b != 2) AND (NOT (c <= 3))",
     "SELECT a FROM t WHERE c = ''",
+    "SELECT a FROM t WHERE a IS NULL",
+    "SELECT a FROM t WHERE a IS NOT NULL GROUP BY a;",
+    "select a from t where (a is null) or b is not null and not c is null",
+    "SELECT a FROM t WHERE NOT NOT a IS NULL AND NOT (a IS NOT NULL)",
+    "SELECT a FROM t WHERE NOT(NOT(NOT(NOT(NOT(NOT(NOT(NOT(NOT(NOT(NOT(NOT(NOT(NOT(NOT(NOT(a IS NOT NULL))))))))))))))))",
+    "SELECT * FROM t WHERE \"null\" IS NULL ORDER BY a LIMIT 3",
     "SELECT * FROM t ORDER BY a LIMIT 3",
     "SELECT * FROM t WHERE a < b ORDER BY a DESC LIMIT 3;",
     "SELECT * FROM t ORDER BY a ASC LIMIT 2.5",
@@ -60,7 +67,7 @@ fn texts_are_queries(rt: HostRuntime) -> Result<(), Fail> {
     all_are_queries(&rt, rt.alloc(), &QUERIES)
 }
 
-static UNFINISHED: [(&str, &str); 42] = [
+static UNFINISHED: [(&str, &str); 47] = [
     ("", "syntax at 0"),
     ("SELECT", "syntax at 6"),
     ("SELECT a", "syntax at 8"),
@@ -80,6 +87,9 @@ static UNFINISHED: [(&str, &str); 42] = [
     ("SELECT a FROM t WHERE a IN (1,", "syntax at 30"),
     ("SELECT a FROM t WHERE a NOT", "syntax at 27"),
     ("SELECT a FROM t WHERE NOT", "syntax at 25"),
+    ("SELECT a FROM t WHERE a IS", "syntax at 26"),
+    ("SELECT a FROM t WHERE a IS NOT", "syntax at 30"),
+    ("select a from t where a is not ", "syntax at 31"),
     ("SELECT a FROM t WHERE (", "syntax at 23"),
     ("SELECT a FROM t WHERE (a = 1", "syntax at 28"),
     ("SELECT a FROM t WHERE a = 1 AND", "syntax at 31"),
@@ -103,6 +113,8 @@ static UNFINISHED: [(&str, &str); 42] = [
     ("SELECT SUM((a)", "syntax at 14"),
     ("SELECT COUNT(", "syntax at 13"),
     ("SELECT COUNT(*", "syntax at 14"),
+    ("SELECT COUNT(a", "syntax at 14"),
+    ("SELECT COUNT(a *", "syntax at 16"),
 ];
 
 #[test]
@@ -110,7 +122,7 @@ fn ends_are_missed(rt: HostRuntime) -> Result<(), Fail> {
     all_are_refused(&rt, rt.alloc(), &UNFINISHED)
 }
 
-static WRONG_TOKENS: [(&str, &str); 59] = [
+static WRONG_TOKENS: [(&str, &str); 74] = [
     ("FROM t", "syntax at 0"),
     ("SELECT FROM t", "syntax at 7"),
     ("SELECT SELECT FROM t", "syntax at 7"),
@@ -129,7 +141,11 @@ static WRONG_TOKENS: [(&str, &str); 59] = [
     ("SELECT * FROM t ORDER BY a b", "syntax at 27"),
     ("SELECT * FROM t ORDER BY a DESC ASC", "syntax at 32"),
     ("SELECT * FROM t ORDER BY a LIMIT -1", "syntax at 33"),
-    ("SELECT COUNT(a) FROM t", "syntax at 13"),
+    ("SELECT COUNT() FROM t", "syntax at 13"),
+    ("SELECT COUNT('x') FROM t", "syntax at 13"),
+    ("SELECT COUNT(a, b) FROM t", "syntax at 14"),
+    ("SELECT COUNT(* + 1) FROM t", "syntax at 15"),
+    ("SELECT COUNT((*)) FROM t", "syntax at 14"),
     ("SELECT COUNT(*, FROM t", "syntax at 14"),
     ("SELECT COUNT * FROM t", "syntax at 13"),
     ("SELECT SUM(price FROM t", "syntax at 17"),
@@ -142,7 +158,18 @@ static WRONG_TOKENS: [(&str, &str); 59] = [
     ("SELECT a FROM t GROUP BY 1", "syntax at 25"),
     ("SELECT a FROM t WHERE 1 = a", "syntax at 22"),
     ("SELECT a FROM t WHERE a == 1", "syntax at 25"),
-    ("SELECT a FROM t WHERE a IS NULL", "syntax at 24"),
+    ("SELECT a FROM t WHERE IS NULL", "syntax at 22"),
+    ("SELECT a FROM t WHERE a NULL", "syntax at 24"),
+    ("SELECT a FROM t WHERE a IS 5", "syntax at 27"),
+    ("SELECT a FROM t WHERE a IS NOT 5", "syntax at 31"),
+    ("select a from t where a is not 5", "syntax at 31"),
+    ("SELECT a FROM t WHERE a IS NOT NOT NULL", "syntax at 31"),
+    ("SELECT a FROM t WHERE a NOT NULL", "syntax at 28"),
+    ("SELECT a FROM t WHERE a NOT IS NULL", "syntax at 28"),
+    ("SELECT a FROM t WHERE a IS (NULL)", "syntax at 27"),
+    ("SELECT a FROM t WHERE a IS NULL IS NULL", "syntax at 32"),
+    ("SELECT a FROM t WHERE (a) IS NULL", "syntax at 24"),
+    ("SELECT null FROM t", "syntax at 7"),
     ("SELECT a FROM t WHERE a = NULL", "syntax at 26"),
     ("SELECT a FROM t WHERE a BETWEEN 1 OR 2", "syntax at 34"),
     ("SELECT a FROM t WHERE a BETWEEN b AND 2", "syntax at 32"),
@@ -177,7 +204,7 @@ fn tokens_are_refused(rt: HostRuntime) -> Result<(), Fail> {
     all_are_refused(&rt, rt.alloc(), &WRONG_TOKENS)
 }
 
-static LIMITS: [(&str, &str); 8] = [
+static LIMITS: [(&str, &str); 11] = [
     (
         "SELECT SUM(9223372036854775808) FROM t",
         "number too large at 11",
@@ -189,6 +216,15 @@ static LIMITS: [(&str, &str); 8] = [
     (
         "SELECT SUM(9223372036854775808 FROM",
         "number too large at 11",
+    ),
+    ("SELECT COUNT(9223372036854775808", "number too large at 13"),
+    (
+        "SELECT COUNT(((((((((((((((((((((((((((((((((((",
+        "nested too deep at 45",
+    ),
+    (
+        "SELECT a FROM t WHERE NOT(NOT(NOT(NOT(NOT(NOT(NOT(NOT(NOT(NOT(NOT(NOT(NOT(NOT(NOT(NOT(NOT a IS NULL",
+        "nested too deep at 86",
     ),
     (
         "SELECT a FROM t WHERE a = 92233720368547758.08",

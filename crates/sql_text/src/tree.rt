@@ -33,6 +33,7 @@ pub enum ExprTree {
 
 #[derive(Clone, Copy, Debug, PartialEq, Eq)]
 pub enum CallKind {
+    Count,
     Sum,
     Avg,
     Min,
@@ -42,6 +43,7 @@ pub enum CallKind {
 #[derive(Debug, Drop)]
 pub enum ItemTree {
     Column(Named),
+    /// COUNT(*), which has no argument.
     Count,
     Call { kind: CallKind, arg: ExprTree },
 }
@@ -90,6 +92,9 @@ pub enum PredTree {
     OneOf {
         column: Named,
         values: Vec<Value>,
+    },
+    IsNull {
+        column: Named,
     },
     Not(Box<PredTree>),
     And(Box<PredTree>, Box<PredTree>),
