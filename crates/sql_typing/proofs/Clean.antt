@@ -1,10 +1,10 @@
 -- What the checks say of a query that none of them refuses.
-use Rattle.std.proofs.Common.{◌≡◌, ℕ, ◌≤◌, List, length, Option, None, refl, sym, ◌∙◌}
+use Rattle.std.proofs.Common.{◌≡◌, ◌≤◌, List, length, Option, None, refl, sym, ◌∙◌}
 use Rattle.std.specs.Prelude.{nat_lt}
 use Rattle.daq_table.specs.declared.head.ColumnHead.{ColumnHead}
 use Rattle.sql_text.specs.Tree.{Query}
-use Rattle.sql_typing.specs.Faults.{aggregates_in, ending_fault, filter_fault, first_fault, first_in, first_of, group_bits, group_fault, head_fault, name_fault, table_fault, text_fault, too_many_columns, too_many_items}
-use Rattle.sql_typing.specs.Names.{group_names, names_in}
+use Rattle.sql_typing.specs.Faults.{aggregates_in, ending_fault, filter_fault, first_fault, first_in, first_of, group_bits, group_fault, items_fault, name_fault, table_fault, too_many_columns, too_many_items}
+use Rattle.sql_typing.specs.Names.{names_in}
 use Rattle.sql_typing.specs.Typing.{columns_of, typed_ending}
 use Rattle.sql_typing.specs.declared.fault.TypeFault.{TypeFault}
 use Rattle.sql_typing.specs.declared.fault.TypeFault.TheVariants.{GroupTooWide, TooManyColumns, TooManyItems}
@@ -15,7 +15,7 @@ pub record IsClean (table : List ColumnHead) (q : Query) : Type 0 where
   pub known : first_in (name_fault table) (names_in q) ≡ None
   pub few_columns : length (columns_of table q) ≤ 16
   pub few_items : aggregates_in q.head ≤ 16
-  pub select_list : head_fault table (group_names q.ending) q.head ≡ None
+  pub select_list : items_fault table q.ending q.head ≡ None
   pub condition : filter_fault table q.pred ≡ None
   pub ending : ending_fault q.ending ≡ None
   pub groups : group_bits table (columns_of table q) (typed_ending table (columns_of table q) q.ending) ≤ 16
@@ -27,7 +27,7 @@ pub few_named : (table : List ColumnHead) (q : Query) → first_of (first_in (na
 few_named table q h = few_columns table q (none_later (first_in (name_fault table) (names_in q)) (too_many_columns table q) h)
 
 parts : (table : List ColumnHead) (q : Query) (t u c i x y z g : Option TypeFault) → t ≡ table_fault q.table → u ≡ first_in (name_fault table) (names_in q) → c ≡ too_many_columns table q → i ≡ too_many_items q
-    → x ≡ head_fault table (group_names q.ending) q.head → y ≡ filter_fault table q.pred → z ≡ ending_fault q.ending → g ≡ group_fault table q
+    → x ≡ items_fault table q.ending q.head → y ≡ filter_fault table q.pred → z ≡ ending_fault q.ending → g ≡ group_fault table q
     → first_of t (first_of u (first_of c (first_of i (first_of (first_of x (first_of y z)) g)))) ≡ None → IsClean table q
 parts table q t u c i x y z g et eu ec ei ex ey ez eg h =
     let h1 = none_later t (first_of u (first_of c (first_of i (first_of (first_of x (first_of y z)) g)))) h in
@@ -49,5 +49,5 @@ parts table q t u c i x y z g et eu ec ei ex ey ez eg h =
     }
 
 pub clean : (table : List ColumnHead) (q : Query) → first_fault table q ≡ None → IsClean table q
-clean table q h = parts table q (table_fault q.table) (first_in (name_fault table) (names_in q)) (too_many_columns table q) (too_many_items q) (head_fault table (group_names q.ending) q.head) (filter_fault table q.pred) (ending_fault q.ending) (group_fault table q)
+clean table q h = parts table q (table_fault q.table) (first_in (name_fault table) (names_in q)) (too_many_columns table q) (too_many_items q) (items_fault table q.ending q.head) (filter_fault table q.pred) (ending_fault q.ending) (group_fault table q)
     refl refl refl refl refl refl refl refl h

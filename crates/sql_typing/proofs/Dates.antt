@@ -1,14 +1,11 @@
 -- The test of dates.
-use Rattle.std.proofs.Common.{◌≡◌, ℕ, ◌<◌, ◌≤◌, ◌==◌, ◌^◌, Bool, true, false, not, ◌&&◌, List, [], ◌∷◌, length, take, drop, length-take, min, refl, sym, arith, lit<}
+use Rattle.std.proofs.Common.{◌≡◌, ℕ, ◌<◌, ◌≤◌, ◌==◌, ◌^◌, Bool, true, false, not, ◌&&◌, List, [], ◌∷◌, length, take, length-take, min, refl, arith, lit<}
 use Rattle.std.proofs.Math.Nat.{pow-le-pow_right}
 use Rattle.std.proofs.lemmas.Bool.{false_from_ne_true}
-use Rattle.std.proofs.lemmas.Bool.Decides.{nat_tests}
 use Rattle.std.proofs.lemmas.Int.{ints}
 use Rattle.std.proofs.lemmas.Int.Digits.{digits_value-lt}
 use Rattle.std.specs.Prelude.{nat_lt, pos, slice_index}
-use Rattle.std.specs.Char.{digit_value}
 use Rattle.std.specs.Int.{IsInRange}
-use Rattle.std.specs.List.{list_all, slice_range}
 use Rattle.std.specs.Str.Parse.{AllDigits, digits_value}
 use Rattle.jiff_core.specs.Calendar.{IsYear, days_in_month}
 use Rattle.daq_table.specs.CellTexts.{IsDateCell, day_digits, month_digits, year_digits}
@@ -32,7 +29,7 @@ from_one most n h =
 in_range : (most n : ℕ) → IsInRange 1 most n → is_from_one most n ≡ true
 in_range most n h = both _ _ (is_below 0 n (omega (arith, h.0))) (is_not_below most n h.1)
 
-pub year_is : (y : ℕ) → y ≤ 9999 → IsYear (pos y)
+year_is : (y : ℕ) → y ≤ 9999 → IsYear (pos y)
 year_is y h = (omega (arith, ints), omega (arith, ints))
 
 -- four digits write a number of the years of the calendar
@@ -77,7 +74,7 @@ apart a b c d e f g h p8 =
 joined : (a b c d e f g h : Bool) → AreTrue a b c d e f g h → (a && b && c && d && e && f && g && h) ≡ true
 joined a b c d e f g h p = rw (p.t1, p.t2, p.t3, p.t4, p.t5, p.t6, p.t7, p.t8) refl
 
-pub date_true : (bs : List ℕ) → is_date bs ≡ true → IsDateCell bs
+date_true : (bs : List ℕ) → is_date bs ≡ true → IsDateCell bs
 date_true bs h =
     let p = apart (length bs == 10) (slice_index bs 4 == 45) (slice_index bs 7 == 45) (are_digits (year_digits bs)) (are_digits (month_digits bs)) (are_digits (day_digits bs))
     (is_from_one 12 (digits_value 10 (month_digits bs))) (is_from_one (days_in_month (pos (digits_value 10 (year_digits bs))) (digits_value 10 (month_digits bs))) (digits_value 10 (day_digits bs))) h in

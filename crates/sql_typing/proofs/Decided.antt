@@ -8,9 +8,7 @@ use Rattle.interval_calc.specs.Intervals.{Interval}
 use Rattle.daq_table.specs.Tables.{Frame}
 use Rattle.query_model.specs.Truths.{Ranges, span_of}
 use Rattle.query_model.specs.Validity.{FitsItem, FitsKind, FitsSum, FitsWide, IsWideInterval, declared_ranges}
-use Rattle.query_model.specs.declared.query.Expr.{Expr}
-use Rattle.query_model.specs.declared.query.Expr.TheVariants as exprs
-use Rattle.query_model.specs.declared.query.Item.{Item}
+use Rattle.query_model.specs.Queries.{Term, Column, Literal, Add, Sub, Mul, Aggregate}
 use Rattle.query_model.specs.declared.query.ItemKind.{ItemKind}
 use Rattle.query_model.specs.declared.query.ItemKind.TheVariants.{Count, Sum, Min, Max, Avg}
 use Rattle.sql_typing.specs.Refusals.{IsFirstUnfit}
@@ -36,12 +34,12 @@ fits_number (negsuc n) = elim (cases_lt n (2 ^ 127)) [ inl lt ↦ inl (record { 
 is_wide : (i : Interval) → Decided (IsWideInterval i)
 is_wide i = both (fits_number i.low) (fits_number i.high)
 
-fits_wide : (e : Expr) (ranges : Ranges) → Decided (FitsWide e ranges)
-fits_wide (exprs.Column c) ranges = is_wide (ranges c)
-fits_wide (exprs.Literal n) ranges = fits_number n
-fits_wide (exprs.Add' p a q b) ranges = all_three (fits_wide a ranges) (fits_wide b ranges) (is_wide (span_of (exprs.Add' p a q b) ranges))
-fits_wide (exprs.Sub' p a q b) ranges = all_three (fits_wide a ranges) (fits_wide b ranges) (is_wide (span_of (exprs.Sub' p a q b) ranges))
-fits_wide (exprs.Mul' p a q b) ranges = all_three (fits_wide a ranges) (fits_wide b ranges) (is_wide (span_of (exprs.Mul' p a q b) ranges))
+fits_wide : (e : Term) (ranges : Ranges) → Decided (FitsWide e ranges)
+fits_wide (Column c) ranges = is_wide (ranges c).numbers
+fits_wide (Literal n) ranges = fits_number n
+fits_wide (Add a b) ranges = all_three (fits_wide a ranges) (fits_wide b ranges) (is_wide (span_of (Add a b) ranges))
+fits_wide (Sub a b) ranges = all_three (fits_wide a ranges) (fits_wide b ranges) (is_wide (span_of (Sub a b) ranges))
+fits_wide (Mul a b) ranges = all_three (fits_wide a ranges) (fits_wide b ranges) (is_wide (span_of (Mul a b) ranges))
 
 fits_sum : (rows : ℕ) (span : Interval) → Decided (FitsSum rows span)
 fits_sum rows span = both (fits_number _) (fits_number _)
@@ -53,19 +51,19 @@ fits_kind Min rows span = inl tt
 fits_kind Max rows span = inl tt
 fits_kind Avg rows span = both (fits_sum rows span) (fits_number _)
 
-fits_item : (frame : Frame) (item : Item) → Decided (FitsItem frame item)
+fits_item : (frame : Frame) (item : Aggregate) → Decided (FitsItem frame item)
 fits_item frame item = both (fits_wide item.arg (declared_ranges frame)) (fits_kind item.kind frame.rows (span_of item.arg (declared_ranges frame)))
 
 module _ (frame : Frame) where
-  FitOrNot : List Item → Type 0
+  FitOrNot : List Aggregate → Type 0
   FitOrNot items = AllByRecursion (FitsItem frame) items ⊎ ((place : ℕ) × IsFirstUnfit frame items place)
 
-  fit_before : (x : Item) (items : List Item) (place : ℕ) → FitsItem frame x → ((i : ℕ) (item : Item) → i < place → slice_get items i ≡ Some item → FitsItem frame item)
-      → (i : ℕ) (item : Item) → i < suc place → slice_get (x ∷ items) i ≡ Some item → FitsItem frame item
+  fit_before : (x : Aggregate) (items : List Aggregate) (place : ℕ) → FitsItem frame x → ((i : ℕ) (item : Aggregate) → i < place → slice_get items i ≡ Some item → FitsItem frame item)
+      → (i : ℕ) (item : Aggregate) → i < suc place → slice_get (x ∷ items) i ≡ Some item → FitsItem frame item
   fit_before x items place fits before zero item lt e = let same : x ≡ item = cc in subst (FitsItem frame) same fits
   fit_before x items place fits before (suc i) item lt e = before i item (omega (arith, lt)) e
 
-  pub fit_or_not : (items : List Item) → AllByRecursion (FitsItem frame) items ⊎ ((place : ℕ) × IsFirstUnfit frame items place)
+  pub fit_or_not : (items : List Aggregate) → AllByRecursion (FitsItem frame) items ⊎ ((place : ℕ) × IsFirstUnfit frame items place)
   unfolding FitOrNot
   fit_or_not [] = inl tt
   fit_or_not (x ∷ items) = go (fits_item frame x) (fit_or_not items)

@@ -1,12 +1,12 @@
 -- Lists in which no number stands twice.
-use Rattle.std.proofs.Common.{◌≡◌, ◌≢◌, ℕ, zero, suc, ◌<◌, ◌≤◌, ◌==◌, cond, Bool, true, false, not, ◌&&◌, ◌||◌, if◌then◌else◌, List, [], ◌∷◌, ◌++◌, length, map, Option, Some, None, IfSome, IsTrue, inl, inr, ◌⊎◌, refl, sym, subst, arith}
+use Rattle.std.proofs.Common.{◌≡◌, ◌≢◌, ℕ, zero, suc, ◌<◌, ◌≤◌, ◌==◌, cond, Bool, true, false, if◌then◌else◌, List, [], ◌∷◌, ◌++◌, length, Option, Some, None, IfSome, IsTrue, inl, inr, ◌⊎◌, refl, sym, subst, arith}
 use Rattle.std.proofs.lemmas.Bool.{cases_eq}
 use Rattle.std.specs.List.{AllByRecursion, list_any}
 use Rattle.query_model.specs.Validity.{no_repeats}
 use Rattle.sql_typing.specs.Names.{first_seen, with_column, with_number}
 use Rattle.sql_typing.specs.Typing.{distinct_after}
 use Rattle.sql_typing.specs.declared.names.Mention.{Mention}
-use Rattle.sql_typing.proofs.Alls.{all_join, all_then}
+use Rattle.sql_typing.proofs.Alls.{all_join}
 use Rattle.sql_typing.proofs.Comparisons.{number_differs, number_same, or_left, or_right, other_number}
 
 abbrev pub AreDistinct : List ℕ → Type 0

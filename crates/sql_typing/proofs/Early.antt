@@ -1,16 +1,15 @@
 -- The checks before that of 128 bits find no other fault.
-use Rattle.std.proofs.Common.{◌≡◌, ℕ, ◌+◌, ◌==◌, Bool, true, false, not, ◌||◌, length, List, [], ◌∷◌, Option, Some, None, IfSome, inl, inr, sym, subst}
+use Rattle.std.proofs.Common.{◌≡◌, ℕ, ◌+◌, ◌==◌, Bool, true, false, not, length, List, [], ◌∷◌, Option, Some, None, IfSome, inl, inr, subst}
 use Rattle.std.specs.Prelude.{codes, nat_lt}
 use Rattle.std.specs.Str.{bytes_eq}
 use Rattle.daq_table.specs.declared.head.ColumnHead.{ColumnHead}
 use Rattle.daq_table.specs.declared.head.Kind.{Kind}
 use Rattle.daq_table.specs.declared.table_head.Head as heads
 use Rattle.query_model.specs.declared.query.Shape.{Shape}
-use Rattle.sql_text.specs.declared.tree.CallKind.{CallKind}
-use Rattle.sql_text.specs.Tree.{Name, Expr, Item, Head, Operand, Pred, Ending, Query, Column, Number, Add, Sub, Mul, Plain, CountAll, Call, Items, Star, Compare, Columns, Between, OneOf, Negation, Both, Either, Nothing, Grouped, Ordered}
-use Rattle.sql_typing.specs.Faults.{aggregates_in, argument_fault, ending_fault, expr_fault, fault_if, filter_fault, first_fault, first_in, first_of, group_bits, group_fault, head_fault, is_grouped, is_limit, item_fault, name_fault, pred_fault, shape_fault, table_fault, text_fault, too_many_columns, too_many_items, unknown_at, value_fault, values_fault}
-use Rattle.sql_typing.specs.Kinds.{can_compare, is_number, most_scale, place_of_operand, scale_of_kind, scale_of_operand, suits}
-use Rattle.sql_typing.specs.Names.{group_names, kind_of, names_in, place_of}
+use Rattle.sql_text.specs.Tree.{Name, Expr, Item, Head, Operand, Pred, Ending, Query, Column, Number, Add, Sub, Mul, Plain, CountAll, Call, Items, Star, Compare, Columns, Between, OneOf, IsNull, Negation, Both, Either, Nothing, Grouped, Ordered}
+use Rattle.sql_typing.specs.Faults.{aggregates_in, argument_fault, ending_fault, expr_fault, fault_if, filter_fault, first_fault, first_in, first_of, group_bits, group_fault, head_fault, is_grouped, is_limit, is_too_fine, item_fault, items_fault, name_fault, pred_fault, shape_fault, table_fault, text_fault, too_many_columns, too_many_items, unknown_at, value_fault, values_fault}
+use Rattle.sql_typing.specs.Kinds.{can_compare, is_number, most_scale, place_of_operand, scale_of_kind, suits}
+use Rattle.sql_typing.specs.Names.{kind_of, names_in, place_of}
 use Rattle.sql_typing.specs.Parts.{IsFault}
 use Rattle.sql_typing.specs.Refusals.{Refuses}
 use Rattle.sql_typing.specs.Typing.{columns_of, scale_of, typed_ending, whole_column}
@@ -69,9 +68,14 @@ early_head : (table : List ColumnHead) (groups : List Name) (h : Head) → IfSom
 early_head table groups (Items is) = early_in (item_fault table groups) (early_item table groups) is
 early_head table groups Star = tt
 
+early_items : (table : List ColumnHead) (ending : Ending) (h : Head) → IfSome (items_fault table ending h) IsEarly
+early_items table Nothing h = early_head table [] h
+early_items table (Grouped ns) h = early_head table ns h
+early_items table (Ordered key down limit) h = tt
+
 early_value : (kind : Kind) (v : Operand) → IfSome (value_fault kind v) IsEarly
-early_value kind v = early_of (fault_if (not (suits kind v)) (KindsDiffer (place_of_operand v))) (fault_if (nat_lt (scale_of_kind kind) (scale_of_operand v) || nat_lt most_scale (scale_of_kind kind)) (ScaleTooFine (place_of_operand v)))
-    (early_if (not (suits kind v)) (KindsDiffer (place_of_operand v)) tt) (early_if (nat_lt (scale_of_kind kind) (scale_of_operand v) || nat_lt most_scale (scale_of_kind kind)) (ScaleTooFine (place_of_operand v)) tt)
+early_value kind v = early_of (fault_if (not (suits kind v)) (KindsDiffer (place_of_operand v))) (fault_if (is_too_fine kind v) (ScaleTooFine (place_of_operand v)))
+    (early_if (not (suits kind v)) (KindsDiffer (place_of_operand v)) tt) (early_if (is_too_fine kind v) (ScaleTooFine (place_of_operand v)) tt)
 
 early_values : (kind : Kind) (before : ℕ) (vs : List Operand) → IfSome (values_fault kind before vs) IsEarly
 early_values kind before [] = tt
@@ -83,6 +87,7 @@ early_pred table (Compare n op v) = early_value (kind_of table n.name) v
 early_pred table (Columns l op r) = early_if (not (can_compare (kind_of table l.name) (kind_of table r.name))) (KindsDiffer r.at) tt
 early_pred table (Between n low high) = early_of (value_fault (kind_of table n.name) low) (value_fault (kind_of table n.name) high) (early_value (kind_of table n.name) low) (early_value (kind_of table n.name) high)
 early_pred table (OneOf n vs) = early_values (kind_of table n.name) 0 vs
+early_pred table (IsNull n) = tt
 early_pred table (Negation a) = early_pred table a
 early_pred table (Both a b) = early_of (pred_fault table a) (pred_fault table b) (early_pred table a) (early_pred table b)
 early_pred table (Either a b) = early_of (pred_fault table a) (pred_fault table b) (early_pred table a) (early_pred table b)
@@ -97,7 +102,7 @@ early_ending (Grouped ns) = tt
 early_ending (Ordered key down limit) = early_if (not (is_limit limit)) (LimitOutOfRange limit.at) tt
 
 early_text : (table : List ColumnHead) (q : Query) → IfSome (text_fault table q) IsEarly
-early_text table q = early_of (head_fault table (group_names q.ending) q.head) (first_of (filter_fault table q.pred) (ending_fault q.ending)) (early_head table (group_names q.ending) q.head)
+early_text table q = early_of (items_fault table q.ending q.head) (first_of (filter_fault table q.pred) (ending_fault q.ending)) (early_items table q.ending q.head)
     (early_of (filter_fault table q.pred) (ending_fault q.ending) (early_filter table q.pred) (early_ending q.ending))
 
 early_groups : (table : List ColumnHead) (columns : List ℕ) (shape : Shape) → IfSome (shape_fault table columns shape) IsEarly

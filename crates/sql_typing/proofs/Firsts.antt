@@ -16,17 +16,10 @@ pub not_if : (test : Bool) (fault : TypeFault) → fault_if test fault ≡ None 
 not_if true fault h = absurd cc
 not_if false fault h = refl
 
-pub both_none : (a b : Option TypeFault) → a ≡ None → b ≡ None → first_of a b ≡ None
-both_none a b h k = rw (h, k) refl
-
--- the first of two faults is that of the first
+-- the first of two faults
 pub fault_is : (fault : TypeFault) (a b : Option TypeFault) → IsFault fault a → IsFault fault (first_of a b)
 fault_is fault a b (inl memory) = inl memory
 fault_is fault a b (inr here) = inr (rw here refl)
-
--- or of the second, where the first is none
-pub fault_later : (fault : TypeFault) (a b : Option TypeFault) → a ≡ None → IsFault fault b → IsFault fault (first_of a b)
-fault_later fault a b h k = rw h k
 
 -- the first fault of a list is that of its first element
 pub bad_first : {A : Type 0} (check : A → Option TypeFault) (v : A) (vs rest : List A) (first : Option TypeFault) (fault : TypeFault)

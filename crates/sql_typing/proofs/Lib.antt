@@ -1,12 +1,10 @@
 pub mod Alls
-pub mod Calls
 pub mod Clean
 pub mod Dates
 pub mod Distinct
 pub mod Early
 pub mod Exact
 pub mod Firsts
-pub mod Fits
 pub mod Lists
 pub mod Mentions
 pub mod Numbered
@@ -18,7 +16,5 @@ pub mod Comparisons
 pub mod Valid
 pub mod ValidItems
 pub mod Values
-pub mod WellFormed
-pub mod Built
 pub mod Decided
 pub mod SomeTyping

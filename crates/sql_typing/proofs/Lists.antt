@@ -49,10 +49,6 @@ next_pushed f out new vs v rest m whole e value pushed h =
     let joined : (out ++ (f v ∷ [])) ++ map f rest ≡ out ++ (f v ∷ map f rest) = append_assoc out (f v ∷ []) (map f rest) in
     rw (pushed, value, joined) (rw e at h)
 
-pub map_push : {A B : Type 0} (f : A → B) (xs : List A) (x : A) → map f (xs ++ x ∷ []) ≡ map f xs ++ f x ∷ []
-map_push f [] x = refl
-map_push f (y ∷ xs) x = ap (λ zs. f y ∷ zs) (map_push f xs x)
-
 more_given : {B : Type 0} (out : List B) (given : Option B) (rest whole : List B) → out ++ cons_option given rest ≡ whole → (out ++ cons_option given []) ++ rest ≡ whole
 more_given out None rest whole h = append_assoc out [] rest ∙ h
 more_given out (Some x) rest whole h = append_assoc out (x ∷ []) rest ∙ h

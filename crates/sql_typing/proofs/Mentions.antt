@@ -1,5 +1,5 @@
 -- Names one list after the other.
-use Rattle.std.proofs.Common.{◌≡◌, ℕ, List, [], ◌∷◌, ◌++◌, map, refl, ap}
+use Rattle.std.proofs.Common.{◌≡◌, List, [], ◌∷◌, ◌++◌, refl, ap}
 use Rattle.daq_table.specs.declared.head.ColumnHead.{ColumnHead}
 use Rattle.sql_text.specs.Tree.{Name}
 use Rattle.sql_typing.specs.Faults.{first_in, first_of, name_fault, unknown_at}

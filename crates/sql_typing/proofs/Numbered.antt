@@ -1,5 +1,5 @@
 -- The numbers of the columns of a query.
-use Rattle.std.proofs.Common.{◌≡◌, ◌≢◌, ℕ, zero, suc, ◌+◌, ◌<◌, ◌≤◌, ◌==◌, cond, Bool, true, false, not, List, [], ◌∷◌, length, map, get_or, Option, Some, None, IfSome, unwrap_or, inl, inr, ◌⊎◌, refl, sym, ap, subst, ◌∙◌, arith}
+use Rattle.std.proofs.Common.{◌≡◌, ◌≢◌, ℕ, suc, ◌+◌, ◌<◌, ◌≤◌, ◌==◌, cond, Bool, true, false, List, [], ◌∷◌, length, map, get_or, Option, Some, None, IfSome, unwrap_or, inl, inr, refl, sym, ap, arith}
 use Rattle.std.proofs.lemmas.Bool.{cases_eq}
 use Rattle.std.specs.Prelude.{nat_lt, slice_index_or}
 use Rattle.std.specs.List.{AllByRecursion, position, position_or_len}
@@ -9,9 +9,8 @@ use Rattle.daq_table.specs.declared.head.Kind.TheVariants.{Int}
 use Rattle.query_model.specs.Answers.{groups_of}
 use Rattle.sql_text.specs.Tree.{Name, Ending, Nothing, Grouped, Ordered}
 use Rattle.sql_typing.specs.Faults.{first_in, name_fault, unknown_at}
-use Rattle.sql_typing.specs.Names.{columns_named, first_seen, kind_at, kind_of, mention, mentions, number_at, number_of, place_of}
-use Rattle.sql_typing.specs.Typing.{distinct_after, group_columns, typed_ending}
-use Rattle.sql_typing.specs.declared.names.Mention.{Mention}
+use Rattle.sql_typing.specs.Names.{columns_named, kind_at, kind_of, mention, mentions, number_at, number_of, place_of}
+use Rattle.sql_typing.specs.Typing.{group_columns, typed_ending}
 use Rattle.sql_typing.proofs.Alls.{all_both, all_mapped, all_of, all_over}
 use Rattle.sql_typing.proofs.Distinct.{AreDistinct, IsAmong, after_all, after_distinct, all_seen, few_distinct, seen_all, seen_distinct}
 use Rattle.sql_typing.proofs.Firsts.{none_first, none_later}
@@ -21,7 +20,7 @@ found_below : (b : Bool) (k n : ℕ) → b ≡ nat_lt k n → IfSome (cond b (So
 found_below true k n h = below k n (sym h)
 found_below false k n h = tt
 
-pub position_within : {A : Type 0} (test : A → Bool) (xs : List A) → IfSome (position test xs) (λ i. i < length xs)
+position_within : {A : Type 0} (test : A → Bool) (xs : List A) → IfSome (position test xs) (λ i. i < length xs)
 position_within test xs = found_below (nat_lt (position_or_len test xs) (length xs)) (position_or_len test xs) (length xs) refl
 
 -- ---- where a number is found

@@ -1,9 +1,9 @@
 -- The values of an IN, one after the other.
-use Rattle.std.proofs.Common.{◌≡◌, ◌≢◌, ℕ, ◌+◌, ◌==◌, true, false, List, ◌∷◌, Option, None, Some, refl, sym, ap, inl, inr, subst, ◌∙◌, arith}
+use Rattle.std.proofs.Common.{◌≡◌, ◌≢◌, ℕ, ◌+◌, ◌==◌, true, false, List, ◌∷◌, Option, None, Some, refl, sym, ap, inr, subst, ◌∙◌, arith}
 use Rattle.std.proofs.lemmas.Bool.Decides.{nat_tests}
 use Rattle.daq_table.specs.declared.head.Kind.{Kind}
 use Rattle.sql_text.specs.Tree.{Operand}
-use Rattle.sql_typing.specs.Faults.{fault_if, first_of, value_fault, values_fault}
+use Rattle.sql_typing.specs.Faults.{value_fault, values_fault}
 use Rattle.sql_typing.specs.Kinds.{place_of_operand}
 use Rattle.sql_typing.specs.Parts.{IsFault}
 use Rattle.sql_typing.specs.declared.fault.TypeFault.{TypeFault}

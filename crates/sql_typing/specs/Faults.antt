@@ -1,5 +1,5 @@
 -- The checks of a query, in order, and the first that refuses.
-use Rattle.std.specs.Prelude.{ℕ, ◌+◌, ◌==◌, nat_lt, int_lt, int_le, pos, codes, Bool, true, false, not, ◌&&◌, ◌||◌, if◌then◌else◌, List, [], ◌∷◌, length, map, slice_index_or, Option, Some, None}
+use Rattle.std.specs.Prelude.{ℕ, ◌+◌, ◌==◌, nat_lt, int_lt, int_le, pos, codes, Bool, true, false, not, ◌&&◌, ◌||◌, List, [], ◌∷◌, length, map, slice_index_or, Option, Some, None}
 use Rattle.std.specs.List.{count_by, list_any, sum}
 use Rattle.std.specs.Str.{bytes_eq}
 use Rattle.daq_table.specs.Tables.{ends_of, no_ends, planes}
@@ -9,12 +9,11 @@ use Rattle.daq_table.specs.declared.head.Kind.{Kind}
 use Rattle.query_model.specs.Answers.{groups_of}
 use Rattle.query_model.specs.declared.query.Shape.{Shape}
 use Rattle.sql_text.specs.declared.tree.Num.{Num}
-use Rattle.sql_text.specs.declared.tree.CallKind.{CallKind}
-use Rattle.sql_text.specs.Tree.{Name, Expr, Item, Head, Operand, Pred, Ending, Query, Column, Number, Add, Sub, Mul, Plain, CountAll, Call, Items, Star, Compare, Columns, Between, OneOf, Negation, Both, Either, Nothing, Grouped, Ordered}
+use Rattle.sql_text.specs.Tree.{Name, Expr, Item, Head, Operand, Pred, Ending, Query, Column, Number, Add, Sub, Mul, Plain, CountAll, Call, Items, Star, Compare, Columns, Between, OneOf, IsNull, Negation, Both, Either, Nothing, Grouped, Ordered}
 use Rattle.sql_typing.specs.declared.fault.TypeFault.{TypeFault}
 use Rattle.sql_typing.specs.declared.fault.TypeFault.TheVariants.{UnknownTable, UnknownColumn, TooManyColumns, TooManyItems, KindsDiffer, ScaleTooFine, NotGrouped, TooManyValues, LimitOutOfRange, GroupTooWide}
 use Rattle.sql_typing.specs.Kinds.{can_compare, is_number, most_scale, place_of_operand, scale_of_kind, scale_of_operand, suits}
-use Rattle.sql_typing.specs.Names.{group_names, kind_of, names_in, place_of}
+use Rattle.sql_typing.specs.Names.{kind_of, names_in, place_of}
 use Rattle.sql_typing.specs.Typing.{columns_of, scale_of, typed_ending, whole_column}
 
 -- the first of two faults
@@ -62,7 +61,8 @@ too_many_items q = fault_if (nat_lt 16 (aggregates_in q.head)) TooManyItems
 
 -- a name in an expression, which has to be one of numbers
 abbrev pub operand_fault : Kind → ℕ → Option TypeFault
-operand_fault kind at = first_of (fault_if (not (is_number kind)) (KindsDiffer at)) (fault_if (nat_lt most_scale (scale_of_kind kind)) (ScaleTooFine at))
+operand_fault kind at = first_of (fault_if (not (is_number kind)) (KindsDiffer at))
+    (fault_if (nat_lt most_scale (scale_of_kind kind)) (ScaleTooFine at))
 
 -- the sign of a product stands between its sides
 abbrev pub expr_fault : List ColumnHead → Expr → Option TypeFault
@@ -70,9 +70,10 @@ expr_fault table (Column n) = operand_fault (kind_of table n.name) n.at
 expr_fault table (Number v) = fault_if (nat_lt most_scale v.scale) (ScaleTooFine v.at)
 expr_fault table (Add a b) = first_of (expr_fault table a) (expr_fault table b)
 expr_fault table (Sub a b) = first_of (expr_fault table a) (expr_fault table b)
-expr_fault table (Mul at a b) = first_of (expr_fault table a) (first_of (fault_if (nat_lt most_scale (scale_of table (Mul at a b))) (ScaleTooFine at)) (expr_fault table b))
+expr_fault table (Mul at a b) = first_of (expr_fault table a)
+    (first_of (fault_if (nat_lt most_scale (scale_of table (Mul at a b))) (ScaleTooFine at)) (expr_fault table b))
 
--- MIN and MAX take a column of any kind, where it is the whole argument
+-- a column that is the whole argument of COUNT, MIN or MAX may be of any kind
 abbrev pub argument_fault : List ColumnHead → Option Name → Expr → Option TypeFault
 argument_fault table None e = expr_fault table e
 argument_fault table (Some n) e = None
@@ -89,21 +90,33 @@ abbrev pub head_fault : List ColumnHead → List Name → Head → Option TypeFa
 head_fault table groups (Items is) = first_in (item_fault table groups) is
 head_fault table groups Star = None
 
+-- the first fault of the aggregates; rows in an order have none
+abbrev pub items_fault : List ColumnHead → Ending → Head → Option TypeFault
+items_fault table Nothing head = head_fault table [] head
+items_fault table (Grouped ns) head = head_fault table ns head
+items_fault table (Ordered key down limit) head = None
+
+-- the value has more decimals than its column, or that has too many
+abbrev pub is_too_fine : Kind → Operand → Bool
+is_too_fine kind v = nat_lt (scale_of_kind kind) (scale_of_operand v) || nat_lt most_scale (scale_of_kind kind)
+
 -- a value has to suit its column, with no more decimals than that
 abbrev pub value_fault : Kind → Operand → Option TypeFault
 value_fault kind v = first_of (fault_if (not (suits kind v)) (KindsDiffer (place_of_operand v)))
-    (fault_if (nat_lt (scale_of_kind kind) (scale_of_operand v) || nat_lt most_scale (scale_of_kind kind)) (ScaleTooFine (place_of_operand v)))
+    (fault_if (is_too_fine kind v) (ScaleTooFine (place_of_operand v)))
 
 -- the values of an IN behind the first so many
 abbrev pub values_fault : Kind → ℕ → List Operand → Option TypeFault
 values_fault kind before [] = None
-values_fault kind before (v ∷ vs) = first_of (value_fault kind v) (first_of (fault_if (before == 64) (TooManyValues (place_of_operand v))) (values_fault kind (before + 1) vs))
+values_fault kind before (v ∷ vs) = first_of (value_fault kind v)
+    (first_of (fault_if (before == 64) (TooManyValues (place_of_operand v))) (values_fault kind (before + 1) vs))
 
 abbrev pub pred_fault : List ColumnHead → Pred → Option TypeFault
 pred_fault table (Compare n op v) = value_fault (kind_of table n.name) v
 pred_fault table (Columns l op r) = fault_if (not (can_compare (kind_of table l.name) (kind_of table r.name))) (KindsDiffer r.at)
 pred_fault table (Between n low high) = first_of (value_fault (kind_of table n.name) low) (value_fault (kind_of table n.name) high)
 pred_fault table (OneOf n vs) = values_fault (kind_of table n.name) 0 vs
+pred_fault table (IsNull n) = None
 pred_fault table (Negation a) = pred_fault table a
 pred_fault table (Both a b) = first_of (pred_fault table a) (pred_fault table b)
 pred_fault table (Either a b) = first_of (pred_fault table a) (pred_fault table b)
@@ -122,7 +135,7 @@ ending_fault (Grouped ns) = None
 ending_fault (Ordered key down limit) = fault_if (not (is_limit limit)) (LimitOutOfRange limit.at)
 
 abbrev pub text_fault : List ColumnHead → Query → Option TypeFault
-text_fault table q = first_of (head_fault table (group_names q.ending) q.head) (first_of (filter_fault table q.pred) (ending_fault q.ending))
+text_fault table q = first_of (items_fault table q.ending q.head) (first_of (filter_fault table q.pred) (ending_fault q.ending))
 
 -- ---- groups
 

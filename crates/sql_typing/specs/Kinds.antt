@@ -1,5 +1,5 @@
 -- What the kinds of columns allow.
-use Rattle.std.specs.Prelude.{ℕ, ◌==◌, ◌≤◌, nat_lt, Bool, true, false, not, ◌&&◌, ◌||◌, List, [], ◌∷◌, length, pos, slice_index}
+use Rattle.std.specs.Prelude.{ℕ, ◌==◌, nat_lt, Bool, true, false, not, ◌&&◌, ◌||◌, List, length, pos, slice_index}
 use Rattle.std.specs.Char.{digit_value}
 use Rattle.std.specs.Str.Parse.{digits_value}
 use Rattle.std.specs.List.{list_all}
@@ -53,7 +53,8 @@ abbrev pub is_date : List ℕ → Bool
 is_date bytes = (length bytes == 10) && (slice_index bytes 4 == 45) && (slice_index bytes 7 == 45)
     && are_digits (year_digits bytes) && are_digits (month_digits bytes) && are_digits (day_digits bytes)
     && is_from_one 12 (digits_value 10 (month_digits bytes))
-    && is_from_one (days_in_month (pos (digits_value 10 (year_digits bytes))) (digits_value 10 (month_digits bytes))) (digits_value 10 (day_digits bytes))
+    && is_from_one (days_in_month (pos (digits_value 10 (year_digits bytes))) (digits_value 10 (month_digits bytes)))
+    (digits_value 10 (day_digits bytes))
 
 -- the sort of a value suits a column: numbers to numbers, strings to texts, and to dates DATE strings and strings that are dates
 abbrev pub suits : Kind → Operand → Bool

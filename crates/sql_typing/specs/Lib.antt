@@ -1,6 +1,5 @@
 pub mod Names
 pub mod Kinds
-pub mod Terms
 pub mod Typing
 pub mod Faults
 pub mod Parts

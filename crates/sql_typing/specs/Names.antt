@@ -1,11 +1,11 @@
 -- The names of a query, and the columns that they name.
-use Rattle.std.specs.Prelude.{ℕ, ◌==◌, Bool, if◌then◌else◌, List, [], ◌∷◌, ◌++◌, map, slice_index_or, Option, Some, None, unwrap_or}
+use Rattle.std.specs.Prelude.{ℕ, ◌==◌, if◌then◌else◌, List, [], ◌∷◌, ◌++◌, map, slice_index_or, Option, Some, None, unwrap_or}
 use Rattle.std.specs.List.{list_any, position}
 use Rattle.std.specs.Str.{bytes_eq}
 use Rattle.daq_table.specs.declared.head.ColumnHead.{ColumnHead}
 use Rattle.daq_table.specs.declared.head.Kind.{Kind}
 use Rattle.daq_table.specs.declared.head.Kind.TheVariants.{Int}
-use Rattle.sql_text.specs.Tree.{Name, Expr, Item, Head, Pred, Ending, Query, Column, Number, Add, Sub, Mul, Plain, CountAll, Call, Items, Star, Compare, Columns, Between, OneOf, Negation, Both, Either, Nothing, Grouped, Ordered}
+use Rattle.sql_text.specs.Tree.{Name, Expr, Item, Head, Pred, Ending, Query, Column, Number, Add, Sub, Mul, Plain, CountAll, Call, Items, Star, Compare, Columns, Between, OneOf, IsNull, Negation, Both, Either, Nothing, Grouped, Ordered}
 use Rattle.sql_typing.specs.declared.names.Mention.{Mention}
 
 -- ---- names in the order of the text
@@ -35,6 +35,7 @@ names_in_pred (Compare n op v) = n ∷ []
 names_in_pred (Columns l op r) = l ∷ r ∷ []
 names_in_pred (Between n low high) = n ∷ []
 names_in_pred (OneOf n vs) = n ∷ []
+names_in_pred (IsNull n) = n ∷ []
 names_in_pred (Negation a) = names_in_pred a
 names_in_pred (Both a b) = names_in_pred a ++ names_in_pred b
 names_in_pred (Either a b) = names_in_pred a ++ names_in_pred b
@@ -104,9 +105,3 @@ dictionary_at table (Some c) = slice_index_or (map (λ h. h.names) table) c []
 
 abbrev pub dictionary_of : List ColumnHead → List ℕ → List (List ℕ)
 dictionary_of table name = dictionary_at table (place_of table name)
-
--- the names in GROUP BY
-abbrev pub group_names : Ending → List Name
-group_names Nothing = []
-group_names (Grouped ns) = ns
-group_names (Ordered key down limit) = []

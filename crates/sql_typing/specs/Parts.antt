@@ -1,7 +1,7 @@
 -- What the parts of typing give: their result, or the first fault.
 use Rattle.std.specs.Prelude.{◌≡◌, ◌⊎◌, Option, Some, None, Result, Ok, Err, FitsSigned}
 use Rattle.std.specs.Int.{w64}
-use Rattle.sql_typing.specs.Terms.{Term, Column, Literal, Add, Sub, Mul}
+use Rattle.query_model.specs.Queries.{Term, Column, Literal, Add, Sub, Mul}
 use Rattle.sql_typing.specs.declared.fault.TypeFault.{TypeFault}
 use Rattle.sql_typing.specs.declared.fault.TypeFault.TheVariants.{NoMemory}
 

@@ -1,4 +1,4 @@
--- What a query means on a table with a head, where nothing refuses it.
+-- The typed query of a tree on a table with a head, where nothing refuses it.
 use Rattle.std.specs.Prelude.{ℕ, zero, suc, ◌+◌, ◌-◌, ◌^◌, max, ℤ, pos, negsuc, ◌*ℤ◌, ◌-ℤ◌, nat_abs, Bool, true, false, if◌then◌else◌, List, [], ◌∷◌, map, Option, Some, None}
 use Rattle.std.specs.Cmp.Lexicographic.{slice_cmp}
 use Rattle.std.specs.List.{count_by, filter_map, list_any}
@@ -7,7 +7,7 @@ use Rattle.std.specs.Str.{bytes_eq}
 use Rattle.daq_table.specs.CellTexts.{date_value}
 use Rattle.daq_table.specs.declared.head.ColumnHead.{ColumnHead}
 use Rattle.daq_table.specs.declared.head.Kind.{Kind}
-use Rattle.daq_table.specs.declared.table_head.Head.{Head}
+use Rattle.query_model.specs.Queries.{Term, Column, Literal, Add, Sub, Mul, Condition, All, Single, Both, Either, Negation, Aggregate, Query}
 use Rattle.query_model.specs.declared.query.Atom.{Atom}
 use Rattle.query_model.specs.declared.query.Atom.TheVariants as atoms
 use Rattle.query_model.specs.declared.query.Face.{Face}
@@ -28,7 +28,6 @@ use Rattle.sql_typing.specs.declared.spot.Spot.{Spot}
 use Rattle.sql_typing.specs.declared.spot.Spot.TheVariants.{At, Before}
 use Rattle.sql_typing.specs.Kinds.{is_day, scale_of_kind}
 use Rattle.sql_typing.specs.Names.{columns_named, dictionary_of, kind_of, names_in, number_of, with_number}
-use Rattle.sql_typing.specs.Terms.{Term, Condition, Aggregate, Meaning, Column, Literal, Add, Sub, Mul, All, Single, Both, Either, Negation}
 
 -- ---- expressions
 
@@ -57,19 +56,24 @@ abbrev pub raised : ℕ → Term → Term
 raised zero t = t
 raised (suc d) t = multiplied (10 ^ suc d) (literal_of t) t
 
--- two terms in units of the same decimal: that of fewer decimals is raised
-abbrev pub aligned : ℕ → ℕ → Term → Term → Term × Term
-aligned m n a b = (raised (n - m) a, raised (m - n) b)
-
 -- numbers are in units of their last decimal
 abbrev pub typed_expr : List ColumnHead → List ℕ → tree.Expr → Term
 typed_expr table columns (tree.Column n) = Column (number_of table columns n.name)
 typed_expr table columns (tree.Number v) = Literal v.units
 typed_expr table columns (tree.Add a b) =
-    Add (raised (scale_of table b - scale_of table a) (typed_expr table columns a)) (raised (scale_of table a - scale_of table b) (typed_expr table columns b))
+    Add (raised (scale_of table b - scale_of table a) (typed_expr table columns a))
+    (raised (scale_of table a - scale_of table b) (typed_expr table columns b))
 typed_expr table columns (tree.Sub a b) =
-    Sub (raised (scale_of table b - scale_of table a) (typed_expr table columns a)) (raised (scale_of table a - scale_of table b) (typed_expr table columns b))
+    Sub (raised (scale_of table b - scale_of table a) (typed_expr table columns a))
+    (raised (scale_of table a - scale_of table b) (typed_expr table columns b))
 typed_expr table columns (tree.Mul at a b) = Mul (typed_expr table columns a) (typed_expr table columns b)
+
+-- the sides of a sum or a difference in units of the same decimal: that of fewer decimals is raised
+abbrev pub typed_sides : List ColumnHead → List ℕ → tree.Expr → tree.Expr → Term × Term
+typed_sides table columns a b = (
+  raised (scale_of table b - scale_of table a) (typed_expr table columns a),
+  raised (scale_of table a - scale_of table b) (typed_expr table columns b),
+)
 
 -- ---- aggregates
 
@@ -78,12 +82,15 @@ kind_of_call calls.Sum = kinds.Sum
 kind_of_call calls.Avg = kinds.Avg
 kind_of_call calls.Min = kinds.Min
 kind_of_call calls.Max = kinds.Max
+kind_of_call calls.Count = kinds.Count
 
-abbrev pub is_extreme : CallKind → Bool
-is_extreme calls.Sum = false
-is_extreme calls.Avg = false
-is_extreme calls.Min = true
-is_extreme calls.Max = true
+-- COUNT, MIN and MAX take a column of any kind
+abbrev pub takes_all_kinds : CallKind → Bool
+takes_all_kinds calls.Sum = false
+takes_all_kinds calls.Avg = false
+takes_all_kinds calls.Min = true
+takes_all_kinds calls.Max = true
+takes_all_kinds calls.Count = true
 
 abbrev pub bare_column : tree.Expr → Option Name
 bare_column (tree.Column n) = Some n
@@ -92,22 +99,31 @@ bare_column (tree.Add a b) = None
 bare_column (tree.Sub a b) = None
 bare_column (tree.Mul at a b) = None
 
--- the column that is the whole argument of MIN or MAX
+-- the column that is the whole argument of COUNT, MIN or MAX
 abbrev pub whole_column : CallKind → tree.Expr → Option Name
-whole_column kind e = if is_extreme kind then bare_column e else None
+whole_column kind e = if takes_all_kinds kind then bare_column e else None
 
--- the least and the greatest value of a column are values of it; other answers are numbers
-abbrev pub face_of : List ColumnHead → List ℕ → Option Name → tree.Expr → Face
-face_of table columns None e = faces.Number (scale_of table e)
-face_of table columns (Some n) e = faces.OfColumn (number_of table columns n.name)
+-- a value is printed as one of its column, where it is that of a column, else as a number of so many decimals
+abbrev pub value_face : List ColumnHead → List ℕ → Option Name → ℕ → Face
+value_face table columns None scale = faces.Number scale
+value_face table columns (Some n) scale = faces.OfColumn (number_of table columns n.name)
+
+-- a count is a whole number; the least and the greatest value of a column are values of it; other answers have the decimals of the argument
+abbrev pub face_of : List ColumnHead → List ℕ → CallKind → tree.Expr → Face
+face_of table columns calls.Sum e = faces.Number (scale_of table e)
+face_of table columns calls.Avg e = faces.Number (scale_of table e)
+face_of table columns calls.Min e = value_face table columns (bare_column e) (scale_of table e)
+face_of table columns calls.Max e = value_face table columns (bare_column e) (scale_of table e)
+face_of table columns calls.Count e = faces.Number 0
 
 abbrev pub typed_call : List ColumnHead → List ℕ → CallKind → tree.Expr → Aggregate
 typed_call table columns kind e = record {
   kind = kind_of_call kind;
   arg = typed_expr table columns e;
-  face = face_of table columns (whole_column kind e) e;
+  face = face_of table columns kind e;
 }
 
+-- COUNT(*)
 abbrev pub counted : Aggregate
 counted = record { kind = kinds.Count; arg = Literal (pos 0); face = faces.Number 0 }
 
@@ -120,6 +136,12 @@ typed_item table columns (tree.Call kind e) = Some (typed_call table columns kin
 abbrev pub typed_head : List ColumnHead → List ℕ → tree.Head → List Aggregate
 typed_head table columns (tree.Items is) = filter_map (typed_item table columns) is
 typed_head table columns tree.Star = []
+
+-- the aggregates of a query; rows in an order have none
+abbrev pub typed_items : List ColumnHead → List ℕ → tree.Ending → tree.Head → List Aggregate
+typed_items table columns tree.Nothing head = typed_head table columns head
+typed_items table columns (tree.Grouped ns) head = typed_head table columns head
+typed_items table columns (tree.Ordered key down limit) head = []
 
 -- ---- values
 
@@ -183,9 +205,13 @@ spot_in table n v = spot_of (kind_of table n.name) (dictionary_of table n.name) 
 
 abbrev pub typed_pred : List ColumnHead → List ℕ → tree.Pred → Condition
 typed_pred table columns (tree.Compare n op v) = Single (compared (number_of table columns n.name) op (spot_in table n v))
-typed_pred table columns (tree.Columns l op r) = Single (atoms.CompareColumns (number_of table columns l.name) (op_of op) (number_of table columns r.name))
-typed_pred table columns (tree.Between n low high) = Single (atoms.Between (number_of table columns n.name) (low_end (spot_in table n low)) (high_end (spot_in table n high)))
-typed_pred table columns (tree.OneOf n vs) = Single (atoms.OneOf (number_of table columns n.name) (map (λ v. member (spot_in table n v)) vs))
+typed_pred table columns (tree.Columns l op r) =
+    Single (atoms.CompareColumns (number_of table columns l.name) (op_of op) (number_of table columns r.name))
+typed_pred table columns (tree.Between n low high) =
+    Single (atoms.Between (number_of table columns n.name) (low_end (spot_in table n low)) (high_end (spot_in table n high)))
+typed_pred table columns (tree.OneOf n vs) =
+    Single (atoms.OneOf (number_of table columns n.name) (map (λ v. member (spot_in table n v)) vs))
+typed_pred table columns (tree.IsNull n) = Single (atoms.IsNull (number_of table columns n.name))
 typed_pred table columns (tree.Negation a) = Negation (typed_pred table columns a)
 typed_pred table columns (tree.Both a b) = Both (typed_pred table columns a) (typed_pred table columns b)
 typed_pred table columns (tree.Either a b) = Either (typed_pred table columns a) (typed_pred table columns b)
@@ -214,10 +240,14 @@ typed_ending table columns (tree.Ordered key down limit) = shapes.Top (number_of
 abbrev pub columns_of : List ColumnHead → tree.Query → List ℕ
 columns_of table q = columns_named table (names_in q)
 
-abbrev pub typed : List ColumnHead → tree.Query → Meaning
-typed table q = record {
-  columns = columns_of table q;
-  items = typed_head table (columns_of table q) q.head;
-  pred = typed_filter table (columns_of table q) q.pred;
-  shape = typed_ending table (columns_of table q) q.ending;
+-- the typed query with these columns
+abbrev pub typed_with : List ColumnHead → List ℕ → tree.Query → Query
+typed_with table columns q = record {
+  columns = columns;
+  items = typed_items table columns q.ending q.head;
+  pred = typed_filter table columns q.pred;
+  shape = typed_ending table columns q.ending;
 }
+
+abbrev pub typed : List ColumnHead → tree.Query → Query
+typed table q = typed_with table (columns_of table q) q

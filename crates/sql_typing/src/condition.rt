@@ -1,13 +1,13 @@
 //! Typed conditions.
 
 ghost use Rattle.std.specs.Prelude.{◌≡◌, ◌++◌, map, vec_items};
+ghost use Rattle.query_model.specs.Queries.{Single, condition_of};
 ghost use Rattle.sql_text.specs.Tree.{name_of, operand_of, pred_of, pred_option};
 ghost use Rattle.sql_text.specs.Tree as tree;
 ghost use Rattle.sql_typing.specs.Faults.{filter_fault, pred_fault, value_fault, values_fault};
 ghost use Rattle.sql_typing.specs.Kinds.{can_compare};
 ghost use Rattle.sql_typing.specs.Names.{dictionary_of, kind_of};
 ghost use Rattle.sql_typing.specs.Parts.{Types};
-ghost use Rattle.sql_typing.specs.Terms.{condition_of, Single};
 ghost use Rattle.sql_typing.specs.Typing.{member, spot_of, spot_in, typed_filter, typed_pred};
 
 use crate::fault::TypeFault;
@@ -36,7 +36,8 @@ fn can_compare(left: Kind, right: Kind) -> bool
 
 /// Where a value stands among the numbers of a column.
 fn spot_in(table: &[ColumnHead], column: &Named, value: &Value) -> Result<Spot, TypeFault>
-    ensures { Types (λ s. s) result (value_fault (kind_of table.now (name_of column.now).name) (operand_of value.now)) (spot_in table.now (name_of column.now) (operand_of value.now)) }
+    ensures { Types (λ s. s) result (value_fault (kind_of table.now (name_of column.now).name) (operand_of value.now))
+        (spot_in table.now (name_of column.now) (operand_of value.now)) }
 {
     let name = column.name.as_slice();
     spot_of(kind_of(table, name), dictionary_of(table, name), value)
@@ -49,7 +50,8 @@ fn typed_comparison(
     op: Comparison,
     value: &Value,
 ) -> Result<Atom, TypeFault>
-    ensures { Types Single result (pred_fault table.now (tree.Compare (name_of column.now) op (operand_of value.now))) (typed_pred table.now columns.now (tree.Compare (name_of column.now) op (operand_of value.now))) }
+    ensures { Types Single result (pred_fault table.now (tree.Compare (name_of column.now) op (operand_of value.now)))
+        (typed_pred table.now columns.now (tree.Compare (name_of column.now) op (operand_of value.now))) }
 {
     let spot = spot_in(table, column, value)?;
     let number = columns.number_of(table, column.name.as_slice());
@@ -63,7 +65,8 @@ fn typed_columns(
     op: Comparison,
     right: &Named,
 ) -> Result<Atom, TypeFault>
-    ensures { Types Single result (pred_fault table.now (tree.Columns (name_of left.now) op (name_of right.now))) (typed_pred table.now columns.now (tree.Columns (name_of left.now) op (name_of right.now))) }
+    ensures { Types Single result (pred_fault table.now (tree.Columns (name_of left.now) op (name_of right.now)))
+        (typed_pred table.now columns.now (tree.Columns (name_of left.now) op (name_of right.now))) }
 {
     let left_name = left.name.as_slice();
     let right_name = right.name.as_slice();
@@ -84,7 +87,8 @@ fn typed_between(
     low: &Value,
     high: &Value,
 ) -> Result<Atom, TypeFault>
-    ensures { Types Single result (pred_fault table.now (tree.Between (name_of column.now) (operand_of low.now) (operand_of high.now))) (typed_pred table.now columns.now (tree.Between (name_of column.now) (operand_of low.now) (operand_of high.now))) }
+    ensures { Types Single result (pred_fault table.now (tree.Between (name_of column.now) (operand_of low.now) (operand_of high.now)))
+        (typed_pred table.now columns.now (tree.Between (name_of column.now) (operand_of low.now) (operand_of high.now))) }
 {
     let low = spot_in(table, column, low)?;
     let high = spot_in(table, column, high)?;
@@ -99,7 +103,8 @@ fn members(
     column: &Named,
     values: &[Value],
 ) -> Result<Vec<i128>, TypeFault>
-    ensures { Types vec_items result (values_fault (kind_of table.now (name_of column.now).name) 0 (map operand_of values.now)) (map (λ v. member (spot_in table.now (name_of column.now) v)) (map operand_of values.now)) }
+    ensures { Types vec_items result (values_fault (kind_of table.now (name_of column.now).name) 0 (map operand_of values.now))
+        (map (λ v. member (spot_in table.now (name_of column.now) v)) (map operand_of values.now)) }
 {
     let mut members = Vec::new(alloc);
     for (before, value) in values.iter().enumerate() {
@@ -121,7 +126,8 @@ fn typed_members(
     column: &Named,
     values: &[Value],
 ) -> Result<Atom, TypeFault>
-    ensures { Types Single result (pred_fault table.now (tree.OneOf (name_of column.now) (map operand_of values.now))) (typed_pred table.now columns.now (tree.OneOf (name_of column.now) (map operand_of values.now))) }
+    ensures { Types Single result (pred_fault table.now (tree.OneOf (name_of column.now) (map operand_of values.now)))
+        (typed_pred table.now columns.now (tree.OneOf (name_of column.now) (map operand_of values.now))) }
 {
     let members = members(alloc, table, column, values)?;
     Ok(Atom::OneOf {
@@ -153,6 +159,9 @@ pub(crate) fn typed_pred(
             let values = values.as_slice();
             Ok(Pred::Atom(typed_members(alloc, table, columns, column, values)?))
         }
+        PredTree::IsNull { column } => Ok(Pred::Atom(Atom::IsNull {
+            column: columns.number_of(table, column.name.as_slice()),
+        })),
         PredTree::Not(inner) => {
             let inner = typed_pred(alloc, table, columns, inner)?;
             Ok(Pred::Not(Box::new(alloc, inner)?))
@@ -177,7 +186,8 @@ pub(crate) fn typed_filter(
     columns: &Numbering,
     filter: &Option<PredTree>,
 ) -> Result<Pred, TypeFault>
-    ensures { Types condition_of result (filter_fault table.now (pred_option filter.now)) (typed_filter table.now columns.now (pred_option filter.now)) }
+    ensures { Types condition_of result (filter_fault table.now (pred_option filter.now))
+        (typed_filter table.now columns.now (pred_option filter.now)) }
 {
     match filter {
         Some(pred) => typed_pred(alloc, table, columns, pred),

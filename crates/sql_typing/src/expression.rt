@@ -1,12 +1,12 @@
 //! Typed expressions.
 
 ghost use Rattle.std.specs.Prelude.{◌≡◌, ◌≤◌, ◌-◌, ◌^◌, pos, IfOk, nat_lt};
+ghost use Rattle.query_model.specs.Queries.{Column, Literal, Mul, term_of};
 ghost use Rattle.sql_text.specs.Tree.{expr_of, name_of};
 ghost use Rattle.sql_typing.specs.Faults.{expr_fault, first_of, operand_fault, fault_if};
 ghost use Rattle.sql_typing.specs.Names.{kind_of, number_of};
 ghost use Rattle.sql_typing.specs.Parts.{Checks, IsSmall, Types};
-ghost use Rattle.sql_typing.specs.Terms.{term_of, Column, Literal, Mul};
-ghost use Rattle.sql_typing.specs.Typing.{literal_of, raised, scale_of, typed_expr, aligned};
+ghost use Rattle.sql_typing.specs.Typing.{literal_of, raised, scale_of, typed_expr, typed_sides};
 ghost use Rattle.sql_text.specs.Tree as tree;
 ghost use Rattle.sql_typing.specs.declared.fault.TypeFault.TheVariants.{ScaleTooFine};
 
@@ -69,7 +69,8 @@ fn check_operand(kind: Kind, at: usize) -> Result<(), TypeFault>
 }
 
 fn typed_column(table: &[ColumnHead], columns: &Numbering, name: &Named) -> Result<Expr, TypeFault>
-    ensures { Types term_of result (operand_fault (kind_of table.now (name_of name.now).name) (name_of name.now).at) (Column (number_of table.now columns.now (name_of name.now).name)) }
+    ensures { Types term_of result (operand_fault (kind_of table.now (name_of name.now).name) (name_of name.now).at)
+        (Column (number_of table.now columns.now (name_of name.now).name)) }
 {
     check_operand(kind_of(table, name.name.as_slice()), name.at)?;
     Ok(Expr::Column(columns.number_of(table, name.name.as_slice())))
@@ -96,8 +97,9 @@ fn sides(
     left: &ExprTree,
     right: &ExprTree,
 ) -> Result<(Expr, Expr), TypeFault>
-    ensures { Types (λ p. (term_of p.0, term_of p.1)) result (first_of (expr_fault table.now (expr_of left.now)) (expr_fault table.now (expr_of right.now)))
-        (aligned (scale_of table.now (expr_of left.now)) (scale_of table.now (expr_of right.now)) (typed_expr table.now columns.now (expr_of left.now)) (typed_expr table.now columns.now (expr_of right.now))) }
+    ensures { Types (λ p. (term_of p.0, term_of p.1)) result
+        (first_of (expr_fault table.now (expr_of left.now)) (expr_fault table.now (expr_of right.now)))
+        (typed_sides table.now columns.now (expr_of left.now) (expr_of right.now)) }
 {
     let typed_left = typed_expr(alloc, table, columns, left)?;
     let typed_right = typed_expr(alloc, table, columns, right)?;
@@ -119,7 +121,8 @@ fn typed_product(
     left: &ExprTree,
     right: &ExprTree,
 ) -> Result<Expr, TypeFault>
-    ensures { Types term_of result (expr_fault table.now (tree.Mul at (expr_of left.now) (expr_of right.now))) (typed_expr table.now columns.now (tree.Mul at (expr_of left.now) (expr_of right.now))) }
+    ensures { Types term_of result (expr_fault table.now (tree.Mul at (expr_of left.now) (expr_of right.now)))
+        (typed_expr table.now columns.now (tree.Mul at (expr_of left.now) (expr_of right.now))) }
 {
     let typed_left = typed_expr(alloc, table, columns, left)?;
     let scale = scale_of(table, left).saturating_add(scale_of(table, right));

@@ -5,6 +5,7 @@ ghost use Rattle.std.specs.Int.{w128};
 ghost use Rattle.std.specs.List.{AllByRecursion};
 ghost use Rattle.interval_calc.specs.Intervals.{interval_of};
 ghost use Rattle.daq_table.specs.Tables.{Frame, no_ends};
+ghost use Rattle.query_model.specs.Queries.{term_of};
 ghost use Rattle.query_model.specs.Truths.{span_of};
 ghost use Rattle.query_model.specs.Validity.{declared_range, declared_ranges, FitsAverage, FitsItem, FitsKind, FitsSum, FitsWide};
 ghost use Rattle.sql_typing.specs.Refusals.{IsFirstUnfit};
@@ -16,7 +17,7 @@ use query_model::{Expr, Item, ItemKind};
 
 /// The declared range of a column of the query.
 fn range_of(ends: &[Ends], column: u8) -> Interval
-    ensures { interval_of result ≡ declared_range (slice_index_or ends.now column no_ends) }
+    ensures { interval_of result ≡ (declared_range (slice_index_or ends.now column no_ends)).numbers }
 {
     match ends.get(column as usize) {
         Some(ends) => Interval {
@@ -29,8 +30,9 @@ fn range_of(ends: &[Ends], column: u8) -> Interval
 
 /// Where an expression lies over the declared ranges, if no part of it can leave 128 bits.
 fn span_of(expr: &Expr, rows: u64, ends: &[Ends]) -> Option<Interval>
-    ensures fits { IsSome result ↔ FitsWide expr.now (declared_ranges (record { rows = rows; columns = ends.now })) }
-    ensures value { IfSome result (λ s. interval_of s ≡ span_of expr.now (declared_ranges (record { rows = rows; columns = ends.now }))) }
+    ensures fits { IsSome result ↔ FitsWide (term_of expr.now) (declared_ranges (record { rows = rows; columns = ends.now })) }
+    ensures value { IfSome result (λ s. interval_of s
+        ≡ span_of (term_of expr.now) (declared_ranges (record { rows = rows; columns = ends.now }))) }
 {
     match expr {
         Expr::Column(column) => Some(range_of(ends, *column)),
@@ -83,7 +85,8 @@ fn fits(item: &Item, rows: u64, ends: &[Ends]) -> bool
 /// The first of the items of which a number can leave 128 bits.
 pub(crate) fn first_unfit(items: &[Item], rows: u64, ends: &[Ends]) -> Option<usize>
     requires { rows ≤ 16777216 }
-    ensures { MatchOption result (AllByRecursion (FitsItem (record { rows = rows; columns = ends.now })) items.now) (IsFirstUnfit (record { rows = rows; columns = ends.now }) items.now) }
+    ensures { MatchOption result (AllByRecursion (FitsItem (record { rows = rows; columns = ends.now })) items.now)
+        (IsFirstUnfit (record { rows = rows; columns = ends.now }) items.now) }
 {
     for (place, item) in items.iter().enumerate() {
         if !fits(item, rows, ends) {

@@ -19,5 +19,5 @@ mod typing;
 mod value;
 
 pub use fault::TypeFault;
-pub use laws::{texts_are_well_formed, trees_have_typings, typing_is_exact};
+pub use laws::{trees_have_typings, typed_queries_are_valid, typing_is_exact};
 pub use typing::type_query;

@@ -112,6 +112,7 @@ fn put_pred(out: &mut Vec<Mention>, table: &[ColumnHead], pred: &PredTree) -> Re
         }
         PredTree::Between { column, .. } => put_name(out, table, column),
         PredTree::OneOf { column, .. } => put_name(out, table, column),
+        PredTree::IsNull { column } => put_name(out, table, column),
         PredTree::Not(inner) => put_pred(out, table, inner),
         PredTree::And(left, right) => {
             put_pred(out, table, left)?;

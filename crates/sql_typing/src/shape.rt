@@ -4,7 +4,7 @@ ghost use Rattle.std.specs.Prelude.{◌≡◌, ◌==◌, map, nat_abs, IfOk, OnO
 ghost use Rattle.std.specs.List.{list_any};
 ghost use Rattle.sql_text.specs.Tree.{ending_of, name_of};
 ghost use Rattle.sql_typing.specs.Faults.{ending_fault, is_limit};
-ghost use Rattle.sql_typing.specs.Names.{group_names, with_number};
+ghost use Rattle.sql_typing.specs.Names.{with_number};
 ghost use Rattle.sql_typing.specs.Parts.{Types};
 ghost use Rattle.sql_typing.specs.Typing.{group_columns, typed_ending};
 
@@ -14,16 +14,6 @@ use daq_table::ColumnHead;
 use query_model::{Columns, Shape};
 use sql_text::{Ending, Named, Num};
 use std::alloc::{AllocError, Global};
-
-/// The names in GROUP BY.
-pub(crate) fn group_names(ending: &Ending) -> &[Named]
-    ensures { map name_of result.now ≡ group_names (ending_of ending.now) }
-{
-    match ending {
-        Ending::Group(names) => names.as_slice(),
-        Ending::Nothing | Ending::Order { .. } => &[],
-    }
-}
 
 fn contains(groups: &[u8], number: u8) -> bool
     ensures { result ≡ list_any (λ group. number == group) groups.now }

@@ -1,8 +1,7 @@
 //! Queries over the widest column.
 
-use crate::{texts_are_well_formed, type_query};
+use crate::type_query;
 use daq_table::{ColumnHead, ColumnHeads, Dictionary, Head, Kind, Name};
-use query_model::{Expr, Face, ItemKind};
 use sql_text::parse;
 use std::alloc::{AllocError, Global};
 use std::process::Abort;
@@ -13,6 +12,7 @@ fn widest(alloc: Global) -> Result<Head, AllocError> {
     let column = ColumnHead {
         name: Name::new(Vec::from_slice(alloc, b"a")?),
         kind: Kind::Int,
+        nullable: false,
         base: i64::MIN,
         top: i64::MAX,
         names: Dictionary::new(Vec::new(alloc)),
@@ -23,20 +23,22 @@ fn widest(alloc: Global) -> Result<Head, AllocError> {
     })
 }
 
-/// What typing says of a text: nothing, or the fault.
+/// The typed query of a text, or the fault, as they are printed.
 fn said(rt: &impl Abort, alloc: Global, head: &Head, text: &str) -> Result<String, Fail> {
-    texts_are_well_formed();
     let Ok(tree) = parse(alloc, text) else {
         panic!(rt; "no query: {text}");
     };
     match type_query(alloc, &tree, head) {
-        Ok(_) => Ok(String::new(alloc)),
+        Ok(query) => Ok(format!(in alloc; "{:?} | {:?}", query.items.as_slice(), query.pred)?),
         Err(fault) => Ok(format!(in alloc; "{fault}")?),
     }
 }
 
-static WIDEST: [(&str, &str); 5] = [
-    ("SELECT MIN(a * a) FROM t", ""),
+static WIDEST: [(&str, &str); 7] = [
+    (
+        "SELECT MIN(a * a) FROM t",
+        "[Item { kind: Min, arg: Mul(Column(0), Column(0)), face: Number(0) }] | All",
+    ),
     (
         "SELECT SUM(a * a) FROM t",
         "item 0, counted from 0, too wide",
@@ -52,6 +54,14 @@ static WIDEST: [(&str, &str); 5] = [
     (
         "SELECT MAX(a - a), SUM(a + a), SUM(a - a * a) FROM t",
         "item 2, counted from 0, too wide",
+    ),
+    (
+        "SELECT COUNT(a * a) FROM t WHERE a IS NULL",
+        "[Item { kind: Count, arg: Mul(Column(0), Column(0)), face: Number(0) }] | Atom(IsNull { column: 0 })",
+    ),
+    (
+        "SELECT COUNT(a), COUNT(a * a * a) FROM t",
+        "item 1, counted from 0, too wide",
     ),
 ];
 

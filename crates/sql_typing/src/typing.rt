@@ -6,24 +6,22 @@ ghost use Rattle.daq_table.specs.Tables.{ends_of, frame_of, no_ends};
 ghost use Rattle.query_model.specs.Answers.{groups_of};
 ghost use Rattle.query_model.specs.Projection.{projected_frame};
 ghost use Rattle.query_model.specs.Validity.{FitsItem, IsValid};
-ghost use Rattle.sql_text.specs.Tree.{head_of, name_of, query_of};
+ghost use Rattle.sql_text.specs.Tree.{head_of, item_of, name_of, query_of};
 ghost use Rattle.sql_typing.specs.Faults.{aggregates_in, fault_if, first_fault, first_in, first_of, is_aggregate, name_fault, planes_at, shape_fault, table_fault, text_fault, too_many_columns};
 ghost use Rattle.sql_typing.specs.Names.{names_in};
 ghost use Rattle.sql_typing.specs.Parts.{Checks, Types};
-ghost use Rattle.sql_typing.specs.Refusals.{IsFirstUnfit, IsMeant, IsTyped, IsWellFormed, Refuses};
-ghost use Rattle.sql_typing.specs.Terms.{meaning_of};
-ghost use Rattle.sql_typing.specs.Typing.{columns_of, typed, typed_ending, typed_filter, typed_head};
+ghost use Rattle.sql_typing.specs.Refusals.{IsFirstUnfit, IsTyped, Refuses};
+ghost use Rattle.sql_typing.specs.Typing.{columns_of, typed, typed_with};
 ghost use Rattle.sql_typing.specs.declared.fault.TypeFault.TheVariants.{TooManyItems};
-ghost use Rattle.sql_text.specs.Tree.{item_of};
 
 use crate::condition::typed_filter;
 use crate::fault::TypeFault;
 use crate::fit::first_unfit;
-use crate::item::typed_head;
+use crate::item::typed_items;
 use crate::names::mentions;
 use crate::numbering::{MOST_COLUMNS, Numbering, check_known, first_seen};
-use crate::shape::{group_names, typed_ending};
-use daq_table::{ColumnHead, Ends, Head, ends, width};
+use crate::shape::typed_ending;
+use daq_table::{ColumnHead, Ends, Head, ends, planes};
 use query_model::{Items, Shape, TypedQuery};
 use sql_text::{ItemTree, Named, Select, Tree};
 use std::alloc::{AllocError, Global};
@@ -50,7 +48,9 @@ fn check_table(table: &Named) -> Result<(), TypeFault>
 /// The columns of a query.
 #[tactic(auto, using(crate::proofs::Mentions::known))]
 fn numbering(alloc: Global, table: &[ColumnHead], tree: &Tree) -> Result<Numbering, TypeFault>
-    ensures { Types (λ n. n) result (first_of (first_in (name_fault table.now) (names_in (query_of tree.now))) (too_many_columns table.now (query_of tree.now))) (columns_of table.now (query_of tree.now)) }
+    ensures { Types (λ n. n) result
+        (first_of (first_in (name_fault table.now) (names_in (query_of tree.now))) (too_many_columns table.now (query_of tree.now)))
+        (columns_of table.now (query_of tree.now)) }
 {
     let mentions = mentions(alloc, table, tree)?;
     check_known(mentions.as_slice())?;
@@ -100,11 +100,10 @@ fn typed_text(
     columns: Numbering,
     tree: &Tree,
 ) -> Result<TypedQuery, TypeFault>
-    ensures { Types meaning_of result (text_fault table.now (query_of tree.now))
-        (record { columns = columns; items = typed_head table.now columns (query_of tree.now).head; pred = typed_filter table.now columns (query_of tree.now).pred; shape = typed_ending table.now columns (query_of tree.now).ending }) }
+    ensures { Types (λ q. q) result (text_fault table.now (query_of tree.now))
+        (typed_with table.now columns (query_of tree.now)) }
 {
-    let groups = group_names(&tree.ending);
-    let items = typed_head(alloc, table, &columns, groups, &tree.head)?;
+    let items = typed_items(alloc, table, &columns, &tree.ending, &tree.head)?;
     let pred = typed_filter(alloc, table, &columns, &tree.pred)?;
     let shape = typed_ending(alloc, table, &columns, &tree.ending)?;
     Ok(TypedQuery {
@@ -118,11 +117,11 @@ fn typed_text(
 /// The planes of a column of the query.
 fn planes_at(table: &[ColumnHead], columns: &[usize], number: u8) -> u8
     ensures planes { result ≡ planes_at table.now columns.now number }
-    ensures few { result ≤ 64 }
+    ensures few { result ≤ 65 }
 {
     match columns.get(number as usize) {
         Some(place) => match table.get(*place) {
-            Some(column) => width(column),
+            Some(column) => planes(column),
             None => 0,
         },
         None => 0,
@@ -164,7 +163,11 @@ fn ends_at(table: &[ColumnHead], place: usize) -> Ends
 {
     match table.get(place) {
         Some(column) => ends(column),
-        None => Ends { base: 0, top: 0 },
+        None => Ends {
+            base: 0,
+            top: 0,
+            nullable: false,
+        },
     }
 }
 
@@ -188,7 +191,8 @@ fn first_too_wide(
     head: &Head,
     query: &TypedQuery,
 ) -> Result<Option<usize>, AllocError>
-    ensures { IfOk result (λ o. MatchOption o (AllByRecursion (FitsItem (projected_frame query.now (frame_of head.now))) query.now.items) (IsFirstUnfit (projected_frame query.now (frame_of head.now)) query.now.items)) }
+    ensures { IfOk result (λ o. MatchOption o (AllByRecursion (FitsItem (projected_frame query.now (frame_of head.now))) query.now.items)
+        (IsFirstUnfit (projected_frame query.now (frame_of head.now)) query.now.items)) }
 {
     let ends = declared_ends(alloc, head.columns.as_slice(), query.columns.as_slice())?;
     Ok(first_unfit(query.items.as_slice(), head.rows, ends.as_slice()))
@@ -196,7 +200,7 @@ fn first_too_wide(
 
 /// The typed query, or its first fault but for numbers that can leave 128 bits.
 fn meant_query(alloc: Global, tree: &Tree, head: &Head) -> Result<TypedQuery, TypeFault>
-    ensures { Types meaning_of result (first_fault head.now.columns (query_of tree.now)) (typed head.now.columns (query_of tree.now)) }
+    ensures { Types (λ q. q) result (first_fault head.now.columns (query_of tree.now)) (typed head.now.columns (query_of tree.now)) }
 {
     let table = head.columns.as_slice();
     check_table(&tree.table)?;
@@ -207,10 +211,9 @@ fn meant_query(alloc: Global, tree: &Tree, head: &Head) -> Result<TypedQuery, Ty
     Ok(query)
 }
 
-/// The typed query of a tree over a table's head, or its first fault. A tree of `parse` has a star exactly where rows in
-/// an order are asked for.
+/// The typed query of a tree over a table's head, or its first fault. Beside an order nothing but a star can be selected, and
+/// nothing else is looked at.
 pub fn type_query(alloc: Global, tree: &Tree, head: &Head) -> Result<TypedQuery, TypeFault>
-    requires { IsWellFormed (query_of tree.now) }
     ensures typed { IfOk result (IsTyped (query_of tree.now) head.now) }
     ensures valid { IfOk result (IsValid head.now) }
     ensures refused { IfErr result (Refuses (query_of tree.now) head.now) }

@@ -36,6 +36,14 @@ fn widest_numbers(rt: HostRuntime) -> Result<(), Fail> {
     all_say(&rt, alloc, &table, &WIDEST)
 }
 
+#[test]
+fn widest_numbers_beside_nulls(rt: HostRuntime) -> Result<(), Fail> {
+    let alloc = rt.alloc();
+    let csv = "a,b\n-9223372036854775808,1\n,\n9223372036854775807,2\n";
+    let table = table_of(&rt, alloc, "a:int?,b:int?", csv)?;
+    all_say(&rt, alloc, &table, &WIDEST)
+}
+
 static EMPTY: [(&str, &str); 2] = [
     ("SELECT SUM(a * a * a), AVG(a) FROM t WHERE c >= 'x'", ""),
     ("SELECT COUNT(*) FROM t GROUP BY c", ""),

@@ -10,6 +10,8 @@ mod fits;
 #[cfg(test)]
 mod names;
 #[cfg(test)]
+mod nulls;
+#[cfg(test)]
 mod orders;
 #[cfg(test)]
 mod shapes;

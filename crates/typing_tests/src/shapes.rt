@@ -56,6 +56,20 @@ fn wide_groups(rt: HostRuntime) -> Result<(), Fail> {
     all_say(&rt, alloc, &table, &WIDE)
 }
 
+static NULLABLE: [(&str, &str); 3] = [
+    ("SELECT COUNT(*) FROM t GROUP BY a", ""),
+    ("SELECT COUNT(*) FROM t GROUP BY a, b", "group of 18 bits"),
+    ("SELECT COUNT(b) FROM t GROUP BY a, c", ""),
+];
+
+#[test]
+fn groups_with_nulls(rt: HostRuntime) -> Result<(), Fail> {
+    let alloc = rt.alloc();
+    let csv = "a,b,c\n0,0,0\n255,255,1\n,,1\n";
+    let table = table_of(&rt, alloc, "a:int?,b:int?,c:int", csv)?;
+    all_say(&rt, alloc, &table, &NULLABLE)
+}
+
 static SHAPES: [(&str, &str); 3] = [
     (
         "SELECT city, COUNT(*) FROM t WHERE qty > 1 GROUP BY qty, city, qty",

@@ -1,23 +1,25 @@
-//! What the tests share: a table with columns of each kind, and what typing says of a text.
+//! What the tests share: tables with columns of each kind, without nulls and with them, and what typing says of a text.
 
 use csv_load::{Limits, load};
 use daq_table::{Schema, Table};
 use query_model::TypedQuery;
 use sql_text::parse;
-use sql_typing::{TypeFault, texts_are_well_formed, type_query};
+use sql_typing::{TypeFault, type_query};
 use std::alloc::Global;
 use std::process::Abort;
 use std::test::Fail;
 
 /// Four trades.
-pub(crate) const TRADES: &str = "price,qty,city,paid,day,rate
+const TRADES: &str = "price,qty,city,paid,day,rate
 5,2,Oslo,1.50,2020-01-01,0.5
 9,1,Rome,2.25,2020-02-29,1.5
 12,4,Oslo,0.75,2019-12-31,2.5
 3,3,Bern,10.00,2020-03-01,9.5
 ";
 
-pub(crate) const TRADES_SCHEMA: &str = "price:int,qty:int,city:text,paid:dec2,day:date,rate:dec1";
+const SCHEMA: &str = "price:int,qty:int,city:text,paid:dec2,day:date,rate:dec1";
+
+const NULLABLE_SCHEMA: &str = "price:int?,qty:int?,city:text?,paid:dec2?,day:date?,rate:dec1?";
 
 pub(crate) fn table_of(
     rt: &impl Abort,
@@ -34,13 +36,21 @@ pub(crate) fn table_of(
     Ok(table)
 }
 
+/// The trades, and the same with a row of nulls behind them.
+fn trades(rt: &impl Abort, alloc: Global) -> Result<(Table, Table), Fail> {
+    let with_nulls = format!(in alloc; "{TRADES},,,,,\n")?;
+    Ok((
+        table_of(rt, alloc, SCHEMA, TRADES)?,
+        table_of(rt, alloc, NULLABLE_SCHEMA, with_nulls.as_str())?,
+    ))
+}
+
 fn typed(
     rt: &impl Abort,
     alloc: Global,
     table: &Table,
     text: &str,
 ) -> Result<Result<TypedQuery, TypeFault>, Fail> {
-    texts_are_well_formed();
     let Ok(tree) = parse(alloc, text) else {
         panic!(rt; "no query: {text}");
     };
@@ -90,21 +100,26 @@ pub(crate) fn all_say(
     Ok(())
 }
 
-/// Each text has that fault over the trades.
+/// Each text has that fault over the trades, without nulls and with them.
 pub(crate) fn all_trades_say(
     rt: &impl Abort,
     alloc: Global,
     rows: &[(&str, &str)],
 ) -> Result<(), Fail> {
-    let table = table_of(rt, alloc, TRADES_SCHEMA, TRADES)?;
-    all_say(rt, alloc, &table, rows)
+    let (plain, nullable) = trades(rt, alloc)?;
+    all_say(rt, alloc, &plain, rows)?;
+    all_say(rt, alloc, &nullable, rows)
 }
 
-/// Each text is typed over the trades as written: its columns, items, condition and shape.
-pub(crate) fn all_mean(rt: &impl Abort, alloc: Global, rows: &[(&str, &str)]) -> Result<(), Fail> {
-    let table = table_of(rt, alloc, TRADES_SCHEMA, TRADES)?;
+/// Each text is typed over the table as written: its columns, items, condition and shape.
+fn all_mean_over(
+    rt: &impl Abort,
+    alloc: Global,
+    table: &Table,
+    rows: &[(&str, &str)],
+) -> Result<(), Fail> {
     for (text, wanted) in rows {
-        let Ok(query) = typed(rt, alloc, &table, text)? else {
+        let Ok(query) = typed(rt, alloc, table, text)? else {
             panic!(rt; "refused: {text}");
         };
         let found = format!(in alloc;
@@ -117,4 +132,11 @@ pub(crate) fn all_mean(rt: &impl Abort, alloc: Global, rows: &[(&str, &str)]) ->
         assert!(rt; found.as_str() == *wanted, "{text}: {found}");
     }
     Ok(())
+}
+
+/// Each text is typed as written over the trades, without nulls and with them.
+pub(crate) fn all_mean(rt: &impl Abort, alloc: Global, rows: &[(&str, &str)]) -> Result<(), Fail> {
+    let (plain, nullable) = trades(rt, alloc)?;
+    all_mean_over(rt, alloc, &plain, rows)?;
+    all_mean_over(rt, alloc, &nullable, rows)
 }

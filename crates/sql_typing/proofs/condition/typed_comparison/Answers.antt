@@ -1,9 +1,8 @@
 -- The comparison by the number of its column and the spot of its value.
 use Rattle.std.proofs.Common.{◌≡◌, ◌∙◌, ap, ap₂, ℕ}
-use Rattle.sql_text.specs.Tree.{name_of, operand_of}
 use Rattle.sql_typing.specs.Names.{number_of}
-use Rattle.sql_typing.specs.Terms.{Single}
-use Rattle.sql_typing.specs.Typing.{compared, spot_in}
+use Rattle.query_model.specs.Queries.{Single}
+use Rattle.sql_typing.specs.Typing.{compared}
 use Rattle.sql_typing.specs.declared.spot.Spot.{Spot}
 use Rattle.sql_typing.proofs.condition.typed_comparison.Goals as goal
 

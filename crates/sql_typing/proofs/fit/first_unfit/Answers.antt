@@ -1,7 +1,6 @@
 -- One more item fits, and at the end all do.
-use Rattle.std.proofs.Common.{ℕ, length, Some, slice_get, ◌≡◌, ◌<◌, arith}
+use Rattle.std.proofs.Common.{arith}
 use Rattle.query_model.specs.Validity.{FitsItem}
-use Rattle.query_model.specs.declared.query.Item.{Item}
 use Rattle.sql_typing.proofs.Lists.{all_hold, get_is, more_hold}
 use Rattle.sql_typing.proofs.fit.first_unfit.Goals as goal
 

@@ -1,4 +1,4 @@
--- Each well-formed query has an answer.
+-- Each tree has an answer.
 use Rattle.sql_typing.proofs.SomeTyping.{has_typing}
 use Rattle.sql_typing.proofs.laws.trees_have_typings.Goals as goal
 

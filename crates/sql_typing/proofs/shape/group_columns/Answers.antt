@@ -1,5 +1,5 @@
 -- One more name keeps the columns.
-use Rattle.std.proofs.Common.{◌≡◌, ◌∙◌, ap, sym}
+use Rattle.std.proofs.Common.{◌≡◌, ◌∙◌, ap}
 use Rattle.sql_text.specs.Tree.{Name, name_of}
 use Rattle.sql_typing.specs.Names.{number_of}
 use Rattle.sql_typing.proofs.Lists.{next_distinct, rest_is}
