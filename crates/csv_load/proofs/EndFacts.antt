@@ -14,7 +14,7 @@ use Rattle.daq_table.specs.ColumnFacts.{IsColumn, IsName, are_ranks, fits_names}
 use Rattle.daq_table.specs.declared.head.Kind.{Kind}
 use Rattle.daq_table.specs.declared.head.Kind.TheVariants.{Int, Dec, Date, Text}
 use Rattle.csv_load.specs.Columns.{greatest, least, rank_of}
-use Rattle.csv_load.specs.States.{IsComplete, State, numbers_in}
+use Rattle.csv_load.specs.States.{IsComplete, Kept, numbers_in}
 
 pub least_below : (zs : List ℤ) → All (λ z. least zs ≤ℤ z) zs
 least_below [] = λ k d lt. absurd (omega (arith, lt))
@@ -93,7 +93,7 @@ pub cells_stand : (base : ℤ) (zs : List ℤ) → All (λ z. base ≤ℤ z) zs 
 cells_stand base [] h = refl
 cells_stand base (z ∷ zs) h = rw (above_base base z (h 0 z (omega arith)), cells_stand base zs (All-tail (λ (x : ℤ). base ≤ℤ x) z zs h)) refl
 
-pub column_is : (s : State) (name : List ℕ) (kind : Kind) (names : List (List ℕ)) (base top : ℤ) → IsName name → IsStrictlySortedBy (slice_cmp nat_cmp) names
+pub column_is : (s : Kept) (name : List ℕ) (kind : Kind) (names : List (List ℕ)) (base top : ℤ) → IsName name → IsStrictlySortedBy (slice_cmp nat_cmp) names
     → names ≡ s.names → kind ≡ s.kind → base ≡ least (numbers_in s) → top ≡ greatest (numbers_in s) → IsComplete s → IsColumn name kind base top names
 column_is s name kind names base top named sorted e k b t h = record {
   named = named;

@@ -1,7 +1,7 @@
 -- The values of a column have texts: its cells are values of its kind, and its least and greatest number are theirs.
-use Rattle.std.proofs.Common.{◌≡◌, ℕ, zero, suc, ◌≤◌, ℤ, pos, ◌≤ℤ◌, All, Some, List, [], ◌∷◌, fold, slice_get, length, get_or, refl, inl, inr, arith}
+use Rattle.std.proofs.Common.{◌≡◌, ℕ, zero, suc, ◌≤◌, ℤ, pos, ◌≤ℤ◌, Bool, true, false, IsFalse, All, Some, List, [], ◌∷◌, fold, slice_get, length, get_or, refl, inl, inr, arith}
 use Rattle.std.proofs.lemmas.Int.{ints}
-use Rattle.std.proofs.lemmas.List.Elements.{All-from_get_or, All-head, All-map, All-nil, All-tail}
+use Rattle.std.proofs.lemmas.List.Elements.{All-cons, All-from_get_or, All-head, All-map, All-nil, All-tail}
 use Rattle.std.proofs.lemmas.Map.Views.{All-insert_key}
 use Rattle.std.proofs.lemmas.Option.{slice_get-get_or, slice_get_cases, slice_get_within}
 use Rattle.std.specs.BTreeSet.{insert_key}
@@ -12,12 +12,13 @@ use Rattle.jiff_core.proofs.CalendarLemmas.{day_count-day_of_year, day_count-lat
 use Rattle.jiff_core.proofs.MarchLemmas.{day_count-early}
 use Rattle.jiff_core.proofs.SignedLemmas.{signed_arith}
 use Rattle.daq_table.specs.CellTexts.{date_value}
+use Rattle.daq_table.specs.Tables.{Cell}
 use Rattle.daq_table.specs.ValueTexts.{HasText, HasTexts, IsDay}
 use Rattle.daq_table.specs.declared.head.ColumnHead.{ColumnHead}
 use Rattle.daq_table.specs.declared.head.Kind.{Kind}
 use Rattle.daq_table.specs.declared.head.Kind.TheVariants.{Int, Dec, Date, Text}
 use Rattle.daq_table.specs.declared.schema_column.SchemaColumn.{SchemaColumn}
-use Rattle.csv_load.specs.Columns.{IsValue, column_texts, dictionary, numbers_of}
+use Rattle.csv_load.specs.Columns.{IsValue, column_texts, dictionary, is_null, numbers_of, present}
 use Rattle.csv_load.specs.Laws.{HeadsHaveTexts}
 use Rattle.csv_load.specs.Records.{Fields}
 use Rattle.csv_load.specs.Rows.{AreGoodRows}
@@ -71,24 +72,38 @@ names_short (Dec scale) texts all = All-nil IsShort
 names_short Date texts all = All-nil IsShort
 names_short Text texts all = distinct_has IsShort texts [] (All-nil IsShort) (λ k d lt. let text = all k d lt in text.short)
 
--- the cells of good rows are values
-good_values : (columns : List SchemaColumn) (limits : Limits) (rows : List Fields) (c : ℕ) (column : SchemaColumn) → AreGoodRows columns limits rows → slice_get columns c ≡ Some column
-    → All (IsValue column.kind) (column_texts c rows)
-good_values columns limits rows c column good e =
-    let P = IsValue column.kind in
-    All-map P (λ (row : Fields). get_or row c []) rows
-    (All-from_get_or (λ (row : Fields). P (get_or row c [])) rows [] (λ r lt. ((good r lt).cells c column (slice_get_within columns c column e) e).value))
+present_with : (P : List ℕ → Type 0) (nullable : Bool) (text : List ℕ) (texts : List (List ℕ)) (b : Bool) → is_null nullable text ≡ b → (IsFalse (is_null nullable text) → P text) → All P (present nullable texts)
+    → All P (present nullable (text ∷ texts))
+present_with P nullable text texts true e h rest = rw e rest
+present_with P nullable text texts false e h rest = rw e (All-cons P text (present nullable texts) (h e) rest)
 
-column_has : (column : SchemaColumn) (texts : List (List ℕ)) (head : ColumnHead) (cells : List ℕ) → IsColumnOf column texts head cells → All (IsValue column.kind) texts → HasTexts head
+-- of texts each of which is null or has a property, those that are not null have it
+present_have : (P : List ℕ → Type 0) (nullable : Bool) (texts : List (List ℕ)) → All (λ (t : List ℕ). IsFalse (is_null nullable t) → P t) texts → All P (present nullable texts)
+present_have P nullable [] all = All-nil P
+present_have P nullable (text ∷ texts) all =
+    let Q = λ (t : List ℕ). IsFalse (is_null nullable t) → P t in
+    present_with P nullable text texts (is_null nullable text) refl (All-head Q text texts all) (present_have P nullable texts (All-tail Q text texts all))
+
+-- the cells of good rows are null or values
+good_values : (columns : List SchemaColumn) (limits : Limits) (rows : List Fields) (c : ℕ) (column : SchemaColumn) → AreGoodRows columns limits rows → slice_get columns c ≡ Some column
+    → All (IsValue column.kind) (present column.nullable (column_texts c rows))
+good_values columns limits rows c column good e =
+    let P = λ (t : List ℕ). IsFalse (is_null column.nullable t) → IsValue column.kind t in
+    present_have (IsValue column.kind) column.nullable (column_texts c rows)
+    (All-map P (λ (row : Fields). get_or row c []) rows
+    (All-from_get_or (λ (row : Fields). P (get_or row c [])) rows [] (λ r lt given. ((good r lt).cells c column (slice_get_within columns c column e) e given).value)))
+
+column_has : (column : SchemaColumn) (texts : List (List ℕ)) (head : ColumnHead) (cells : List Cell) → IsColumnOf column texts head cells → All (IsValue column.kind) (present column.nullable texts) → HasTexts head
 column_has column texts head cells is all =
     let kind = column.kind in
-    let numbers = numbers_of kind texts in
-    let each = numbers_have kind texts all in
+    let given = present column.nullable texts in
+    let numbers = numbers_of kind given in
+    let each = numbers_have kind given all in
     let base : HasText head.kind head.base = rw (is.kind, is.base) (least_has (HasText kind) numbers (zero_has kind) each) in
     let top : HasText head.kind head.top = rw (is.kind, is.top) (greatest_has (HasText kind) numbers (zero_has kind) each) in
     record {
       between = λ value low high. between_has head.kind head.base head.top value base top low high;
-      names = rw is.names (names_short kind texts all);
+      names = rw is.names (names_short kind given all);
     }
 
 pub have_texts : HeadsHaveTexts

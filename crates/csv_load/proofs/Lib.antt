@@ -6,8 +6,14 @@ pub mod RowFacts
 pub mod RecordSteps
 pub mod RankFacts
 pub mod EndFacts
+pub mod NullFacts
 pub mod TableFacts
 pub mod LoadFacts
 pub mod OneFault
 pub mod HeadTexts
 pub mod OneTable
+pub mod Decisions
+pub mod AllRecords
+pub mod RowAnswers
+pub mod SomeTable
+pub mod SomeAnswer

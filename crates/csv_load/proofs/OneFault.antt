@@ -12,7 +12,7 @@ use Rattle.csv.specs.declared.parser.State.TheVariants as st
 use Rattle.daq_table.specs.Schemas.{names_of}
 use Rattle.daq_table.specs.Tables.{Contents}
 use Rattle.daq_table.specs.declared.schema_column.SchemaColumn.{SchemaColumn}
-use Rattle.csv_load.specs.Columns.{IsValue, column_texts, dictionary}
+use Rattle.csv_load.specs.Columns.{IsValue, column_texts, dictionary, present}
 use Rattle.csv_load.specs.Faults.{HasBadCell, HasFaultyRow, HasOtherHeader, IsFirstDifference, PassesNames, ReachesCell, Refuses, ShowsFault}
 use Rattle.csv_load.specs.Laws.{HasOneFault, IsFaultless}
 use Rattle.csv_load.specs.Records.{AreRecordsOf, Begins, Fields, without_marks}
@@ -61,23 +61,23 @@ good_shows_none columns limits rows next (TooManyRows limit) g h = apart limits.
 good_shows_none columns limits rows next (TooManyCells count) g h = apart limits.cells (suc (length rows) * length columns) (subst (λ (n : ℕ). limits.cells < n) h.count_is h.many) g.room.cells
 good_shows_none columns limits rows next (UnequalLength entry got want) g h = h.differ (h.got_is ∙ g.full ∙ sym h.want_is)
 good_shows_none columns limits rows next (BadCell entry place) g h =
-    h.bad (g.cells place h.reached.column (slice_get_within columns place h.reached.column h.reached.column_is) h.reached.column_is).value
+    h.bad (g.cells place h.reached.column (slice_get_within columns place h.reached.column h.reached.column_is) h.reached.column_is h.given).value
 good_shows_none columns limits rows next (TooManyNames place) g h =
-    apart limits.names (length (dictionary h.reached.column.kind (column_texts place rows ++ get_or next place [] ∷ []))) h.many (g.cells place h.reached.column (slice_get_within columns place h.reached.column h.reached.column_is) h.reached.column_is).few
+    apart limits.names (length (dictionary h.reached.column.kind (present h.reached.column.nullable (column_texts place rows) ++ get_or next place [] ∷ []))) h.many (g.cells place h.reached.column (slice_get_within columns place h.reached.column h.reached.column_is) h.reached.column_is h.given).few
 good_shows_none columns limits rows next NoMemory g h = h
 
 order : (a b : ℕ) → (a < b) ⊎ ((a ≡ b) ⊎ (b < a))
 order a b = grind arith
 
 good_at : (columns : List SchemaColumn) (limits : Limits) (rows : List Fields) (next : Fields) (p q : ℕ) (c : SchemaColumn) → ReachesCell columns limits rows next q → p < q → slice_get columns p ≡ Some c
-    → IsGoodCell c.kind limits.names (column_texts p rows) (get_or next p [])
+    → IsGoodCell c limits.names (column_texts p rows) (get_or next p [])
 good_at columns limits rows next p q c r lt e = r.before p c lt e
 
 bad_bad : (columns : List SchemaColumn) (limits : Limits) (rows : List Fields) (next : Fields) (n m p q : ℕ) → HasBadCell columns limits rows next n p → HasBadCell columns limits rows next m q → p ≡ q
 bad_bad columns limits rows next n m p q h k =
     elim (order p q) [
-      | inl lt ↦ absurd (h.bad (good_at columns limits rows next p q h.reached.column k.reached lt h.reached.column_is).value)
-      | inr other ↦ elim other [ inl same ↦ same | inr gt ↦ absurd (k.bad (good_at columns limits rows next q p k.reached.column h.reached gt k.reached.column_is).value) ]
+      | inl lt ↦ absurd (h.bad (good_at columns limits rows next p q h.reached.column k.reached lt h.reached.column_is h.given).value)
+      | inr other ↦ elim other [ inl same ↦ same | inr gt ↦ absurd (k.bad (good_at columns limits rows next q p k.reached.column h.reached gt k.reached.column_is k.given).value) ]
     ]
 
 column_same : (columns : List SchemaColumn) (p : ℕ) (c d : SchemaColumn) → slice_get columns p ≡ Some c → slice_get columns p ≡ Some d → c ≡ d
@@ -86,24 +86,24 @@ column_same columns p c d e f = sym (get_or_from_slice_get columns p c c e) ∙ 
 bad_many : (columns : List SchemaColumn) (limits : Limits) (rows : List Fields) (next : Fields) (n p q : ℕ) → HasBadCell columns limits rows next n p → PassesNames columns limits rows next q → ⊥
 bad_many columns limits rows next n p q h k =
     elim (order p q) [
-      | inl lt ↦ h.bad (good_at columns limits rows next p q h.reached.column k.reached lt h.reached.column_is).value
+      | inl lt ↦ h.bad (good_at columns limits rows next p q h.reached.column k.reached lt h.reached.column_is h.given).value
       | inr other ↦ elim other [
         | inl same ↦
             let here = subst (λ (x : ℕ). slice_get columns x ≡ Some h.reached.column) same h.reached.column_is in
             let kind = column_same columns q k.reached.column h.reached.column k.reached.column_is here in
             h.bad (subst (λ (x : ℕ). IsValue h.reached.column.kind (get_or next x [])) (sym same) (subst (λ (c : SchemaColumn). IsValue c.kind (get_or next q [])) kind k.value))
         | inr gt ↦
-            apart limits.names (length (dictionary k.reached.column.kind (column_texts q rows ++ get_or next q [] ∷ []))) k.many (good_at columns limits rows next q p k.reached.column h.reached gt k.reached.column_is).few
+            apart limits.names (length (dictionary k.reached.column.kind (present k.reached.column.nullable (column_texts q rows) ++ get_or next q [] ∷ []))) k.many (good_at columns limits rows next q p k.reached.column h.reached gt k.reached.column_is k.given).few
       ]
     ]
 
 many_many : (columns : List SchemaColumn) (limits : Limits) (rows : List Fields) (next : Fields) (p q : ℕ) → PassesNames columns limits rows next p → PassesNames columns limits rows next q → p ≡ q
 many_many columns limits rows next p q h k =
     elim (order p q) [
-      | inl lt ↦ absurd (apart limits.names (length (dictionary h.reached.column.kind (column_texts p rows ++ get_or next p [] ∷ []))) h.many (good_at columns limits rows next p q h.reached.column k.reached lt h.reached.column_is).few)
+      | inl lt ↦ absurd (apart limits.names (length (dictionary h.reached.column.kind (present h.reached.column.nullable (column_texts p rows) ++ get_or next p [] ∷ []))) h.many (good_at columns limits rows next p q h.reached.column k.reached lt h.reached.column_is h.given).few)
       | inr other ↦ elim other [
         | inl same ↦ same
-        | inr gt ↦ absurd (apart limits.names (length (dictionary k.reached.column.kind (column_texts q rows ++ get_or next q [] ∷ []))) k.many (good_at columns limits rows next q p k.reached.column h.reached gt k.reached.column_is).few)
+        | inr gt ↦ absurd (apart limits.names (length (dictionary k.reached.column.kind (present k.reached.column.nullable (column_texts q rows) ++ get_or next q [] ∷ []))) k.many (good_at columns limits rows next q p k.reached.column h.reached gt k.reached.column_is k.given).few)
       ]
     ]
 

@@ -1,21 +1,22 @@
 -- A text stands for one table at most.
-use Rattle.std.proofs.Common.{◌≡◌, ℕ, suc, ◌<◌, ◌≤◌, ℤ, pos, ◌+ℤ◌, List, [], ◌∷◌, Some, slice_get, get_or, length, map, refl, sym, ap, subst, inl, inr, ◌∙◌, arith}
+use Rattle.std.proofs.Common.{◌≡◌, ℕ, ◌<◌, ℤ, pos, ◌+ℤ◌, List, [], ◌∷◌, Option, Some, None, slice_get, get_or, length, map, refl, sym, ap, subst, inl, inr, ◌∙◌, arith}
 use Rattle.std.proofs.Props.{props}
 use Rattle.std.proofs.lemmas.Int.{ints}
 use Rattle.std.proofs.lemmas.List.{get_or-map, length-map, same_lists}
-use Rattle.std.proofs.lemmas.Option.{get_or_from_slice_get, slice_get-get_or, slice_get_cases}
+use Rattle.std.proofs.lemmas.Option.{get_or_from_slice_get, same_Some, slice_get-get_or, slice_get_cases}
 use mathlib.Core.HLevel.{is_prop→PathP}
 use Rattle.csv.specs.Reading.{default_config}
 use Rattle.csv.specs.declared.parser.State.TheVariants as st
 use Rattle.daq_table.specs.ColumnFacts.{IsColumn}
 use Rattle.daq_table.specs.HeadFacts.{IsHead}
 use Rattle.daq_table.specs.Schemas.{names_of}
-use Rattle.daq_table.specs.Tables.{Contents, ends_of, value_of}
+use Rattle.daq_table.specs.Tables.{Cell, Cells, Contents, ends_of, value_of}
 use Rattle.daq_table.specs.declared.head.ColumnHead.{ColumnHead}
+use Rattle.daq_table.specs.declared.head.Ends.{Ends}
 use Rattle.daq_table.specs.declared.head.Kind.{Kind}
 use Rattle.daq_table.specs.declared.schema_column.SchemaColumn.{SchemaColumn}
 use Rattle.daq_table.specs.declared.table_head.Head.{Head}
-use Rattle.csv_load.specs.Columns.{column_texts, numbers_of}
+use Rattle.csv_load.specs.Columns.{column_texts, values_of}
 use Rattle.csv_load.specs.Laws.{StandsOnce}
 use Rattle.csv_load.specs.Records.{AreRecordsOf, Fields, without_marks}
 use Rattle.csv_load.specs.TableOf.{IsColumnOf, IsTableOf}
@@ -28,10 +29,11 @@ column_prop name kind base top names = hlevel props
 head_prop : (rows : ℕ) (columns : List ColumnHead) → IsProp (IsHead rows columns)
 head_prop rows columns = hlevel props
 
-same_column : (h k : ColumnHead) → h.name ≡ k.name → h.kind ≡ k.kind → h.base ≡ k.base → h.top ≡ k.top → h.names ≡ k.names → h ≡ k
-same_column h k n d b t m = λ i. record {
+same_column : (h k : ColumnHead) → h.name ≡ k.name → h.kind ≡ k.kind → h.nullable ≡ k.nullable → h.base ≡ k.base → h.top ≡ k.top → h.names ≡ k.names → h ≡ k
+same_column h k n d u b t m = λ i. record {
   name = n i;
   kind = d i;
+  nullable = u i;
   base = b i;
   top = t i;
   names = m i;
@@ -58,17 +60,23 @@ same_rows bytes names us vs h g = let all : names ∷ us ≡ names ∷ vs = same
 same_number : (base : ℤ) (u v : ℕ) → base +ℤ pos u ≡ base +ℤ pos v → u ≡ v
 same_number base u v e = omega (arith, ints, e)
 
-same_cells : (h k : ColumnHead) (us vs : List ℕ) (numbers : List ℤ) → h.base ≡ k.base → map (value_of (ends_of h)) us ≡ numbers → map (value_of (ends_of k)) vs ≡ numbers → us ≡ vs
-same_cells h k us vs numbers b e f =
-    let long = length-map us (value_of (ends_of h)) in
-    let wide = length-map vs (value_of (ends_of k)) in
-    let same : length us ≡ length vs = sym long ∙ ap length (e ∙ sym f) ∙ wide in
-    same_lists us vs same (λ i d lt.
-    let here = sym (get_or-map (value_of (ends_of h)) us i d (pos 0) lt) ∙ ap (λ (zs : List ℤ). get_or zs i (pos 0)) (e ∙ sym f) ∙ get_or-map (value_of (ends_of k)) vs i d (pos 0) (omega (arith, lt, same)) in
-    same_number h.base (get_or us i d) (get_or vs i d) (here ∙ ap (λ (z : ℤ). z +ℤ pos (get_or vs i d)) (sym b)))
+-- over one base two cells that stand for the same are the same
+same_cell : (h k : Ends) (x y : Cell) → h.base ≡ k.base → value_of h x ≡ value_of k y → x ≡ y
+same_cell h k None None b e = refl
+same_cell h k None (Some v) b e = absurd cc
+same_cell h k (Some u) None b e = absurd cc
+same_cell h k (Some u) (Some v) b e =
+    ap Some (same_number h.base u v (same_Some (h.base +ℤ pos u) (k.base +ℤ pos v) e ∙ ap (λ (z : ℤ). z +ℤ pos v) (sym b)))
+
+same_cells : (h k : Ends) (xs ys : List Cell) (values : List (Option ℤ)) → h.base ≡ k.base → map (value_of h) xs ≡ values → map (value_of k) ys ≡ values → xs ≡ ys
+same_cells h k xs ys values b e f =
+    let same : length xs ≡ length ys = sym (length-map xs (value_of h)) ∙ ap length (e ∙ sym f) ∙ length-map ys (value_of k) in
+    same_lists xs ys same (λ i d lt.
+    same_cell h k (get_or xs i d) (get_or ys i d) b
+    (sym (get_or-map (value_of h) xs i d None lt) ∙ ap (λ zs. get_or zs i None) (e ∙ sym f) ∙ get_or-map (value_of k) ys i d None (omega (arith, lt, same))))
 
 -- what stands at a place of both
-pub record SameAt (heads others : List ColumnHead) (lists lists' : List (List ℕ)) (c : ℕ) : Type 0 where
+pub record SameAt (heads others : List ColumnHead) (lists lists' : Cells) (c : ℕ) : Type 0 where
   pub head : (d : ColumnHead) → get_or heads c d ≡ get_or others c d
   pub cells : get_or lists c [] ≡ get_or lists' c []
 
@@ -85,10 +93,10 @@ same_at bytes columns limits a b one other rows c lt =
     let vs = get_or b.cells c [] in
     let p = one.each c column.0 h.0 us column.1 h.1 (slice_get-get_or a.cells c [] (omega (arith, lt, one.lists))) in
     let q = subst (λ (rs : List Fields). IsColumnOf column.0 (column_texts c rs) k.0 vs) (sym rows) (other.each c column.0 k.0 vs column.1 k.1 (slice_get-get_or b.cells c [] (omega (arith, lt, other.lists)))) in
-    let heads = same_column h.0 k.0 (p.name ∙ sym q.name) (p.kind ∙ sym q.kind) (p.base ∙ sym q.base) (p.top ∙ sym q.top) (p.names ∙ sym q.names) in
+    let heads = same_column h.0 k.0 (p.name ∙ sym q.name) (p.kind ∙ sym q.kind) (p.nullable ∙ sym q.nullable) (p.base ∙ sym q.base) (p.top ∙ sym q.top) (p.names ∙ sym q.names) in
     record {
       head = λ d. get_or_from_slice_get a.head.columns c h.0 d h.1 ∙ heads ∙ sym (get_or_from_slice_get b.head.columns c k.0 d k.1);
-      cells = same_cells h.0 k.0 us vs (numbers_of column.0.kind (column_texts c one.rows)) (p.base ∙ sym q.base) p.cells_are q.cells_are;
+      cells = same_cells (ends_of h.0) (ends_of k.0) us vs (values_of column.0.nullable column.0.kind (column_texts c one.rows)) (p.base ∙ sym q.base) p.cells_are q.cells_are;
     }
 
 pub stands_once : StandsOnce

@@ -3,7 +3,7 @@ use Rattle.std.proofs.Common.{◌≡◌, ℕ, suc, ◌+◌, ◌*◌, ◌<◌, �
 use Rattle.std.proofs.lemmas.Option.{slice_get_cases}
 use Rattle.daq_table.specs.Schemas.{names_of}
 use Rattle.daq_table.specs.declared.schema_column.SchemaColumn.{SchemaColumn}
-use Rattle.csv_load.specs.Columns.{column_texts}
+use Rattle.csv_load.specs.Columns.{column_texts, present}
 use Rattle.csv_load.specs.Faults.{HasBadCell, PassesNames, ReachesCell, Refuses}
 use Rattle.csv_load.specs.Records.{Begins, Fields}
 use Rattle.csv_load.specs.Rows.{AreGoodRows}
@@ -59,9 +59,9 @@ reached columns limits rows old next fault s h =
 
 refused : (columns : List SchemaColumn) (limits : Limits) (rows : List Fields) (old : List State) (next : Fields) (fault : TableFault) (s : AreStates columns rows old)
     (h : RefusesField limits (length rows) old next fault) (column : SchemaColumn) → slice_get columns h.field.place ≡ Some column
-    → RefusesCell limits.names (suc (length rows)) h.field.place (state_of column.kind (column_texts h.field.place rows)) (get_or next h.field.place []) fault
+    → RefusesCell limits.names (suc (length rows)) h.field.place (state_of column.kind column.nullable (column_texts h.field.place rows)) (get_or next h.field.place []) fault
 refused columns limits rows old next fault s h column e =
-    let d = state_of column.kind [] in
+    let d = state_of column.kind column.nullable [] in
     subst (λ (x : State). RefusesCell limits.names (suc (length rows)) h.field.place x (get_or next h.field.place []) fault) (s.each h.field.place column d e) (h.field.refused d)
 
 bad_cell : (columns : List SchemaColumn) (limits : Limits) (rows : List Fields) (old : List State) (next : Fields) (entry place : ℕ) (s : AreStates columns rows old)
@@ -69,15 +69,15 @@ bad_cell : (columns : List SchemaColumn) (limits : Limits) (rows : List Fields) 
 bad_cell columns limits rows old next entry place s h =
     let cell = reached columns limits rows old next (BadCell entry place) s h in
     let why = refused columns limits rows old next (BadCell entry place) s h cell.column cell.column_is in
-    subst (λ (p : ℕ). HasBadCell columns limits rows next entry p) (sym why.1) (record { reached = cell; entry_is = why.0; bad = why.2 })
+    subst (λ (p : ℕ). HasBadCell columns limits rows next entry p) (sym why.1) (record { reached = cell; entry_is = why.0; given = why.2; bad = why.3 })
 
 many_names : (columns : List SchemaColumn) (limits : Limits) (rows : List Fields) (old : List State) (next : Fields) (place : ℕ) (s : AreStates columns rows old)
     (h : RefusesField limits (length rows) old next (TooManyNames place)) → PassesNames columns limits rows next place
 many_names columns limits rows old next place s h =
     let cell = reached columns limits rows old next (TooManyNames place) s h in
     let why = refused columns limits rows old next (TooManyNames place) s h cell.column cell.column_is in
-    let many = subst (λ (ns : List (List ℕ)). limits.names < length ns) (dictionary_more cell.column.kind (column_texts h.field.place rows) (get_or next h.field.place [])) why.1.many in
-    subst (λ (p : ℕ). PassesNames columns limits rows next p) (sym why.0) (record { reached = cell; value = why.1.value; many = many })
+    let many = subst (λ (ns : List (List ℕ)). limits.names < length ns) (dictionary_more cell.column.kind (present cell.column.nullable (column_texts h.field.place rows)) (get_or next h.field.place [])) why.2.many in
+    subst (λ (p : ℕ). PassesNames columns limits rows next p) (sym why.0) (record { reached = cell; given = why.1; value = why.2.value; many = many })
 
 row_refused : (bytes : List ℕ) (columns : List SchemaColumn) (limits : Limits) (rows : List Fields) (old : List State) (next : Fields) (fault : TableFault)
     → AreGoodRows columns limits rows → AreStates columns rows old → Begins bytes (names_of columns ∷ (rows ++ next ∷ [])) → RefusesRow limits (length rows) old next fault

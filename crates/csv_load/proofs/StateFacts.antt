@@ -1,4 +1,4 @@
--- How the state of a column grows.
+-- How the values that are kept of a column grow.
 use Rattle.std.proofs.Common.{◌≡◌, ℕ, ℤ, true, List, [], ◌∷◌, ◌++◌, map, refl, ap, sym}
 use Rattle.std.specs.BTreeSet.{insert_key}
 use Rattle.std.specs.Cmp.Lexicographic.{slice_cmp}
@@ -7,7 +7,7 @@ use Rattle.std.specs.declared.cmp.Ordering.TheVariants.{Less, Equal, Greater}
 use Rattle.daq_table.specs.declared.head.Kind.{Kind}
 use Rattle.daq_table.specs.declared.head.Kind.TheVariants.{Int, Dec, Date, Text}
 use Rattle.csv_load.specs.Columns.{IsShortText, IsValue, is_text}
-use Rattle.csv_load.specs.States.{State, names_with, state_with}
+use Rattle.csv_load.specs.States.{Kept, kept_with, names_with}
 
 pub text_is_value : (kind : Kind) (text : List ℕ) → is_text kind ≡ true → IsShortText text → IsValue kind text
 text_is_value Int text h s = absurd cc
@@ -31,5 +31,5 @@ names_viewed view keys new key kind text h e v = rw (h, e, ← v) (sym (insert_v
 
 pub text_taken : {K : Type 0} (view : K → List ℕ) (kind : Kind) (numbers : List ℤ) (texts later : List (List ℕ)) (keys new : List K) (key : K) (text : List ℕ)
     → is_text kind ≡ true → new ≡ insert_key (λ x y. slice_cmp nat_cmp (view x) (view y)) keys key → view key ≡ text → later ≡ texts ++ text ∷ []
-    → ◌≡◌ {A = State} (record { kind = kind; numbers = numbers; texts = later; names = map view new }) (state_with (record { kind = kind; numbers = numbers; texts = texts; names = map view keys }) text)
+    → ◌≡◌ {A = Kept} (record { kind = kind; numbers = numbers; texts = later; names = map view new }) (kept_with (record { kind = kind; numbers = numbers; texts = texts; names = map view keys }) text)
 text_taken view kind numbers texts later keys new key text h e v t = rw (h, e, t, ← v) (ap (λ (ks : List (List ℕ)). record { kind = kind; numbers = numbers; texts = texts ++ view key ∷ []; names = ks }) (insert_viewed view keys key))

@@ -1,8 +1,8 @@
 -- What each fault says of a CSV: it is the first in the order of the records, and of the cells of one.
-use Rattle.std.specs.Prelude.{◌≡◌, ◌≢◌, ℕ, suc, ◌*◌, ◌<◌, ◌≤◌, ⊤, List, [], ◌∷◌, ◌++◌, length, take, Some, slice_get, slice_index_or}
+use Rattle.std.specs.Prelude.{◌≡◌, ◌≢◌, ℕ, suc, ◌*◌, ◌<◌, ◌≤◌, ⊤, List, [], ◌∷◌, ◌++◌, length, take, Some, slice_get, slice_index_or, IsFalse}
 use Rattle.daq_table.specs.Schemas.{names_of}
 use Rattle.daq_table.specs.declared.schema_column.SchemaColumn.{SchemaColumn}
-use Rattle.csv_load.specs.Columns.{IsValue, column_texts, dictionary}
+use Rattle.csv_load.specs.Columns.{IsValue, column_texts, is_null, names_after}
 use Rattle.csv_load.specs.Records.{AreRecordsOf, Begins, Fields}
 use Rattle.csv_load.specs.Rows.{AreGoodBefore, AreGoodRows, HasRoom}
 use Rattle.csv_load.specs.declared.fault.TableFault.{TableFault}
@@ -32,7 +32,8 @@ pub record PassesCells (columns : List SchemaColumn) (limits : Limits) (rows : L
   pub many : limits.cells < count
 
 -- a row with another number of fields than the schema
-pub record HasOtherLength (columns : List SchemaColumn) (limits : Limits) (rows : List Fields) (next : Fields) (entry got want : ℕ) : Type 0 where
+pub record HasOtherLength (columns : List SchemaColumn) (limits : Limits) (rows : List Fields) (next : Fields)
+    (entry got want : ℕ) : Type 0 where
   pub room : HasRoom columns limits rows
   pub entry_is : entry ≡ suc (length rows)
   pub got_is : got ≡ length next
@@ -47,17 +48,19 @@ pub record ReachesCell (columns : List SchemaColumn) (limits : Limits) (rows : L
   pub column : SchemaColumn
   pub column_is : slice_get columns place ≡ Some column
 
--- the cell is no value of its kind
+-- the cell is not null, and no value of its kind
 pub record HasBadCell (columns : List SchemaColumn) (limits : Limits) (rows : List Fields) (next : Fields) (entry place : ℕ) : Type 0 where
   pub reached : ReachesCell columns limits rows next place
   pub entry_is : entry ≡ suc (length rows)
+  pub given : IsFalse (is_null reached.column.nullable (slice_index_or next place []))
   pub bad : ¬ IsValue reached.column.kind (slice_index_or next place [])
 
--- the cell is a value, and brings a name past the limit of names
+-- the cell is not null and a value, and brings a name past the limit of names
 pub record PassesNames (columns : List SchemaColumn) (limits : Limits) (rows : List Fields) (next : Fields) (place : ℕ) : Type 0 where
   pub reached : ReachesCell columns limits rows next place
+  pub given : IsFalse (is_null reached.column.nullable (slice_index_or next place []))
   pub value : IsValue reached.column.kind (slice_index_or next place [])
-  pub many : limits.names < length (dictionary reached.column.kind (column_texts place rows ++ slice_index_or next place [] ∷ []))
+  pub many : limits.names < length (names_after reached.column (column_texts place rows) (slice_index_or next place []))
 
 -- what the record after these rows shows
 abbrev pub ShowsFault : List SchemaColumn → Limits → List Fields → Fields → TableFault → Type 0

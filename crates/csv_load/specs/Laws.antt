@@ -1,5 +1,6 @@
--- That a CSV has at most one fault, and none where it stands for a table, whose values can all be shown.
-use Rattle.std.specs.Prelude.{◌≡◌, ◌≢◌, ℕ, List}
+-- That a CSV stands for one table or has one fault, and that all values of its table can be shown.
+use Rattle.std.specs.Prelude.{◌≡◌, ◌≢◌, ◌⊎◌, ◌≤◌, ℕ, List}
+use Rattle.daq_table.specs.Schemas.{Declares}
 use Rattle.daq_table.specs.Tables.{Contents}
 use Rattle.daq_table.specs.ValueTexts.{HeadHasTexts}
 use Rattle.daq_table.specs.declared.schema_column.SchemaColumn.{SchemaColumn}
@@ -21,8 +22,21 @@ IsFaultless = (bytes : List ℕ) (columns : List SchemaColumn) (limits : Limits)
 
 -- a text stands for one table at most
 abbrev pub StandsOnce : Type 0
-StandsOnce = (bytes : List ℕ) (columns : List SchemaColumn) (limits : Limits) (one other : Contents) → IsTableOf bytes columns limits one → IsTableOf bytes columns limits other → one ≡ other
+StandsOnce = (bytes : List ℕ) (columns : List SchemaColumn) (limits : Limits) (one other : Contents)
+    → IsTableOf bytes columns limits one → IsTableOf bytes columns limits other → one ≡ other
 
 -- the columns of a table that a text stands for have texts
 abbrev pub HeadsHaveTexts : Type 0
-HeadsHaveTexts = (bytes : List ℕ) (columns : List SchemaColumn) (limits : Limits) (table : Contents) → IsTableOf bytes columns limits table → HeadHasTexts table.head
+HeadsHaveTexts = (bytes : List ℕ) (columns : List SchemaColumn) (limits : Limits) (table : Contents) → IsTableOf bytes columns limits table
+    → HeadHasTexts table.head
+
+-- the text stands for a table or has a fault, want of memory left aside
+abbrev pub IsAnswered : List ℕ → List SchemaColumn → Limits → Type 0
+IsAnswered bytes columns limits =
+    ((table : Contents) × IsTableOf bytes columns limits table)
+    ⊎ ((fault : TableFault) × (fault ≢ NoMemory) × Refuses bytes columns limits fault)
+
+-- so does each text under each schema
+abbrev pub HasAnswer : Type 0
+HasAnswer = (bytes schema : List ℕ) (columns : List SchemaColumn) (limits : Limits) → Declares schema columns → limits.rows ≤ 16777216
+    → IsAnswered bytes columns limits

@@ -1,17 +1,17 @@
 -- What is kept of a column while its CSV is read.
-use Rattle.std.specs.Prelude.{◌≡◌, ◌≢◌, ℕ, zero, suc, ◌*◌, ◌<◌, ◌≤◌, ⊤, ℤ, pos, false, All, IsTrue, if◌then◌else◌, List, [], ◌∷◌, ◌++◌, length, map, Some, slice_get, slice_index_or}
+use Rattle.std.specs.Prelude.{◌≡◌, ◌≢◌, ℕ, zero, suc, ◌*◌, ◌<◌, ◌≤◌, ⊤, ℤ, pos, ◌+ℤ◌, Bool, true, false, not, cond, All, IsTrue, IsFalse, if◌then◌else◌, Option, Some, None, List, [], ◌∷◌, ◌++◌, length, map, slice_get, slice_index_or}
 use Rattle.std.specs.BTreeSet.{insert_key}
 use Rattle.std.specs.Cmp.Lexicographic.{slice_cmp}
-use Rattle.std.specs.List.{list_any}
+use Rattle.std.specs.List.{count_by, list_any}
 use Rattle.std.specs.Ordering.{nat_cmp}
 use Rattle.std.specs.Str.{bytes_eq}
 use Rattle.daq_table.specs.Schemas.{names_of}
 use Rattle.daq_table.specs.CellTexts.{cell_number}
-use Rattle.daq_table.specs.Tables.{Cells, ends_of, value_of}
+use Rattle.daq_table.specs.Tables.{Cell, Cells, column_from, ends_of, value_of}
 use Rattle.daq_table.specs.declared.head.ColumnHead.{ColumnHead}
 use Rattle.daq_table.specs.declared.head.Kind.{Kind}
 use Rattle.daq_table.specs.declared.schema_column.SchemaColumn.{SchemaColumn}
-use Rattle.csv_load.specs.Columns.{IsValue, column_texts, dictionary, greatest, is_text, least, rank_of}
+use Rattle.csv_load.specs.Columns.{IsValue, column_texts, dictionary, greatest, is_null, is_text, least, present, rank_of}
 use Rattle.csv_load.specs.Records.{AreRecordsOf, Fields}
 use Rattle.csv_load.specs.Faults.{IsFirstDifference}
 use Rattle.csv_load.specs.Rows.{AreGoodRows}
@@ -19,16 +19,16 @@ use Rattle.csv_load.specs.declared.fault.TableFault.{TableFault}
 use Rattle.csv_load.specs.declared.fault.TableFault.TheVariants.{NoHeader, HeaderDiffers, TooManyRows, TooManyCells, UnequalLength, BadCell, TooManyNames, NoMemory}
 use Rattle.csv_load.specs.declared.limits.Limits.{Limits}
 
--- of texts the cells and their distinct names are kept, and of all else the numbers
-pub record State : Type 0 where
+-- of texts the values and their distinct names are kept, and of all else the numbers
+pub record Kept : Type 0 where
   pub kind : Kind
   pub numbers : List ℤ
   pub texts : List (List ℕ)
   pub names : List (List ℕ)
 
--- the state after these cells
-abbrev pub state_of : Kind → List (List ℕ) → State
-state_of kind texts = record {
+-- what is kept of these values
+abbrev pub kept_of : Kind → List (List ℕ) → Kept
+kept_of kind texts = record {
   kind = kind;
   numbers = if is_text kind then [] else map (cell_number kind) texts;
   texts = if is_text kind then texts else [];
@@ -39,23 +39,60 @@ state_of kind texts = record {
 abbrev pub names_with : Kind → List (List ℕ) → List ℕ → List (List ℕ)
 names_with kind names text = if is_text kind then insert_key (slice_cmp nat_cmp) names text else []
 
+-- what is kept after one more value
+abbrev pub kept_with : Kept → List ℕ → Kept
+kept_with k text = record {
+  kind = k.kind;
+  numbers = if is_text k.kind then k.numbers else k.numbers ++ cell_number k.kind text ∷ [];
+  texts = if is_text k.kind then k.texts ++ text ∷ [] else k.texts;
+  names = if is_text k.kind then insert_key (slice_cmp nat_cmp) k.names text else k.names;
+}
+
+-- the text may be the column's next value
+pub record TakesValue (limit : ℕ) (k : Kept) (text : List ℕ) : Type 0 where
+  pub value : IsValue k.kind text
+  pub few : length (names_with k.kind k.names text) ≤ limit
+
+pub record TakesNoName (limit : ℕ) (k : Kept) (text : List ℕ) : Type 0 where
+  pub value : IsValue k.kind text
+  pub many : limit < length (names_with k.kind k.names text)
+
+-- why the text is not the next value, at that record and column
+abbrev pub RefusesValue : ℕ → ℕ → ℕ → Kept → List ℕ → TableFault → Type 0
+RefusesValue limit entry column k text NoHeader = ⊥
+RefusesValue limit entry column k text (HeaderDiffers place) = ⊥
+RefusesValue limit entry column k text (TooManyRows n) = ⊥
+RefusesValue limit entry column k text (TooManyCells n) = ⊥
+RefusesValue limit entry column k text (UnequalLength n got want) = ⊥
+RefusesValue limit entry column k text (BadCell n place) = (n ≡ entry) × (place ≡ column) × ¬ IsValue k.kind text
+RefusesValue limit entry column k text (TooManyNames place) = (place ≡ column) × TakesNoName limit k text
+RefusesValue limit entry column k text NoMemory = ⊤
+
+-- what is kept of a column: its values, and where it is nullable a mark for each cell that tells whether it is null
+pub record State : Type 0 where
+  pub nullable : Bool
+  pub kept : Kept
+  pub nulls : List Bool
+
+-- the marks of these cells
+abbrev pub marks_of : Bool → List (List ℕ) → List Bool
+marks_of nullable texts = if nullable then map (is_null nullable) texts else []
+
+-- the state after these cells
+abbrev pub state_of : Kind → Bool → List (List ℕ) → State
+state_of kind nullable texts = record { nullable = nullable; kept = kept_of kind (present nullable texts); nulls = marks_of nullable texts }
+
 -- the state after one more cell
 abbrev pub state_with : State → List ℕ → State
 state_with s text = record {
-  kind = s.kind;
-  numbers = if is_text s.kind then s.numbers else s.numbers ++ cell_number s.kind text ∷ [];
-  texts = if is_text s.kind then s.texts ++ text ∷ [] else s.texts;
-  names = if is_text s.kind then insert_key (slice_cmp nat_cmp) s.names text else s.names;
+  nullable = s.nullable;
+  kept = if is_null s.nullable text then s.kept else kept_with s.kept text;
+  nulls = if s.nullable then s.nulls ++ is_null s.nullable text ∷ [] else s.nulls;
 }
 
 -- the text may be the column's next cell
-pub record Takes (limit : ℕ) (s : State) (text : List ℕ) : Type 0 where
-  pub value : IsValue s.kind text
-  pub few : length (names_with s.kind s.names text) ≤ limit
-
-pub record TakesNoName (limit : ℕ) (s : State) (text : List ℕ) : Type 0 where
-  pub value : IsValue s.kind text
-  pub many : limit < length (names_with s.kind s.names text)
+abbrev pub Takes : ℕ → State → List ℕ → Type 0
+Takes limit s text = IsFalse (is_null s.nullable text) → TakesValue limit s.kept text
 
 -- why the text is not the next cell, at that record and column
 abbrev pub RefusesCell : ℕ → ℕ → ℕ → State → List ℕ → TableFault → Type 0
@@ -64,8 +101,10 @@ RefusesCell limit entry column s text (HeaderDiffers place) = ⊥
 RefusesCell limit entry column s text (TooManyRows n) = ⊥
 RefusesCell limit entry column s text (TooManyCells n) = ⊥
 RefusesCell limit entry column s text (UnequalLength n got want) = ⊥
-RefusesCell limit entry column s text (BadCell n place) = (n ≡ entry) × (place ≡ column) × ¬ IsValue s.kind text
-RefusesCell limit entry column s text (TooManyNames place) = (place ≡ column) × TakesNoName limit s text
+RefusesCell limit entry column s text (BadCell n place) =
+    (n ≡ entry) × (place ≡ column) × IsFalse (is_null s.nullable text) × ¬ IsValue s.kept.kind text
+RefusesCell limit entry column s text (TooManyNames place) =
+    (place ≡ column) × IsFalse (is_null s.nullable text) × TakesNoName limit s.kept text
 RefusesCell limit entry column s text NoMemory = ⊤
 
 -- each state below that place has taken its field, and the others are as they were
@@ -85,7 +124,8 @@ pub record RefusesAt (limit entry : ℕ) (old : List State) (fields : Fields) (f
 -- the columns' states after these rows
 pub record AreStates (columns : List SchemaColumn) (rows : List Fields) (states : List State) : Type 0 where
   pub wide : length states ≡ length columns
-  pub each : (c : ℕ) (column : SchemaColumn) (d : State) → slice_get columns c ≡ Some column → slice_index_or states c d ≡ state_of column.kind (column_texts c rows)
+  pub each : (c : ℕ) (column : SchemaColumn) (d : State) → slice_get columns c ≡ Some column
+      → slice_index_or states c d ≡ state_of column.kind column.nullable (column_texts c rows)
 
 -- one more row is within the limits of rows and of cells, of which there are so many columns
 pub record HasRoomFor (limits : Limits) (rows columns : ℕ) : Type 0 where
@@ -143,7 +183,8 @@ RefusesRecord columns limits zero old fields fault = RefusesHeader columns field
 RefusesRecord columns limits (suc rows) old fields fault = RefusesRow limits rows old fields fault
 
 -- after a header, the rows are good and the states are theirs
-pub record HasRows (columns : List SchemaColumn) (limits : Limits) (header : Fields) (rows : List Fields) (states : List State) : Type 0 where
+pub record HasRows (columns : List SchemaColumn) (limits : Limits) (header : Fields) (rows : List Fields) (states : List State)
+    : Type 0 where
   pub header_is : header ≡ names_of columns
   pub good : AreGoodRows columns limits rows
   pub states_are : AreStates columns rows states
@@ -161,32 +202,86 @@ pub record HasRead (bytes : List ℕ) (columns : List SchemaColumn) (limits : Li
   pub count_is : count ≡ length rows
   pub states_are : AreStates columns rows states
 
--- the numbers of a state's cells
-abbrev pub numbers_in : State → List ℤ
-numbers_in s = if is_text s.kind then map (λ text. pos (rank_of s.names text)) s.texts else s.numbers
+-- the numbers of the values that are kept
+abbrev pub numbers_in : Kept → List ℤ
+numbers_in k = if is_text k.kind then map (λ text. pos (rank_of k.names text)) k.texts else k.numbers
 
 -- each text is among the names, which only a column of texts has
-pub record IsComplete (s : State) : Type 0 where
-  pub known : All (λ text. IsTrue (list_any (bytes_eq text) s.names)) s.texts
-  pub plain : is_text s.kind ≡ false → s.names ≡ []
+pub record IsComplete (k : Kept) : Type 0 where
+  pub known : All (λ text. IsTrue (list_any (bytes_eq text) k.names)) k.texts
+  pub plain : is_text k.kind ≡ false → k.names ≡ []
+
+-- the numbers in turn at the places that are not marked, and 0 at the others
+abbrev pub filled : List Bool → List ℕ → List ℕ
+filled [] numbers = []
+filled (true ∷ marks) numbers = 0 ∷ filled marks numbers
+filled (false ∷ marks) [] = []
+filled (false ∷ marks) (n ∷ numbers) = n ∷ filled marks numbers
+
+-- the same as values, with null at the places that are marked
+abbrev pub laid : List Bool → List ℤ → List (Option ℤ)
+laid [] numbers = []
+laid (true ∷ marks) numbers = None ∷ laid marks numbers
+laid (false ∷ marks) [] = []
+laid (false ∷ marks) (z ∷ numbers) = Some z ∷ laid marks numbers
+
+-- what the cells of a column stand for
+abbrev pub values_in : State → List (Option ℤ)
+values_in s = if s.nullable then laid s.nulls (numbers_in s.kept) else map Some (numbers_in s.kept)
+
+-- what is kept is complete, and a nullable column has a value for each cell that is not marked, and another no marks
+pub record IsWhole (s : State) : Type 0 where
+  pub complete : IsComplete s.kept
+  pub marked : IsTrue s.nullable → count_by not s.nulls ≡ length (numbers_in s.kept)
+  pub plain : IsFalse s.nullable → s.nulls ≡ []
+
+-- the head of a column with these values, whose numbers above the base these are
+pub record HasValues (k : Kept) (nullable : Bool) (name : List ℕ) (head : ColumnHead) (numbers : List ℕ) : Type 0 where
+  pub name_is : head.name ≡ name
+  pub kind : head.kind ≡ k.kind
+  pub nullable_is : head.nullable ≡ nullable
+  pub names : head.names ≡ k.names
+  pub base : head.base ≡ least (numbers_in k)
+  pub top : head.top ≡ greatest (numbers_in k)
+  pub numbers_are : map (λ u. head.base +ℤ pos u) numbers ≡ numbers_in k
 
 -- the head and the cells that a state stands for
-pub record IsFinished (s : State) (name : List ℕ) (head : ColumnHead) (cells : List ℕ) : Type 0 where
+pub record IsStored (s : State) (name : List ℕ) (head : ColumnHead) (cells : List Cell) : Type 0 where
   pub name_is : head.name ≡ name
-  pub kind : head.kind ≡ s.kind
-  pub names : head.names ≡ s.names
-  pub base : head.base ≡ least (numbers_in s)
-  pub top : head.top ≡ greatest (numbers_in s)
-  pub cells_are : map (value_of (ends_of head)) cells ≡ numbers_in s
+  pub kind : head.kind ≡ s.kept.kind
+  pub nullable : head.nullable ≡ s.nullable
+  pub names : head.names ≡ s.kept.names
+  pub base : head.base ≡ least (numbers_in s.kept)
+  pub top : head.top ≡ greatest (numbers_in s.kept)
+  pub cells_are : map (value_of (ends_of head)) cells ≡ values_in s
+
+-- the same of the numbers and the marks of the cells; the number of a null cell is 0
+pub record IsFinished (s : State) (name : List ℕ) (head : ColumnHead) (numbers : List ℕ) (nulls : List Bool) : Type 0 where
+  pub stored : IsStored s name head (column_from numbers nulls)
+  pub nulls_are : nulls ≡ s.nulls
+  pub zero : (r : ℕ) → IsTrue (slice_index_or nulls r false) → slice_index_or numbers r 0 ≡ 0
 
 -- the first of the declared columns, up to that place, are finished
-pub record AreFinished (columns : List SchemaColumn) (states : List State) (end : ℕ) (heads : List ColumnHead) (lists : Cells) : Type 0 where
+pub record AreFinished (columns : List SchemaColumn) (states : List State) (end : ℕ) (heads : List ColumnHead)
+    (lists : List (List ℕ)) (marks : List (List Bool)) : Type 0 where
   pub heads_count : length heads ≡ end
   pub lists_count : length lists ≡ end
-  pub each : (c : ℕ) (column : SchemaColumn) (d : State) (head : ColumnHead) (cells : List ℕ) → slice_get columns c ≡ Some column → slice_get heads c ≡ Some head → slice_get lists c ≡ Some cells
-      → IsFinished (slice_index_or states c d) column.name head cells
+  pub marks_count : length marks ≡ end
+  pub each : (c : ℕ) (column : SchemaColumn) (d : State) (head : ColumnHead)
+      → slice_get columns c ≡ Some column → slice_get heads c ≡ Some head
+      → IsFinished (slice_index_or states c d) column.name head (slice_index_or lists c []) (slice_index_or marks c [])
 
--- each of the states is complete, after so many cells
+-- the columns are stored
+pub record AreStored (columns : List SchemaColumn) (states : List State) (heads : List ColumnHead) (cells : Cells) : Type 0 where
+  pub heads_count : length heads ≡ length states
+  pub cells_count : length cells ≡ length states
+  pub each : (c : ℕ) (column : SchemaColumn) (d : State) (head : ColumnHead)
+      → slice_get columns c ≡ Some column → slice_get heads c ≡ Some head
+      → IsStored (slice_index_or states c d) column.name head (slice_index_or cells c [])
+
+-- each of the states is whole, after so many cells
 pub record AreComplete (rows : ℕ) (states : List State) : Type 0 where
-  pub complete : (c : ℕ) (d : State) → c < length states → IsComplete (slice_index_or states c d)
-  pub count : (c : ℕ) (d : State) → c < length states → length (numbers_in (slice_index_or states c d)) ≡ rows
+  pub whole : (c : ℕ) (d : State) → c < length states → IsWhole (slice_index_or states c d)
+  pub count : (c : ℕ) (d : State) → c < length states → length (values_in (slice_index_or states c d)) ≡ rows
+  pub marks : (c : ℕ) (d : State) → c < length states
+      → length (slice_index_or states c d).nulls ≡ cond (slice_index_or states c d).nullable rows 0

@@ -1,7 +1,7 @@
 //! The table of the columns that were read.
 
 ghost use Rattle.std.specs.Prelude.{◌≡◌, ◌≤◌, length, IfOk};
-ghost use Rattle.csv_load.specs.States.{AreComplete, AreFinished};
+ghost use Rattle.csv_load.specs.States.{AreComplete, AreStored};
 
 use crate::column::Column;
 use daq_table::{ColumnHeads, Head, Name, Schema, Table};
@@ -18,19 +18,21 @@ pub(crate) fn table_of(
     requires few { rows ≤ 16777216 }
     requires complete { AreComplete rows columns.now }
     ensures rows { IfOk result (λ table. table.head.rows ≡ rows) }
-    ensures columns { IfOk result (λ table. AreFinished schema.now.columns columns.now (length columns.now) table.head.columns table.cells) }
+    ensures columns { IfOk result (λ table. AreStored schema.now.columns columns.now table.head.columns table.cells) }
 {
     let mut heads = Vec::new(alloc);
     let mut lists = Vec::new(alloc);
+    let mut marks = Vec::new(alloc);
     for (place, declared) in schema.columns.as_slice().iter().enumerate() {
         let name = Name::new(Vec::from_slice(alloc, declared.name.as_slice())?);
-        let (head, cells) = columns[place].finish(alloc, name)?;
+        let (head, cells, nulls) = columns[place].finish(alloc, name)?;
         heads.push(head)?;
         lists.push(cells)?;
+        marks.push(nulls)?;
     }
     let head = Head {
         rows: rows as u64,
         columns: ColumnHeads::new(heads),
     };
-    Ok(Table::new(head, lists))
+    Ok(Table::new(head, lists, marks))
 }

@@ -1,86 +1,53 @@
-//! A column while its CSV is read.
+//! A column while its CSV is read: its values, and which of its cells are null.
 
-ghost use Rattle.std.specs.Prelude.{◌≡◌, ◌↔◌, ◌≢◌, ◌≤◌, length, IfOk, OnOk, IfErr, IsTrue, [], true, false};
-ghost use Rattle.std.specs.Cmp.Lexicographic.{slice_cmp};
-ghost use Rattle.std.specs.List.Sorted.{IsStrictlySortedBy};
-ghost use Rattle.std.specs.Option.{SomeIff};
-ghost use Rattle.std.specs.Ordering.{nat_cmp};
-ghost use Rattle.daq_table.specs.CellTexts.{IsCell, cell_number};
-ghost use Rattle.daq_table.specs.declared.head.Kind.TheVariants.{Text};
-ghost use Rattle.csv_load.specs.Columns.{IsShortText, is_text};
-ghost use Rattle.csv_load.specs.States.{IsComplete, IsFinished, RefusesCell, Takes, numbers_in, state_of, state_with};
+ghost use Rattle.std.specs.Prelude.{◌≡◌, IfOk, OnOk, IfErr, []};
+ghost use Rattle.csv_load.specs.Columns.{is_null};
+ghost use Rattle.csv_load.specs.States.{IsFinished, IsWhole, RefusesCell, Takes, state_of, state_with};
 
-use crate::extremes::{distances, greatest_number, least_number};
 use crate::fault::TableFault;
-use crate::ranks::{ranks, sorted_names};
-use csv::ByteRecord;
-use daq_table::{ColumnHead, Kind, Name, Text, cell_value};
+use crate::filling::cells_of;
+use crate::place::Place;
+use crate::values::Values;
+use daq_table::{ColumnHead, Kind, Name};
 use std::alloc::{AllocError, Global};
-use std::collections::BTreeSet;
 use std::marker::Model;
-use std::str::from_utf8;
 
-/// The cells that were read of a column. Texts wait for their ranks until the whole dictionary is known.
+/// The values of a column, and for a nullable one which of its cells are null.
 #[derive(Drop)]
 pub(crate) struct Column {
-    kind: Kind,
-    numbers: Vec<i64>,
-    texts: ByteRecord,
-    names: BTreeSet<Vec<u8>>,
+    nullable: bool,
+    values: Values,
+    nulls: Vec<bool>,
 }
 
 impl Model for Column {
-    ghost use Rattle.std.specs.Prelude.{◌≡◌, [], map, vec_items};
-    ghost use Rattle.csv.specs.Records.{fields_of, partial_of};
     ghost use Rattle.csv_load.specs.States.{State};
 
     ghost Value = { State };
 
-    ghost view = { λ c. record { kind = c.kind; numbers = c.numbers.items; texts = fields_of c.texts; names = map vec_items c.names.keys } };
-
-    ghost invariant = { λ c. partial_of c.texts ≡ [] };
+    ghost view = { λ c. record { nullable = c.nullable; kept = c.values; nulls = c.nulls.items } };
 }
 
-/// The place of a cell: its record, of which the header is the first, and its column.
-#[derive(Clone, Copy)]
-pub(crate) struct Place {
-    pub entry: usize,
-    pub column: usize,
-}
-
-// The number of a cell that is no text.
-fn plain_value(kind: &Kind, text: &[u8]) -> Option<i64>
-    ensures { SomeIff result (IsCell kind.now text.now) (cell_number kind.now text.now) }
+// Whether a text is null.
+fn is_null(nullable: bool, text: &[u8]) -> bool
+    ensures { result ≡ is_null nullable text.now }
 {
-    match kind {
-        Kind::Int => cell_value(kind, text),
-        Kind::Dec(_) => cell_value(kind, text),
-        Kind::Date => cell_value(kind, text),
-        Kind::Text => None,
-    }
-}
-
-// Whether the bytes are a text of a dictionary.
-fn is_short_text(bytes: &[u8]) -> bool
-    ensures { IsTrue result ↔ IsShortText bytes.now }
-{
-    bytes.len() <= 255 && from_utf8(bytes).is_ok()
+    nullable && text.is_empty()
 }
 
 impl Column {
     /// A column without cells.
-    pub(crate) fn new(alloc: Global, kind: Kind) -> Column
-        ensures { result ≡ state_of kind [] }
+    pub(crate) fn new(alloc: Global, kind: Kind, nullable: bool) -> Column
+        ensures { result ≡ state_of kind nullable [] }
     {
         Column {
-            kind,
-            numbers: Vec::new(alloc),
-            texts: ByteRecord::new(alloc),
-            names: BTreeSet::new(alloc),
+            nullable,
+            values: Values::new(alloc, kind),
+            nulls: Vec::new(alloc),
         }
     }
 
-    /// Takes the next cell, if it is a value of the column's kind and brings no name past the limit.
+    /// Takes the next cell, if it is null, or a value of the column's kind that brings no name past the limit.
     pub(crate) fn take(
         &mut self,
         alloc: Global,
@@ -92,101 +59,29 @@ impl Column {
         ensures taken { OnOk result (self.new ≡ state_with self.old text.now) }
         ensures err { IfErr result (RefusesCell limit place.entry place.column self.old text.now) }
     {
-        match self.kind {
-            Kind::Int => self.take_number(text, place),
-            Kind::Dec(_) => self.take_number(text, place),
-            Kind::Date => self.take_number(text, place),
-            Kind::Text => self.take_text(alloc, text, limit, place),
+        if is_null(self.nullable, text) {
+            self.nulls.push(true)?;
+            return Ok(());
         }
-    }
-
-    // The same for a column of numbers.
-    fn take_number(&mut self, text: &[u8], place: Place) -> Result<(), TableFault>
-        requires { is_text self.old.kind ≡ false }
-        ensures ok { OnOk result (IsCell self.old.kind text.now) }
-        ensures taken { OnOk result (self.new ≡ state_with self.old text.now) }
-        ensures err { IfErr result (RefusesCell 0 place.entry place.column self.old text.now) }
-    {
-        match plain_value(&self.kind, text) {
-            Some(number) => {
-                self.numbers.push(number)?;
-                Ok(())
-            }
-            None => Err(TableFault::BadCell {
-                entry: place.entry,
-                column: place.column,
-            }),
-        }
-    }
-
-    // The same for a column of texts.
-    fn take_text(
-        &mut self,
-        alloc: Global,
-        text: &[u8],
-        limit: u64,
-        place: Place,
-    ) -> Result<(), TableFault>
-        requires { is_text self.old.kind ≡ true }
-        ensures ok { OnOk result (Takes limit self.old text.now) }
-        ensures taken { OnOk result (self.new ≡ state_with self.old text.now) }
-        ensures err { IfErr result (RefusesCell limit place.entry place.column self.old text.now) }
-    {
-        if !is_short_text(text) {
-            return Err(TableFault::BadCell {
-                entry: place.entry,
-                column: place.column,
-            });
-        }
-        self.names.insert(Vec::from_slice(alloc, text)?)?;
-        if self.names.len() as u64 > limit {
-            return Err(TableFault::TooManyNames {
-                column: place.column,
-            });
-        }
-        if self.texts.push_field(text).is_err() {
-            // Drops what may be left of the field.
-            self.texts.clear();
-            return Err(TableFault::NoMemory);
+        self.values.take(alloc, text, limit, place)?;
+        if self.nullable {
+            self.nulls.push(false)?;
         }
         Ok(())
     }
 
-    // The numbers of the cells, by the sorted names.
-    fn numbers(&self, alloc: Global, names: &[Text]) -> Result<Vec<i64>, AllocError>
-        requires names { names.now ≡ self.now.names }
-        requires sorted { IsStrictlySortedBy (slice_cmp nat_cmp) names.now }
-        requires complete { IsComplete self.now }
-        ensures { IfOk result (λ numbers. numbers.items ≡ numbers_in self.now) }
-    {
-        match self.kind {
-            Kind::Int => Vec::from_slice(alloc, &self.numbers),
-            Kind::Dec(_) => Vec::from_slice(alloc, &self.numbers),
-            Kind::Date => Vec::from_slice(alloc, &self.numbers),
-            Kind::Text => ranks(alloc, &self.texts, names),
-        }
-    }
-
-    /// The column's head under that name, and its cells.
+    /// The column's head under that name, and the numbers and marks of its cells.
     pub(crate) fn finish(
         &self,
         alloc: Global,
         name: Name,
-    ) -> Result<(ColumnHead, Vec<u64>), AllocError>
-        requires { IsComplete self.now }
-        ensures { IfOk result (λ column. IsFinished self.now name column.0 column.1.items) }
+    ) -> Result<(ColumnHead, Vec<u64>, Vec<bool>), AllocError>
+        requires { IsWhole self.now }
+        ensures { IfOk result (λ column. IsFinished self.now name column.0 column.1.items column.2.items) }
     {
-        let names = sorted_names(alloc, &self.names)?;
-        let numbers = self.numbers(alloc, names.as_slice())?;
-        let base = least_number(&numbers);
-        let cells = distances(alloc, &numbers, base)?;
-        let head = ColumnHead {
-            name,
-            kind: self.kind,
-            base,
-            top: greatest_number(&numbers),
-            names,
-        };
-        Ok((head, cells))
+        let (head, numbers) = self.values.finish(alloc, name, self.nullable)?;
+        let cells = cells_of(alloc, self.nullable, numbers, &self.nulls)?;
+        let nulls = Vec::from_slice(alloc, &self.nulls)?;
+        Ok((head, cells, nulls))
     }
 }

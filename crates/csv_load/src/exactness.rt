@@ -1,6 +1,6 @@
 //! What holds of all texts.
 
-ghost use Rattle.csv_load.specs.Laws.{HasOneFault, HeadsHaveTexts, IsFaultless, StandsOnce};
+ghost use Rattle.csv_load.specs.Laws.{HasAnswer, HasOneFault, HeadsHaveTexts, IsFaultless, StandsOnce};
 
 /// The faults that `load` tells are exact: no text has two of them, and a text that stands for a table has none, want of
 /// memory left aside. So `load` answers a fault where the text has it, or `NoMemory`.
@@ -18,4 +18,10 @@ pub fn heads_have_texts()
 /// A text stands for one table at most.
 pub fn tables_are_one()
     ensures { StandsOnce }
+{}
+
+/// Each text stands for a table under each schema or has a fault, want of memory left aside: nothing falls between the
+/// answers of `load`.
+pub fn texts_have_answers()
+    ensures { HasAnswer }
 {}

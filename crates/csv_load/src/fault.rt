@@ -35,7 +35,7 @@ pub enum TableFault {
         got: usize,
         want: usize,
     },
-    /// The cell is no value of its column's kind.
+    /// The cell is no value of its column's kind, and not null.
     #[error("record {entry} column {column}, counted from 0, is no value of its kind")]
     BadCell {
         entry: usize,

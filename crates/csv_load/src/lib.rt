@@ -6,16 +6,21 @@ mod column;
 mod exactness;
 mod extremes;
 mod fault;
+mod filling;
 mod limits;
 mod loading;
 mod marks;
+#[cfg(test)]
+mod null_tests;
+mod place;
 mod ranks;
 mod reading;
 mod record;
 #[cfg(test)]
 mod tests;
+mod values;
 
-pub use exactness::{faults_are_exact, heads_have_texts, tables_are_one};
+pub use exactness::{faults_are_exact, heads_have_texts, tables_are_one, texts_have_answers};
 pub use fault::TableFault;
 pub use limits::Limits;
 pub use loading::load;

@@ -19,7 +19,7 @@ fn empty_columns(alloc: Global, schema: &[SchemaColumn]) -> Result<Vec<Column>, 
 {
     let mut columns = Vec::new(alloc);
     for column in schema {
-        columns.push(Column::new(alloc, column.kind))?;
+        columns.push(Column::new(alloc, column.kind, column.nullable))?;
     }
     Ok(columns)
 }

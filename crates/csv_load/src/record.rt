@@ -6,9 +6,10 @@ ghost use Rattle.daq_table.specs.Schemas.{names_of};
 ghost use Rattle.csv_load.specs.Faults.{IsFirstDifference};
 ghost use Rattle.csv_load.specs.States.{RefusesAt, RefusesHeader, RefusesRecord, RefusesRow, TakesRecord, TakesRow, TookBelow};
 
-use crate::column::{Column, Place};
+use crate::column::Column;
 use crate::fault::TableFault;
 use crate::limits::Limits;
+use crate::place::Place;
 use csv::ByteRecord;
 use daq_table::SchemaColumn;
 use std::alloc::Global;
@@ -36,7 +37,8 @@ pub(crate) fn field_at(fields: &ByteRecord, place: usize) -> &[u8]
 
 // The first column where the header and the schema's names differ.
 fn first_difference(header: &ByteRecord, columns: &[SchemaColumn]) -> Option<usize>
-    ensures { MatchOption result (fields_of header.now ≡ names_of columns.now) (IsFirstDifference (fields_of header.now) (names_of columns.now)) }
+    ensures { MatchOption result (fields_of header.now ≡ names_of columns.now)
+        (IsFirstDifference (fields_of header.now) (names_of columns.now)) }
 {
     for (place, column) in columns.iter().enumerate() {
         if !has_field(header, place, column.name.as_slice()) {

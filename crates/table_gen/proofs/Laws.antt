@@ -1,5 +1,5 @@
 -- A seed has one table for each number of rows, and all of its values have texts.
-use Rattle.std.proofs.Common.{◌≡◌, ℕ, ◌<◌, ◌≤◌, ℤ, pos, ◌+ℤ◌, ◌≤ℤ◌, All, List, [], ◌∷◌, Some, fold, slice_get, get_or, length, map, sym, ap, subst, ◌∙◌, arith}
+use Rattle.std.proofs.Common.{◌≡◌, ℕ, ◌<◌, ◌≤◌, ℤ, pos, ◌+ℤ◌, ◌≤ℤ◌, All, List, [], ◌∷◌, Option, Some, None, fold, slice_get, get_or, length, map, refl, sym, ap, subst, ◌∙◌, arith}
 use Rattle.std.proofs.Props.{props}
 use Rattle.std.proofs.lemmas.Int.{ints}
 use Rattle.std.proofs.lemmas.List.{get_or-map, length-map, same_lists}
@@ -12,9 +12,10 @@ use Rattle.std.specs.Cmp.Lexicographic.{slice_cmp}
 use Rattle.std.specs.Ordering.{nat_cmp}
 use Rattle.daq_table.specs.ColumnFacts.{IsColumn}
 use Rattle.daq_table.specs.HeadFacts.{IsHead}
-use Rattle.daq_table.specs.Tables.{Contents, ends_of, value_of}
+use Rattle.daq_table.specs.Tables.{Cell, Contents, ends_of, value_of}
 use Rattle.daq_table.specs.ValueTexts.{HasText, HasTexts}
 use Rattle.daq_table.specs.declared.head.ColumnHead.{ColumnHead}
+use Rattle.daq_table.specs.declared.head.Ends.{Ends}
 use Rattle.daq_table.specs.declared.head.Kind.{Kind}
 use Rattle.daq_table.specs.declared.head.Kind.TheVariants.{Int, Dec, Date, Text}
 use Rattle.daq_table.specs.declared.table_head.Head.{Head}
@@ -31,10 +32,11 @@ column_prop name kind base top names = hlevel props
 head_prop : (rows : ℕ) (columns : List ColumnHead) → IsProp (IsHead rows columns)
 head_prop rows columns = hlevel props
 
-same_column : (h k : ColumnHead) → h.name ≡ k.name → h.kind ≡ k.kind → h.base ≡ k.base → h.top ≡ k.top → h.names ≡ k.names → h ≡ k
-same_column h k n d b t m = λ i. record {
+same_column : (h k : ColumnHead) → h.name ≡ k.name → h.kind ≡ k.kind → h.nullable ≡ k.nullable → h.base ≡ k.base → h.top ≡ k.top → h.names ≡ k.names → h ≡ k
+same_column h k n d u b t m = λ i. record {
   name = n i;
   kind = d i;
+  nullable = u i;
   base = b i;
   top = t i;
   names = m i;
@@ -54,24 +56,30 @@ same_contents a b h c = λ i. record { head = h i; cells = c i }
 same_number : (base : ℤ) (u v : ℕ) → base +ℤ pos u ≡ base +ℤ pos v → u ≡ v
 same_number base u v e = omega (arith, ints, e)
 
-same_cells : (h k : ColumnHead) (us vs : List ℕ) (numbers : List ℤ) → h.base ≡ k.base → map (value_of (ends_of h)) us ≡ numbers → map (value_of (ends_of k)) vs ≡ numbers → us ≡ vs
-same_cells h k us vs numbers b e f =
-    let long = length-map us (value_of (ends_of h)) in
-    let wide = length-map vs (value_of (ends_of k)) in
-    let same : length us ≡ length vs = sym long ∙ ap length (e ∙ sym f) ∙ wide in
-    same_lists us vs same (λ i d lt.
-    let here = sym (get_or-map (value_of (ends_of h)) us i d (pos 0) lt) ∙ ap (λ (zs : List ℤ). get_or zs i (pos 0)) (e ∙ sym f) ∙ get_or-map (value_of (ends_of k)) vs i d (pos 0) (omega (arith, lt, same)) in
-    same_number h.base (get_or us i d) (get_or vs i d) (here ∙ ap (λ (z : ℤ). z +ℤ pos (get_or vs i d)) (sym b)))
+-- over one base two cells that stand for the same are the same
+same_cell : (h k : Ends) (x y : Cell) → h.base ≡ k.base → value_of h x ≡ value_of k y → x ≡ y
+same_cell h k None None b e = refl
+same_cell h k None (Some v) b e = absurd cc
+same_cell h k (Some u) None b e = absurd cc
+same_cell h k (Some u) (Some v) b e =
+    ap Some (same_number h.base u v (same_Some (h.base +ℤ pos u) (k.base +ℤ pos v) e ∙ ap (λ (z : ℤ). z +ℤ pos v) (sym b)))
+
+same_cells : (h k : Ends) (xs ys : List Cell) (values : List (Option ℤ)) → h.base ≡ k.base → map (value_of h) xs ≡ values → map (value_of k) ys ≡ values → xs ≡ ys
+same_cells h k xs ys values b e f =
+    let same : length xs ≡ length ys = sym (length-map xs (value_of h)) ∙ ap length (e ∙ sym f) ∙ length-map ys (value_of k) in
+    same_lists xs ys same (λ i d lt.
+    same_cell h k (get_or xs i d) (get_or ys i d) b
+    (sym (get_or-map (value_of h) xs i d None lt) ∙ ap (λ zs. get_or zs i None) (e ∙ sym f) ∙ get_or-map (value_of k) ys i d None (omega (arith, lt, same))))
 
 -- what stands at a place of both
 record SameAt (t u : Contents) (c : ℕ) : Type 0 where
   pub head : (d : ColumnHead) → get_or t.head.columns c d ≡ get_or u.head.columns c d
-  pub cells : (d : List ℕ) → get_or t.cells c d ≡ get_or u.cells c d
+  pub cells : (d : List Cell) → get_or t.cells c d ≡ get_or u.cells c d
 
 same_at : (t u : Contents) (c : ℕ) (name : List ℕ) (kind : Kind) (names : List (List ℕ)) (numbers : List ℤ) → HasColumn t c name kind names numbers → HasColumn u c name kind names numbers → SameAt t u c
 same_at t u c name kind names numbers p q =
-    let heads = same_column p.head q.head (p.stores.name_is ∙ sym q.stores.name_is) (p.stores.kind_is ∙ sym q.stores.kind_is) (p.stores.base ∙ sym q.stores.base) (p.stores.top ∙ sym q.stores.top) (p.stores.names_are ∙ sym q.stores.names_are) in
-    let cells = same_cells p.head q.head p.cells q.cells numbers (p.stores.base ∙ sym q.stores.base) p.stores.cells_are q.stores.cells_are in
+    let heads = same_column p.head q.head (p.stores.name_is ∙ sym q.stores.name_is) (p.stores.kind_is ∙ sym q.stores.kind_is) (p.stores.plain ∙ sym q.stores.plain) (p.stores.base ∙ sym q.stores.base) (p.stores.top ∙ sym q.stores.top) (p.stores.names_are ∙ sym q.stores.names_are) in
+    let cells = same_cells (ends_of p.head) (ends_of q.head) p.cells q.cells (map Some numbers) (p.stores.base ∙ sym q.stores.base) p.stores.cells_are q.stores.cells_are in
     record {
       head = λ d. get_or_from_slice_get t.head.columns c p.head d p.head_is ∙ heads ∙ sym (get_or_from_slice_get u.head.columns c q.head d q.head_is);
       cells = λ d. get_or_from_slice_get t.cells c p.cells d p.cells_are ∙ cells ∙ sym (get_or_from_slice_get u.cells c q.cells d q.cells_are);
@@ -105,7 +113,7 @@ distinct_has P [] names known all = known
 distinct_has P (text ∷ texts) names known all =
     distinct_has P texts (insert_key (slice_cmp nat_cmp) names text) (All-insert_key (slice_cmp nat_cmp) text P names known (All-head P text texts all)) (All-tail P text texts all)
 
-stores_have : (name : List ℕ) (kind : Kind) (names : List (List ℕ)) (numbers : List ℤ) (head : ColumnHead) (cells : List ℕ) → Stores name kind names numbers head cells → All (HasText kind) numbers → All IsShort names
+stores_have : (name : List ℕ) (kind : Kind) (names : List (List ℕ)) (numbers : List ℤ) (head : ColumnHead) (cells : List Cell) → Stores name kind names numbers head cells → All (HasText kind) numbers → All IsShort names
     → HasTexts head
 stores_have name kind names numbers head cells s each short =
     let base : HasText head.kind head.base = rw (s.kind_is, s.base) (least_has (HasText kind) numbers (zero_has kind) each) in

@@ -1,12 +1,12 @@
 -- How a column is stored: its dictionary, its ends and its cells.
-use Rattle.std.specs.Prelude.{◌≡◌, ℕ, ℤ, pos, Some, List, [], ◌∷◌, fold, map, slice_get}
+use Rattle.std.specs.Prelude.{◌≡◌, ℕ, ℤ, pos, false, Some, List, [], ◌∷◌, fold, map, slice_get}
 use Rattle.std.specs.BTreeSet.{insert_key}
 use Rattle.std.specs.Cmp.Lexicographic.{slice_cmp}
 use Rattle.std.specs.Int.{int_max, int_min}
 use Rattle.std.specs.List.{position_or_len}
 use Rattle.std.specs.Ordering.{nat_cmp}
 use Rattle.std.specs.Str.{bytes_eq}
-use Rattle.daq_table.specs.Tables.{Contents, ends_of, value_of}
+use Rattle.daq_table.specs.Tables.{Cell, Contents, ends_of, value_of}
 use Rattle.daq_table.specs.declared.head.ColumnHead.{ColumnHead}
 use Rattle.daq_table.specs.declared.head.Kind.{Kind}
 
@@ -32,19 +32,21 @@ abbrev pub greatest : List ℤ → ℤ
 greatest [] = pos 0
 greatest (z ∷ zs) = fold int_max z zs
 
--- base and top are the least and the greatest of these numbers, and the cells stand for them
-pub record Stores (name : List ℕ) (kind : Kind) (names : List (List ℕ)) (numbers : List ℤ) (head : ColumnHead) (cells : List ℕ) : Type 0 where
+-- base and top are the least and the greatest of these numbers, and the cells stand for them, none of them null
+pub record Stores (name : List ℕ) (kind : Kind) (names : List (List ℕ)) (numbers : List ℤ)
+    (head : ColumnHead) (cells : List Cell) : Type 0 where
   pub name_is : head.name ≡ name
   pub kind_is : head.kind ≡ kind
+  pub plain : head.nullable ≡ false
   pub names_are : head.names ≡ names
   pub base : head.base ≡ least numbers
   pub top : head.top ≡ greatest numbers
-  pub cells_are : map (value_of (ends_of head)) cells ≡ numbers
+  pub cells_are : map (value_of (ends_of head)) cells ≡ map Some numbers
 
 -- the column at that place stores them
 pub record HasColumn (table : Contents) (place : ℕ) (name : List ℕ) (kind : Kind) (names : List (List ℕ)) (numbers : List ℤ) : Type 0 where
   pub head : ColumnHead
-  pub cells : List ℕ
+  pub cells : List Cell
   pub head_is : slice_get table.head.columns place ≡ Some head
   pub cells_are : slice_get table.cells place ≡ Some cells
   pub stores : Stores name kind names numbers head cells

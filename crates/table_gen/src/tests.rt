@@ -20,9 +20,13 @@ fn last_value(table: &Table, place: usize) -> Option<i64> {
     let rows = table.head().rows;
     let columns = table.head().columns.as_slice().len();
     if rows == 0 || place >= columns {
+        return None;
+    }
+    let last = rows as usize - 1;
+    if table.is_null(last, place) {
         None
     } else {
-        Some(table.cell(rows as usize - 1, place))
+        Some(table.cell(last, place))
     }
 }
 

@@ -3,4 +3,4 @@ use Rattle.csv_load.specs.States.{AreFinished}
 use Rattle.csv_load.proofs.building.table_of.Given as goal
 
 abbrev pub invariant-loop-place : goal.invariant-loop-place
-invariant-loop-place l = AreFinished l.schema.columns l.columns l.place l.heads.items (map vec_items l.lists.items)
+invariant-loop-place l = AreFinished l.schema.columns l.columns l.place l.heads.items (map vec_items l.lists.items) (map vec_items l.marks.items)

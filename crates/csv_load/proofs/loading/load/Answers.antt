@@ -1,5 +1,5 @@
-use Rattle.std.proofs.Common.{List, length, sym, subst}
-use Rattle.csv_load.specs.States.{AreComplete, AreFinished, State}
+use Rattle.std.proofs.Common.{List, sym, subst}
+use Rattle.csv_load.specs.States.{AreComplete, AreStored, State}
 use Rattle.csv_load.proofs.LoadFacts.{all_complete, table_is}
 use Rattle.csv_load.proofs.loading.load.Goals as goal
 
@@ -10,5 +10,5 @@ table_of-requires-clause-complete c =
 
 pub returns-clause-table : goal.returns-clause-table
 returns-clause-table c =
-    let finished = subst (λ (states : List State). AreFinished c.args.schema.now.columns states (length states) c.in_ok-table.table.head.columns c.in_ok-table.table.cells) c.deref.ensures.value c.in_ok-table.ensures.columns in
-    table_is c.args.bytes.now c.args.schema.now.columns c.args.limits.now c.in_ok-rows.rows c.in_ok-rows.columns.items c.in_ok-table.table c.in_ok-rows.ensures.ok c.in_ok-table.ensures.rows finished
+    let stored = subst (λ (states : List State). AreStored c.args.schema.now.columns states c.in_ok-table.table.head.columns c.in_ok-table.table.cells) c.deref.ensures.value c.in_ok-table.ensures.columns in
+    table_is c.args.bytes.now c.args.schema.now.columns c.args.limits.now c.in_ok-rows.rows c.in_ok-rows.columns.items c.in_ok-table.table c.in_ok-rows.ensures.ok c.in_ok-table.ensures.rows stored

@@ -1,7 +1,7 @@
-use Rattle.std.proofs.Common.{◌∙◌, ap, subst, refl, w64, to_z, of_z, to_z-of_z, FitsSigned}
+use Rattle.std.proofs.Common.{◌∙◌, Some, map, ap, subst, refl, w64, to_z, of_z, to_z-of_z, FitsSigned}
 use Rattle.daq_table.specs.ColumnFacts.{IsName}
 use Rattle.table_gen.specs.Columns.{greatest, least}
-use Rattle.table_gen.proofs.Ends.{cells_of, ends_ordered}
+use Rattle.table_gen.proofs.Ends.{cells_of, ends_ordered, plain_values}
 use Rattle.table_gen.proofs.column.column_of.Goals as goal
 
 pub invariant_of-head : goal.invariant_of-head
@@ -28,8 +28,11 @@ returns c =
     record {
       name_is = refl;
       kind_is = refl;
+      plain = refl;
       names_are = refl;
       base = base;
       top = top;
-      cells_are = cells_of c.args.numbers.items c.deref-2.result.now (to_z w64 (of_z w64 c.least_number-base.result)) c.in_ok-cells.cells.items base c.deref-2.ensures.value c.in_ok-cells.ensures;
+      cells_are =
+          plain_values (to_z w64 (of_z w64 c.least_number-base.result)) _ c.in_ok-cells.cells.items (λ u. refl)
+          ∙ ap (map Some) (cells_of c.args.numbers.items c.deref-2.result.now (to_z w64 (of_z w64 c.least_number-base.result)) c.in_ok-cells.cells.items base c.deref-2.ensures.value c.in_ok-cells.ensures);
     }

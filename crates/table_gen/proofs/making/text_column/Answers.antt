@@ -1,6 +1,7 @@
 use Rattle.std.proofs.Common.{◌≡◌, ◌∙◌, ℕ, ℤ, pos, [], ◌∷◌, List, Vec, Global, IfOk, map, ap, subst, sym}
 use Rattle.std.proofs.lemmas.Simd.{map-map}
 use Rattle.daq_table.proofs.Ascending.{ascending_when_sorted}
+use Rattle.daq_table.specs.Tables.{column_from}
 use Rattle.daq_table.specs.declared.head.ColumnHead.{ColumnHead}
 use Rattle.daq_table.specs.declared.head.Kind.TheVariants.{Text}
 use Rattle.table_gen.specs.Columns.{Stores, distinct, rank_of, ranks_of}
@@ -28,6 +29,6 @@ returns c =
     c.in_ok-ranks.ensures ∙ ap (λ (ns : List (List ℕ)). map (λ (code : ℕ). pos (rank_of ns (text_of code))) codes) (c.as_slice.ensures ∙ same)
     ∙ sym (map-map (λ (t : List ℕ). pos (rank_of (distinct (map text_of codes)) t)) text_of codes) in
     let name = c.new-name.ensures ∙ c.in_ok-from_slice.ensures.items in
-    subst (λ (ns : List (List ℕ)). IfOk c.column_of.result (λ (column : ColumnHead × Vec ℕ Global). Stores (c.args.letter ∷ []) Text ns (ranks_of (map text_of codes)) column.0 column.1.items)) same
-    (subst (λ (zs : List ℤ). IfOk c.column_of.result (λ (column : ColumnHead × Vec ℕ Global). Stores (c.args.letter ∷ []) Text c.in_ok-names.names zs column.0 column.1.items)) ranks
-    (subst (λ (n : List ℕ). IfOk c.column_of.result (λ (column : ColumnHead × Vec ℕ Global). Stores n Text c.in_ok-names.names c.in_ok-ranks.ranks.items column.0 column.1.items)) name c.column_of.ensures))
+    subst (λ (ns : List (List ℕ)). IfOk c.column_of.result (λ (column : ColumnHead × Vec ℕ Global). Stores (c.args.letter ∷ []) Text ns (ranks_of (map text_of codes)) column.0 (column_from column.1.items []))) same
+    (subst (λ (zs : List ℤ). IfOk c.column_of.result (λ (column : ColumnHead × Vec ℕ Global). Stores (c.args.letter ∷ []) Text c.in_ok-names.names zs column.0 (column_from column.1.items []))) ranks
+    (subst (λ (n : List ℕ). IfOk c.column_of.result (λ (column : ColumnHead × Vec ℕ Global). Stores n Text c.in_ok-names.names c.in_ok-ranks.ranks.items column.0 (column_from column.1.items []))) name c.column_of.ensures))

@@ -1,34 +1,13 @@
-use Rattle.std.proofs.Common.{◌≡◌, ◌∙◌, ap, subst, refl, w64, to_z, of_z, to_z-of_z, FitsSigned}
-use Rattle.daq_table.specs.ColumnFacts.{IsName}
-use Rattle.csv_load.specs.Columns.{greatest, least}
-use Rattle.csv_load.specs.States.{State, numbers_in}
-use Rattle.csv_load.proofs.EndFacts.{cells_of, column_is}
+use Rattle.std.proofs.Common.{◌∙◌, Bool, List, ap, subst, sym, if◌then◌else◌}
+use Rattle.csv_load.specs.States.{IsFinished, IsWhole, State, filled}
+use Rattle.csv_load.proofs.NullFacts.{finished}
 use Rattle.csv_load.proofs.column.Column.finish.Goals as goal
-
-pub invariant_of-head : goal.invariant_of-head
-invariant_of-head c =
-    let low : FitsSigned w64 c.least_number-base.result = record { sfits = c.least_number-base.type_inv } in
-    let high : FitsSigned w64 c.greatest_number.result = record { sfits = c.greatest_number.type_inv } in
-    let base = c.least_number-base.ensures ∙ ap least (c.deref.ensures.value ∙ c.in_ok-numbers.ensures) in
-    let top = c.greatest_number.ensures ∙ ap greatest (c.deref-3.ensures.value ∙ c.in_ok-numbers.ensures) in
-    let named : IsName c.args.name = subst IsName c.name.view_is c.name.invariant in
-    let kind : c.self.inside.kind ≡ c.args.self.now.kind = ap (λ (s : State). s.kind) c.self.view_is in
-    let names = c.in_ok-names.ensures.same ∙ ap (λ (s : State). s.names) c.self.view_is in
-    record { is_column = column_is c.args.self.now c.args.name c.self.inside.kind c.in_ok-names.names _ _ named c.in_ok-names.ensures.sorted names kind (to_z-of_z low ∙ base) (to_z-of_z high ∙ top) c.requires }
 
 pub returns : goal.returns
 returns c =
-    let low : FitsSigned w64 c.least_number-base.result = record { sfits = c.least_number-base.type_inv } in
-    let high : FitsSigned w64 c.greatest_number.result = record { sfits = c.greatest_number.type_inv } in
-    let base = c.least_number-base.ensures ∙ ap least (c.deref.ensures.value ∙ c.in_ok-numbers.ensures) in
-    let top = c.greatest_number.ensures ∙ ap greatest (c.deref-3.ensures.value ∙ c.in_ok-numbers.ensures) in
-    let kind : c.self.inside.kind ≡ c.args.self.now.kind = ap (λ (s : State). s.kind) c.self.view_is in
-    let names = c.in_ok-names.ensures.same ∙ ap (λ (s : State). s.names) c.self.view_is in
-    record {
-      name_is = refl;
-      kind = kind;
-      names = names;
-      base = to_z-of_z low ∙ base;
-      top = to_z-of_z high ∙ top;
-      cells_are = cells_of (numbers_in c.args.self.now) c.deref-2.result.now (to_z w64 (of_z w64 c.least_number-base.result)) c.in_ok-cells.cells.items (to_z-of_z low ∙ base) (c.deref-2.ensures.value ∙ c.in_ok-numbers.ensures) c.in_ok-cells.ensures;
-    }
+    let s : State = record { nullable = c.self.inside.nullable; kept = c.self.inside.values; nulls = c.self.inside.nulls.items } in
+    let whole : IsWhole s = subst IsWhole (sym c.self.view_is) c.requires in
+    let cells = c.in_ok-cells.ensures ∙ ap (λ (ns : List Bool). if s.nullable then filled ns c.in_ok-head.numbers.items else c.in_ok-head.numbers.items) c.deref.ensures.value in
+    let nulls = c.in_ok-nulls.ensures.items ∙ c.deref-2.ensures.value in
+    subst (λ (t : State). IsFinished t c.args.name c.in_ok-head.head c.in_ok-cells.cells.items c.in_ok-nulls.nulls.items) c.self.view_is
+    (finished s c.args.name c.in_ok-head.head c.in_ok-head.numbers.items c.in_ok-cells.cells.items c.in_ok-nulls.nulls.items whole c.in_ok-head.ensures cells nulls)

@@ -4,7 +4,7 @@ use Rattle.csv.proofs.ReadFacts.{on-ok}
 use Rattle.csv.specs.Records.{fields_of}
 use Rattle.csv_load.specs.Columns.{IsShortText}
 use Rattle.csv_load.proofs.StateFacts.{names_viewed, text_is_value, text_taken}
-use Rattle.csv_load.proofs.column.Column.take_text.Goals as goal
+use Rattle.csv_load.proofs.values.Values.take_text.Goals as goal
 
 pub returns-then-len-limit-clause-err : goal.returns-then-len-limit-clause-err
 returns-then-len-limit-clause-err c =

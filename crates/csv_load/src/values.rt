@@ -1,0 +1,193 @@
+//! The values of a column while its CSV is read: its cells that are not null.
+
+ghost use Rattle.std.specs.Prelude.{◌≡◌, ◌↔◌, ◌≢◌, ◌≤◌, length, IfOk, OnOk, IfErr, IsTrue, [], true, false};
+ghost use Rattle.std.specs.Cmp.Lexicographic.{slice_cmp};
+ghost use Rattle.std.specs.List.Sorted.{IsStrictlySortedBy};
+ghost use Rattle.std.specs.Option.{SomeIff};
+ghost use Rattle.std.specs.Ordering.{nat_cmp};
+ghost use Rattle.daq_table.specs.CellTexts.{IsCellText, cell_number};
+ghost use Rattle.daq_table.specs.declared.head.Kind.TheVariants.{Text};
+ghost use Rattle.csv_load.specs.Columns.{IsShortText, is_text};
+ghost use Rattle.csv_load.specs.States.{HasValues, IsComplete, RefusesValue, TakesValue, kept_of, kept_with, numbers_in};
+
+use crate::extremes::{distances, greatest_number, least_number};
+use crate::fault::TableFault;
+use crate::place::Place;
+use crate::ranks::{ranks, sorted_names};
+use csv::ByteRecord;
+use daq_table::{ColumnHead, Kind, Name, Text, cell_value};
+use std::alloc::{AllocError, Global};
+use std::collections::BTreeSet;
+use std::marker::Model;
+use std::str::from_utf8;
+
+/// The values that were read of a column. Texts wait for their ranks until the whole dictionary is known.
+#[derive(Drop)]
+pub(crate) struct Values {
+    kind: Kind,
+    numbers: Vec<i64>,
+    texts: ByteRecord,
+    names: BTreeSet<Vec<u8>>,
+}
+
+impl Model for Values {
+    ghost use Rattle.std.specs.Prelude.{◌≡◌, [], map, vec_items};
+    ghost use Rattle.csv.specs.Records.{fields_of, partial_of};
+    ghost use Rattle.csv_load.specs.States.{Kept};
+
+    ghost Value = { Kept };
+
+    ghost view = { λ c. record {
+      kind = c.kind;
+      numbers = c.numbers.items;
+      texts = fields_of c.texts;
+      names = map vec_items c.names.keys;
+    } };
+
+    ghost invariant = { λ c. partial_of c.texts ≡ [] };
+}
+
+// The number of a cell that is no text.
+fn plain_value(kind: &Kind, text: &[u8]) -> Option<i64>
+    ensures { SomeIff result (IsCellText kind.now text.now) (cell_number kind.now text.now) }
+{
+    match kind {
+        Kind::Int => cell_value(kind, text),
+        Kind::Dec(_) => cell_value(kind, text),
+        Kind::Date => cell_value(kind, text),
+        Kind::Text => None,
+    }
+}
+
+// Whether the bytes are a text of a dictionary.
+fn is_short_text(bytes: &[u8]) -> bool
+    ensures { IsTrue result ↔ IsShortText bytes.now }
+{
+    bytes.len() <= 255 && from_utf8(bytes).is_ok()
+}
+
+impl Values {
+    /// No values of that kind.
+    pub(crate) fn new(alloc: Global, kind: Kind) -> Values
+        ensures { result ≡ kept_of kind [] }
+    {
+        Values {
+            kind,
+            numbers: Vec::new(alloc),
+            texts: ByteRecord::new(alloc),
+            names: BTreeSet::new(alloc),
+        }
+    }
+
+    /// Takes the next value, if it is one of the kind and brings no name past the limit.
+    pub(crate) fn take(
+        &mut self,
+        alloc: Global,
+        text: &[u8],
+        limit: u64,
+        place: Place,
+    ) -> Result<(), TableFault>
+        ensures ok { OnOk result (TakesValue limit self.old text.now) }
+        ensures taken { OnOk result (self.new ≡ kept_with self.old text.now) }
+        ensures err { IfErr result (RefusesValue limit place.entry place.column self.old text.now) }
+    {
+        match self.kind {
+            Kind::Int => self.take_number(text, place),
+            Kind::Dec(_) => self.take_number(text, place),
+            Kind::Date => self.take_number(text, place),
+            Kind::Text => self.take_text(alloc, text, limit, place),
+        }
+    }
+
+    // The same for a column of numbers.
+    fn take_number(&mut self, text: &[u8], place: Place) -> Result<(), TableFault>
+        requires { is_text self.old.kind ≡ false }
+        ensures ok { OnOk result (IsCellText self.old.kind text.now) }
+        ensures taken { OnOk result (self.new ≡ kept_with self.old text.now) }
+        ensures err { IfErr result (RefusesValue 0 place.entry place.column self.old text.now) }
+    {
+        match plain_value(&self.kind, text) {
+            Some(number) => {
+                self.numbers.push(number)?;
+                Ok(())
+            }
+            None => Err(TableFault::BadCell {
+                entry: place.entry,
+                column: place.column,
+            }),
+        }
+    }
+
+    // The same for a column of texts.
+    fn take_text(
+        &mut self,
+        alloc: Global,
+        text: &[u8],
+        limit: u64,
+        place: Place,
+    ) -> Result<(), TableFault>
+        requires { is_text self.old.kind ≡ true }
+        ensures ok { OnOk result (TakesValue limit self.old text.now) }
+        ensures taken { OnOk result (self.new ≡ kept_with self.old text.now) }
+        ensures err { IfErr result (RefusesValue limit place.entry place.column self.old text.now) }
+    {
+        if !is_short_text(text) {
+            return Err(TableFault::BadCell {
+                entry: place.entry,
+                column: place.column,
+            });
+        }
+        self.names.insert(Vec::from_slice(alloc, text)?)?;
+        if self.names.len() as u64 > limit {
+            return Err(TableFault::TooManyNames {
+                column: place.column,
+            });
+        }
+        if self.texts.push_field(text).is_err() {
+            // Drops what may be left of the field.
+            self.texts.clear();
+            return Err(TableFault::NoMemory);
+        }
+        Ok(())
+    }
+
+    // The numbers of the values, by the sorted names.
+    fn numbers(&self, alloc: Global, names: &[Text]) -> Result<Vec<i64>, AllocError>
+        requires names { names.now ≡ self.now.names }
+        requires sorted { IsStrictlySortedBy (slice_cmp nat_cmp) names.now }
+        requires complete { IsComplete self.now }
+        ensures { IfOk result (λ numbers. numbers.items ≡ numbers_in self.now) }
+    {
+        match self.kind {
+            Kind::Int => Vec::from_slice(alloc, &self.numbers),
+            Kind::Dec(_) => Vec::from_slice(alloc, &self.numbers),
+            Kind::Date => Vec::from_slice(alloc, &self.numbers),
+            Kind::Text => ranks(alloc, &self.texts, names),
+        }
+    }
+
+    /// The column's head under that name, and how far each value's number lies above its base.
+    pub(crate) fn finish(
+        &self,
+        alloc: Global,
+        name: Name,
+        nullable: bool,
+    ) -> Result<(ColumnHead, Vec<u64>), AllocError>
+        requires { IsComplete self.now }
+        ensures { IfOk result (λ column. HasValues self.now nullable name column.0 column.1.items) }
+    {
+        let names = sorted_names(alloc, &self.names)?;
+        let numbers = self.numbers(alloc, names.as_slice())?;
+        let base = least_number(&numbers);
+        let cells = distances(alloc, &numbers, base)?;
+        let head = ColumnHead {
+            name,
+            kind: self.kind,
+            nullable,
+            base,
+            top: greatest_number(&numbers),
+            names,
+        };
+        Ok((head, cells))
+    }
+}
