@@ -3,3 +3,4 @@ pub mod Appending
 pub mod BoundFacts
 pub mod Selecting
 pub mod Small
+pub mod Values

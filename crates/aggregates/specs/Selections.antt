@@ -1,10 +1,11 @@
--- The rows of a mask, and the ends of their ranges in a column.
-use Rattle.std.specs.Prelude.{ℕ, ℤ, Bool, false, ◌&&◌, List, length, map, slice_index_or}
+-- The rows of a mask, and the ends of the numbers that their values in a column may be.
+use Rattle.std.specs.Prelude.{ℕ, ℤ, Bool, false, ◌&&◌, List, length, map, slice_index_or, IsTrue}
 use Rattle.std.specs.List.{filter, range_with_len}
+use Rattle.interval_calc.specs.Intervals.{Interval}
+use Rattle.query_model.specs.Truths.{may_be_number}
 use Rattle.known_column.specs.Columns.{KnownColumn, range_at}
 use Rattle.aggregates.specs.declared.ends.End.{End}
 use Rattle.aggregates.specs.declared.ends.End.TheVariants.{Low, High}
-use Rattle.interval_calc.specs.Intervals.{Interval}
 
 -- the mask has this row
 abbrev pub has_row : List Bool → ℕ → Bool
@@ -14,24 +15,28 @@ has_row mask row = slice_index_or mask row false
 abbrev pub rows_in : List Bool → List ℕ
 rows_in mask = filter (has_row mask) (range_with_len 0 (length mask))
 
+-- each row of the mask may have a value: it is not surely null
+abbrev pub MayHaveValues : KnownColumn → List Bool → Type 0
+MayHaveValues column mask = (row : ℕ) → IsTrue (has_row mask row) → IsTrue (may_be_number (range_at column row).null)
+
 -- one of an interval's ends
 abbrev pub end_of : End → Interval → ℤ
 end_of Low i = i.low
 end_of High i = i.high
 
--- an end of a row's range
+-- an end of the numbers that a row's value may be
 abbrev pub end_at : End → KnownColumn → ℕ → ℤ
-end_at end column row = end_of end (range_at column row)
+end_at end column row = end_of end (range_at column row).numbers
 
 -- that end at each of the mask's rows
 abbrev pub ends_in : End → KnownColumn → List Bool → List ℤ
 ends_in end column mask = map (end_at end column) (rows_in mask)
 
 abbrev pub lows_in : KnownColumn → List Bool → List ℤ
-lows_in column mask = map (λ row. (range_at column row).low) (rows_in mask)
+lows_in column mask = map (λ row. (range_at column row).numbers.low) (rows_in mask)
 
 abbrev pub highs_in : KnownColumn → List Bool → List ℤ
-highs_in column mask = map (λ row. (range_at column row).high) (rows_in mask)
+highs_in column mask = map (λ row. (range_at column row).numbers.high) (rows_in mask)
 
 -- the mask with those of its rows that meet a test
 abbrev pub those_of : List Bool → (ℕ → Bool) → List Bool

@@ -1,24 +1,24 @@
-//! Sums, extremes and signs of the ends of the ranges of some rows of a column.
+//! Sums, extremes and signs of the ends between which the numbers of some rows of a column lie. No row of a mask is surely null.
 
 ghost use Rattle.std.specs.Prelude.{◌≡◌, ◌<◌, ◌↔◌, [], pos, int_lt, length, FitsSigned, IsNone};
 ghost use Rattle.std.specs.Int.{w64};
 ghost use Rattle.query_model.specs.declared.query.ItemKind.TheVariants.{Min, Max};
 ghost use Rattle.query_model.specs.Answers.{answer, total};
 ghost use Rattle.known_column.specs.Columns.{range_at, rows_of_column};
-ghost use Rattle.aggregates.specs.Selections.{end_at, ends_in, highs_in, lows_in, rows_in, those_of};
+ghost use Rattle.aggregates.specs.Selections.{end_at, ends_in, highs_in, lows_in, rows_in, those_of, MayHaveValues};
 
 use crate::extremes::{greater, lesser};
 use known_column::Known;
 use plane_kernels::Mask;
 
-// One of a range's ends.
+// One of the ends between which a row's number lies.
 #[derive(Clone, Copy)]
 pub(crate) enum End {
     Low,
     High,
 }
 
-// An end of a row's range, which is a number of 64 bits.
+// That end at a row, which is a number of 64 bits.
 fn end_at(end: End, known: &Known, row: usize) -> i128
     requires { row < rows_of_column known.now }
     ensures end { result ≡ end_at end known.now row }
@@ -77,7 +77,8 @@ fn greatest(end: End, known: &Known, mask: &Mask) -> Option<i128>
 
 /// The low ends at the mask's rows, added up.
 pub fn sum_lows(known: &Known, mask: &Mask) -> i128
-    requires { length mask.now ≡ rows_of_column known.now }
+    requires rows { length mask.now ≡ rows_of_column known.now }
+    requires values { MayHaveValues known.now mask.now }
     ensures { result ≡ total (lows_in known.now mask.now) }
 {
     sum(End::Low, known, mask)
@@ -85,7 +86,8 @@ pub fn sum_lows(known: &Known, mask: &Mask) -> i128
 
 /// The high ends at the mask's rows, added up.
 pub fn sum_highs(known: &Known, mask: &Mask) -> i128
-    requires { length mask.now ≡ rows_of_column known.now }
+    requires rows { length mask.now ≡ rows_of_column known.now }
+    requires values { MayHaveValues known.now mask.now }
     ensures { result ≡ total (highs_in known.now mask.now) }
 {
     sum(End::High, known, mask)
@@ -93,7 +95,8 @@ pub fn sum_highs(known: &Known, mask: &Mask) -> i128
 
 /// The least low end at the mask's rows, or none where it has no row.
 pub fn least_low(known: &Known, mask: &Mask) -> Option<i128>
-    requires { length mask.now ≡ rows_of_column known.now }
+    requires rows { length mask.now ≡ rows_of_column known.now }
+    requires values { MayHaveValues known.now mask.now }
     ensures least { result ≡ answer Min (lows_in known.now mask.now) }
     ensures none { IsNone result ↔ (rows_in mask.now ≡ []) }
 {
@@ -102,7 +105,8 @@ pub fn least_low(known: &Known, mask: &Mask) -> Option<i128>
 
 /// The greatest low end at the mask's rows, or none where it has no row.
 pub fn greatest_low(known: &Known, mask: &Mask) -> Option<i128>
-    requires { length mask.now ≡ rows_of_column known.now }
+    requires rows { length mask.now ≡ rows_of_column known.now }
+    requires values { MayHaveValues known.now mask.now }
     ensures greatest { result ≡ answer Max (lows_in known.now mask.now) }
     ensures none { IsNone result ↔ (rows_in mask.now ≡ []) }
 {
@@ -111,7 +115,8 @@ pub fn greatest_low(known: &Known, mask: &Mask) -> Option<i128>
 
 /// The least high end at the mask's rows, or none where it has no row.
 pub fn least_high(known: &Known, mask: &Mask) -> Option<i128>
-    requires { length mask.now ≡ rows_of_column known.now }
+    requires rows { length mask.now ≡ rows_of_column known.now }
+    requires values { MayHaveValues known.now mask.now }
     ensures least { result ≡ answer Min (highs_in known.now mask.now) }
     ensures none { IsNone result ↔ (rows_in mask.now ≡ []) }
 {
@@ -120,7 +125,8 @@ pub fn least_high(known: &Known, mask: &Mask) -> Option<i128>
 
 /// The greatest high end at the mask's rows, or none where it has no row.
 pub fn greatest_high(known: &Known, mask: &Mask) -> Option<i128>
-    requires { length mask.now ≡ rows_of_column known.now }
+    requires rows { length mask.now ≡ rows_of_column known.now }
+    requires values { MayHaveValues known.now mask.now }
     ensures greatest { result ≡ answer Max (highs_in known.now mask.now) }
     ensures none { IsNone result ↔ (rows_in mask.now ≡ []) }
 {
@@ -130,8 +136,9 @@ pub fn greatest_high(known: &Known, mask: &Mask) -> Option<i128>
 /// Selects the rows of a mask whose low end is below 0.
 pub fn negative_lows(known: &Known, within: &Mask, out: &mut Mask)
     requires within { length within.now ≡ rows_of_column known.now }
+    requires values { MayHaveValues known.now within.now }
     requires out { length out.old ≡ rows_of_column known.now }
-    ensures { out.new ≡ those_of within.now (λ row. int_lt (range_at known.now row).low (pos 0)) }
+    ensures { out.new ≡ those_of within.now (λ row. int_lt (range_at known.now row).numbers.low (pos 0)) }
 {
     for row in 0..within.rows() {
         out.set(row, within.get(row) & (end_at(End::Low, known, row) < 0));
@@ -141,8 +148,9 @@ pub fn negative_lows(known: &Known, within: &Mask, out: &mut Mask)
 /// Selects the rows of a mask whose high end is above 0.
 pub fn positive_highs(known: &Known, within: &Mask, out: &mut Mask)
     requires within { length within.now ≡ rows_of_column known.now }
+    requires values { MayHaveValues known.now within.now }
     requires out { length out.old ≡ rows_of_column known.now }
-    ensures { out.new ≡ those_of within.now (λ row. int_lt (pos 0) (range_at known.now row).high) }
+    ensures { out.new ≡ those_of within.now (λ row. int_lt (pos 0) (range_at known.now row).numbers.high) }
 {
     for row in 0..within.rows() {
         out.set(row, within.get(row) & (end_at(End::High, known, row) > 0));

@@ -2,12 +2,14 @@
 ghost use Rattle.std.specs.Prelude.{◌≡◌, ◌≢◌, ◌≤◌, ◌<◌, ◌≤ℤ◌, length, FitsSigned, IfOk};
 ghost use Rattle.std.specs.Int.{w16};
 ghost use Rattle.query_model.specs.declared.query.ItemKind.TheVariants.{Avg};
+ghost use Rattle.known_column.specs.Columns.{rows_of_column};
+ghost use Rattle.aggregates.specs.Selections.{MayHaveValues};
 
 use super::*;
 use daq_table::{ColumnHead, Dictionary, Kind, Name};
 use interval_calc::{Fraction, Interval};
 use known_column::Known;
-use plane_kernels::{Mask, Plane, transpose};
+use plane_kernels::{Mask, Plane, transpose, validity};
 use query_model::{AverageBound, Bound, ItemKind, Nullity};
 use std::alloc::{AllocError, Global};
 use std::test::Fail;
@@ -274,12 +276,14 @@ fn cells_are_apart(rt: HostRuntime) -> Result<(), Fail> {
     Ok(())
 }
 
-// A column of whole numbers of which the first so many planes of these cells are read, where none is refused.
+// A column of whole numbers of which the first so many planes of these cells are read, where none is refused. It is nullable
+// where it is told which of the cells are null.
 fn partly_read(
     alloc: Global,
     base: i64,
     top: i64,
     cells: &[u64],
+    nulls: &[bool],
     planes: u8,
 ) -> Result<Known, AllocError>
     requires ordered { base ≤ℤ top }
@@ -290,72 +294,85 @@ fn partly_read(
     let head = ColumnHead {
         name,
         kind: Kind::Int,
+        nullable: !nulls.is_empty(),
         base,
         top,
         names,
     };
     let mut known = Known::open(alloc, &head, cells.len())?;
     for _ in 0..planes {
-        read_next(alloc, &mut known, cells)?;
+        read_next(alloc, &mut known, cells, nulls)?;
     }
     Ok(known)
 }
 
 // Reads the next plane of these cells, where there is one.
-fn read_next(alloc: Global, known: &mut Known, cells: &[u64]) -> Result<(), AllocError> {
+fn read_next(
+    alloc: Global,
+    known: &mut Known,
+    cells: &[u64],
+    nulls: &[bool],
+) -> Result<(), AllocError> {
     let mut plane = Plane::blank(alloc, known.rows())?;
     let unread = known.unread();
-    if unread > 0 && cells.len() == plane.rows() {
-        let width = known.width();
+    let width = known.width();
+    if unread > width && nulls.len() == plane.rows() {
+        validity(nulls, &mut plane);
+        let _ = known.take(&plane);
+    } else if unread > 0 && unread <= width && cells.len() == plane.rows() {
         transpose(cells, width, width - unread, &mut plane);
         let _ = known.take(&plane);
     }
     Ok(())
 }
 
-// The mask of some rows.
-fn mask_of(alloc: Global, rows: usize, chosen: &[usize]) -> Result<Mask, AllocError> {
-    let mut mask = Mask::none(alloc, rows)?;
+// Those of some rows of a column that may have a value.
+fn rows_of(alloc: Global, known: &Known, chosen: &[usize]) -> Result<Mask, AllocError>
+    ensures rows { IfOk result (λ mask. length mask ≡ rows_of_column known.now) }
+    ensures values { IfOk result (MayHaveValues known.now) }
+{
+    let mut mask = Mask::none(alloc, known.rows())?;
     for row in chosen {
         if *row < mask.rows() {
             mask.set(*row, true);
         }
     }
+    mask.and_into(known.possible());
     Ok(mask)
 }
 
-fn sums(known: &Known, mask: &Mask) -> Option<(i128, i128)> {
-    if mask.rows() != known.rows() {
-        return None;
-    }
-    Some((sum_lows(known, mask), sum_highs(known, mask)))
+// The sum of the low ends at some rows, and that of the high ends.
+fn sums(alloc: Global, known: &Known, chosen: &[usize]) -> Result<[i128; 2], AllocError> {
+    let mask = rows_of(alloc, known, chosen)?;
+    Ok([sum_lows(known, &mask), sum_highs(known, &mask)])
 }
 
-// The least and the greatest low end, and the least and the greatest high end.
-fn extremes(known: &Known, mask: &Mask) -> [Option<i128>; 4] {
-    if mask.rows() != known.rows() {
-        return [None; 4];
-    }
-    [
-        least_low(known, mask),
-        greatest_low(known, mask),
-        least_high(known, mask),
-        greatest_high(known, mask),
-    ]
+// The least and the greatest low end at some rows, and the least and the greatest high end.
+fn extremes(
+    alloc: Global,
+    known: &Known,
+    chosen: &[usize],
+) -> Result<[Option<i128>; 4], AllocError> {
+    let mask = rows_of(alloc, known, chosen)?;
+    Ok([
+        least_low(known, &mask),
+        greatest_low(known, &mask),
+        least_high(known, &mask),
+        greatest_high(known, &mask),
+    ])
 }
 
-// The first row and the number of rows whose low is below 0, and of those whose high is above 0.
+// The first and the number of some rows whose low is below 0, and of those whose high is above 0.
 fn signs(
     alloc: Global,
     known: &Known,
-    mask: &Mask,
+    chosen: &[usize],
 ) -> Result<(Option<usize>, u64, Option<usize>, u64), AllocError> {
-    let mut negative = Mask::all(alloc, mask.rows())?;
-    let mut positive = Mask::all(alloc, mask.rows())?;
-    if mask.rows() == known.rows() {
-        negative_lows(known, mask, &mut negative);
-        positive_highs(known, mask, &mut positive);
-    }
+    let mask = rows_of(alloc, known, chosen)?;
+    let mut negative = Mask::all(alloc, known.rows())?;
+    let mut positive = Mask::all(alloc, known.rows())?;
+    negative_lows(known, &mask, &mut negative);
+    positive_highs(known, &mask, &mut positive);
     Ok((
         negative.first_one(),
         negative.count(),
@@ -364,30 +381,54 @@ fn signs(
     ))
 }
 
+// The sums and the extremes of the ends at some of four prices from 3 to 12, of which one plane is read.
+fn ends_of_prices(
+    alloc: Global,
+    chosen: &[usize],
+) -> Result<([i128; 2], [Option<i128>; 4]), AllocError> {
+    let prices = partly_read(alloc, 3, 12, &[2, 6, 9, 0], &[], 1)?;
+    let sums = sums(alloc, &prices, chosen)?;
+    Ok((sums, extremes(alloc, &prices, chosen)?))
+}
+
 #[test]
-fn ends_of_prices(rt: HostRuntime) -> Result<(), Fail> {
-    let alloc = rt.alloc();
-    let prices = partly_read(alloc, 3, 12, &[2, 6, 9, 0], 1)?;
-    let some = mask_of(alloc, 4, &[0, 2])?;
-    assert_eq!(rt; sums(&prices, &some), Some((14, 22)));
+fn ends_are_computed(rt: HostRuntime) -> Result<(), Fail> {
     assert_eq!(rt;
-        extremes(&prices, &some).as_slice(),
-        [Some(3), Some(11), Some(10), Some(12)].as_slice()
+        ends_of_prices(rt.alloc(), &[0, 2])?,
+        ([14, 22], [Some(3), Some(11), Some(10), Some(12)])
     );
-    let none = mask_of(alloc, 4, &[])?;
-    assert_eq!(rt; sums(&prices, &none), Some((0, 0)));
-    assert_eq!(rt; extremes(&prices, &none).as_slice(), [None; 4].as_slice());
+    assert_eq!(rt; ends_of_prices(rt.alloc(), &[])?, ([0, 0], [None; 4]));
     Ok(())
+}
+
+// The signs of the ends at three of four numbers from -5 to 2 after so many planes.
+fn signs_after(
+    alloc: Global,
+    planes: u8,
+) -> Result<(Option<usize>, u64, Option<usize>, u64), AllocError> {
+    let known = partly_read(alloc, -5, 2, &[0, 4, 7, 0], &[], planes)?;
+    signs(alloc, &known, &[0, 1, 2])
 }
 
 #[test]
 fn signs_of_ends(rt: HostRuntime) -> Result<(), Fail> {
-    let alloc = rt.alloc();
-    let cells = [0, 4, 7, 0];
-    let some = mask_of(alloc, 4, &[0, 1, 2])?;
-    let one_plane = partly_read(alloc, -5, 2, &cells, 1)?;
-    assert_eq!(rt; signs(alloc, &one_plane, &some)?, (Some(0), 3, Some(1), 2));
-    let two_planes = partly_read(alloc, -5, 2, &cells, 2)?;
-    assert_eq!(rt; signs(alloc, &two_planes, &some)?, (Some(0), 2, Some(2), 1));
+    assert_eq!(rt; signs_after(rt.alloc(), 1)?, (Some(0), 3, Some(1), 2));
+    assert_eq!(rt; signs_after(rt.alloc(), 2)?, (Some(0), 2, Some(2), 1));
+    Ok(())
+}
+
+// The sums of the numbers 5, null and 9 after so many planes, of which the first tells null.
+fn sums_beside_null(alloc: Global, planes: u8) -> Result<[i128; 2], AllocError> {
+    let known = partly_read(alloc, 5, 9, &[0, 0, 4], &[false, true, false], planes)?;
+    sums(alloc, &known, &[0, 1, 2])
+}
+
+#[test]
+fn null_is_left_out(rt: HostRuntime) -> Result<(), Fail> {
+    assert_eq!(rt; sums_beside_null(rt.alloc(), 0)?, [15, 27]);
+    assert_eq!(rt; sums_beside_null(rt.alloc(), 1)?, [10, 18]);
+    assert_eq!(rt; sums_beside_null(rt.alloc(), 2)?, [14, 17]);
+    assert_eq!(rt; sums_beside_null(rt.alloc(), 3)?, [14, 15]);
+    assert_eq!(rt; sums_beside_null(rt.alloc(), 4)?, [14, 14]);
     Ok(())
 }

@@ -1,3 +1,4 @@
 pub mod TestsByEnds
 pub mod Masks
 pub mod Unread
+pub mod Judged

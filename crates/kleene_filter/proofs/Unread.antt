@@ -6,12 +6,11 @@ use Rattle.std.proofs.lemmas.List.Folds.{list_any-append}
 use Rattle.daq_table.specs.Tables.{ends_at, rows_of}
 use Rattle.query_model.specs.declared.bounds.Truth.{Truth}
 use Rattle.query_model.specs.declared.query.Atom.{Atom}
-use Rattle.query_model.specs.declared.query.Atom.TheVariants.{Compare, CompareColumns, Between, OneOf}
-use Rattle.query_model.specs.declared.query.Pred.{Pred}
-use Rattle.query_model.specs.declared.query.Pred.TheVariants.{All, Atom as AtomOf, And', Or', Not'}
+use Rattle.query_model.specs.declared.query.Atom.TheVariants.{Compare, CompareColumns, Between, OneOf, IsNull}
+use Rattle.query_model.specs.Queries.{Condition, All, Single, Both, Either, Negation}
 use Rattle.query_model.specs.Knowledge.{ColumnKnowledge, known_at, longer_column, range_of, ranges_of, taken}
 use Rattle.query_model.specs.Meaning.{among, between, columns_of_atom, columns_of_pred, compares}
-use Rattle.query_model.specs.Truths.{Ranges, and_of, not_of, or_of, truth_of, truth_of_atom, truth_over, truth_over_both}
+use Rattle.query_model.specs.Truths.{Ranges, and_over, not_over, or_over, truth_among, truths_of, truths_of_atom, truths_of_null, truths_over, truths_over_both}
 use Rattle.known_column.specs.KnownTables.{KnownTable}
 use Rattle.kleene_filter.specs.Filters.{StoodBefore, stands_in, truths_under}
 
@@ -26,24 +25,25 @@ both_false false b h = (refl, h)
 another : (k c : ℕ) → (k == c) ≡ false → k ≢ c
 another k c h = λ e. absurd (false≢true (sym h ∙ eq-eqb k c e))
 
-atom_alike : (atom : Atom) (c : ℕ) (a b : Ranges) → AgreeBeside c a b → stands_in (columns_of_atom atom) c ≡ false → truth_of_atom atom a ≡ truth_of_atom atom b
-atom_alike (Compare k op v) c a b agree h = ap (λ r. truth_over r (λ x. compares op x v)) (agree k (another k c (both_false _ _ h).0))
+atom_alike : (atom : Atom) (c : ℕ) (a b : Ranges) → AgreeBeside c a b → stands_in (columns_of_atom atom) c ≡ false → truths_of_atom atom a ≡ truths_of_atom atom b
+atom_alike (Compare k op v) c a b agree h = ap (λ r. truths_over r (λ x. compares op x v)) (agree k (another k c (both_false _ _ h).0))
 atom_alike (CompareColumns l op r) c a b agree h =
     let apart = both_false _ _ h in
-    ap (λ i. truth_over_both i (a r) (compares op)) (agree l (another l c apart.0)) ∙ ap (λ j. truth_over_both (b l) j (compares op)) (agree r (another r c (both_false _ _ apart.1).0))
-atom_alike (Between k low high) c a b agree h = ap (λ r. truth_over r (between low high)) (agree k (another k c (both_false _ _ h).0))
-atom_alike (OneOf k values) c a b agree h = ap (λ r. truth_over r (among values)) (agree k (another k c (both_false _ _ h).0))
+    ap (λ i. truths_over_both i (a r) (compares op)) (agree l (another l c apart.0)) ∙ ap (λ j. truths_over_both (b l) j (compares op)) (agree r (another r c (both_false _ _ apart.1).0))
+atom_alike (Between k low high) c a b agree h = ap (λ r. truths_over r (between low high)) (agree k (another k c (both_false _ _ h).0))
+atom_alike (OneOf k values) c a b agree h = ap (λ r. truths_over r (among values)) (agree k (another k c (both_false _ _ h).0))
+atom_alike (IsNull k) c a b agree h = ap truths_of_null (agree k (another k c (both_false _ _ h).0))
 
-pred_alike : (pred : Pred) (c : ℕ) (a b : Ranges) → AgreeBeside c a b → stands_in (columns_of_pred pred) c ≡ false → truth_of pred a ≡ truth_of pred b
+pred_alike : (pred : Condition) (c : ℕ) (a b : Ranges) → AgreeBeside c a b → stands_in (columns_of_pred pred) c ≡ false → truths_of pred a ≡ truths_of pred b
 pred_alike All c a b agree h = refl
-pred_alike (AtomOf atom) c a b agree h = atom_alike atom c a b agree h
-pred_alike (And' p x q y) c a b agree h =
+pred_alike (Single atom) c a b agree h = atom_alike atom c a b agree h
+pred_alike (Both x y) c a b agree h =
     let apart = both_false _ _ (sym (list_any-append (λ m. m == c) (columns_of_pred x) (columns_of_pred y)) ∙ h) in
-    ap (λ t. and_of t (truth_of y a)) (pred_alike x c a b agree apart.0) ∙ ap (and_of (truth_of x b)) (pred_alike y c a b agree apart.1)
-pred_alike (Or' p x q y) c a b agree h =
+    ap (λ t. and_over t (truths_of y a)) (pred_alike x c a b agree apart.0) ∙ ap (and_over (truths_of x b)) (pred_alike y c a b agree apart.1)
+pred_alike (Either x y) c a b agree h =
     let apart = both_false _ _ (sym (list_any-append (λ m. m == c) (columns_of_pred x) (columns_of_pred y)) ∙ h) in
-    ap (λ t. or_of t (truth_of y a)) (pred_alike x c a b agree apart.0) ∙ ap (or_of (truth_of x b)) (pred_alike y c a b agree apart.1)
-pred_alike (Not' p x) c a b agree h = ap not_of (pred_alike x c a b agree h)
+    ap (λ t. or_over t (truths_of y a)) (pred_alike x c a b agree apart.0) ∙ ap (or_over (truths_of x b)) (pred_alike y c a b agree apart.1)
+pred_alike (Negation x) c a b agree h = ap not_over (pred_alike x c a b agree h)
 
 -- a plane of one column leaves the ranges of the others
 ranges_alike : (table : KnownTable) (c : ℕ) (bits : List Bool) (row : ℕ) → AgreeBeside c (ranges_of table.frame (taken table.known c bits) row) (ranges_of table.frame table.known row)
@@ -55,9 +55,9 @@ same_map : (f g : ℕ → Truth) (xs : List ℕ) → ((x : ℕ) → f x ≡ g x)
 same_map f g [] h = refl
 same_map f g (x ∷ xs) h = ap (λ t. t ∷ map f xs) (h x) ∙ ap (λ ts. g x ∷ ts) (same_map f g xs h)
 
-pub still_stands : (truths : List Truth) (pred : Pred) (table : KnownTable) (column : ℕ) (bits : List Bool) → StoodBefore truths pred table column bits → stands_in (columns_of_pred pred) column ≡ false → truths ≡ truths_under pred table
+pub still_stands : (truths : List Truth) (pred : Condition) (table : KnownTable) (column : ℕ) (bits : List Bool) → StoodBefore truths pred table column bits → stands_in (columns_of_pred pred) column ≡ false → truths ≡ truths_under pred table
 still_stands truths pred table column bits stood h =
     let before = stood.before in
     stood.stood
-    ∙ sym (same_map _ _ (rows_of before.frame) (λ row. pred_alike pred column (ranges_of before.frame (taken before.known column bits) row) (ranges_of before.frame before.known row) (ranges_alike before column bits row) h))
+    ∙ sym (same_map _ _ (rows_of before.frame) (λ row. ap truth_among (pred_alike pred column (ranges_of before.frame (taken before.known column bits) row) (ranges_of before.frame before.known row) (ranges_alike before column bits row) h)))
     ∙ ap (truths_under pred) (sym stood.taken)

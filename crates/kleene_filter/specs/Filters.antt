@@ -1,12 +1,13 @@
 -- What is known of a condition at each row.
-use Rattle.std.specs.Prelude.{◌≡◌, ℕ, ◌==◌, Bool, true, false, List, [], ◌∷◌, map, IsTrue}
+use Rattle.std.specs.Prelude.{◌≡◌, ℕ, ◌+◌, ◌<◌, ◌==◌, Bool, true, false, List, [], ◌∷◌, length, map, slice_index_or, IsTrue}
 use Rattle.std.specs.List.{list_any}
 use Rattle.daq_table.specs.Tables.{rows_of}
-use Rattle.query_model.specs.declared.query.Pred.{Pred}
+use Rattle.query_model.specs.Queries.{Condition}
 use Rattle.query_model.specs.declared.bounds.Truth.{Truth}
 use Rattle.query_model.specs.declared.bounds.Truth.TheVariants.{False, Unknown, True}
+use Rattle.query_model.specs.declared.bounds.Truths.{Truths}
 use Rattle.query_model.specs.Knowledge.{CanTake, ranges_of}
-use Rattle.query_model.specs.Truths.{truth_of}
+use Rattle.query_model.specs.Truths.{truth_of, truths_of}
 use Rattle.known_column.specs.KnownTables.{KnownTable, read_column}
 
 abbrev pub is_certain : Truth → Bool
@@ -28,15 +29,19 @@ is_unknown True = false
 abbrev pub stands_in : List ℕ → ℕ → Bool
 stands_in numbers n = list_any (λ m. m == n) numbers
 
+-- the truths that the condition may have at a row
+abbrev pub truths_at : Condition → KnownTable → ℕ → Truths
+truths_at pred table row = truths_of pred (ranges_of table.frame table.known row)
+
 -- what is known of the condition at a row, and at each row
-abbrev pub truth_at : Pred → KnownTable → ℕ → Truth
+abbrev pub truth_at : Condition → KnownTable → ℕ → Truth
 truth_at pred table row = truth_of pred (ranges_of table.frame table.known row)
 
-abbrev pub truths_under : Pred → KnownTable → List Truth
+abbrev pub truths_under : Condition → KnownTable → List Truth
 truths_under pred table = map (truth_at pred table) (rows_of table.frame)
 
 -- the columns are those from which these bits were read as the next plane of one, and the truths were those of the condition before
-pub record StoodBefore (truths : List Truth) (pred : Pred) (table : KnownTable) (column : ℕ) (bits : List Bool) : Type 0 where
+pub record StoodBefore (truths : List Truth) (pred : Condition) (table : KnownTable) (column : ℕ) (bits : List Bool) : Type 0 where
   pub before : KnownTable
   pub stood : truths ≡ truths_under pred before
   pub could : CanTake before.frame before.known column bits
@@ -48,3 +53,9 @@ AreNested [] [] = Unit {0}
 AreNested [] (n ∷ ns) = ⊥
 AreNested (m ∷ ms) [] = ⊥
 AreNested (m ∷ ms) (n ∷ ns) = (IsTrue m → IsTrue n) × AreNested ms ns
+
+-- the bits of a block's rows, from the first on, are what a test says of the condition there; those before are as they were
+pub record IsJudged (test : Truth → Bool) (pred : Condition) (block : KnownTable) (first : ℕ) (old new : List Bool) : Type 0 where
+  pub rows : length new ≡ length old
+  pub before : (k : ℕ) → k < first → slice_index_or new k false ≡ slice_index_or old k false
+  pub here : (r : ℕ) → r < block.frame.rows → slice_index_or new (first + r) false ≡ test (truth_at pred block r)

@@ -3,50 +3,65 @@
 ghost use Rattle.std.specs.Prelude.{◌≡◌, ◌<◌, length};
 ghost use Rattle.query_model.specs.Knowledge.{ranges_of};
 ghost use Rattle.query_model.specs.Meaning.{AtomReadsBelow, PredReadsBelow};
-ghost use Rattle.query_model.specs.Truths.{truth_of_atom};
-ghost use Rattle.kleene_filter.specs.Filters.{truth_at};
+ghost use Rattle.query_model.specs.Queries.{condition_of};
+ghost use Rattle.query_model.specs.Truths.{truths_of_atom};
+ghost use Rattle.kleene_filter.specs.Filters.{truths_at};
 
-use crate::ranges::{compared, is_one_of, lies_between};
-use crate::truths::{and, not, or};
-use interval_calc::exactly;
-use known_column::KnownColumns;
-use query_model::{Atom, Pred, Truth};
+use crate::ranges::{compared, compared_with, is_one_of, lies_between};
+use crate::truths::{and, not, or, test_of_null, test_of_one, test_of_two};
+use known_column::KnownRows;
+use query_model::{Atom, Pred, Truths};
 
-// What is known of a condition on one column or on two.
-fn atom_at(atom: &Atom, row: usize, columns: &KnownColumns) -> Truth
-    requires columns { AtomReadsBelow (length columns.now.frame.columns) atom.now }
-    requires row { row < columns.now.frame.rows }
-    ensures { result ≡ truth_of_atom atom.now (ranges_of columns.now.frame columns.now.known row) }
+// The truths of a condition on one column or on two.
+fn atom_at<R: KnownRows>(atom: &Atom, row: usize, rows: &R) -> Truths
+    requires columns { AtomReadsBelow (length (R.table rows.now).frame.columns) atom.now }
+    requires row { row < (R.table rows.now).frame.rows }
+    ensures { result ≡ truths_of_atom atom.now (ranges_of (R.table rows.now).frame (R.table rows.now).known row) }
 {
     match atom {
         Atom::Compare { column, op, value } => {
-            compared(*op, columns.range(*column as usize, row), exactly(*value))
+            let range = rows.range(*column as usize, row);
+            let on_numbers = compared_with(*op, range, *value);
+            test_of_one(rows.missing(*column as usize, row), on_numbers)
         }
-        Atom::CompareColumns { left, op, right } => compared(
-            *op,
-            columns.range(*left as usize, row),
-            columns.range(*right as usize, row),
-        ),
+        Atom::CompareColumns { left, op, right } => {
+            let first = rows.range(*left as usize, row);
+            let second = rows.range(*right as usize, row);
+            test_of_two(
+                rows.missing(*left as usize, row),
+                rows.missing(*right as usize, row),
+                compared(*op, first, second),
+            )
+        }
         Atom::Between { column, low, high } => {
-            lies_between(columns.range(*column as usize, row), *low, *high)
+            let range = rows.range(*column as usize, row);
+            let on_numbers = lies_between(range, *low, *high);
+            test_of_one(rows.missing(*column as usize, row), on_numbers)
         }
         Atom::OneOf { column, values } => {
-            is_one_of(columns.range(*column as usize, row), values.as_slice())
+            let range = rows.range(*column as usize, row);
+            let on_numbers = is_one_of(range, values.as_slice());
+            test_of_one(rows.missing(*column as usize, row), on_numbers)
         }
+        Atom::IsNull { column } => test_of_null(rows.missing(*column as usize, row)),
     }
 }
 
-// What is known of the condition at a row.
-pub(crate) fn pred_at(pred: &Pred, row: usize, columns: &KnownColumns) -> Truth
-    requires columns { PredReadsBelow (length columns.now.frame.columns) pred.now }
-    requires row { row < columns.now.frame.rows }
-    ensures { result ≡ truth_at pred.now columns.now row }
+// The truths of the condition at a row.
+pub(crate) fn pred_at<R: KnownRows>(pred: &Pred, row: usize, rows: &R) -> Truths
+    requires columns { PredReadsBelow (length (R.table rows.now).frame.columns) (condition_of pred.now) }
+    requires row { row < (R.table rows.now).frame.rows }
+    ensures { result ≡ truths_at (condition_of pred.now) (R.table rows.now) row }
 {
     match pred {
-        Pred::All => Truth::True,
-        Pred::Atom(atom) => atom_at(atom, row, columns),
-        Pred::And(a, b) => and(pred_at(a, row, columns), pred_at(b, row, columns)),
-        Pred::Or(a, b) => or(pred_at(a, row, columns), pred_at(b, row, columns)),
-        Pred::Not(a) => not(pred_at(a, row, columns)),
+        Pred::All => Truths {
+            may_hold: true,
+            may_fail: false,
+            may_be_null: false,
+        },
+        Pred::Atom(atom) => atom_at(atom, row, rows),
+        Pred::And(a, b) => and(pred_at(a, row, rows), pred_at(b, row, rows)),
+        Pred::Or(a, b) => or(pred_at(a, row, rows), pred_at(b, row, rows)),
+        Pred::Not(a) => not(pred_at(a, row, rows)),
     }
 }

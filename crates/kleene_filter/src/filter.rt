@@ -1,13 +1,14 @@
 //! The rows of a condition.
 
-ghost use Rattle.std.specs.Prelude.{◌≡◌, length, map, count_by, IfOk};
+ghost use Rattle.std.specs.Prelude.{◌≡◌, ◌≤◌, ◌+◌, length, map, count_by, IfOk};
 ghost use Rattle.query_model.specs.Meaning.{PredReadsBelow};
-ghost use Rattle.kleene_filter.specs.Filters.{is_certain, is_possible, is_unknown, truths_under, StoodBefore};
+ghost use Rattle.query_model.specs.Queries.{condition_of};
+ghost use Rattle.kleene_filter.specs.Filters.{is_certain, is_possible, is_unknown, truths_under, IsJudged, StoodBefore};
 
 use crate::atoms::pred_at;
 use crate::reads::pred_reads;
-use crate::truths::{holds, may_hold};
-use known_column::KnownColumns;
+use crate::truths::{may_hold, must_hold};
+use known_column::{KnownColumns, RowBlock, blocks_have_their_rows};
 use plane_kernels::{Mask, Plane};
 use query_model::Pred;
 use std::alloc::{AllocError, Global};
@@ -34,44 +35,84 @@ impl Model for Filter {
     ghost invariant = { λ f. AreNested f.must f.may };
 }
 
-// Sets each row's bits by what is known of the condition there.
-fn judge_rows(pred: &Pred, columns: &KnownColumns, must: &mut Mask, may: &mut Mask)
-    requires columns { PredReadsBelow (length columns.now.frame.columns) pred.now }
+// Sets the bits of the rows of a block, from the first on, by what is known of the condition there.
+fn judge_block(pred: &Pred, block: &RowBlock, first: usize, must: &mut Mask, may: &mut Mask)
+    requires columns { PredReadsBelow (length block.now.frame.columns) (condition_of pred.now) }
+    requires few { first ≤ 16777216 }
+    requires must { first + block.now.frame.rows ≤ length must.old }
+    requires may { first + block.now.frame.rows ≤ length may.old }
+    ensures must { IsJudged is_certain (condition_of pred.now) block.now first must.old must.new }
+    ensures may { IsJudged is_possible (condition_of pred.now) block.now first may.old may.new }
+{
+    for row in 0..block.rows() {
+        let truths = pred_at(pred, row, block);
+        must.set(first + row, must_hold(truths));
+        may.set(first + row, may_hold(truths));
+    }
+}
+
+// Sets each row's bits by what is known of the condition there, block by block.
+fn judge_rows(
+    pred: &Pred,
+    columns: &KnownColumns,
+    block: &mut RowBlock,
+    must: &mut Mask,
+    may: &mut Mask,
+)
+    requires columns { PredReadsBelow (length columns.now.frame.columns) (condition_of pred.now) }
+    requires block { block.old.frame.columns ≡ columns.now.frame.columns }
     requires must { length must.old ≡ columns.now.frame.rows }
     requires may { length may.old ≡ columns.now.frame.rows }
-    ensures must { must.new ≡ map is_certain (truths_under pred.now columns.now) }
-    ensures may { may.new ≡ map is_possible (truths_under pred.now columns.now) }
+    ensures block { block.new.frame.columns ≡ columns.now.frame.columns }
+    ensures must { must.new ≡ map is_certain (truths_under (condition_of pred.now) columns.now) }
+    ensures may { may.new ≡ map is_possible (truths_under (condition_of pred.now) columns.now) }
 {
-    for row in 0..columns.rows() {
-        let truth = pred_at(pred, row, columns);
-        must.set(row, holds(truth));
-        may.set(row, may_hold(truth));
+    blocks_have_their_rows();
+    for number in 0..columns.rows().div_ceil(64) {
+        block.read(columns, number);
+        judge_block(pred, block, 64 * number, must, may);
     }
 }
 
 impl Filter {
-    /// The filter of the condition over columns of which planes may be read.
-    pub fn open(alloc: Global, pred: &Pred, columns: &KnownColumns) -> Result<Filter, AllocError>
-        requires { PredReadsBelow (length columns.now.frame.columns) pred.now }
-        ensures { IfOk result (λ filter. filter ≡ truths_under pred.now columns.now) }
+    /// The filter of the condition over columns of which planes may be read. Their rows are read through the block.
+    pub fn open(
+        alloc: Global,
+        pred: &Pred,
+        columns: &KnownColumns,
+        block: &mut RowBlock,
+    ) -> Result<Filter, AllocError>
+        requires columns { PredReadsBelow (length columns.now.frame.columns) (condition_of pred.now) }
+        requires block { block.old.frame.columns ≡ columns.now.frame.columns }
+        ensures block { block.new.frame.columns ≡ columns.now.frame.columns }
+        ensures truths { IfOk result (λ filter. filter ≡ truths_under (condition_of pred.now) columns.now) }
     {
         let mut must = Mask::none(alloc, columns.rows())?;
         let mut may = Mask::none(alloc, columns.rows())?;
-        judge_rows(pred, columns, &mut must, &mut may);
+        judge_rows(pred, columns, block, &mut must, &mut may);
         Ok(Filter { must, may })
     }
 
     /// Follows the columns after a plane of one of them was taken. Before, the filter was that of the condition then. Nothing
     /// is done where the condition does not read that column.
-    pub fn refresh(&mut self, pred: &Pred, columns: &KnownColumns, column: usize, plane: &Plane)
-        requires columns { PredReadsBelow (length columns.now.frame.columns) pred.now }
-        requires stood { StoodBefore self.old pred.now columns.now column plane.now }
-        ensures { self.new ≡ truths_under pred.now columns.now }
+    pub fn refresh(
+        &mut self,
+        pred: &Pred,
+        columns: &KnownColumns,
+        column: usize,
+        plane: &Plane,
+        block: &mut RowBlock,
+    )
+        requires columns { PredReadsBelow (length columns.now.frame.columns) (condition_of pred.now) }
+        requires stood { StoodBefore self.old (condition_of pred.now) columns.now column plane.now }
+        requires block { block.old.frame.columns ≡ columns.now.frame.columns }
+        ensures block { block.new.frame.columns ≡ columns.now.frame.columns }
+        ensures truths { self.new ≡ truths_under (condition_of pred.now) columns.now }
     {
         if !pred_reads(pred, column) {
             return;
         }
-        judge_rows(pred, columns, &mut self.must, &mut self.may);
+        judge_rows(pred, columns, block, &mut self.must, &mut self.may);
     }
 
     /// The rows at which the condition holds for certain.

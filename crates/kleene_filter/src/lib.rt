@@ -11,4 +11,6 @@ pub use filter::Filter;
 pub use reads::pred_reads;
 
 #[cfg(test)]
-mod tests;
+mod filter_tests;
+#[cfg(test)]
+mod truth_tests;

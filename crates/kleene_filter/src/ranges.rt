@@ -8,7 +8,7 @@ ghost use Rattle.query_model.specs.Truths.{truth_over, truth_over_both};
 ghost use Rattle.kleene_filter.specs.ByEnds.{always_between, always_compares, are_one, meet, some_within, sometimes_between, sometimes_compares};
 
 use crate::truths::known_from;
-use interval_calc::Interval;
+use interval_calc::{Interval, exactly};
 use query_model::{Comparison, Truth};
 
 // Whether both are the one same number.
@@ -61,6 +61,13 @@ pub(crate) fn compared(op: Comparison, left: Interval, right: Interval) -> Truth
         holds_always(op, left, right),
         holds_sometimes(op, left, right),
     )
+}
+
+// What is known of a comparison of a number of the range with another.
+pub(crate) fn compared_with(op: Comparison, range: Interval, number: i128) -> Truth
+    ensures { result ≡ truth_over (interval_of range) (λ x. compares op x number) }
+{
+    compared(op, range, exactly(number))
 }
 
 fn is_always_between(range: Interval, low: i128, high: i128) -> bool

@@ -2,6 +2,7 @@
 
 ghost use Rattle.std.specs.Prelude.{◌≡◌};
 ghost use Rattle.query_model.specs.Meaning.{columns_of_atom, columns_of_pred};
+ghost use Rattle.query_model.specs.Queries.{condition_of};
 ghost use Rattle.kleene_filter.specs.Filters.{stands_in};
 
 use query_model::{Atom, Pred};
@@ -17,12 +18,13 @@ fn atom_reads(atom: &Atom, wanted: usize) -> bool
         }
         Atom::Between { column, .. } => *column as usize == wanted,
         Atom::OneOf { column, .. } => *column as usize == wanted,
+        Atom::IsNull { column } => *column as usize == wanted,
     }
 }
 
 /// Whether a condition reads the column.
 pub fn pred_reads(pred: &Pred, wanted: usize) -> bool
-    ensures { result ≡ stands_in (columns_of_pred pred.now) wanted }
+    ensures { result ≡ stands_in (columns_of_pred (condition_of pred.now)) wanted }
 {
     match pred {
         Pred::All => false,

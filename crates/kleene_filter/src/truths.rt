@@ -1,10 +1,10 @@
-// Three-valued truth: Kleene's connectives.
+// Sets of truths: what a test of values may be where some may be null, and the connectives over all choices.
 
-ghost use Rattle.std.specs.Prelude.{◌≡◌};
-ghost use Rattle.query_model.specs.Truths.{and_of, not_of, or_of, truth_from};
+ghost use Rattle.std.specs.Prelude.{◌≡◌, false};
+ghost use Rattle.query_model.specs.Truths.{and_over, may_be_null, may_be_number, not_over, one_null, or_over, truth_among, truth_from, truths_from};
 ghost use Rattle.kleene_filter.specs.Filters.{is_certain, is_possible};
 
-use query_model::Truth;
+use query_model::{Nullity, Truth, Truths};
 
 // The truth of a test that holds for all numbers or not, and for some or not.
 pub(crate) fn known_from(always: bool, sometimes: bool) -> Truth
@@ -19,58 +19,107 @@ pub(crate) fn known_from(always: bool, sometimes: bool) -> Truth
     }
 }
 
-pub(crate) fn not(truth: Truth) -> Truth
-    ensures { result ≡ not_of truth }
+// Whether a value may be null.
+fn may_be_null(null: Nullity) -> bool
+    ensures { result ≡ may_be_null null }
 {
-    match truth {
-        Truth::True => Truth::False,
-        Truth::Unknown => Truth::Unknown,
-        Truth::False => Truth::True,
+    match null {
+        Nullity::Never => false,
+        Nullity::Possibly => true,
+        Nullity::Always => true,
     }
 }
 
-pub(crate) fn and(left: Truth, right: Truth) -> Truth
-    ensures { result ≡ and_of left right }
+// Whether a value may be a number.
+fn may_be_number(null: Nullity) -> bool
+    ensures { result ≡ may_be_number null }
 {
-    match (left, right) {
-        (Truth::False, _) => Truth::False,
-        (Truth::True, right) => right,
-        (Truth::Unknown, Truth::False) => Truth::False,
-        (Truth::Unknown, Truth::Unknown) => Truth::Unknown,
-        (Truth::Unknown, Truth::True) => Truth::Unknown,
+    match null {
+        Nullity::Never => true,
+        Nullity::Possibly => true,
+        Nullity::Always => false,
     }
 }
 
-pub(crate) fn or(left: Truth, right: Truth) -> Truth
-    ensures { result ≡ or_of left right }
+// The truths of a test of a value: null where the value is, else as it is on the numbers.
+pub(crate) fn test_of_one(null: Nullity, on_numbers: Truth) -> Truths
+    ensures { result ≡ truths_from null on_numbers }
 {
-    match (left, right) {
-        (Truth::True, _) => Truth::True,
-        (Truth::False, right) => right,
-        (Truth::Unknown, Truth::True) => Truth::True,
-        (Truth::Unknown, Truth::Unknown) => Truth::Unknown,
-        (Truth::Unknown, Truth::False) => Truth::Unknown,
+    let number = may_be_number(null);
+    Truths {
+        may_hold: number && on_numbers != Truth::False,
+        may_fail: number && on_numbers != Truth::True,
+        may_be_null: may_be_null(null),
     }
 }
 
-// Whether it is True.
-pub(crate) fn holds(truth: Truth) -> bool
-    ensures { result ≡ is_certain truth }
+// The truths of a test of two values: null where one of them is.
+pub(crate) fn test_of_two(left: Nullity, right: Nullity, on_numbers: Truth) -> Truths
+    ensures { result ≡ truths_from (one_null left right) on_numbers }
 {
-    match truth {
-        Truth::True => true,
-        Truth::Unknown => false,
-        Truth::False => false,
+    let numbers = may_be_number(left) && may_be_number(right);
+    Truths {
+        may_hold: numbers && on_numbers != Truth::False,
+        may_fail: numbers && on_numbers != Truth::True,
+        may_be_null: may_be_null(left) || may_be_null(right),
     }
 }
 
-// Whether it is True or Unknown.
-pub(crate) fn may_hold(truth: Truth) -> bool
-    ensures { result ≡ is_possible truth }
+// The truths of whether a value is null, which is never null itself.
+pub(crate) fn test_of_null(null: Nullity) -> Truths
+    ensures { result ≡ record { may_hold = may_be_null null; may_fail = may_be_number null; may_be_null = false } }
 {
-    match truth {
-        Truth::True => true,
-        Truth::Unknown => true,
-        Truth::False => false,
+    Truths {
+        may_hold: may_be_null(null),
+        may_fail: may_be_number(null),
+        may_be_null: false,
     }
+}
+
+pub(crate) fn not(truths: Truths) -> Truths
+    ensures { result ≡ not_over truths }
+{
+    Truths {
+        may_hold: truths.may_fail,
+        may_fail: truths.may_hold,
+        may_be_null: truths.may_be_null,
+    }
+}
+
+pub(crate) fn and(left: Truths, right: Truths) -> Truths
+    ensures { result ≡ and_over left right }
+{
+    Truths {
+        may_hold: left.may_hold && right.may_hold,
+        may_fail: left.may_fail || right.may_fail,
+        may_be_null: (left.may_be_null && right.may_be_null)
+            || (left.may_be_null && right.may_hold)
+            || (left.may_hold && right.may_be_null),
+    }
+}
+
+pub(crate) fn or(left: Truths, right: Truths) -> Truths
+    ensures { result ≡ or_over left right }
+{
+    Truths {
+        may_hold: left.may_hold || right.may_hold,
+        may_fail: left.may_fail && right.may_fail,
+        may_be_null: (left.may_be_null && right.may_be_null)
+            || (left.may_be_null && right.may_fail)
+            || (left.may_fail && right.may_be_null),
+    }
+}
+
+// Whether true is the one truth.
+pub(crate) fn must_hold(truths: Truths) -> bool
+    ensures { result ≡ is_certain (truth_among truths) }
+{
+    truths.may_hold && !truths.may_fail && !truths.may_be_null
+}
+
+// Whether true is one of the truths.
+pub(crate) fn may_hold(truths: Truths) -> bool
+    ensures { result ≡ is_possible (truth_among truths) }
+{
+    truths.may_hold
 }

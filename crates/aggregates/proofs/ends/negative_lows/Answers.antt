@@ -5,4 +5,4 @@ use Rattle.aggregates.proofs.ends.negative_lows.Goals as goal
 
 pub returns : goal.returns
 returns c =
-    all_written c.loop-row.out c.args.within.now (λ row. int_lt (range_at c.args.known.now row).low (pos 0)) c.loop-row.invariant.count (λ k h. c.loop-row.invariant.done k (omega arith))
+    all_written c.loop-row.out c.args.within.now (λ row. int_lt (range_at c.args.known.now row).numbers.low (pos 0)) c.loop-row.invariant.count (λ k h. c.loop-row.invariant.done k (omega arith))

@@ -5,4 +5,4 @@ use Rattle.aggregates.proofs.ends.positive_highs.Goals as goal
 
 pub returns : goal.returns
 returns c =
-    all_written c.loop-row.out c.args.within.now (λ row. int_lt (pos 0) (range_at c.args.known.now row).high) c.loop-row.invariant.count (λ k h. c.loop-row.invariant.done k (omega arith))
+    all_written c.loop-row.out c.args.within.now (λ row. int_lt (pos 0) (range_at c.args.known.now row).numbers.high) c.loop-row.invariant.count (λ k h. c.loop-row.invariant.done k (omega arith))

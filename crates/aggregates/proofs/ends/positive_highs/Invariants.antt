@@ -7,5 +7,5 @@ use Rattle.aggregates.proofs.ends.positive_highs.Given as goal
 abbrev pub invariant-loop-row : goal.invariant-loop-row
 invariant-loop-row l = record {
   count : length l.out ≡ length l.within;
-  done : (k : ℕ) → k < l.row → slice_get l.out k ≡ Some (has_row l.within k && int_lt (pos 0) (range_at l.known k).high);
+  done : (k : ℕ) → k < l.row → slice_get l.out k ≡ Some (has_row l.within k && int_lt (pos 0) (range_at l.known k).numbers.high);
 }
