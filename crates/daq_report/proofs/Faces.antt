@@ -12,8 +12,7 @@ use Rattle.query_model.specs.Validity.{FaceOf, FitsHead, declared_range}
 use Rattle.query_model.specs.declared.bounds.Bound.{Bound}
 use Rattle.query_model.specs.declared.bounds.Nullity.{Nullity}
 use Rattle.query_model.specs.declared.bounds.Nullity.TheVariants.{Never, Possibly, Always}
-use Rattle.query_model.specs.declared.query.Expr.{Expr}
-use Rattle.query_model.specs.declared.query.Expr.TheVariants.{Column, Literal, Add', Sub', Mul'}
+use Rattle.query_model.specs.Queries.{Term, Column, Literal, Add, Sub, Mul}
 use Rattle.query_model.specs.declared.query.Face.{Face}
 use Rattle.query_model.specs.declared.query.Face.TheVariants.{Number, OfColumn}
 use Rattle.query_model.specs.declared.query.Item.{Item}
@@ -67,36 +66,36 @@ column_there head query part c fits lt =
 
 -- ---- faces
 
-few_decimals : (kind : ItemKind) (arg : Expr) (scale : ℕ) → FaceOf kind arg (Number scale) → scale ≤ 18
+few_decimals : (kind : ItemKind) (arg : Term) (scale : ℕ) → FaceOf kind arg (Number scale) → scale ≤ 18
 few_decimals Count arg scale (s, few, e) = subst (λ n. n ≤ 18) (cc) few
 few_decimals Sum arg scale (s, few, e) = subst (λ n. n ≤ 18) (cc) few
 few_decimals Avg arg scale (s, few, e) = subst (λ n. n ≤ 18) (cc) few
 few_decimals Min (Column c) scale e = absurd (cc)
 few_decimals Min (Literal n) scale (s, few, e) = subst (λ n. n ≤ 18) (cc) few
-few_decimals Min (Add' p a q b) scale (s, few, e) = subst (λ n. n ≤ 18) (cc) few
-few_decimals Min (Sub' p a q b) scale (s, few, e) = subst (λ n. n ≤ 18) (cc) few
-few_decimals Min (Mul' p a q b) scale (s, few, e) = subst (λ n. n ≤ 18) (cc) few
+few_decimals Min (Add a b) scale (s, few, e) = subst (λ n. n ≤ 18) (cc) few
+few_decimals Min (Sub a b) scale (s, few, e) = subst (λ n. n ≤ 18) (cc) few
+few_decimals Min (Mul a b) scale (s, few, e) = subst (λ n. n ≤ 18) (cc) few
 few_decimals Max (Column c) scale e = absurd (cc)
 few_decimals Max (Literal n) scale (s, few, e) = subst (λ n. n ≤ 18) (cc) few
-few_decimals Max (Add' p a q b) scale (s, few, e) = subst (λ n. n ≤ 18) (cc) few
-few_decimals Max (Sub' p a q b) scale (s, few, e) = subst (λ n. n ≤ 18) (cc) few
-few_decimals Max (Mul' p a q b) scale (s, few, e) = subst (λ n. n ≤ 18) (cc) few
+few_decimals Max (Add a b) scale (s, few, e) = subst (λ n. n ≤ 18) (cc) few
+few_decimals Max (Sub a b) scale (s, few, e) = subst (λ n. n ≤ 18) (cc) few
+few_decimals Max (Mul a b) scale (s, few, e) = subst (λ n. n ≤ 18) (cc) few
 
 -- a face of a column is that of the argument
-own_column : (n : ℕ) (kind : ItemKind) (arg : Expr) (c : ℕ) → FaceOf kind arg (OfColumn c) → ReadsBelow n arg → c < n
+own_column : (n : ℕ) (kind : ItemKind) (arg : Term) (c : ℕ) → FaceOf kind arg (OfColumn c) → ReadsBelow n arg → c < n
 own_column n Count arg c (s, few, e) h = absurd (cc)
 own_column n Sum arg c (s, few, e) h = absurd (cc)
 own_column n Avg arg c (s, few, e) h = absurd (cc)
 own_column n Min (Column d) c e h = subst (λ k. k < n) (cc) h
 own_column n Min (Literal m) c (s, few, e) h = absurd (cc)
-own_column n Min (Add' p a q b) c (s, few, e) h = absurd (cc)
-own_column n Min (Sub' p a q b) c (s, few, e) h = absurd (cc)
-own_column n Min (Mul' p a q b) c (s, few, e) h = absurd (cc)
+own_column n Min (Add a b) c (s, few, e) h = absurd (cc)
+own_column n Min (Sub a b) c (s, few, e) h = absurd (cc)
+own_column n Min (Mul a b) c (s, few, e) h = absurd (cc)
 own_column n Max (Column d) c e h = subst (λ k. k < n) (cc) h
 own_column n Max (Literal m) c (s, few, e) h = absurd (cc)
-own_column n Max (Add' p a q b) c (s, few, e) h = absurd (cc)
-own_column n Max (Sub' p a q b) c (s, few, e) h = absurd (cc)
-own_column n Max (Mul' p a q b) c (s, few, e) h = absurd (cc)
+own_column n Max (Add a b) c (s, few, e) h = absurd (cc)
+own_column n Max (Sub a b) c (s, few, e) h = absurd (cc)
+own_column n Max (Mul a b) c (s, few, e) h = absurd (cc)
 
 if_shown : (word : Nullity) (P : Type 0) → (word ≢ Always → P) → IfShown word P
 if_shown Never P h = h (λ e. cc)
@@ -110,7 +109,7 @@ open_at frame [] place item h e = absurd (cc)
 open_at frame (i ∷ is) zero item h e = subst (IsOpenItem frame) (cc) h.0
 open_at frame (i ∷ is) (suc place) item h e = open_at frame is place item h.1 e
 
-by_face : (head : Head) (query : TypedQuery) (part : Frame) (kind : ItemKind) (arg : Expr) (face : Face) (bound : Bound) → FitsHead query part head → HeadHasTexts head → FaceOf kind arg face →
+by_face : (head : Head) (query : TypedQuery) (part : Frame) (kind : ItemKind) (arg : Term) (face : Face) (bound : Bound) → FitsHead query part head → HeadHasTexts head → FaceOf kind arg face →
     ReadsBelow (length query.columns) arg → IsShownWithin part face bound → CanShowBound head query face bound
 by_face head query part kind arg (Number scale) bound fits texts face reads shown =
     let few = few_decimals kind arg scale face in
@@ -118,8 +117,8 @@ by_face head query part kind arg (Number scale) bound fits texts face reads show
 by_face head query part kind arg (OfColumn c) bound fits texts face reads shown =
     let at = column_there head query part c fits (own_column (length query.columns) kind arg c face reads) in
     let has = texts at.place at.column at.in_table in
-    let number : (value : ℤ) → Within (declared_range (ends_at part c)) value → IfSome (column_of head query c) (λ column. HasNumber column value) =
-    (λ value h. let w = subst (λ ends. Within (declared_range ends) value) at.ends h in
+    let number : (value : ℤ) → Within (declared_range (ends_at part c)).numbers value → IfSome (column_of head query c) (λ column. HasNumber column value) =
+    (λ value h. let w = subst (λ ends. Within (declared_range ends).numbers value) at.ends h in
     subst (λ o. IfSome o (λ column. HasNumber column value)) (sym at.is) (record { above = w.above; below = w.below; texts = has })) in
     if_shown bound.null (CanShowEnds head query (OfColumn c) bound.lo bound.hi)
     (λ some. record { low_end = (at.there, number bound.lo (shown some).0); high_end = (at.there, number bound.hi (shown some).1) })

@@ -7,7 +7,7 @@ ghost use Rattle.query_model.specs.Validity.{FitsHead};
 ghost use Rattle.daq_report.specs.Blocks.{planes_text, round_line};
 
 use crate::texts::{column_at, written_count};
-use daq_table::{Head, TextBuf, width};
+use daq_table::{Head, TextBuf, planes};
 use round_engine::Engine;
 
 // How many planes of a column are read, and of how many.
@@ -17,7 +17,7 @@ fn planes_read(engine: &Engine, head: &Head, column: usize) -> (u8, u8)
     ensures read { result.0 ≡ (known_at engine.now.known column).read }
     ensures all { result.1 ≡ planes (ends_at engine.now.frame column) }
 {
-    let all = width(column_at(head, engine.query(), column));
+    let all = planes(column_at(head, engine.query(), column));
     let unread = engine.progress().unread[column];
     (all - unread, all)
 }

@@ -5,11 +5,10 @@ ghost use Rattle.daq_table.specs.declared.head.Kind.TheVariants.{Dec};
 ghost use Rattle.daq_table.specs.Tables.{ends_at, frame_of};
 ghost use Rattle.query_model.specs.Validity.{FitsHead};
 ghost use Rattle.query_model.specs.declared.query.Atom.TheVariants.{Compare};
-ghost use Rattle.query_model.specs.declared.query.Expr.TheVariants.{Column, Literal};
+ghost use Rattle.query_model.specs.Queries.{Column, Literal, Single};
 ghost use Rattle.query_model.specs.declared.query.Face.TheVariants.{Number, OfColumn};
 ghost use Rattle.query_model.specs.declared.query.ItemKind.TheVariants.{Avg, Count, Min};
 ghost use Rattle.query_model.specs.declared.query.Comparison.TheVariants.{Ge};
-ghost use Rattle.query_model.specs.declared.query.Pred.TheVariants.{Atom as OfAtom};
 ghost use Rattle.query_model.specs.declared.query.Shape.TheVariants.{Plain};
 ghost use Rattle.daq_table.specs.ValueTexts.{HeadHasTexts};
 
@@ -37,6 +36,7 @@ fn market(alloc: Global) -> Result<Head, AllocError>
     let price = ColumnHead {
         name: Name::new(Vec::from_slice(alloc, b"price")?),
         kind: Kind::Dec(2),
+        nullable: false,
         base: 5,
         top: 20,
         names: Dictionary::new(Vec::new(alloc)),
@@ -46,6 +46,7 @@ fn market(alloc: Global) -> Result<Head, AllocError>
     let fruit = ColumnHead {
         name: Name::new(Vec::from_slice(alloc, b"fruit")?),
         kind: Kind::Text,
+        nullable: false,
         base: 0,
         top: 1,
         names: Dictionary::new(vec![in alloc; quoted, plum]?),
@@ -59,7 +60,7 @@ fn question(alloc: Global) -> Result<TypedQuery, AllocError>
     ensures columns { IfOk result (λ query. query.columns ≡ 0 ∷ 1 ∷ []) }
     ensures items { IfOk result (λ query. query.items ≡ record { kind = Count; arg = Literal (pos 0); face = Number 0 }
         ∷ record { kind = Min; arg = Column 1; face = OfColumn 1 } ∷ record { kind = Avg; arg = Column 0; face = Number 2 } ∷ []) }
-    ensures condition { IfOk result (λ query. query.pred ≡ OfAtom (Compare 0 Ge (pos 10))) }
+    ensures condition { IfOk result (λ query. query.pred ≡ Single (Compare 0 Ge (pos 10))) }
     ensures plain { IfOk result (λ query. query.shape ≡ Plain) }
 {
     let count = Item {

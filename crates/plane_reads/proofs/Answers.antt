@@ -9,7 +9,7 @@ use Rattle.std.specs.declared.result.Result.TheVariants.{Ok, Err}
 use Rattle.daq_table.specs.Tables.{ends_at, frame_of}
 use Rattle.daq_table.specs.declared.table_head.Head.{Head}
 use Rattle.query_model.specs.Validity.{IsValid}
-use Rattle.query_model.specs.declared.query.TypedQuery.{TypedQuery}
+use Rattle.query_model.specs.Queries.{Query}
 use Rattle.plane_reads.specs.declared.fault.ReadsFault.{ReadsFault}
 use Rattle.plane_reads.specs.declared.fault.ReadsFault.TheVariants.{UnknownName, PastEnd, NoMemory}
 use Rattle.plane_reads.specs.Next.{planes_at}
@@ -20,7 +20,7 @@ use Rattle.plane_reads.proofs.Naming.{named_or_not, one_column}
 -- ---- there is one
 
 -- the number is that of the names that are left
-seek : (word : List ℕ) (query : TypedQuery) (head : Head) (left : ℕ) (columns : List ℕ) → AreFirstReads word query head columns → length columns + left ≡ length (names_of word) →
+seek : (word : List ℕ) (query : Query) (head : Head) (left : ℕ) (columns : List ℕ) → AreFirstReads word query head columns → length columns + left ≡ length (names_of word) →
     (answer : Result (List ℕ) ReadsFault) × IsAnswer word query head answer
 seek word query head zero columns first e = (Ok columns, record { first = first; all = omega (arith, e) })
 seek word query head (suc left) columns first e = by (λ c next. seek word query head left (columns ++ c ∷ []) next) (named_or_not query head (name_at word (length columns)))
@@ -65,7 +65,7 @@ more_there list i c h is =
     let few = sum_by-take-le (λ d. cond (d == c) 1 0) list (i + 1) in
     omega (arith, one, few)
 
-module _ (word : List ℕ) (query : TypedQuery) (head : Head) (valid : IsValid head query) where
+module _ (word : List ℕ) (query : Query) (head : Head) (valid : IsValid head query) where
   same_first : (a b : List ℕ) → AreFirstReads word query head a → AreFirstReads word query head b → (n : ℕ) → n ≤ length a → n ≤ length b → take n a ≡ take n b
   same_first a b fa fb zero h k = refl
   same_first a b fa fb (suc n) h k =

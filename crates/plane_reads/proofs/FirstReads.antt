@@ -8,7 +8,7 @@ use Rattle.std.specs.List.{AllByRecursion}
 use Rattle.daq_table.specs.Tables.{Frame, ends_at, frame_of, planes}
 use Rattle.daq_table.specs.declared.table_head.Head.{Head}
 use Rattle.query_model.specs.Projection.{projected_frame}
-use Rattle.query_model.specs.declared.query.TypedQuery.{TypedQuery}
+use Rattle.query_model.specs.Queries.{Query}
 use Rattle.plane_reads.specs.Next.{IsEnded, IsNext}
 use Rattle.plane_reads.specs.Reads.{AreFirstReads, IsNamed, IsPastEnd, IsUnknownName, name_at, names_of}
 
@@ -42,7 +42,7 @@ count_same xs c = count_append (λ d. d == c) xs c ∙ ap (λ b. count_by (λ d.
 count_other : (xs : List ℕ) (c e : ℕ) → c ≢ e → count_by (λ d. d == e) (xs ++ c ∷ []) ≡ count_by (λ d. d == e) xs
 count_other xs c e n = count_append (λ d. d == e) xs c ∙ ap (λ b. count_by (λ d. d == e) xs + cond b 1 0) (is_other c e n) ∙ omega arith
 
-module _ (word : List ℕ) (query : TypedQuery) (head : Head) where
+module _ (word : List ℕ) (query : Query) (head : Head) where
   abbrev part : Frame
   part = projected_frame query (frame_of head)
 

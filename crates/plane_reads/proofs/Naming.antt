@@ -14,7 +14,7 @@ use Rattle.daq_table.specs.HeadFacts.{all_differ}
 use Rattle.daq_table.specs.declared.head.ColumnHead.{ColumnHead}
 use Rattle.daq_table.specs.declared.table_head.Head.{Head}
 use Rattle.query_model.specs.Validity.{IsValid, no_repeats}
-use Rattle.query_model.specs.declared.query.TypedQuery.{TypedQuery}
+use Rattle.query_model.specs.Queries.{Query}
 use Rattle.plane_reads.specs.Reads.{IsNamed}
 
 not_both : (b : Bool) → not b ≡ true → b ≡ true → ⊥
@@ -53,7 +53,7 @@ all_at P (x ∷ xs) (suc c) all h = all_at P xs c all.1 (omega arith)
 abbrev names_in : Head → List (List ℕ)
 names_in head = map (λ column. column.name) head.columns
 
-module _ (query : TypedQuery) (head : Head) (valid : IsValid head query) where
+module _ (query : Query) (head : Head) (valid : IsValid head query) where
   place_in : (c : ℕ) → c < length query.columns → get_or query.columns c 0 < length (names_in head)
   place_in c h = subst (λ n. get_or query.columns c 0 < n) (sym (length-map head.columns (λ (column : ColumnHead). column.name))) (all_at (λ i. i < length head.columns) query.columns c valid.in_range h)
 
@@ -77,7 +77,7 @@ module _ (query : TypedQuery) (head : Head) (valid : IsValid head query) where
       by (inr k) (inr l) = omega (arith, k, l)
 
 -- whether there is one can be decided
-module _ (query : TypedQuery) (head : Head) (name : List ℕ) where
+module _ (query : Query) (head : Head) (name : List ℕ) where
   abbrev name_of : ℕ → List ℕ
   name_of c = get_or (names_in head) (get_or query.columns c 0) []
 

@@ -5,7 +5,7 @@ use Rattle.std.specs.declared.result.Result.{Result}
 use Rattle.std.specs.declared.result.Result.TheVariants.{Err}
 use Rattle.std.specs.Result.{IfErr}
 use Rattle.daq_table.specs.declared.table_head.Head.{Head}
-use Rattle.query_model.specs.declared.query.TypedQuery.{TypedQuery}
+use Rattle.query_model.specs.Queries.{Query}
 use Rattle.plane_reads.specs.declared.fault.ReadsFault.{ReadsFault}
 use Rattle.plane_reads.specs.declared.fault.ReadsFault.TheVariants.{UnknownName, PastEnd, NoMemory}
 use Rattle.plane_reads.specs.Next.{IsNext, IsNextFault}
@@ -23,7 +23,7 @@ turn_of word columns name count e (more, is) = record {
   name_is = is ∙ get_or_default (names_of word) count name [] more ∙ ap (name_at word) (sym e);
 }
 
-pub fault_there : (word : List ℕ) (query : TypedQuery) (head : Head) (columns name : List ℕ) (fault : ReadsFault) → AreFirstReads word query head columns → IsTurn word columns name →
+pub fault_there : (word : List ℕ) (query : Query) (head : Head) (columns name : List ℕ) (fault : ReadsFault) → AreFirstReads word query head columns → IsTurn word columns name →
     IsNextFault query head columns name fault → Refuses word query head fault
 fault_there word query head columns name (UnknownName place) first turn (e, unknown) =
     subst (IsUnknownName word query head) (sym e) (unknown_name word query head columns first turn.more (subst (λ n. (c : ℕ) → ¬ IsNamed query head c n) turn.name_is unknown))
@@ -31,7 +31,7 @@ fault_there word query head columns name (PastEnd place) first turn (e, (c, is))
     subst (IsPastEnd word query head) (sym e) (past_end word query head columns c first turn.more (record { named = subst (IsNamed query head c) turn.name_is is.named; ended = is.ended }))
 fault_there word query head columns name NoMemory first turn is = absurd is
 
-pub next_read : (word : List ℕ) (query : TypedQuery) (head : Head) (columns name : List ℕ) (c : ℕ) → AreFirstReads word query head columns → IsTurn word columns name →
+pub next_read : (word : List ℕ) (query : Query) (head : Head) (columns name : List ℕ) (c : ℕ) → AreFirstReads word query head columns → IsTurn word columns name →
     IsNext query head columns name c → AreFirstReads word query head (columns ++ c ∷ [])
 next_read word query head columns name c first turn next =
     one_more word query head columns c first turn.more (record { named = subst (IsNamed query head c) turn.name_is next.named; left = next.left })

@@ -9,7 +9,7 @@ ghost use Rattle.plane_reads.specs.Next.{IsNext, IsNextFault};
 
 use crate::fault::ReadsFault;
 use crate::names::{column_named, count_of};
-use daq_table::{Head, width};
+use daq_table::{Head, planes};
 use query_model::{Columns, TypedQuery};
 use std::alloc::Global;
 
@@ -20,7 +20,7 @@ fn planes_of(column: u8, query: &TypedQuery, head: &Head) -> usize
     ensures { result ≡ planes (ends_at (projected_frame query.now (frame_of head.now)) column) }
 {
     let place = query.columns.as_slice()[column as usize];
-    width(&head.columns.as_slice()[place]) as usize
+    planes(&head.columns.as_slice()[place]) as usize
 }
 
 // The column of that name, which has a plane left behind those columns.

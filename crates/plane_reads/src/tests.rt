@@ -9,13 +9,14 @@ use query_model::{Items, Pred, Shape, TableColumns, TypedQuery};
 use std::alloc::{AllocError, Global};
 use std::test::Fail;
 
-// A price of four planes, a quantity of two, and a day of none.
-fn market(alloc: Global) -> Result<Head, AllocError>
+// A price of four planes, a quantity of two, and a day of none. Where they are nullable, quantity and day have one more.
+fn market(alloc: Global, nullable: bool) -> Result<Head, AllocError>
     ensures { IfOk result (λ head. length head.columns ≡ 3) }
 {
     let price = ColumnHead {
         name: Name::new(Vec::from_slice(alloc, b"price")?),
         kind: Kind::Int,
+        nullable: false,
         base: 5,
         top: 20,
         names: Dictionary::new(Vec::new(alloc)),
@@ -23,6 +24,7 @@ fn market(alloc: Global) -> Result<Head, AllocError>
     let qty = ColumnHead {
         name: Name::new(Vec::from_slice(alloc, b"qty")?),
         kind: Kind::Int,
+        nullable,
         base: 0,
         top: 2,
         names: Dictionary::new(Vec::new(alloc)),
@@ -30,6 +32,7 @@ fn market(alloc: Global) -> Result<Head, AllocError>
     let day = ColumnHead {
         name: Name::new(Vec::from_slice(alloc, b"day")?),
         kind: Kind::Date,
+        nullable,
         base: 0,
         top: 0,
         names: Dictionary::new(Vec::new(alloc)),
@@ -51,11 +54,19 @@ fn question(alloc: Global, head: &Head) -> Result<TypedQuery, AllocError>
     })
 }
 
-// Each word has that many columns, or that fault.
+// The number of columns that a word names, or its fault.
+fn columns_of(
+    alloc: Global,
+    nullable: bool,
+    word: &str,
+) -> Result<Result<usize, ReadsFault>, AllocError> {
+    let head = market(alloc, nullable)?;
+    let query = question(alloc, &head)?;
+    Ok(check_reads(alloc, word.as_bytes(), &query, &head).map(|columns| columns.as_slice().len()))
+}
+
 #[test]
 fn words_are_read(rt: HostRuntime) -> Result<(), Fail> {
-    let head = market(rt.alloc())?;
-    let query = question(rt.alloc(), &head)?;
     for (word, want) in [
         ("qty", Ok(1)),
         ("qty,qty", Ok(2)),
@@ -66,12 +77,21 @@ fn words_are_read(rt: HostRuntime) -> Result<(), Fail> {
         ("price,day", Err(ReadsFault::UnknownName { place: 0 })),
         ("qty,Qty", Err(ReadsFault::UnknownName { place: 1 })),
     ] {
-        let got = check_reads(rt.alloc(), word.as_bytes(), &query, &head);
-        assert_eq!(rt;
-            got.map(|columns| columns.as_slice().len()),
-            want,
-            "at {word}"
-        );
+        assert_eq!(rt; columns_of(rt.alloc(), false, word)?, want, "at {word}");
+    }
+    Ok(())
+}
+
+// The plane that tells null is one of the column's.
+#[test]
+fn nullable_columns_have_a_plane_more(rt: HostRuntime) -> Result<(), Fail> {
+    for (word, want) in [
+        ("qty,qty,qty", Ok(3)),
+        ("qty,qty,qty,qty", Err(ReadsFault::PastEnd { place: 3 })),
+        ("qty,day", Ok(2)),
+        ("day,qty,day", Err(ReadsFault::PastEnd { place: 2 })),
+    ] {
+        assert_eq!(rt; columns_of(rt.alloc(), true, word)?, want, "at {word}");
     }
     Ok(())
 }

@@ -17,8 +17,8 @@ pub record IsSound (p : Progress) : Type 0 where
   pub unknown : p.unknown < 2 ^ 64
   pub done : p.done < 2 ^ 32
 
--- what a policy looks at: the number of columns, for each of them its unread planes and what it is read for, at how many rows the condition is
--- unknown, and how many planes were read of all columns
+-- what a policy looks at: the number of columns, for each of them its unread planes and what it is read for, at how
+-- many rows the condition is unknown, and how many planes were read of all columns
 pub record Outlook : Type 0 where
   pub columns : ℕ
   pub unread : ℕ → ℕ
@@ -27,7 +27,8 @@ pub record Outlook : Type 0 where
   pub read : ℕ
 
 abbrev pub outlook_of : Progress → Outlook
-outlook_of p = record { columns = min p.columns 16; unread = slice_index p.unread; role = slice_get p.role; unknown = p.unknown; read = p.done }
+outlook_of p =
+    record { columns = min p.columns 16; unread = slice_index p.unread; role = slice_get p.role; unknown = p.unknown; read = p.done }
 
 -- this column has an unread plane
 pub record IsUnread (o : Outlook) (c : ℕ) : Type 0 where

@@ -40,7 +40,8 @@ first_ending false true end = Some Rounds
 first_ending false false true = Some Reads
 first_ending false false false = None
 
--- why the rounds end with the round of this number, if they do: it is narrow, else it is the last that is wanted, else the list is at its end
+-- why the rounds end with the round of this number, if they do: it is narrow, else it is the last that is wanted,
+-- else the list is at its end
 abbrev pub ending_of : Plan → Bool → ℕ → Option Ending
 ending_of plan narrow round = first_ending narrow (is_most plan.most round) (is_list_end plan.policy round)
 

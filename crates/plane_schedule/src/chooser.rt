@@ -31,8 +31,9 @@ impl<F: Fn(&Progress) -> usize> Chooser<F> {
         ensures none { IsNone result ↔ ¬ HasUnread (outlook_of progress.now) }
         ensures unread { IfSome result (λ column. IsUnread (outlook_of progress.now) column) }
         ensures answer { IfSome result (λ column. FnReturnsAt F.Fn self.now.choose progress.now column) }
-        ensures follows { IfSome result (λ column. (policy : Policy) → Follows F.Fn self.now.choose policy → HasChoice policy (outlook_of progress.now)
-            → Chooses policy (outlook_of progress.now) column) }
+        ensures follows { IfSome result (λ column.
+            (policy : Policy) → Follows F.Fn self.now.choose policy → HasChoice policy (outlook_of progress.now) →
+            Chooses policy (outlook_of progress.now) column) }
     {
         if has_unread(progress) {
             Some((self.choose)(progress))

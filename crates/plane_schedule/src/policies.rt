@@ -24,7 +24,8 @@ pub fn in_order(progress: &Progress) -> usize
 // The unread planes of a column of this role, or of any where none is given; 0 where the column is another.
 fn unread_in(role: Option<Role>, progress: &Progress, column: usize) -> u8
     requires { column < 16 }
-    ensures counted { IsOf (outlook_of progress.now) role column → IsUnread (outlook_of progress.now) column → result ≡ slice_index progress.now.unread column }
+    ensures counted { IsOf (outlook_of progress.now) role column → IsUnread (outlook_of progress.now) column →
+        result ≡ slice_index progress.now.unread column }
     ensures only { 0 < result → IsOf (outlook_of progress.now) role column × IsUnread (outlook_of progress.now) column }
 {
     let counts = match role {
@@ -68,7 +69,8 @@ pub fn widest(progress: &Progress) -> usize
 
 // The widest of the columns that the condition reads, while it is unknown at some row.
 fn widest_of_filter(progress: &Progress) -> Option<usize>
-    ensures some { IfSome result (λ column. (0 < progress.now.unknown) × IsWidestOf (HasRole (outlook_of progress.now) Filter) (outlook_of progress.now) column) }
+    ensures some { IfSome result (λ column.
+        (0 < progress.now.unknown) × IsWidestOf (HasRole (outlook_of progress.now) Filter) (outlook_of progress.now) column) }
     ensures none { IfNone result (0 < progress.now.unknown → ¬ HasUnreadOf Filter (outlook_of progress.now)) }
 {
     if progress.unknown == 0 {

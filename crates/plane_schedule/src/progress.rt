@@ -11,8 +11,8 @@ pub enum Role {
     Value,
 }
 
-/// The number of the query's columns, for each of them its unread planes and its role, at how many rows the condition is
-/// unknown, and how many rounds are done.
+/// The number of the query's columns, for each of them its unread planes (at most 65) and its role, at how many rows the
+/// condition is unknown, and how many rounds are done.
 #[derive(Clone, Copy, Debug)]
 pub struct Progress {
     pub columns: u8,

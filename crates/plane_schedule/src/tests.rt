@@ -64,6 +64,18 @@ fn columns_of_no_query_are_left(rt: HostRuntime) {
     assert_eq!(rt; choices(&five_columns(unread, 1)), None);
 }
 
+// A nullable column may have 65 planes, and it has one where all its numbers are the same.
+#[test]
+fn plane_that_tells_null_counts(rt: HostRuntime) {
+    let mut unread = [0; 16];
+    unread[0] = 64;
+    unread[4] = 65;
+    assert_eq!(rt; choices(&five_columns(unread, 1)), Some([4, 0, 4]));
+    unread[0] = 0;
+    unread[4] = 1;
+    assert_eq!(rt; choices(&five_columns(unread, 1)), Some([4, 4, 4]));
+}
+
 // Asks a chooser that follows the policy until nothing is unread, and says how often each column was named.
 fn rounds<F: Fn(&Progress) -> usize>(
     policy: &Policy,

@@ -2,7 +2,7 @@
 use Rattle.std.proofs.Common.{◌≢◌, []}
 use Rattle.daq_table.specs.declared.table_head.Head.{Head}
 use Rattle.daq_table.specs.Tables.{frame_of}
-use Rattle.query_model.specs.declared.query.Item.{Item}
+use Rattle.query_model.specs.Queries.{Aggregate}
 use Rattle.query_model.specs.declared.query.ItemKind.TheVariants.{Avg}
 use Rattle.query_model.specs.Knowledge.{IsKnowledge}
 use Rattle.query_model.specs.Validity.{FitsHead}
@@ -10,7 +10,7 @@ use Rattle.query_model.specs.Laws.{BoundsContainOnTables, BoundsAreExtremesOnTab
 use Rattle.round_engine.specs.Promises.{IsCertainAverage, IsCertainBound}
 use Rattle.round_engine.specs.Stages.{Stage}
 
-pub bound_is_certain : (stage : Stage) (i : Item) (head : Head) →
+pub bound_is_certain : (stage : Stage) (i : Aggregate) (head : Head) →
     BoundsContainOnTables → BoundsAreExtremesOnTables → BoundsBecomeExactOnTables → FittingHeadsHaveParts →
     IsKnowledge stage.frame stage.known → i.kind ≢ Avg → FitsHead stage.query stage.frame head → IsCertainBound stage i (frame_of head)
 bound_is_certain stage i head contain reach settle parts k kind fits =
@@ -21,7 +21,7 @@ bound_is_certain stage i head contain reach settle parts k kind fits =
       exact = λ all some world agrees. settle stage.query i [] (frame_of head) stage.frame stage.known world kind part k all agrees some;
     }
 
-pub average_is_certain : (stage : Stage) (i : Item) (head : Head) →
+pub average_is_certain : (stage : Stage) (i : Aggregate) (head : Head) →
     AverageBoundsContainOnTables → AverageBoundsBecomeExactOnTables → FittingHeadsHaveParts →
     IsKnowledge stage.frame stage.known → FitsHead stage.query stage.frame head → IsCertainAverage stage i (frame_of head)
 average_is_certain stage i head contain settle parts k fits =

@@ -4,10 +4,9 @@ use Rattle.std.specs.List.{list_all}
 use Rattle.std.proofs.lemmas.List.Folds.{list_all_more, list_all_at}
 use Rattle.std.proofs.lemmas.Option.{get_or_from_slice_get, slice_get_cases}
 use Rattle.aggregates.specs.Runnings.{Tallies}
-use Rattle.query_model.specs.declared.query.Item.{Item}
+use Rattle.query_model.specs.Queries.{Aggregate, Query}
 use Rattle.query_model.specs.declared.query.ItemKind.{ItemKind}
 use Rattle.query_model.specs.declared.query.ItemKind.TheVariants.{Count, Sum, Min, Max, Avg}
-use Rattle.query_model.specs.declared.query.TypedQuery.{TypedQuery}
 use Rattle.query_model.specs.Bounds.{AverageBound, Pair, average_under, bound_of, pairs}
 use Rattle.query_model.specs.Laws.{PairsAreFew}
 use Rattle.query_model.specs.Truths.{span_of}
@@ -20,10 +19,10 @@ use Rattle.round_engine.proofs.Ratios.{average_fits}
 use Rattle.round_engine.proofs.Shown.{pairs_within}
 
 -- the kind that is read is that of the item
-pub kind_read : (items read : List Item) (n : ℕ) (d i : Item) (P : ItemKind → Type 0) → read ≡ items → slice_get items n ≡ Some i → P (get_or read n d).kind → P i.kind
+pub kind_read : (items read : List Aggregate) (n : ℕ) (d i : Aggregate) (P : ItemKind → Type 0) → read ≡ items → slice_get items n ≡ Some i → P (get_or read n d).kind → P i.kind
 kind_read items read n d i P same is h = subst (λ w. P w.kind) (ap (λ xs. get_or xs n d) same ∙ get_or_from_slice_get items n i d is) h
 
-pub ratios_fit : (stage : Stage) (n width : ℕ) (i : Item) → PairsAreFew → IsOpenStage stage → slice_get stage.query.items n ≡ Some i → i.kind ≡ Avg → width < 2 ^ 63 →
+pub ratios_fit : (stage : Stage) (n width : ℕ) (i : Aggregate) → PairsAreFew → IsOpenStage stage → slice_get stage.query.items n ≡ Some i → i.kind ≡ Avg → width < 2 ^ 63 →
     FitsNarrow width (average_under stage.query i [] stage.frame stage.known)
 ratios_fit stage n width i few kept is kind narrow =
     let span = span_of i.arg (declared_ranges stage.frame) in
@@ -40,23 +39,23 @@ narrow_plain width Avg ps h = absurd (h refl)
 
 -- ---- the totals of a query at some stage
 
-pub kind_there : (stage : Stage) (query : TypedQuery) (read : List Item) (n : ℕ) (d i : Item) (P : ItemKind → Type 0) → stage.query ≡ query → read ≡ query.items → slice_get stage.query.items n ≡ Some i → P (get_or read n d).kind → P i.kind
-kind_there stage query read n d i P same items is h = kind_read stage.query.items read n d i P (items ∙ ap (λ (q : TypedQuery). q.items) (sym same)) is h
+pub kind_there : (stage : Stage) (query : Query) (read : List Aggregate) (n : ℕ) (d i : Aggregate) (P : ItemKind → Type 0) → stage.query ≡ query → read ≡ query.items → slice_get stage.query.items n ≡ Some i → P (get_or read n d).kind → P i.kind
+kind_there stage query read n d i P same items is h = kind_read stage.query.items read n d i P (items ∙ ap (λ (q : Query). q.items) (sym same)) is h
 
-module _ (query : TypedQuery) (totals : List Tallies) (n : ℕ) (read : List Item) (are : AreTotalsOf query totals) where
+module _ (query : Query) (totals : List Tallies) (n : ℕ) (read : List Aggregate) (are : AreTotalsOf query totals) where
   within_stage : n < length query.items → n < length are.stage.query.items
-  within_stage within = subst (λ (q : TypedQuery). n < length q.items) (sym are.same) within
+  within_stage within = subst (λ (q : Query). n < length q.items) (sym are.same) within
 
-  pub has_total_read : (P : ItemKind → Type 0) (d : Item) → n < length query.items → read ≡ query.items → P (get_or read n d).kind → HasTotal totals n P
+  pub has_total_read : (P : ItemKind → Type 0) (d : Aggregate) → n < length query.items → read ≡ query.items → P (get_or read n d).kind → HasTotal totals n P
   has_total_read P d within items h =
       has_total are.stage totals n are.totals_are (within_stage within) P (if_some (slice_get are.stage.query.items n) _ (λ i is. kind_there are.stage query read n d i P are.same items is h))
 
-pub fits_read : (query : TypedQuery) (totals : List Tallies) (n : ℕ) (read : List Item) (width : ℕ) (d : Item) (bound : AverageBound) → PairsAreFew → (are : AreTotalsOf query totals) → n < length query.items → width < 2 ^ 63 → read ≡ query.items →
+pub fits_read : (query : Query) (totals : List Tallies) (n : ℕ) (read : List Aggregate) (width : ℕ) (d : Aggregate) (bound : AverageBound) → PairsAreFew → (are : AreTotalsOf query totals) → n < length query.items → width < 2 ^ 63 → read ≡ query.items →
     (get_or read n d).kind ≡ Avg →
     ((stage : Stage) → AreTotals stage totals → IfSome (slice_get stage.query.items n) (λ i. bound ≡ average_under stage.query i [] stage.frame stage.known)) → FitsNarrow width bound
 fits_read query totals n read width d bound few are within narrow items avg told =
     let stage = are.stage in
-    let inside : n < length stage.query.items = subst (λ (q : TypedQuery). n < length q.items) (sym are.same) within in
+    let inside : n < length stage.query.items = subst (λ (q : Query). n < length q.items) (sym are.same) within in
     elim (slice_get_cases stage.query.items n).1 [
       | inl found ↦
           (let kind = kind_there stage query read n d found.0 (λ kind. kind ≡ Avg) are.same items found.2 avg in
@@ -66,7 +65,7 @@ fits_read query totals n read width d bound few are within narrow items avg told
 
 -- ---- all items
 
-abbrev pub is_narrow_at : ℕ → Stage → Item → Bool
+abbrev pub is_narrow_at : ℕ → Stage → Aggregate → Bool
 is_narrow_at width s i = is_narrow_item width i.kind (pairs s.query i [] s.frame s.known)
 
 pub one_more_passes : {X : Type 0} (p : X → Bool) (xs : List X) (n : ℕ) (b : Bool) → n < length xs → b ≡ true → IfSome (slice_get xs n) (λ x. b ≡ p x) → list_all p (take n xs) ≡ true → list_all p (take (n + 1) xs) ≡ true

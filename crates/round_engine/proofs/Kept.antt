@@ -8,9 +8,8 @@ use Rattle.std.proofs.lemmas.Option.{get_or_from_slice_get, slice_get_within, sl
 use Rattle.aggregates.specs.Runnings.{StandsFor, Tallies}
 use Rattle.query_model.specs.declared.bounds.Bound.{Bound}
 use Rattle.query_model.specs.declared.bounds.Truth.{Truth}
-use Rattle.query_model.specs.declared.query.Item.{Item}
+use Rattle.query_model.specs.Queries.{Aggregate, Query}
 use Rattle.query_model.specs.declared.query.ItemKind.{ItemKind}
-use Rattle.query_model.specs.declared.query.TypedQuery.{TypedQuery}
 use Rattle.query_model.specs.Bounds.{AverageBound, Pair, average_bound_of, average_under, bound_of, bound_under, pairs}
 use Rattle.query_model.specs.Knowledge.{ranges_of}
 use Rattle.query_model.specs.Truths.{truth_of}
@@ -37,11 +36,11 @@ of_some o P x p e = subst (λ w. IfSome w P) e p
 -- ---- the totals of a stage
 
 module _ (stage : Stage) (totals : List Tallies) (n : ℕ) (total : Tallies) (are : AreTotals stage totals) (there : slice_get totals n ≡ Some total) where
-  pub total_at : (i : Item) → slice_get stage.query.items n ≡ Some i → IsTotal stage i total
+  pub total_at : (i : Aggregate) → slice_get stage.query.items n ≡ Some i → IsTotal stage i total
   total_at i e = are.each n i total e there
 
   -- the item that the total is for
-  pub item_at : (i : Item) × (slice_get stage.query.items n ≡ Some i)
+  pub item_at : (i : Aggregate) × (slice_get stage.query.items n ≡ Some i)
   item_at =
       let within = slice_get_within totals n total there in
       let count = are.count in
@@ -50,13 +49,13 @@ module _ (stage : Stage) (totals : List Tallies) (n : ℕ) (total : Tallies) (ar
         | inr past ↦ (let beyond = past.0 in absurd (omega arith))
       ]
 
-  pub bound_at : (bound : Bound) → ((ps : List Pair) → StandsFor total 0 ps → bound ≡ bound_of total.kind ps) → (i : Item) → slice_get stage.query.items n ≡ Some i →
+  pub bound_at : (bound : Bound) → ((ps : List Pair) → StandsFor total 0 ps → bound ≡ bound_of total.kind ps) → (i : Aggregate) → slice_get stage.query.items n ≡ Some i →
       bound ≡ bound_under stage.query i [] stage.frame stage.known
   bound_at bound h i e =
       let filled = total_at i e in
       h (pairs stage.query i [] stage.frame stage.known) filled.stands ∙ ap (λ kind. bound_of kind (pairs stage.query i [] stage.frame stage.known)) filled.kind
 
-  pub average_at : (bound : AverageBound) → ((ps : List Pair) → StandsFor total 0 ps → bound ≡ average_bound_of ps) → (i : Item) → slice_get stage.query.items n ≡ Some i →
+  pub average_at : (bound : AverageBound) → ((ps : List Pair) → StandsFor total 0 ps → bound ≡ average_bound_of ps) → (i : Aggregate) → slice_get stage.query.items n ≡ Some i →
       bound ≡ average_under stage.query i [] stage.frame stage.known
   average_at bound h i e = h (pairs stage.query i [] stage.frame stage.known) (total_at i e).stands
 
@@ -88,7 +87,7 @@ read_total totals n P total has is =
 pub total_there : (totals : List Tallies) (n : ℕ) (P : ItemKind → Type 0) (total : Tallies) → HasTotal totals n P → total ≡ get_or totals n total → slice_get totals n ≡ Some total
 total_there totals n P total has is = has.there ∙ ap Some (read_total totals n P total has is)
 
-pub open_item_at : (stage : Stage) (n : ℕ) (i : Item) → IsOpenStage stage → slice_get stage.query.items n ≡ Some i → IsOpenItem stage.frame i
+pub open_item_at : (stage : Stage) (n : ℕ) (i : Aggregate) → IsOpenStage stage → slice_get stage.query.items n ≡ Some i → IsOpenItem stage.frame i
 open_item_at stage n i kept e =
     let within = slice_get_within stage.query.items n i e in
     subst (IsOpenItem stage.frame) (get_or_from_slice_get stage.query.items n i i e)
@@ -97,13 +96,13 @@ open_item_at stage n i kept e =
 -- ---- what is kept at the stage that an engine stands for
 
 -- the answers of an engine
-pub answers_at : (query : TypedQuery) (state : State) (stage : Stage) → IsEngine query state → stage_of query state.columns ≡ stage → AreAnswers stage state.answers
+pub answers_at : (query : Query) (state : State) (stage : Stage) → IsEngine query state → stage_of query state.columns ≡ stage → AreAnswers stage state.answers
 answers_at query state stage kept is = subst (λ s. AreAnswers s state.answers) is kept.answered
 
-pub totals_at : (query : TypedQuery) (state : State) (stage : Stage) (totals : declared.Totals) → IsEngine query state → stage_of query state.columns ≡ stage → state.answers ≡ Totals totals → AreTotals stage totals.runnings.items
+pub totals_at : (query : Query) (state : State) (stage : Stage) (totals : declared.Totals) → IsEngine query state → stage_of query state.columns ≡ stage → state.answers ≡ Totals totals → AreTotals stage totals.runnings.items
 totals_at query state stage totals kept is form = subst (AreAnswers stage) form (answers_at query state stage kept is)
 
-pub open_at : (query : TypedQuery) (state : State) (stage : Stage) → IsEngine query state → stage_of query state.columns ≡ stage → IsOpenStage stage
+pub open_at : (query : Query) (state : State) (stage : Stage) → IsEngine query state → stage_of query state.columns ≡ stage → IsOpenStage stage
 open_at query state stage kept is = subst IsOpenStage is kept.open_stage
 
 -- ---- what is kept of each row
@@ -112,7 +111,7 @@ open_at query state stage kept is = subst IsOpenStage is kept.open_stage
 abbrev pub AreJudged : Stage → List Truth → Type 0
 AreJudged stage truths = truths ≡ map (λ r. truth_of stage.query.pred (ranges_of stage.frame stage.known r)) (range_with_len 0 stage.frame.rows)
 
-pub judged_at : (query : TypedQuery) (state : State) (stage : Stage) → IsEngine query state → stage_of query state.columns ≡ stage → AreJudged stage state.filter
+pub judged_at : (query : Query) (state : State) (stage : Stage) → IsEngine query state → stage_of query state.columns ≡ stage → AreJudged stage state.filter
 judged_at query state stage k e = subst (λ s. AreJudged s state.filter) e k.judged
 
 pub rows_judged : (stage : Stage) (truths : List Truth) (test : Truth → Bool) → AreJudged stage truths → length (map test truths) ≡ stage.frame.rows

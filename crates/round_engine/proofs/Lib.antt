@@ -7,3 +7,6 @@ pub mod Ratios
 pub mod Interleaved
 pub mod Counted
 pub mod Ends
+pub mod Declared
+pub mod BlockRows
+pub mod Places

@@ -5,9 +5,8 @@ use Rattle.std.proofs.lemmas.List.{length-map, take_more}
 use Rattle.std.proofs.lemmas.Option.{none-some, same_Some}
 use Rattle.daq_table.specs.declared.table_head.Head.{Head}
 use Rattle.daq_table.specs.Tables.{ends_at, frame_of}
-use Rattle.query_model.specs.declared.query.Item.{Item}
+use Rattle.query_model.specs.Queries.{Aggregate, Query}
 use Rattle.query_model.specs.declared.query.Shape.TheVariants.{Plain}
-use Rattle.query_model.specs.declared.query.TypedQuery.{TypedQuery}
 use Rattle.query_model.specs.Laws.{StartIsKnowledge}
 use Rattle.query_model.specs.Meaning.{PredReadsBelow, ReadsBelow}
 use Rattle.query_model.specs.Projection.{projected_frame}
@@ -22,7 +21,7 @@ use Rattle.round_engine.specs.Totals.{AreTotals, HaveRoom, IsTotal}
 
 -- ---- the query
 
-open_items : (head : Head) (query : TypedQuery) (items : List Item) → AllByRecursion (IsValidItem head query) items → AllByRecursion (IsOpenItem (projected_frame query (frame_of head))) items
+open_items : (head : Head) (query : Query) (items : List Aggregate) → AllByRecursion (IsValidItem head query) items → AllByRecursion (IsOpenItem (projected_frame query (frame_of head))) items
 open_items head query [] valid = tt
 open_items head query (item ∷ items) valid = (
   record {
@@ -33,7 +32,7 @@ open_items head query (item ∷ items) valid = (
   open_items head query items valid.1,
 )
 
-open_query : (head : Head) (query : TypedQuery) → IsValid head query → query.shape ≡ Plain → head.rows ≤ 16777216 → IsOpenQuery query (projected_frame query (frame_of head))
+open_query : (head : Head) (query : Query) → IsValid head query → query.shape ≡ Plain → head.rows ≤ 16777216 → IsOpenQuery query (projected_frame query (frame_of head))
 open_query head query valid plain few = record {
   columns = length-map query.columns (ends_at (frame_of head));
   few_columns = valid.few_columns;
@@ -44,7 +43,7 @@ open_query head query valid plain few = record {
   items = open_items head query query.items valid.items;
 }
 
-pub open_stage : StartIsKnowledge → (head : Head) (query : TypedQuery) (columns : KnownTable) → IsValid head query → query.shape ≡ Plain → head.rows ≤ 16777216 → columns ≡ unread_table (projected_frame query (frame_of head)) →
+pub open_stage : StartIsKnowledge → (head : Head) (query : Query) (columns : KnownTable) → IsValid head query → query.shape ≡ Plain → head.rows ≤ 16777216 → columns ≡ unread_table (projected_frame query (frame_of head)) →
     IsOpenStage (stage_of query columns)
 open_stage knows head query columns valid plain few is =
     subst (λ t. IsOpenStage (stage_of query t)) (sym is) (record { open_query = open_query head query valid plain few; knowledge = knows (projected_frame query (frame_of head)) })
@@ -61,14 +60,14 @@ agree_push R (p ∷ xs) [] x y same before here i a b at_a at_b = absurd (omega 
 agree_push R (p ∷ xs) (q ∷ ys) x y same before here zero a b at_a at_b = before 0 a b at_a at_b
 agree_push R (p ∷ xs) (q ∷ ys) x y same before here (suc i) a b at_a at_b = agree_push R xs ys x y (omega arith) (λ j. before (suc j)) here i a b at_a at_b
 
-pub opened_more : (items : List Item) (i : ℕ) (item : Item) (runnings : List Tallies) (running : Tallies) → i < length items → item ≡ get_or items i item → HaveRoom (take i items) runnings →
+pub opened_more : (items : List Aggregate) (i : ℕ) (item : Aggregate) (runnings : List Tallies) (running : Tallies) → i < length items → item ≡ get_or items i item → HaveRoom (take i items) runnings →
     IsBlank running item.kind 1 1 → HaveRoom (take (i + 1) items) (runnings ++ running ∷ [])
 opened_more items i item runnings running within there opened blank =
     let more : take (i + 1) items ≡ take i items ++ item ∷ [] = take_more items i item within ∙ ap (λ x. take i items ++ x ∷ []) (sym there) in
     let count : length (runnings ++ running ∷ []) ≡ length (take i items ++ item ∷ []) = simp length-append (omega (arith, opened.count)) in
     subst (λ xs. HaveRoom xs (runnings ++ running ∷ [])) (sym more) (record {
       count = count;
-      each = agree_push (λ (it : Item) (r : Tallies). (r.kind ≡ it.kind) × (r.room ≡ 1)) (take i items) runnings item running opened.count opened.each (blank.kind_is, blank.room_is);
+      each = agree_push (λ (it : Aggregate) (r : Tallies). (r.kind ≡ it.kind) × (r.room ≡ 1)) (take i items) runnings item running opened.count opened.each (blank.kind_is, blank.room_is);
     })
 
 -- where an element of the second list is replaced
@@ -83,16 +82,16 @@ agree_set R (p ∷ xs) (q ∷ ys) (suc i) x y there here (suc j) a b at_a at_b o
 
 -- ---- items that are filled one by one
 
-pub opened_still : (items : List Item) (runnings : List Tallies) (i : ℕ) (item : Item) (running : Tallies) → slice_get items i ≡ Some item → HaveRoom items runnings → running.kind ≡ item.kind → running.room ≡ 1 →
+pub opened_still : (items : List Aggregate) (runnings : List Tallies) (i : ℕ) (item : Aggregate) (running : Tallies) → slice_get items i ≡ Some item → HaveRoom items runnings → running.kind ≡ item.kind → running.room ≡ 1 →
     HaveRoom items (set runnings i running)
 opened_still items runnings i item running there opened kind room = record {
   count = length-set runnings i running ∙ opened.count;
-  each = λ j a b at_a at_b. agree_set (λ (it : Item) (r : Tallies). (r.kind ≡ it.kind) × (r.room ≡ 1)) items runnings i item running there (kind, room) j a b at_a at_b (λ apart at. opened.each j a b at_a at);
+  each = λ j a b at_a at_b. agree_set (λ (it : Aggregate) (r : Tallies). (r.kind ≡ it.kind) × (r.room ≡ 1)) items runnings i item running there (kind, room) j a b at_a at_b (λ apart at. opened.each j a b at_a at);
 }
 
-pub total_still : (stage : Stage) (totals : List Tallies) (i : ℕ) (item : Item) (total : Tallies) → slice_get stage.query.items i ≡ Some item → IsTotal stage item total →
-    ((j : ℕ) (a : Item) (b : Tallies) → j < i → slice_get stage.query.items j ≡ Some a → slice_get totals j ≡ Some b → IsTotal stage a b) →
-    (j : ℕ) (a : Item) (b : Tallies) → j < i + 1 → slice_get stage.query.items j ≡ Some a → slice_get (set totals i total) j ≡ Some b → IsTotal stage a b
+pub total_still : (stage : Stage) (totals : List Tallies) (i : ℕ) (item : Aggregate) (total : Tallies) → slice_get stage.query.items i ≡ Some item → IsTotal stage item total →
+    ((j : ℕ) (a : Aggregate) (b : Tallies) → j < i → slice_get stage.query.items j ≡ Some a → slice_get totals j ≡ Some b → IsTotal stage a b) →
+    (j : ℕ) (a : Aggregate) (b : Tallies) → j < i + 1 → slice_get stage.query.items j ≡ Some a → slice_get (set totals i total) j ≡ Some b → IsTotal stage a b
 total_still stage totals i item total there filled before j a b below at_a at_b =
     agree_set (IsTotal stage) stage.query.items totals i item total there filled j a b at_a at_b (λ apart at. before j a b (omega arith) at_a at)
 

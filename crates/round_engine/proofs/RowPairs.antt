@@ -8,24 +8,26 @@ use Rattle.std.proofs.lemmas.Option.{same_Some}
 use Rattle.std.specs.declared.option.Option.{Option}
 use Rattle.interval_calc.specs.Intervals.{Interval, interval_of}
 use Rattle.interval_calc.specs.declared.Interval as code
-use Rattle.daq_table.specs.Tables.{Frame}
+use Rattle.query_model.specs.declared.bounds.Nullity.{Nullity}
+use Rattle.query_model.specs.declared.bounds.Nullity.TheVariants.{Never, Possibly, Always}
 use Rattle.query_model.specs.declared.bounds.Truth.{Truth}
 use Rattle.query_model.specs.declared.bounds.Truth.TheVariants.{False, Unknown, True}
-use Rattle.query_model.specs.declared.query.Item.{Item}
-use Rattle.query_model.specs.declared.query.Pred.{Pred}
+use Rattle.query_model.specs.Queries.{Condition, Aggregate, Query}
 use Rattle.query_model.specs.declared.query.Shape.{Shape}
 use Rattle.query_model.specs.declared.query.Shape.TheVariants.{Plain}
-use Rattle.query_model.specs.declared.query.TypedQuery.{TypedQuery}
 use Rattle.query_model.specs.Answers.{groups_of}
-use Rattle.query_model.specs.Bounds.{Pair, pair_of, pair_unless_false, pairs_below, truth_of_group, truth_of_row}
-use Rattle.query_model.specs.Knowledge.{Knowledge, IsKnowledge, ranges_of}
+use Rattle.query_model.specs.Bounds.{Pair, pair_by, pair_of, pair_unless_false, pairs_below, truth_of_group, truth_of_row}
+use Rattle.query_model.specs.Knowledge.{IsKnowledge}
 use Rattle.query_model.specs.Laws.{PairsAreFew, SumsFit, SumsOfItemsFit}
-use Rattle.query_model.specs.Truths.{Ranges, and_of, span_of, truth_of}
+use Rattle.query_model.specs.Truths.{Ranges, and_of, null_of, span_of, truth_of, truth_of_number}
 use Rattle.query_model.specs.Validity.{FitsItem, IsSumKind}
 use Rattle.known_column.specs.KnownTables.{KnownTable}
 use Rattle.kleene_filter.specs.Filters.{is_certain, is_possible, truth_at, truths_under}
 use Rattle.aggregates.specs.Runnings.{IsAdded, MayAdd, StandsFor, Tallies}
 use Rattle.aggregates.specs.Tallies.{pair_with}
+use Rattle.round_engine.specs.Engines.{stage_of}
+use Rattle.round_engine.specs.Stages.{Stage}
+use Rattle.round_engine.specs.Totals.{pair_at, IsFilledBelow}
 
 -- ---- lists of what rows give
 
@@ -47,24 +49,61 @@ and_true Unknown = refl
 and_true True = refl
 
 -- where nothing is grouped, a row counts where the condition holds
-plain_truth : (query : TypedQuery) (ranges : Ranges) → query.shape ≡ Plain → truth_of_row query [] ranges ≡ truth_of query.pred ranges
+plain_truth : (query : Query) (ranges : Ranges) → query.shape ≡ Plain → truth_of_row query [] ranges ≡ truth_of query.pred ranges
 plain_truth query ranges plain = ap (λ (shape : Shape). and_of (truth_of query.pred ranges) (truth_of_group (groups_of shape) [] ranges)) plain ∙ and_true (truth_of query.pred ranges)
 
-pair_if_possible : (t : Truth) (certain : Bool) (span : code.Interval) → is_possible t ≡ true → certain ≡ is_certain t → pair_unless_false t (interval_of span) ≡ Some (pair_with certain span)
-pair_if_possible False certain span may must = (cc)
-pair_if_possible Unknown certain span may must = ap (λ b. Some (pair_with b span)) (sym must)
-pair_if_possible True certain span may must = ap (λ b. Some (pair_with b span)) (sym must)
+-- where nothing is grouped, a row gives a value where the condition holds and the argument is not null
+plain_pair : (query : Query) (item : Aggregate) (ranges : Ranges) → query.shape ≡ Plain → pair_of query item [] ranges ≡ pair_by (truth_of query.pred ranges) item ranges
+plain_pair query item ranges plain = ap (λ t. pair_by t item ranges) (plain_truth query ranges plain)
 
-none_if_impossible : (t : Truth) (span : Interval) → is_possible t ≡ false → pair_unless_false t span ≡ None
-none_if_impossible False span may = refl
-none_if_impossible Unknown span may = (cc)
-none_if_impossible True span may = (cc)
+none_if_impossible : (t u : Truth) (span : Interval) → is_possible t ≡ false → pair_unless_false (and_of t u) span ≡ None
+none_if_impossible False u span may = refl
+none_if_impossible Unknown u span may = cc
+none_if_impossible True u span may = cc
 
-pub rows_of_mask : (f : Truth → Bool) (mask : List Bool) (truths : List Truth) (pred : Pred) (columns : KnownTable) → mask ≡ map f truths → truths ≡ truths_under pred columns → length mask ≡ columns.frame.rows
+none_if_null : (t : Truth) (span : Interval) → pair_unless_false (and_of t False) span ≡ None
+none_if_null False span = refl
+none_if_null Unknown span = refl
+none_if_null True span = refl
+
+uncertain_if_unknown : (t : Truth) (span : code.Interval) → is_possible t ≡ true → pair_unless_false (and_of t Unknown) (interval_of span) ≡ Some (pair_with false span)
+uncertain_if_unknown False span may = cc
+uncertain_if_unknown Unknown span may = refl
+uncertain_if_unknown True span may = refl
+
+certain_if_holds : (t : Truth) (certain : Bool) (span : code.Interval) → is_possible t ≡ true → certain ≡ is_certain t → pair_unless_false (and_of t True) (interval_of span) ≡ Some (pair_with certain span)
+certain_if_holds False certain span may must = cc
+certain_if_holds Unknown certain span may must = ap (λ b. Some (pair_with b span)) (sym must)
+certain_if_holds True certain span may must = ap (λ b. Some (pair_with b span)) (sym must)
+
+module _ (query : Query) (item : Aggregate) (ranges : Ranges) (plain : query.shape ≡ Plain) where
+  pub pair_impossible : is_possible (truth_of query.pred ranges) ≡ false → pair_of query item [] ranges ≡ None
+  pair_impossible may = plain_pair query item ranges plain ∙ none_if_impossible _ _ _ may
+
+  pub pair_null : Always ≡ null_of item.arg ranges → pair_of query item [] ranges ≡ None
+  pair_null null =
+      plain_pair query item ranges plain ∙ ap (λ n. pair_unless_false (and_of (truth_of query.pred ranges) (truth_of_number n)) (span_of item.arg ranges)) (sym null)
+      ∙ none_if_null (truth_of query.pred ranges) (span_of item.arg ranges)
+
+  by_word : (null : Nullity) (span : code.Interval) → null ≡ null_of item.arg ranges → interval_of span ≡ span_of item.arg ranges →
+      pair_of query item [] ranges ≡ pair_unless_false (and_of (truth_of query.pred ranges) (truth_of_number null)) (interval_of span)
+  by_word null span is lies =
+      plain_pair query item ranges plain ∙ ap (λ n. pair_unless_false (and_of (truth_of query.pred ranges) (truth_of_number n)) (span_of item.arg ranges)) (sym is)
+      ∙ ap (pair_unless_false (and_of (truth_of query.pred ranges) (truth_of_number null))) (sym lies)
+
+  pub pair_uncertain : (span : code.Interval) → is_possible (truth_of query.pred ranges) ≡ true → Possibly ≡ null_of item.arg ranges → interval_of span ≡ span_of item.arg ranges →
+      pair_of query item [] ranges ≡ Some (pair_with false span)
+  pair_uncertain span may null lies = by_word Possibly span null lies ∙ uncertain_if_unknown (truth_of query.pred ranges) span may
+
+  pub pair_by_condition : (certain : Bool) (span : code.Interval) → is_possible (truth_of query.pred ranges) ≡ true → certain ≡ is_certain (truth_of query.pred ranges) →
+      Never ≡ null_of item.arg ranges → interval_of span ≡ span_of item.arg ranges → pair_of query item [] ranges ≡ Some (pair_with certain span)
+  pair_by_condition certain span may must null lies = by_word Never span null lies ∙ certain_if_holds (truth_of query.pred ranges) certain span may must
+
+pub rows_of_mask : (f : Truth → Bool) (mask : List Bool) (truths : List Truth) (pred : Condition) (columns : KnownTable) → mask ≡ map f truths → truths ≡ truths_under pred columns → length mask ≡ columns.frame.rows
 rows_of_mask f mask truths pred columns is judged = ap length is ∙ length-map truths f ∙ ap length judged ∙ length-map-range_with_len (truth_at pred columns) 0 columns.frame.rows
 
 -- a bit that a filter tells of a row
-pub bit_at_row : (f : Truth → Bool) (mask : List Bool) (truths : List Truth) (pred : Pred) (columns : KnownTable) (row : ℕ) (bit : Bool) → mask ≡ map f truths → truths ≡ truths_under pred columns →
+pub bit_at_row : (f : Truth → Bool) (mask : List Bool) (truths : List Truth) (pred : Condition) (columns : KnownTable) (row : ℕ) (bit : Bool) → mask ≡ map f truths → truths ≡ truths_under pred columns →
     row < columns.frame.rows → slice_get mask row ≡ Some bit → bit ≡ f (truth_at pred columns row)
 bit_at_row f mask truths pred columns row bit is judged within told =
     let all : slice_get (map f (truths_under pred columns)) row ≡ Some bit = ap (λ ts. slice_get (map f ts) row) (sym judged) ∙ ap (λ m. slice_get m row) (sym is) ∙ told in
@@ -79,30 +118,22 @@ bit_at_row f mask truths pred columns row bit is judged within told =
 -- ---- the pairs below the next row
 
 -- those that the rows below one have
-abbrev pub pairs_to : TypedQuery → Item → KnownTable → ℕ → List Pair
+abbrev pub pairs_to : Query → Aggregate → KnownTable → ℕ → List Pair
 pairs_to query item columns row = pairs_below query item [] columns.frame columns.known row
 
-pub pairs_with_row : (query : TypedQuery) (item : Item) (columns : KnownTable) (row : ℕ) (certain : Bool) (span : code.Interval) → query.shape ≡ Plain →
-    is_possible (truth_at query.pred columns row) ≡ true → certain ≡ is_certain (truth_at query.pred columns row) → interval_of span ≡ span_of item.arg (ranges_of columns.frame columns.known row) →
-    pairs_to query item columns (row + 1) ≡ pairs_to query item columns row ++ pair_with certain span ∷ []
-pairs_with_row query item columns row certain span plain may must lies =
-    let ranges = ranges_of columns.frame columns.known row in
-    let give = (λ (r : ℕ). pair_of query item [] (ranges_of columns.frame columns.known r)) in
-    let given : pair_of query item [] ranges ≡ Some (pair_with certain span) =
-    ap (λ t. pair_unless_false t (span_of item.arg ranges)) (plain_truth query ranges plain)
-    ∙ ap (pair_unless_false (truth_of query.pred ranges)) (sym lies) ∙ pair_if_possible _ certain span may must in
-    given-more give row ∙ ap (λ ps. filter_map give (range_with_len 0 row) ++ ps) (one give row (pair_with certain span) given)
+pub pairs_with_row : (query : Query) (item : Aggregate) (columns : KnownTable) (row : ℕ) (p : Pair) → pair_at (stage_of query columns) item row ≡ Some p →
+    pairs_to query item columns (row + 1) ≡ pairs_to query item columns row ++ p ∷ []
+pairs_with_row query item columns row p given =
+    let give = pair_at (stage_of query columns) item in
+    given-more give row ∙ ap (λ ps. filter_map give (range_with_len 0 row) ++ ps) (one give row p given)
   where
     one : (give : ℕ → Option Pair) (row : ℕ) (p : Pair) → give row ≡ Some p → filter_map give (row ∷ []) ≡ p ∷ []
     one give row p given = rw given refl
 
-pub pairs_without_row : (query : TypedQuery) (item : Item) (columns : KnownTable) (row : ℕ) → query.shape ≡ Plain → is_possible (truth_at query.pred columns row) ≡ false →
+pub pairs_without_row : (query : Query) (item : Aggregate) (columns : KnownTable) (row : ℕ) → pair_at (stage_of query columns) item row ≡ None →
     pairs_to query item columns (row + 1) ≡ pairs_to query item columns row
-pairs_without_row query item columns row plain may =
-    let ranges = ranges_of columns.frame columns.known row in
-    let give = (λ (r : ℕ). pair_of query item [] (ranges_of columns.frame columns.known r)) in
-    let given : pair_of query item [] ranges ≡ None =
-    ap (λ t. pair_unless_false t (span_of item.arg ranges)) (plain_truth query ranges plain) ∙ none_if_impossible _ _ may in
+pairs_without_row query item columns row given =
+    let give = pair_at (stage_of query columns) item in
     given-more give row ∙ none give row (filter_map give (range_with_len 0 row)) given
   where
     none : (give : ℕ → Option Pair) (row : ℕ) (ps : List Pair) → give row ≡ None → ps ++ filter_map give (row ∷ []) ≡ ps
@@ -110,39 +141,32 @@ pairs_without_row query item columns row plain may =
 
 -- ---- adding a row
 
--- the one cell stands for the pairs below a row
-pub record IsFilledBelow (query : TypedQuery) (item : Item) (frame : Frame) (known : Knowledge) (row : ℕ) (running : Tallies) : Type 0 where
-  pub kind : running.kind ≡ item.kind
-  pub room : running.room ≡ 1
-  pub cells : length running.cells ≡ 1
-  pub stands : StandsFor running 0 (pairs_below query item [] frame known row)
-
 -- it may get the row's pair
-pub may_add_row : PairsAreFew → SumsOfItemsFit → (query : TypedQuery) (item : Item) (frame : Frame) (known : Knowledge) (row : ℕ) (running : Tallies) (p : Pair) →
-    row < frame.rows → frame.rows ≤ 16777216 → IsKnowledge frame known → FitsItem frame item → IsFilledBelow query item frame known row running →
-    pairs_below query item [] frame known (row + 1) ≡ pairs_below query item [] frame known row ++ p ∷ [] → MayAdd running 0 p
-may_add_row few sums query item frame known row running p within small knowledge fits filled more = record {
-  pairs = pairs_below query item [] frame known row;
+pub may_add_row : PairsAreFew → SumsOfItemsFit → (stage : Stage) (item : Aggregate) (row : ℕ) (running : Tallies) (p : Pair) →
+    row < stage.frame.rows → stage.frame.rows ≤ 16777216 → IsKnowledge stage.frame stage.known → FitsItem stage.frame item → IsFilledBelow stage item row running →
+    pairs_below stage.query item [] stage.frame stage.known (row + 1) ≡ pairs_below stage.query item [] stage.frame stage.known row ++ p ∷ [] → MayAdd running 0 p
+may_add_row few sums stage item row running p within small knowledge fits filled more = record {
+  pairs = pairs_below stage.query item [] stage.frame stage.known row;
   stands = filled.stands;
   may_get = record {
-    few = (let below = (few query item frame known row).of_key [] in omega arith);
-    fits = λ summed. subst SumsFit more ((sums query item frame known knowledge (subst IsSumKind filled.kind summed) fits).below [] (row + 1) (omega arith));
+    few = (let below = (few stage.query item stage.frame stage.known row).of_key [] in omega arith);
+    fits = λ summed. subst SumsFit more ((sums stage.query item stage.frame stage.known knowledge (subst IsSumKind filled.kind summed) fits).below [] (row + 1) (omega arith));
   };
 }
 
 -- and stands then for the pairs below the next row
-pub filled_more : (query : TypedQuery) (item : Item) (frame : Frame) (known : Knowledge) (row : ℕ) (old new : Tallies) (p : Pair) → IsFilledBelow query item frame known row old → IsAdded old new 0 p →
-    pairs_below query item [] frame known (row + 1) ≡ pairs_below query item [] frame known row ++ p ∷ [] → IsFilledBelow query item frame known (row + 1) new
-filled_more query item frame known row old new p filled added more = record {
+pub filled_more : (stage : Stage) (item : Aggregate) (row : ℕ) (old new : Tallies) (p : Pair) → IsFilledBelow stage item row old → IsAdded old new 0 p →
+    pairs_below stage.query item [] stage.frame stage.known (row + 1) ≡ pairs_below stage.query item [] stage.frame stage.known row ++ p ∷ [] → IsFilledBelow stage item (row + 1) new
+filled_more stage item row old new p filled added more = record {
   kind = added.kind ∙ filled.kind;
   room = added.room ∙ filled.room;
   cells = added.count ∙ filled.cells;
-  stands = subst (StandsFor new 0) (sym more) (added.appended (pairs_below query item [] frame known row) filled.stands);
+  stands = subst (StandsFor new 0) (sym more) (added.appended (pairs_below stage.query item [] stage.frame stage.known row) filled.stands);
 }
 
-pub filled_as_before : (query : TypedQuery) (item : Item) (frame : Frame) (known : Knowledge) (row : ℕ) (running : Tallies) → IsFilledBelow query item frame known row running →
-    pairs_below query item [] frame known (row + 1) ≡ pairs_below query item [] frame known row → IsFilledBelow query item frame known (row + 1) running
-filled_as_before query item frame known row running filled same = record {
+pub filled_as_before : (stage : Stage) (item : Aggregate) (row : ℕ) (running : Tallies) → IsFilledBelow stage item row running →
+    pairs_below stage.query item [] stage.frame stage.known (row + 1) ≡ pairs_below stage.query item [] stage.frame stage.known row → IsFilledBelow stage item (row + 1) running
+filled_as_before stage item row running filled same = record {
   kind = filled.kind;
   room = filled.room;
   cells = filled.cells;

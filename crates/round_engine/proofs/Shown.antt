@@ -9,22 +9,19 @@ use Rattle.query_model.specs.declared.bounds.Bound.{Bound}
 use Rattle.query_model.specs.declared.bounds.Nullity.TheVariants.{Always}
 use Rattle.query_model.specs.declared.bounds.Truth.{Truth}
 use Rattle.query_model.specs.declared.bounds.Truth.TheVariants.{False, Unknown, True}
-use Rattle.query_model.specs.declared.query.Expr.{Expr}
-use Rattle.query_model.specs.declared.query.Expr.TheVariants.{Column, Literal, Add', Sub', Mul'}
+use Rattle.query_model.specs.Queries.{Term, Column, Literal, Add, Sub, Mul, Aggregate, Query}
 use Rattle.query_model.specs.declared.query.Face.{Face}
 use Rattle.query_model.specs.declared.query.Face.TheVariants.{Number}
-use Rattle.query_model.specs.declared.query.Item.{Item}
 use Rattle.query_model.specs.declared.query.ItemKind.{ItemKind}
 use Rattle.query_model.specs.declared.query.ItemKind.TheVariants.{Count, Sum, Min, Max, Avg}
-use Rattle.query_model.specs.declared.query.TypedQuery.{TypedQuery}
 use Rattle.query_model.specs.Answers.{Key, least, greatest}
-use Rattle.query_model.specs.Bounds.{Pair, bound_of, pair_unless_false, truth_of_row, pairs, some_certain, lows, highs, certain_lows, certain_highs, high_of_least, low_of_greatest}
+use Rattle.query_model.specs.Bounds.{Pair, bound_of, pair_by, pair_unless_false, truth_of_row, pairs, some_certain, lows, highs, certain_lows, certain_highs, high_of_least, low_of_greatest}
 use Rattle.query_model.specs.Knowledge.{Knowledge, IsKnowledge, ranges_of}
-use Rattle.query_model.specs.Truths.{span_of}
+use Rattle.query_model.specs.Truths.{and_of, null_of, span_of, truth_of_number}
 use Rattle.query_model.specs.Validity.{FaceOf, declared_range, declared_ranges}
 use Rattle.query_model.proofs.Extremes.{Has, least_stands, greatest_stands}
 use Rattle.query_model.proofs.Fits.{declared_outside}
-use Rattle.query_model.proofs.Nesting.{IsSmaller, span_inside}
+use Rattle.query_model.proofs.Spans.{IsSmaller, span_inside}
 use Rattle.query_model.proofs.Queries.{ranges_ordered}
 use Rattle.round_engine.specs.Promises.{IsShownWithin}
 
@@ -47,17 +44,17 @@ one_within False s i ps h rest = rest
 one_within Unknown s i ps h rest = (let ends = ends_within s i h in (ends.0, ends.1, rest))
 one_within True s i ps h rest = (let ends = ends_within s i h in (ends.0, ends.1, rest))
 
-rows_within : (truth : ℕ → Truth) (e : Expr) (frame : Frame) (known : Knowledge) (a n : ℕ) → IsKnowledge frame known → a + n ≤ frame.rows →
-    AreWithin (span_of e (declared_ranges frame)) (filter_map (λ r. pair_unless_false (truth r) (span_of e (ranges_of frame known r))) (range_with_len a n))
-rows_within truth e frame known a zero k h = tt
-rows_within truth e frame known a (suc n) k h =
-    one_within (truth a) (span_of e (ranges_of frame known a)) (span_of e (declared_ranges frame)) _
-    (span_inside e (ranges_of frame known a) (declared_ranges frame) (ranges_ordered frame known a k (omega arith)) (declared_outside frame known a))
-    (rows_within truth e frame known (a + 1) n k (omega arith))
+rows_within : (counts : ℕ → Truth) (i : Aggregate) (frame : Frame) (known : Knowledge) (a n : ℕ) → IsKnowledge frame known → a + n ≤ frame.rows →
+    AreWithin (span_of i.arg (declared_ranges frame)) (filter_map (λ r. pair_by (counts r) i (ranges_of frame known r)) (range_with_len a n))
+rows_within counts i frame known a zero k h = tt
+rows_within counts i frame known a (suc n) k h =
+    one_within (and_of (counts a) (truth_of_number (null_of i.arg (ranges_of frame known a)))) (span_of i.arg (ranges_of frame known a)) (span_of i.arg (declared_ranges frame)) _
+    (span_inside i.arg (ranges_of frame known a) (declared_ranges frame) (ranges_ordered frame known a k (omega arith)) (declared_outside frame known a))
+    (rows_within counts i frame known (a + 1) n k (omega arith))
 
-pub pairs_within : (query : TypedQuery) (i : Item) (key : Key) (frame : Frame) (known : Knowledge) → IsKnowledge frame known →
+pub pairs_within : (query : Query) (i : Aggregate) (key : Key) (frame : Frame) (known : Knowledge) → IsKnowledge frame known →
     AreWithin (span_of i.arg (declared_ranges frame)) (pairs query i key frame known)
-pairs_within query i key frame known k = rows_within (λ r. truth_of_row query key (ranges_of frame known r)) i.arg frame known 0 frame.rows k (omega arith)
+pairs_within query i key frame known k = rows_within (λ r. truth_of_row query key (ranges_of frame known r)) i frame known 0 frame.rows k (omega arith)
 
 -- ---- least and greatest ends
 
@@ -147,18 +144,18 @@ max_within i (p ∷ ps) h some = (low_of_greatest_within i p ps h, greatest_high
 number_shown : (frame : Frame) (face : Face) (bound : Bound) → (scale : ℕ) × (scale ≤ 18) × (face ≡ Number scale) → IsShownWithin frame face bound
 number_shown frame face bound h = subst (λ f. IsShownWithin frame f bound) (sym h.2) tt
 
-pub shown_within : (kind : ItemKind) (arg : Expr) (face : Face) (frame : Frame) (ps : List Pair) → FaceOf kind arg face → AreWithin (span_of arg (declared_ranges frame)) ps →
+pub shown_within : (kind : ItemKind) (arg : Term) (face : Face) (frame : Frame) (ps : List Pair) → FaceOf kind arg face → AreWithin (span_of arg (declared_ranges frame)) ps →
     IsShownWithin frame face (bound_of kind ps)
 shown_within Count arg face frame ps f h = number_shown frame face _ f
 shown_within Sum arg face frame ps f h = number_shown frame face _ f
 shown_within Avg arg face frame ps f h = number_shown frame face _ f
-shown_within Min (Column c) face frame ps f h = subst (λ w. IsShownWithin frame w (bound_of Min ps)) (sym f) (min_within (declared_range (ends_at frame c)) ps h)
+shown_within Min (Column c) face frame ps f h = subst (λ w. IsShownWithin frame w (bound_of Min ps)) (sym f) (min_within (declared_range (ends_at frame c)).numbers ps h)
 shown_within Min (Literal n) face frame ps f h = number_shown frame face _ f
-shown_within Min (Add' p a q b) face frame ps f h = number_shown frame face _ f
-shown_within Min (Sub' p a q b) face frame ps f h = number_shown frame face _ f
-shown_within Min (Mul' p a q b) face frame ps f h = number_shown frame face _ f
-shown_within Max (Column c) face frame ps f h = subst (λ w. IsShownWithin frame w (bound_of Max ps)) (sym f) (max_within (declared_range (ends_at frame c)) ps h)
+shown_within Min (Add a b) face frame ps f h = number_shown frame face _ f
+shown_within Min (Sub a b) face frame ps f h = number_shown frame face _ f
+shown_within Min (Mul a b) face frame ps f h = number_shown frame face _ f
+shown_within Max (Column c) face frame ps f h = subst (λ w. IsShownWithin frame w (bound_of Max ps)) (sym f) (max_within (declared_range (ends_at frame c)).numbers ps h)
 shown_within Max (Literal n) face frame ps f h = number_shown frame face _ f
-shown_within Max (Add' p a q b) face frame ps f h = number_shown frame face _ f
-shown_within Max (Sub' p a q b) face frame ps f h = number_shown frame face _ f
-shown_within Max (Mul' p a q b) face frame ps f h = number_shown frame face _ f
+shown_within Max (Add a b) face frame ps f h = number_shown frame face _ f
+shown_within Max (Sub a b) face frame ps f h = number_shown frame face _ f
+shown_within Max (Mul a b) face frame ps f h = number_shown frame face _ f

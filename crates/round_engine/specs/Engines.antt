@@ -4,8 +4,7 @@ use Rattle.std.specs.declared.option.Option.TheVariants.{Some}
 use Rattle.kleene_filter.specs.Filters.{truths_under}
 use Rattle.known_column.specs.KnownTables.{KnownTable}
 use Rattle.plane_schedule.specs.declared.progress.Role.{Role}
-use Rattle.query_model.specs.declared.query.Item.{Item}
-use Rattle.query_model.specs.declared.query.TypedQuery.{TypedQuery}
+use Rattle.query_model.specs.Queries.{Aggregate, Query}
 use Rattle.round_engine.specs.declared.answers.Answers.{Answers}
 use Rattle.round_engine.specs.declared.answers.Answers.TheVariants.{Totals}
 use Rattle.round_engine.specs.declared.state.State.{State}
@@ -14,26 +13,27 @@ use Rattle.round_engine.specs.Stages.{IsOpenStage, Stage}
 use Rattle.round_engine.specs.Totals.{AreTotals, AreTotalsOf, HaveRoom}
 
 -- the stage of a query over known columns
-abbrev pub stage_of : TypedQuery → KnownTable → Stage
+abbrev pub stage_of : Query → KnownTable → Stage
 stage_of query columns = record { query = query; frame = columns.frame; known = columns.known }
 
 -- the answers are those of the stage, and of the query at some stage
 abbrev pub AreAnswers : Stage → Answers → Type 0
 AreAnswers stage (Totals totals) = AreTotals stage totals.runnings.items
 
-abbrev pub AreAnswersOf : TypedQuery → Answers → Type 0
+abbrev pub AreAnswersOf : Query → Answers → Type 0
 AreAnswersOf query (Totals totals) = AreTotalsOf query totals.runnings.items
 
 -- they have room for those of a query with these items
-abbrev pub HoldItems : List Item → Answers → Type 0
+abbrev pub HoldItems : List Aggregate → Answers → Type 0
 HoldItems items (Totals totals) = HaveRoom items totals.runnings.items
 
 -- each column is read for what its role says
-abbrev pub AreRoles : TypedQuery → List Role → Type 0
+abbrev pub AreRoles : Query → List Role → Type 0
 AreRoles query roles = (c : ℕ) → c < length query.columns → slice_get roles c ≡ Some (role_of query c)
 
-pub record IsEngine (query : TypedQuery) (state : State) : Type 0 where
+pub record IsEngine (query : Query) (state : State) : Type 0 where
   pub open_stage : IsOpenStage (stage_of query state.columns)
   pub judged : state.filter ≡ truths_under query.pred state.columns
   pub answered : AreAnswers (stage_of query state.columns) state.answers
   pub read_for : AreRoles query state.roles
+  pub lent : state.block.frame.columns ≡ state.columns.frame.columns

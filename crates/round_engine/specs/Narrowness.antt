@@ -23,7 +23,8 @@ is_narrow_bound width bound = is_told bound.null (int_le (bound.hi -ℤ bound.lo
 -- the difference of two fractions is compared by cross products
 abbrev pub is_narrow_average : ℕ → AverageBound → Bool
 is_narrow_average width bound =
-    is_told bound.null (int_le ((bound.hi.num *ℤ pos bound.lo.den) -ℤ (bound.lo.num *ℤ pos bound.hi.den)) (pos (width * bound.lo.den * bound.hi.den)))
+    is_told bound.null
+    (int_le ((bound.hi.num *ℤ pos bound.lo.den) -ℤ (bound.lo.num *ℤ pos bound.hi.den)) (pos (width * bound.lo.den * bound.hi.den)))
 
 -- the bound of an item over a list of pairs is narrow
 abbrev pub is_narrow_item : ℕ → ItemKind → List Pair → Bool
@@ -35,7 +36,8 @@ is_narrow_item width Avg ps = is_narrow_average width (average_bound_of ps)
 
 -- the bound of each item is narrow
 abbrev pub is_narrow : ℕ → Stage → Bool
-is_narrow width stage = list_all (λ item. is_narrow_item width item.kind (pairs stage.query item [] stage.frame stage.known)) stage.query.items
+is_narrow width stage =
+    list_all (λ item. is_narrow_item width item.kind (pairs stage.query item [] stage.frame stage.known)) stage.query.items
 
 -- the cross products by which the fractions of an average are compared are numbers of 128 bits
 pub record FitsNarrow (width : ℕ) (bound : AverageBound) : Type 0 where

@@ -5,7 +5,7 @@ use Rattle.std.specs.List.{filter_map, sum}
 use Rattle.std.specs.declared.option.Option.TheVariants as option
 use Rattle.daq_table.specs.Tables.{ends_at, planes, rows_of}
 use Rattle.kleene_filter.specs.Filters.{is_unknown, stands_in}
-use Rattle.query_model.specs.declared.query.TypedQuery.{TypedQuery}
+use Rattle.query_model.specs.Queries.{Query}
 use Rattle.query_model.specs.Answers.{groups_of}
 use Rattle.query_model.specs.Knowledge.{Knowledge, known_at, ranges_of, taken}
 use Rattle.query_model.specs.Meaning.{columns_of_pred}
@@ -17,8 +17,9 @@ use Rattle.plane_schedule.specs.declared.progress.Role.TheVariants.{Filter, Grou
 use Rattle.round_engine.specs.Stages.{Stage}
 
 -- what a column is read for: the condition, else the groups, else values
-abbrev pub role_of : TypedQuery → ℕ → Role
-role_of query c = if stands_in (columns_of_pred query.pred) c then Filter else (if stands_in (groups_of query.shape) c then Group else Value)
+abbrev pub role_of : Query → ℕ → Role
+role_of query c =
+    if stands_in (columns_of_pred query.pred) c then Filter else (if stands_in (groups_of query.shape) c then Group else Value)
 
 -- at how many rows it is not known whether the condition holds
 abbrev pub unknown_rows : Stage → ℕ
@@ -32,7 +33,8 @@ planes_read known = sum (map (λ column. column.read) known)
 pub record IsProgress (stage : Stage) (p : Progress) : Type 0 where
   pub sound : IsSound p
   pub columns : p.columns ≡ length stage.frame.columns
-  pub unread : (c : ℕ) → c < length stage.frame.columns → slice_index p.unread c + (known_at stage.known c).read ≡ planes (ends_at stage.frame c)
+  pub unread : (c : ℕ) → c < length stage.frame.columns →
+      slice_index p.unread c + (known_at stage.known c).read ≡ planes (ends_at stage.frame c)
   pub role : (c : ℕ) → c < length stage.frame.columns → slice_get p.role c ≡ Some (role_of stage.query c)
   pub unknown : p.unknown ≡ unknown_rows stage
   pub done : p.done ≡ planes_read stage.known
@@ -56,4 +58,5 @@ planes_of_column c steps = filter_map (λ step. if step.column == c then option.
 -- two lists of steps with the same planes of each column, however interleaved, leave the same knowledge, and so the same bounds
 abbrev pub OrdersAgree : Type 0
 OrdersAgree =
-    (known : Knowledge) (a b : List Step) → ((c : ℕ) → planes_of_column c a ≡ planes_of_column c b) → known_after known a ≡ known_after known b
+    (known : Knowledge) (a b : List Step) → ((c : ℕ) → planes_of_column c a ≡ planes_of_column c b) →
+    known_after known a ≡ known_after known b

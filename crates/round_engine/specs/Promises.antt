@@ -7,7 +7,7 @@ use Rattle.query_model.specs.declared.bounds.Nullity.TheVariants.{Always}
 use Rattle.query_model.specs.declared.bounds.Bound.{Bound}
 use Rattle.query_model.specs.declared.query.Face.{Face}
 use Rattle.query_model.specs.declared.query.Face.TheVariants.{Number, OfColumn}
-use Rattle.query_model.specs.declared.query.Item.{Item}
+use Rattle.query_model.specs.Queries.{Aggregate}
 use Rattle.query_model.specs.declared.query.ItemKind.TheVariants.{Avg}
 use Rattle.query_model.specs.Bounds.{Admits, AdmitsAverage, IsExtremes, IsNested, IsNestedAverage, average_under, bound_under}
 use Rattle.query_model.specs.Knowledge.{IsAllRead}
@@ -16,37 +16,45 @@ use Rattle.query_model.specs.Worlds.{AgreesWith, answer_on, average_on}
 use Rattle.round_engine.specs.Stages.{Stage}
 
 -- of an item that is no average, over whole tables with a frame
-pub record IsCertainBound (stage : Stage) (item : Item) (frame : Frame) : Type 0 where
+pub record IsCertainBound (stage : Stage) (item : Aggregate) (frame : Frame) : Type 0 where
   -- the bound admits the answer on each table that agrees with what is known
   pub contains : (world : Cells) → AgreesWith stage.query frame stage.known world →
       Admits (bound_under stage.query item [] stage.frame stage.known) (answer_on stage.query item [] frame world)
   -- where the item reads no column twice, the bound is as narrow as it can be: its ends are answers on such tables
   pub tight : IsTrue (reads_each_once stage.query item) →
-      IsExtremes (AgreesWith stage.query frame stage.known) (answer_on stage.query item [] frame) (bound_under stage.query item [] stage.frame stage.known)
+      IsExtremes (AgreesWith stage.query frame stage.known) (answer_on stage.query item [] frame)
+      (bound_under stage.query item [] stage.frame stage.known)
   -- where all planes are read, the ends are the answer
-  pub exact : IsAllRead stage.frame stage.known → (bound_under stage.query item [] stage.frame stage.known).null ≢ Always → (world : Cells) → AgreesWith stage.query frame stage.known world →
+  pub exact : IsAllRead stage.frame stage.known → (bound_under stage.query item [] stage.frame stage.known).null ≢ Always →
+      (world : Cells) → AgreesWith stage.query frame stage.known world →
       (answer_on stage.query item [] frame world ≡ Some (bound_under stage.query item [] stage.frame stage.known).lo)
       × (answer_on stage.query item [] frame world ≡ Some (bound_under stage.query item [] stage.frame stage.known).hi)
 
 -- of an average: it is not said to be as narrow as it can be
-pub record IsCertainAverage (stage : Stage) (item : Item) (frame : Frame) : Type 0 where
+pub record IsCertainAverage (stage : Stage) (item : Aggregate) (frame : Frame) : Type 0 where
   pub contains : (world : Cells) → AgreesWith stage.query frame stage.known world →
       AdmitsAverage (average_under stage.query item [] stage.frame stage.known) (average_on stage.query item [] frame world)
-  pub exact : IsAllRead stage.frame stage.known → (average_under stage.query item [] stage.frame stage.known).null ≢ Always → (world : Cells) → AgreesWith stage.query frame stage.known world →
+  pub exact : IsAllRead stage.frame stage.known → (average_under stage.query item [] stage.frame stage.known).null ≢ Always →
+      (world : Cells) → AgreesWith stage.query frame stage.known world →
       let bound = average_under stage.query item [] stage.frame stage.known in
-      (average_on stage.query item [] frame world ≡ Some (bound.lo.num, bound.lo.den)) × (average_on stage.query item [] frame world ≡ Some (bound.hi.num, bound.hi.den))
+      (average_on stage.query item [] frame world ≡ Some (bound.lo.num, bound.lo.den))
+      × (average_on stage.query item [] frame world ≡ Some (bound.hi.num, bound.hi.den))
 
 -- what holds of an item's bound
-pub record IsCertain (stage : Stage) (item : Item) (frame : Frame) : Type 0 where
+pub record IsCertain (stage : Stage) (item : Aggregate) (frame : Frame) : Type 0 where
   pub bound : item.kind ≢ Avg → IsCertainBound stage item frame
   pub average : item.kind ≡ Avg → IsCertainAverage stage item frame
 
 -- the item's bound at the second stage lies within that at the first
-pub record LiesWithin (old new : Stage) (item : Item) : Type 0 where
-  pub bound : item.kind ≢ Avg → IsNested (bound_under old.query item [] old.frame old.known) (bound_under new.query item [] new.frame new.known)
-  pub average : item.kind ≡ Avg → IsNestedAverage (average_under old.query item [] old.frame old.known) (average_under new.query item [] new.frame new.known)
+pub record LiesWithin (old new : Stage) (item : Aggregate) : Type 0 where
+  pub bound : item.kind ≢ Avg →
+      IsNested (bound_under old.query item [] old.frame old.known) (bound_under new.query item [] new.frame new.known)
+  pub average : item.kind ≡ Avg →
+      IsNestedAverage (average_under old.query item [] old.frame old.known) (average_under new.query item [] new.frame new.known)
 
 -- the ends of a bound that is shown as a value of a column are numbers that the column may have
 abbrev pub IsShownWithin : Frame → Face → Bound → Type 0
 IsShownWithin frame (Number scale) bound = Unit {0}
-IsShownWithin frame (OfColumn c) bound = bound.null ≢ Always → Within (declared_range (ends_at frame c)) bound.lo × Within (declared_range (ends_at frame c)) bound.hi
+IsShownWithin frame (OfColumn c) bound =
+    bound.null ≢ Always →
+    Within (declared_range (ends_at frame c)).numbers bound.lo × Within (declared_range (ends_at frame c)).numbers bound.hi

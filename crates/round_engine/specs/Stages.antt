@@ -3,9 +3,8 @@ use Rattle.std.specs.Prelude.{◌≡◌, ℕ, ◌+◌, ◌<◌, ◌≤◌, Bool,
 use Rattle.std.specs.List.{AllByRecursion}
 use Rattle.daq_table.specs.declared.table_head.Head.{Head}
 use Rattle.daq_table.specs.Tables.{Frame, ends_at, frame_of, planes}
-use Rattle.query_model.specs.declared.query.Item.{Item}
+use Rattle.query_model.specs.Queries.{Aggregate, Query}
 use Rattle.query_model.specs.declared.query.Shape.TheVariants.{Plain}
-use Rattle.query_model.specs.declared.query.TypedQuery.{TypedQuery}
 use Rattle.query_model.specs.Knowledge.{IsKnowledge, IsLegal, Knowledge, known_at, longer, start, taken}
 use Rattle.query_model.specs.Meaning.{PredReadsBelow, ReadsBelow}
 use Rattle.query_model.specs.Projection.{projected_frame}
@@ -13,13 +12,14 @@ use Rattle.query_model.specs.Validity.{FaceOf, FitsItem}
 
 -- a query, the rows and the ends of its columns, and what is known of these
 pub record Stage : Type 0 where
-  pub query : TypedQuery
+  pub query : Query
   pub frame : Frame
   pub known : Knowledge
 
 -- nothing is read
-abbrev pub opened : TypedQuery → Head → Stage
-opened query head = record { query = query; frame = projected_frame query (frame_of head); known = start (projected_frame query (frame_of head)) }
+abbrev pub opened : Query → Head → Stage
+opened query head =
+    record { query = query; frame = projected_frame query (frame_of head); known = start (projected_frame query (frame_of head)) }
 
 -- after the next plane of a column, with these bits
 abbrev pub stepped : Stage → ℕ → List Bool → Stage
@@ -32,7 +32,8 @@ pub record HasPlane (stage : Stage) (c : ℕ) : Type 0 where
 
 -- with these bits as the column's next plane, the row's prefix stays that of some cell
 abbrev pub StaysLegal : Stage → ℕ → List Bool → ℕ → Type 0
-StaysLegal stage c bits row = IsLegal (ends_at stage.frame c) ((known_at stage.known c).read + 1) (slice_index (longer (known_at stage.known c).prefixes bits) row)
+StaysLegal stage c bits row =
+    IsLegal (ends_at stage.frame c) ((known_at stage.known c).read + 1) (slice_index (longer (known_at stage.known c).prefixes bits) row)
 
 -- the row is the first whose prefix would be that of no cell
 pub record IsFirstOver (stage : Stage) (c : ℕ) (bits : List Bool) (row : ℕ) : Type 0 where
@@ -41,12 +42,12 @@ pub record IsFirstOver (stage : Stage) (c : ℕ) (bits : List Bool) (row : ℕ) 
   pub first : (r : ℕ) → r < row → StaysLegal stage c bits r
 
 -- what an engine keeps of the validity of its query, for which it needs no head: numbers of columns are in range, and values and sums fit
-pub record IsOpenItem (frame : Frame) (item : Item) : Type 0 where
+pub record IsOpenItem (frame : Frame) (item : Aggregate) : Type 0 where
   pub columns : ReadsBelow (length frame.columns) item.arg
   pub face : FaceOf item.kind item.arg item.face
   pub fits : FitsItem frame item
 
-pub record IsOpenQuery (query : TypedQuery) (frame : Frame) : Type 0 where
+pub record IsOpenQuery (query : Query) (frame : Frame) : Type 0 where
   pub columns : length frame.columns ≡ length query.columns
   pub few_columns : length query.columns ≤ 16
   pub few_items : length query.items ≤ 16

@@ -2,14 +2,13 @@
 
 ghost use Rattle.std.specs.Prelude.{◌≡◌, ◌<◌, ◌^◌, IfOk};
 ghost use Rattle.kleene_filter.specs.Filters.{truths_under};
-ghost use Rattle.query_model.specs.declared.query.TypedQuery.{TypedQuery};
 ghost use Rattle.round_engine.specs.Engines.{stage_of, AreAnswers, AreAnswersOf, HoldItems};
 ghost use Rattle.round_engine.specs.Narrowness.{is_narrow};
 ghost use Rattle.round_engine.specs.Stages.{IsOpenStage, Stage};
 
 use crate::totals::Totals;
 use kleene_filter::Filter;
-use known_column::KnownColumns;
+use known_column::{KnownColumns, RowBlock};
 use query_model::TypedQuery;
 use std::alloc::{AllocError, Global};
 
@@ -28,14 +27,22 @@ impl Answers {
     }
 
     // Computes them anew.
-    pub(crate) fn fill(&mut self, query: &TypedQuery, columns: &KnownColumns, filter: &Filter)
+    pub(crate) fn fill(
+        &mut self,
+        query: &TypedQuery,
+        columns: &KnownColumns,
+        filter: &Filter,
+        block: &mut RowBlock,
+    )
         requires open_stage { IsOpenStage (stage_of query.now columns.now) }
         requires judged { filter.now ≡ truths_under query.now.pred columns.now }
         requires room { HoldItems query.now.items self.old }
-        ensures { AreAnswers (stage_of query.now columns.now) self.new }
+        requires same { block.old.frame.columns ≡ columns.now.frame.columns }
+        ensures same { block.new.frame.columns ≡ columns.now.frame.columns }
+        ensures answers { AreAnswers (stage_of query.now columns.now) self.new }
     {
         match self {
-            Answers::Totals(totals) => totals.fill(query, columns, filter),
+            Answers::Totals(totals) => totals.fill(query, columns, filter, block),
         }
     }
 

@@ -26,13 +26,12 @@ pub struct Engine {
 impl Model for Engine {
     ghost use Rattle.round_engine.specs.Engines.{stage_of, IsEngine};
     ghost use Rattle.round_engine.specs.Stages.{Stage};
-    ghost use Rattle.query_model.specs.contracts.query.Expr as expr;
-    ghost use Rattle.query_model.specs.contracts.query.Pred as pred;
+    ghost use Rattle.query_model.specs.Codes.{query_code};
     ghost use Rattle.std.specs.Coded.{codes};
 
     ghost Value = { Stage };
 
-    ghost coded = { Prim.hlevel (codes, expr.the_row.coded, pred.the_row.coded) };
+    ghost coded = { Prim.hlevel (codes, query_code) };
 
     ghost view = { λ e. stage_of e.query e.state.columns };
 
@@ -53,7 +52,7 @@ impl Engine {
     }
 
     /// Takes the next plane of a column of the query. Refused, with nothing changed, where a row's prefix would then be that of no
-    /// cell.
+    /// cell: that of a number above the column's top, or one that goes on behind null.
     pub fn step(&mut self, column: usize, plane: &Plane) -> Result<(), OverTop>
         requires plane { HasPlane self.old column }
         requires rows { length plane.now ≡ self.old.frame.rows }

@@ -16,4 +16,6 @@ pub use engine::Engine;
 pub use laws::orders_agree;
 
 #[cfg(test)]
+mod null_tests;
+#[cfg(test)]
 mod tests;

@@ -7,9 +7,17 @@ ghost use Rattle.round_engine.specs.Engines.{stage_of, IsEngine};
 ghost use Rattle.round_engine.specs.Progresses.{IsProgress, planes_read};
 
 use crate::state::State;
-use known_column::KnownColumns;
+use known_column::{Known, KnownColumns};
 use plane_schedule::Progress;
 use query_model::TypedQuery;
+
+// The planes of a column, from 0 to 65.
+fn plane_count(known: &Known) -> u8
+    ensures all { result ≡ planes known.now.ends }
+    ensures few { result ≤ 65 }
+{
+    known.width() + u8::from(known.nullable())
+}
 
 // The unread planes of each column, and how many planes were read of all.
 fn planes_of(columns: &KnownColumns) -> ([u8; 16], u32)
@@ -25,7 +33,7 @@ fn planes_of(columns: &KnownColumns) -> ([u8; 16], u32)
     for column in 0..columns.len() {
         let left = columns.unread(column);
         unread[column] = left;
-        read += u32::from(columns.column(column).width() - left);
+        read += u32::from(plane_count(columns.column(column)) - left);
     }
     (unread, read)
 }

@@ -7,7 +7,7 @@ ghost use Rattle.daq_table.specs.Tables.{frame_of};
 ghost use Rattle.query_model.specs.declared.query.ItemKind.TheVariants.{Avg};
 ghost use Rattle.query_model.specs.Bounds.{average_under, bound_under, fractions_of};
 ghost use Rattle.query_model.specs.Knowledge.{ranges_of};
-ghost use Rattle.query_model.specs.Truths.{span_of, truth_of};
+ghost use Rattle.query_model.specs.Truths.{null_of, span_of, truth_of};
 ghost use Rattle.query_model.specs.Validity.{FitsHead};
 ghost use Rattle.round_engine.specs.Narrowness.{is_narrow};
 ghost use Rattle.round_engine.specs.Progresses.{IsProgress};
@@ -17,19 +17,21 @@ use crate::engine::Engine;
 use interval_calc::Interval;
 use plane_schedule::Progress;
 use query_model::{
-    AverageBound, Bound, Truth, average_bounds_become_exact_on_tables,
+    AverageBound, Bound, Nullity, Truth, average_bounds_become_exact_on_tables,
     average_bounds_contain_on_tables, bounds_are_extremes_on_tables, bounds_become_exact_on_tables,
     bounds_contain_on_tables, fitting_heads_have_parts,
 };
-use row_values::span_of;
+use row_values::{null_of, span_of};
 
 impl Engine {
     /// The bound of an item that is no average: what is computed from the prefixes alone, and what it says of the answer.
     pub fn plain(&self, item: usize) -> Bound
         requires item { item < length self.now.query.items }
         requires kind { IfSome (slice_get self.now.query.items item) (λ i. i.kind ≢ Avg) }
-        ensures bound { IfSome (slice_get self.now.query.items item) (λ i. result ≡ bound_under self.now.query i [] self.now.frame self.now.known) }
-        ensures certain { IfSome (slice_get self.now.query.items item) (λ i. (head : Head) → FitsHead self.now.query self.now.frame head → IsCertainBound self.now i (frame_of head)) }
+        ensures bound { IfSome (slice_get self.now.query.items item) (λ i.
+            result ≡ bound_under self.now.query i [] self.now.frame self.now.known) }
+        ensures certain { IfSome (slice_get self.now.query.items item) (λ i.
+            (head : Head) → FitsHead self.now.query self.now.frame head → IsCertainBound self.now i (frame_of head)) }
         ensures shown { IfSome (slice_get self.now.query.items item) (λ i. IsShownWithin self.now.frame i.face result) }
     {
         bounds_contain_on_tables();
@@ -43,8 +45,10 @@ impl Engine {
     pub fn average(&self, item: usize) -> AverageBound
         requires item { item < length self.now.query.items }
         requires kind { IfSome (slice_get self.now.query.items item) (λ i. i.kind ≡ Avg) }
-        ensures bound { IfSome (slice_get self.now.query.items item) (λ i. fractions_of result ≡ average_under self.now.query i [] self.now.frame self.now.known) }
-        ensures certain { IfSome (slice_get self.now.query.items item) (λ i. (head : Head) → FitsHead self.now.query self.now.frame head → IsCertainAverage self.now i (frame_of head)) }
+        ensures bound { IfSome (slice_get self.now.query.items item) (λ i.
+            fractions_of result ≡ average_under self.now.query i [] self.now.frame self.now.known) }
+        ensures certain { IfSome (slice_get self.now.query.items item) (λ i.
+            (head : Head) → FitsHead self.now.query self.now.frame head → IsCertainAverage self.now i (frame_of head)) }
     {
         average_bounds_contain_on_tables();
         average_bounds_become_exact_on_tables();
@@ -81,24 +85,33 @@ impl Engine {
         }
     }
 
-    /// Where the argument of an item lies at a row.
+    /// Where the argument of an item lies at a row, if it is not null.
     pub fn span(&self, item: usize, row: usize) -> Interval
         requires item { item < length self.now.query.items }
         requires row { row < self.now.frame.rows }
-        ensures { IfSome (slice_get self.now.query.items item) (λ i. interval_of result ≡ span_of i.arg (ranges_of self.now.frame self.now.known row)) }
+        ensures { IfSome (slice_get self.now.query.items item) (λ i.
+            interval_of result ≡ span_of i.arg (ranges_of self.now.frame self.now.known row)) }
     {
-        span_of(
-            &self.query.items.as_slice()[item].arg,
-            row,
-            &self.state.columns,
-        )
+        let item = &self.query.items.as_slice()[item];
+        span_of(&item.arg, row, &self.state.columns)
     }
 
-    /// Where the value of a column lies at a row.
+    /// Whether the argument of an item is null at a row.
+    pub fn missing(&self, item: usize, row: usize) -> Nullity
+        requires item { item < length self.now.query.items }
+        requires row { row < self.now.frame.rows }
+        ensures { IfSome (slice_get self.now.query.items item) (λ i.
+            result ≡ null_of i.arg (ranges_of self.now.frame self.now.known row)) }
+    {
+        let item = &self.query.items.as_slice()[item];
+        null_of(&item.arg, row, &self.state.columns)
+    }
+
+    /// Where the value of a column lies at a row, if it is not null.
     pub fn range(&self, column: usize, row: usize) -> Interval
         requires column { column < length self.now.query.columns }
         requires row { row < self.now.frame.rows }
-        ensures { interval_of result ≡ ranges_of self.now.frame self.now.known row column }
+        ensures { interval_of result ≡ (ranges_of self.now.frame self.now.known row column).numbers }
     {
         self.state.columns.range(column, row)
     }

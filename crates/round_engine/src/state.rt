@@ -14,15 +14,17 @@ use crate::answers::Answers;
 use crate::roles::roles_of;
 use daq_table::Head;
 use kleene_filter::Filter;
-use known_column::{KnownColumns, OverTop};
+use known_column::{KnownColumns, OverTop, RowBlock};
 use plane_kernels::Plane;
 use plane_schedule::Role;
 use query_model::{TypedQuery, start_is_knowledge, taken_is_knowledge};
 use std::alloc::{AllocError, Global};
 
+// The block lends its room wherever rows are read.
 #[derive(Drop)]
 pub(crate) struct State {
     pub(crate) columns: KnownColumns,
+    pub(crate) block: RowBlock,
     pub(crate) filter: Filter,
     pub(crate) answers: Answers,
     pub(crate) roles: [Role; 16],
@@ -38,11 +40,13 @@ impl State {
     {
         start_is_knowledge();
         let columns = KnownColumns::open(alloc, query.columns.as_slice(), head)?;
-        let filter = Filter::open(alloc, &query.pred, &columns)?;
+        let mut block = RowBlock::open(alloc, &columns)?;
+        let filter = Filter::open(alloc, &query.pred, &columns, &mut block)?;
         let mut answers = Answers::open(alloc, query)?;
-        answers.fill(query, &columns, &filter);
+        answers.fill(query, &columns, &filter, &mut block);
         Ok(State {
             columns,
+            block,
             filter,
             answers,
             roles: roles_of(query),
@@ -67,9 +71,10 @@ impl State {
     {
         taken_is_knowledge();
         self.columns.take(column, plane)?;
+        let block = &mut self.block;
         self.filter
-            .refresh(&query.pred, &self.columns, column, plane);
-        self.answers.fill(query, &self.columns, &self.filter);
+            .refresh(&query.pred, &self.columns, column, plane, block);
+        self.answers.fill(query, &self.columns, &self.filter, block);
         Ok(())
     }
 }

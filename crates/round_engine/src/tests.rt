@@ -3,11 +3,10 @@ ghost use Rattle.std.specs.Prelude.{◌≡◌, ◌≢◌, pos, [], ◌∷◌, le
 ghost use Rattle.daq_table.specs.declared.head.Kind.TheVariants.{Int};
 ghost use Rattle.daq_table.specs.Tables.{ends_at, frame_of};
 ghost use Rattle.query_model.specs.declared.query.Atom.TheVariants.{Compare};
-ghost use Rattle.query_model.specs.declared.query.Expr.TheVariants.{Column, Literal};
+ghost use Rattle.query_model.specs.Queries.{Column, Literal, Single};
 ghost use Rattle.query_model.specs.declared.query.Face.TheVariants.{Number, OfColumn};
 ghost use Rattle.query_model.specs.declared.query.ItemKind.TheVariants.{Avg, Count, Min};
 ghost use Rattle.query_model.specs.declared.query.Comparison.TheVariants.{Ge};
-ghost use Rattle.query_model.specs.declared.query.Pred.TheVariants.{Atom as OfAtom};
 ghost use Rattle.query_model.specs.declared.query.Shape.TheVariants.{Plain};
 
 use crate::Engine;
@@ -34,6 +33,7 @@ fn small_head(alloc: Global) -> Result<Head, AllocError>
     let column = ColumnHead {
         name: Name::new(Vec::from_slice(alloc, b"v")?),
         kind: Kind::Int,
+        nullable: false,
         base: 1,
         top: 3,
         names: Dictionary::new(Vec::new(alloc)),
@@ -49,7 +49,7 @@ fn small_query(alloc: Global) -> Result<TypedQuery, AllocError>
     ensures columns { IfOk result (λ query. query.columns ≡ 0 ∷ []) }
     ensures items { IfOk result (λ query. query.items ≡ record { kind = Count; arg = Literal (pos 0); face = Number 0 }
         ∷ record { kind = Min; arg = Column 0; face = OfColumn 0 } ∷ record { kind = Avg; arg = Column 0; face = Number 0 } ∷ []) }
-    ensures condition { IfOk result (λ query. query.pred ≡ OfAtom (Compare 0 Ge (pos 2))) }
+    ensures condition { IfOk result (λ query. query.pred ≡ Single (Compare 0 Ge (pos 2))) }
     ensures plain { IfOk result (λ query. query.shape ≡ Plain) }
 {
     let count = Item {

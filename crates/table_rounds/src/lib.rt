@@ -1,6 +1,7 @@
 //! The rounds of a query by a plan: what holds of them over a table, and the step that reads the next plane from a source of planes.
 #![tactic(auto)]
 
+mod cutting;
 mod laws;
 mod reading;
 mod source;

@@ -15,7 +15,7 @@ ghost use Rattle.table_rounds.specs.Sources.{IsNextRound, IsOverTop, IsPlane, Kn
 
 use crate::laws::rounds_have_planes;
 use crate::source::PlaneSource;
-use daq_table::{Head, width};
+use daq_table::{Head, planes};
 use plane_kernels::Plane;
 use plane_schedule::{Chooser, Ending, Plan, Progress, policies_choose};
 use query_model::{planes_are_taken, tables_agree, valid_queries_name_columns};
@@ -57,7 +57,7 @@ fn next_place(engine: &Engine, head: &Head, number: usize) -> (usize, u8)
 {
     valid_queries_name_columns();
     let column = engine.query().columns.as_slice()[number];
-    let planes = width(&head.columns.as_slice()[column]);
+    let planes = planes(&head.columns.as_slice()[column]);
     (column, planes - engine.progress().unread[number])
 }
 

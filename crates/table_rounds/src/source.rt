@@ -4,8 +4,9 @@ ghost use Rattle.std.specs.Prelude.{◌≡◌, ◌<◌, length, OnOk, Some};
 ghost use Rattle.daq_table.specs.Tables.{ends_at, frame_of, planes};
 ghost use Rattle.table_rounds.specs.Sources.{IsPlane, IsTold, ToldTable};
 
-use daq_table::{Head, Table, width};
-use plane_kernels::{Plane, transpose};
+use crate::cutting::cut;
+use daq_table::{Head, Table};
+use plane_kernels::Plane;
 use std::convert::Infallible;
 
 /// The planes of a table, of which some or all are read. What is declared of the table is told; what its cells are may be told.
@@ -42,9 +43,8 @@ impl PlaneSource for &Table {
 
     fn read(&mut self, column: usize, number: u8, into: &mut Plane) -> Result<(), Infallible> {
         // The head's clause says that the cells fit it.
-        let head = (**self).head();
-        let planes = width(&head.columns.as_slice()[column]);
-        transpose(self.column(column), planes, number, into);
+        let _head = (**self).head();
+        cut(self, column, number, into);
         Ok(())
     }
 }

@@ -5,10 +5,9 @@ ghost use Rattle.daq_table.specs.declared.head.Kind.TheVariants.{Int};
 ghost use Rattle.query_model.specs.Validity.{FitsHead};
 ghost use Rattle.query_model.specs.declared.query.Atom.TheVariants.{Compare};
 ghost use Rattle.query_model.specs.declared.query.Comparison.TheVariants.{Ge};
-ghost use Rattle.query_model.specs.declared.query.Expr.TheVariants.{Literal};
+ghost use Rattle.query_model.specs.Queries.{Literal, Single};
 ghost use Rattle.query_model.specs.declared.query.Face.TheVariants.{Number};
 ghost use Rattle.query_model.specs.declared.query.ItemKind.TheVariants.{Count};
-ghost use Rattle.query_model.specs.declared.query.Pred.TheVariants.{Atom as OfAtom};
 ghost use Rattle.query_model.specs.declared.query.Shape.TheVariants.{Plain};
 
 use crate::{PlaneSource, StepFault, ending, read_next};
@@ -58,6 +57,7 @@ fn small_head(alloc: Global) -> Result<Head, AllocError>
     let column = ColumnHead {
         name: Name::new(Vec::from_slice(alloc, b"v")?),
         kind: Kind::Int,
+        nullable: false,
         base: 0,
         top: 5,
         names: Dictionary::new(Vec::new(alloc)),
@@ -72,7 +72,7 @@ fn small_head(alloc: Global) -> Result<Head, AllocError>
 fn question(alloc: Global) -> Result<TypedQuery, AllocError>
     ensures columns { IfOk result (λ query. query.columns ≡ 0 ∷ []) }
     ensures items { IfOk result (λ query. query.items ≡ record { kind = Count; arg = Literal (pos 0); face = Number 0 } ∷ []) }
-    ensures condition { IfOk result (λ query. query.pred ≡ OfAtom (Compare 0 Ge (pos 3))) }
+    ensures condition { IfOk result (λ query. query.pred ≡ Single (Compare 0 Ge (pos 3))) }
     ensures plain { IfOk result (λ query. query.shape ≡ Plain) }
 {
     let count = Item {

@@ -1,5 +1,6 @@
 -- The bound of an item can be shown under its face.
-use Rattle.std.proofs.Common.{Option, IfSome, sym, subst}
+use Rattle.std.proofs.Common.{Option, IfSome, sym, ap, subst}
+use Rattle.query_model.specs.declared.query.Face.{Face}
 use Rattle.query_model.specs.declared.query.Item.{Item}
 use Rattle.query_model.specs.declared.query.TypedQuery.{TypedQuery}
 use Rattle.round_engine.specs.Promises.{IsShownWithin}
@@ -13,4 +14,5 @@ write_bound-requires g c =
     let item = c.args.item.now in
     let shown = subst (λ (o : Option Item). IfSome o (λ i. IsShownWithin stage.frame i.face c.plain.result)) c.requires.there c.plain.ensures.shown in
     let can = bound_shows c.args.head.now stage.query stage.frame c.args.place item c.plain.result c.requires.fits c.requires.texts c.query-query.ensures.open_query c.requires.there shown in
-    subst (λ (q : TypedQuery). CanShowBound c.args.head.now q item.face c.plain.result) (sym c.query-query.ensures.query) can
+    let shows = subst (λ (q : TypedQuery). CanShowBound c.args.head.now q item.face c.plain.result) (sym c.query-query.ensures.query) can in
+    subst (λ (f : Face). CanShowBound c.args.head.now c.query-query.result.now f c.plain.result) (sym (ap (λ (i : Item). i.face) c.item.view_is)) shows

@@ -10,5 +10,5 @@ invariant-loop-column l = record {
   told : (k : ℕ) → k < l.column → slice_index l.unread k + (known_at l.columns.known k).read ≡ planes (ends_at l.columns.frame k);
   few : (k : ℕ) → slice_index l.unread k ≤ 65;
   sum : l.read ≡ planes_read (take l.column l.columns.known);
-  small : l.read ≤ 64 * l.column;
+  small : l.read ≤ 65 * l.column;
 }

@@ -1,8 +1,11 @@
-use Rattle.std.proofs.Common.{arith}
+use Rattle.std.proofs.Common.{subst, arith}
+use Rattle.aggregates.specs.Runnings.{IsBlank}
+use Rattle.query_model.specs.Queries.{Aggregate}
 use Rattle.round_engine.proofs.Openings.{opened_more}
 use Rattle.round_engine.proofs.totals.Totals.open.Goals as goal
 
 pub loop-item-preserved : goal.loop-item-preserved
 loop-item-preserved c =
     let pushed = c.in_ok-push.ensures.items in
-    rw pushed (opened_more c.args.items.now c.loop-item.item-index c.item-item.result c.loop-item.runnings.items c.in_ok-open.field-0 (omega arith) c.item-item.is c.loop-item.invariant c.in_ok-open.ensures)
+    let blank = subst (λ (i : Aggregate). IsBlank c.in_ok-open.field-0 i.kind 1 1) c.item.view_is c.in_ok-open.ensures in
+    rw pushed (opened_more c.args.items.now c.loop-item.item-index c.item-item.result c.loop-item.runnings.items c.in_ok-open.field-0 (omega arith) c.item-item.is c.loop-item.invariant blank)
