@@ -87,7 +87,7 @@ module _ (law : StepsAreExact) (ask : Ask) (input input' : SourceState) (out out
   ask_accepted why question (at_words p i o) (bytes, told, accepted) = absurd ((law.ask ask bytes).apart question why accepted (words_anyway ask bytes why p))
   ask_accepted why question (at_input stop o) (bytes, told, accepted) = absurd ((law.ask ask bytes).apart question why accepted (told_too ask input input' bytes why told stop))
   ask_accepted why question (read_fault words rose taken o) accepted = inr (inl rose)
-  ask_accepted why question (write_fault does) accepted = inr (inr does.reported.report.written.written.cause.failed)
+  ask_accepted why question (write_fault does) accepted = inr (inr does.reported.written.cause.failed)
   ask_accepted why question (no_memory few taken o) accepted = inl refl
 
 -- but for a failed write nothing was written

@@ -79,7 +79,7 @@ module _ (ask : Ask) (out : SinkState) where
             bytes = bytes;
             read = read;
             question = question_of query ask.options table;
-            accepted = (query, is_text, (columns, declared, (table, is_table, (refl, record { typed = reported.typed; plan = reported.plan; planned = reported.planned }))));
+            accepted = (query, is_text, (columns, declared, (table, is_table, (refl, record { typed = reported.is_report.typed; plan = reported.is_report.plan; planned = reported.is_report.planned }))));
             reported = reported;
           }
 
@@ -98,7 +98,7 @@ module _ (ask : Ask) (out : SinkState) where
             bytes = bytes;
             read = read;
             question = question_of query ask.options table;
-            accepted = (query, is_text, (columns, declared, (table, is_table, (refl, record { typed = reported.typed; plan = reported.plan; planned = reported.planned }))));
+            accepted = (query, is_text, (columns, declared, (table, is_table, (refl, record { typed = reported.is_report.typed; plan = reported.is_report.plan; planned = reported.is_report.planned }))));
             reported = reported;
           })
           ask_question why (question.no_memory o) = no_memory is_text.short all_taken o

@@ -27,7 +27,7 @@ module _ (law : StepsAreExact) (demo : Demo) (out out' : SinkState) where
   -- where it is accepted, nothing but want of memory and faults stops the run
   pub demo_accepted : (why : Refusal) (question : Question) → DemoCause demo out out' why → (demo_step demo).accepts question → (why ≡ NoMemory) ⊎ Rose out.faults out'.faults
   demo_accepted why question (step p o) accepted = absurd ((law.demo demo).apart question why accepted p)
-  demo_accepted why question (write_fault does) accepted = inr does.reported.report.written.written.cause.failed
+  demo_accepted why question (write_fault does) accepted = inr does.reported.written.cause.failed
   demo_accepted why question (no_memory few o) accepted = inl refl
 
 -- but for a failed write nothing was written

@@ -29,7 +29,7 @@ module _ (demo : Demo) (out : SinkState) where
       pub demo_done : Reports (question_of query demo.options table) whole out out' → Demonstrates demo whole out out'
       demo_done reported = record {
         question = question_of query demo.options table;
-        accepted = (query, is_text, (table, is_table, (refl, record { typed = reported.typed; plan = reported.plan; planned = reported.planned })));
+        accepted = (query, is_text, (table, is_table, (refl, record { typed = reported.is_report.typed; plan = reported.is_report.plan; planned = reported.is_report.planned })));
         reported = reported;
       }
 
@@ -38,7 +38,7 @@ module _ (demo : Demo) (out : SinkState) where
       demo_question why (question.step p o) = step (inr (query, is_text, inr (table, is_table, p))) o
       demo_question why (question.write_fault reported) = write_fault (record {
         question = question_of query demo.options table;
-        accepted = (query, is_text, (table, is_table, (refl, record { typed = reported.typed; plan = reported.plan; planned = reported.planned })));
+        accepted = (query, is_text, (table, is_table, (refl, record { typed = reported.is_report.typed; plan = reported.is_report.plan; planned = reported.is_report.planned })));
         reported = reported;
       })
       demo_question why (question.no_memory o) = no_memory is_text.short o

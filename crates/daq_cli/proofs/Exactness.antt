@@ -1,19 +1,16 @@
 -- Each step of a command is exact: it accepts one value at most or shows one refusal at most, and never does both.
-use Rattle.std.proofs.Common.{◌≡◌, ◌≢◌, ℕ, ◌<◌, ◌==◌, List, [], length, map, slice_index, slice_index_or, count_by, Ok, Err, Result, refl, sym, ap, ◌∙◌, subst, arith, inl, inr, ◌⊎◌}
+use Rattle.std.proofs.Common.{◌≡◌, ◌≢◌, ℕ, ◌<◌, List, length, Ok, Err, refl, sym, ap, ◌∙◌, subst, arith, inl, inr, ◌⊎◌}
 use Rattle.command_line.specs.Commands.{Ask, Demo, Options, reads}
 use Rattle.csv_load.specs.Laws as table_laws
 use Rattle.daq_table.specs.SchemaLaws as schema_laws
-use Rattle.daq_table.specs.Tables.{Contents, ends_at, frame_of, planes}
+use Rattle.daq_table.specs.Tables.{Contents}
 use Rattle.daq_table.specs.declared.table_head.Head.{Head}
 use Rattle.daq_table.specs.declared.schema_column.SchemaColumn.{SchemaColumn}
 use Rattle.plane_reads.specs.Reads as reads_laws
-use Rattle.plane_reads.specs.Reads.{AreFirstReads, IsAnswer, IsNamed}
+use Rattle.plane_reads.specs.Reads.{IsAnswer}
 use Rattle.plane_reads.specs.declared.fault.ReadsFault.{ReadsFault}
 use Rattle.plane_reads.specs.declared.fault.ReadsFault.TheVariants as r
-use Rattle.plane_schedule.specs.Plans.{IsReadableList}
 use Rattle.plane_schedule.specs.declared.policy.Policy.{Policy}
-use Rattle.query_model.specs.Projection.{projected_frame}
-use Rattle.query_model.specs.Validity.{IsValid}
 use Rattle.query_model.specs.declared.query.TypedQuery.{TypedQuery}
 use Rattle.sql_text.specs.Answer.{Breaks, IsFault, IsText, fault_of}
 use Rattle.sql_text.specs.Tree as sql
@@ -45,6 +42,7 @@ pub record Laws : Type 0 where
   pub table_faults : table_laws.HasOneFault
   pub good_tables : table_laws.IsFaultless
   pub typings : typing_laws.IsTypedOnce
+  pub valid : typing_laws.IsTypedValid
   pub type_faults : typing_laws.HasOneFault
   pub good_typings : typing_laws.IsFaultless
   pub seeds : seed_laws.StandsOnce
@@ -125,47 +123,6 @@ generator_exact law seed rows = record {
 
 -- ---- the reads
 
--- what a word lists depends on the columns of a query alone
-module _ (word : List ℕ) (head : Head) (one other : TypedQuery) (same : other.columns ≡ one.columns) where
-  named_too : (c : ℕ) (name : List ℕ) → IsNamed other head c name → IsNamed one head c name
-  named_too c name n = record {
-    in_query = subst (λ columns. c < length columns) same n.in_query;
-    same = subst (λ columns. slice_index_or (map (λ column. column.name) head.columns) (slice_index columns c) [] ≡ name) same n.same;
-  }
-
-  named_back : (c : ℕ) (name : List ℕ) → IsNamed one head c name → IsNamed other head c name
-  named_back c name n = record {
-    in_query = subst (λ columns. c < length columns) (sym same) n.in_query;
-    same = subst (λ columns. slice_index_or (map (λ column. column.name) head.columns) (slice_index columns c) [] ≡ name) (sym same) n.same;
-  }
-
-  first_too : (columns : List ℕ) → AreFirstReads word other head columns → AreFirstReads word one head columns
-  first_too columns f = record {
-    within = f.within;
-    named = λ i h. named_too _ _ (f.named i h);
-    readable = subst (λ numbers. IsReadableList columns (projected_frame (record one { columns = numbers }) (frame_of head))) same f.readable;
-  }
-
-  answer_too : (answer : Result (List ℕ) ReadsFault) → IsAnswer word other head answer → IsAnswer word one head answer
-  answer_too (Ok columns) a = record { first = first_too columns a.first; all = a.all }
-  answer_too (Err (r.UnknownName place)) a = record {
-    before = a.before;
-    first = first_too a.before a.first;
-    place_is = a.place_is;
-    within = a.within;
-    unknown = λ c n. a.unknown c (named_back _ _ n);
-  }
-  answer_too (Err (r.PastEnd place)) a = record {
-    before = a.before;
-    first = first_too a.before a.first;
-    place_is = a.place_is;
-    within = a.within;
-    column = a.column;
-    named = named_too _ _ a.named;
-    ended = subst (λ numbers. count_by (λ d. d == a.column) a.before ≡ planes (ends_at (projected_frame (record one { columns = numbers }) (frame_of head)) a.column)) same a.ended;
-  }
-  answer_too (Err r.NoMemory) a = a
-
 fault_answers : (word : List ℕ) (query : TypedQuery) (head : Head) (fault : ReadsFault) → fault ≢ r.NoMemory → reads_laws.Refuses word query head fault → IsAnswer word query head (Err fault)
 fault_answers word query head (r.UnknownName place) shown faulty = faulty
 fault_answers word query head (r.PastEnd place) shown faulty = faulty
@@ -180,31 +137,26 @@ module _ (law : Laws) (query : sql.Query) (options : Options) (table : Contents)
   abbrev asked : Question
   asked = question_of query options table
 
-  -- it is typed in one way, but for the place in memory
-  same_shape : (one other : TypedQuery) → IsTyped query table.head one → IsTyped query table.head other → one.shape ≡ other.shape
-  same_shape one other p r = ap (λ m. m.shape) (law.typings query table.head one other p r)
-
-  same_columns : (one other : TypedQuery) → IsTyped query table.head one → IsTyped query table.head other → one.columns ≡ other.columns
-  same_columns one other p r = ap (λ m. m.columns) (law.typings query table.head one other p r)
-
   -- the list of its reads is refused once
-  same_reads : (one other : TypedQuery) (a b : ReadsFault) → IsValid table.head one → one.columns ≡ other.columns → a ≢ r.NoMemory → b ≢ r.NoMemory →
-      RefusesOrder options.order one table.head a → RefusesOrder options.order other table.head b → a ≡ b
-  same_reads one other a b valid columns a_shown b_shown f g =
+  same_reads : (typed : TypedQuery) (a b : ReadsFault) → IsTyped query table.head typed → a ≢ r.NoMemory → b ≢ r.NoMemory →
+      RefusesOrder options.order typed table.head a → RefusesOrder options.order typed table.head b → a ≡ b
+  same_reads typed a b is a_shown b_shown f g =
       let names : g.names ≡ f.names = injected (sym g.listed ∙ f.listed) in
-      let second = answer_too f.names table.head one other (sym columns) (Err b) (subst (λ w. IsAnswer w other table.head (Err b)) names (fault_answers g.names other table.head b b_shown g.faulty)) in
-      let both = law.reads f.names one table.head (Err a) (Err b) valid (fault_answers f.names one table.head a a_shown f.faulty) second in
+      let second = subst (λ w. IsAnswer w typed table.head (Err b)) names (fault_answers g.names typed table.head b b_shown g.faulty) in
+      let both = law.reads f.names typed table.head (Err a) (Err b) (law.valid query table.head typed is) (fault_answers f.names typed table.head a a_shown f.faulty) second in
       cc
 
   -- and not where a policy is made of it
-  no_reads : (one other : TypedQuery) (a : ReadsFault) (policy : Policy) → IsValid table.head one → one.columns ≡ other.columns → a ≢ r.NoMemory →
-      RefusesOrder options.order one table.head a → IsPolicyOf options.order other table.head policy → ⊥
-  no_reads one other a policy valid columns shown f is =
-      let listed : IsPolicyOf (reads f.names) other table.head policy = subst (λ o. IsPolicyOf o other table.head policy) f.listed is in
+  no_reads : (typed : TypedQuery) (a : ReadsFault) (policy : Policy) → IsTyped query table.head typed → a ≢ r.NoMemory →
+      RefusesOrder options.order typed table.head a → IsPolicyOf options.order typed table.head policy → ⊥
+  no_reads typed a policy is shown f chosen =
+      let listed : IsPolicyOf (reads f.names) typed table.head policy = subst (λ o. IsPolicyOf o typed table.head policy) f.listed chosen in
       let (list, policy_is, all) = listed in
-      let second = answer_too f.names table.head one other (sym columns) (Ok list) all in
-      let both = law.reads f.names one table.head (Err a) (Ok list) valid (fault_answers f.names one table.head a shown f.faulty) second in
+      let both = law.reads f.names typed table.head (Err a) (Ok list) (law.valid query table.head typed is) (fault_answers f.names typed table.head a shown f.faulty) all in
       absurd cc
+
+  same_shape : (one other : TypedQuery) → IsTyped query table.head one → IsTyped query table.head other → one.shape ≡ other.shape
+  same_shape one other p r = ap (λ (t : TypedQuery). t.shape) (law.typings query table.head one other p r)
 
   question_same : (x y : Refusal) → ShowsQuestion asked x → ShowsQuestion asked y → x ≡ y
   question_same x y (inl p) (inl r) = p.is ∙ ap Typing (law.type_faults query table.head p.fault r.fault p.shown r.shown p.faulty r.faulty) ∙ sym r.is
@@ -215,12 +167,14 @@ module _ (law : Laws) (query : sql.Query) (options : Options) (table : Contents)
   question_same x y (inr (inl p)) (inr (inr r)) = absurd (p.other (same_shape p.typed r.typed p.is_typed r.is_typed ∙ r.plain))
   question_same x y (inr (inr p)) (inl r) = absurd (law.good_typings query table.head r.fault p.typed r.shown p.is_typed r.faulty)
   question_same x y (inr (inr p)) (inr (inl r)) = absurd (r.other (same_shape r.typed p.typed r.is_typed p.is_typed ∙ p.plain))
-  question_same x y (inr (inr p)) (inr (inr r)) = p.is ∙ ap Reads (same_reads p.typed r.typed p.fault r.fault p.valid (same_columns p.typed r.typed p.is_typed r.is_typed) p.shown r.shown p.faulty r.faulty) ∙ sym r.is
+  question_same x y (inr (inr p)) (inr (inr r)) = p.is ∙ ap Reads (same_reads p.typed p.fault r.fault p.is_typed p.shown r.shown p.faulty
+      (subst (λ (t : TypedQuery). RefusesOrder options.order t table.head r.fault) (law.typings query table.head r.typed p.typed r.is_typed p.is_typed) r.faulty)) ∙ sym r.is
 
   question_apart : (y : Refusal) → IsAnswerable asked → ShowsQuestion asked y → ⊥
   question_apart y a (inl r) = law.good_typings query table.head r.fault a.typed r.shown a.planned.is_typed r.faulty
   question_apart y a (inr (inl r)) = r.other (same_shape r.typed a.typed r.is_typed a.planned.is_typed ∙ a.planned.plain)
-  question_apart y a (inr (inr r)) = no_reads r.typed a.typed r.fault a.plan.policy r.valid (same_columns r.typed a.typed r.is_typed a.planned.is_typed) r.shown r.faulty a.planned.planned.policy
+  question_apart y a (inr (inr r)) = no_reads a.typed r.fault a.plan.policy a.planned.is_typed r.shown
+      (subst (λ (t : TypedQuery). RefusesOrder options.order t table.head r.fault) (law.typings query table.head r.typed a.typed r.is_typed a.planned.is_typed) r.faulty) a.planned.planned.policy
 
   pub question_exact : IsExact (question_step query options table)
   question_exact = record {

@@ -2,7 +2,9 @@ pub mod Texts
 pub mod Steps
 pub mod Results
 pub mod Exactness
+pub mod Completeness
 pub mod Causes
+pub mod Reports
 pub mod QuestionCauses
 pub mod AskCauses
 pub mod DemoCauses

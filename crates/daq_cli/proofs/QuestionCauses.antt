@@ -7,10 +7,8 @@ use Rattle.outer_world.specs.Device.{SinkState}
 use Rattle.plane_reads.specs.declared.fault.ReadsFault.{ReadsFault}
 use Rattle.plane_reads.specs.declared.fault.ReadsFault.TheVariants as r
 use Rattle.plane_schedule.specs.Plans.{IsReadable}
-use Rattle.plane_schedule.specs.declared.policy.Plan.{Plan}
 use Rattle.plane_schedule.specs.declared.policy.Policy.{Policy}
 use Rattle.query_model.specs.Projection.{projected_frame}
-use Rattle.query_model.specs.Validity.{IsValid}
 use Rattle.query_model.specs.declared.query.Shape.TheVariants.{Plain}
 use Rattle.query_model.specs.declared.query.TypedQuery.{TypedQuery}
 use Rattle.sql_typing.specs.Refusals as typing
@@ -18,8 +16,7 @@ use Rattle.sql_typing.specs.Refusals.{IsTyped}
 use Rattle.sql_typing.specs.declared.fault.TypeFault.{TypeFault}
 use Rattle.sql_typing.specs.declared.fault.TypeFault.TheVariants as y
 use Rattle.daq_cli.specs.Faults as of
-use Rattle.daq_cli.specs.Questions.{IsPlanned, IsPolicyOf, Question, QuestionCause, RefusesOrder, Reports, ReportsRounds, step, no_memory}
-use Rattle.daq_cli.specs.Worlds.{Extent}
+use Rattle.daq_cli.specs.Questions.{IsPolicyOf, Question, QuestionCause, RefusesOrder, step, no_memory}
 use Rattle.daq_cli.specs.declared.refusal.Refusal.{Refusal}
 use Rattle.daq_cli.specs.declared.refusal.Refusal.TheVariants.{NoMemory, NotBuilt, Reads, Typing}
 
@@ -46,7 +43,7 @@ module _ (question : Question) (out : SinkState) where
   typing_cause (y.TooWide item) why faulty is = untyped (y.TooWide item) why (λ n. cc) faulty is refl
   typing_cause y.NoMemory why faulty is = lacking why is
 
-  module _ (typed : TypedQuery) (is_typed : IsTyped question.query question.table.head typed) (valid : IsValid question.table.head typed) where
+  module _ (typed : TypedQuery) (is_typed : IsTyped question.query question.table.head typed) where
     -- it has groups or an order
     pub form_cause : typed.shape ≢ Plain → QuestionCause question out out NotBuilt
     form_cause other = step (inr (inl (record { typed = typed; is_typed = is_typed; other = other; is = refl }))) refl
@@ -54,7 +51,7 @@ module _ (question : Question) (out : SinkState) where
     unread : (fault : ReadsFault) (why : Refusal) → typed.shape ≡ Plain → fault ≢ r.NoMemory → RefusesOrder question.options.order typed question.table.head fault →
         why ≡ of.reads fault → of.reads fault ≡ Reads fault → QuestionCause question out out why
     unread fault why plain shown faulty is same =
-        step (inr (inr (record { typed = typed; is_typed = is_typed; valid = valid; plain = plain; fault = fault; shown = shown; is = is ∙ same; faulty = faulty }))) refl
+        step (inr (inr (record { typed = typed; is_typed = is_typed; plain = plain; fault = fault; shown = shown; is = is ∙ same; faulty = faulty }))) refl
 
     pub reads_cause : (fault : ReadsFault) (why : Refusal) → typed.shape ≡ Plain → RefusesOrder question.options.order typed question.table.head fault → why ≡ of.reads fault →
         QuestionCause question out out why
@@ -68,13 +65,3 @@ readable_of widest typed head policy is = subst (λ p. IsReadable p (projected_f
 readable_of in_order typed head policy is = subst (λ p. IsReadable p (projected_frame typed (frame_of head))) (sym is) tt
 readable_of filter_first typed head policy is = subst (λ p. IsReadable p (projected_frame typed (frame_of head))) (sym is) tt
 readable_of (reads names) typed head policy (list, is, all) = subst (λ p. IsReadable p (projected_frame typed (frame_of head))) (sym is) all.first.readable
-
--- the report of the rounds is that of the question
-pub reports_of : (question : Question) (typed other : TypedQuery) (plan : Plan) (extent : Extent) (old new : SinkState) → other ≡ typed → IsPlanned question typed plan →
-    ReportsRounds question.query other plan question.table extent old new → Reports question extent old new
-reports_of question typed other plan extent old new same planned report = record {
-  typed = typed;
-  plan = plan;
-  planned = planned;
-  report = subst (λ t. ReportsRounds question.query t plan question.table extent old new) same report;
-}

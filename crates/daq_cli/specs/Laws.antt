@@ -1,7 +1,7 @@
--- That the steps of each command are exact, so that a run has one answer.
+-- That the steps of each command are exact, and that nothing falls between: so a run has one answer.
 use Rattle.std.specs.Prelude.{ℕ, List}
 use Rattle.command_line.specs.Commands.{Ask, Demo}
-use Rattle.daq_cli.specs.Steps.{IsExact}
+use Rattle.daq_cli.specs.Steps.{IsComplete, IsExact}
 use Rattle.daq_cli.specs.commands.Ask.{ask_step, words_step}
 use Rattle.daq_cli.specs.commands.Demo.{demo_step}
 
@@ -10,3 +10,8 @@ pub record StepsAreExact : Type 0 where
   pub words : (ask : Ask) → IsExact (words_step ask)
   pub ask : (ask : Ask) (bytes : List ℕ) → IsExact (ask_step ask bytes)
   pub demo : (demo : Demo) → IsExact (demo_step demo)
+
+-- words of an `ask`, and words with an input, are accepted or show a refusal
+pub record StepsAreComplete : Type 0 where
+  pub words : (ask : Ask) → IsComplete (words_step ask)
+  pub ask : (ask : Ask) (bytes : List ℕ) → IsComplete (ask_step ask bytes)

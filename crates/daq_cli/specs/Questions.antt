@@ -4,6 +4,7 @@ use Rattle.command_line.specs.Commands.{Options, ReadOrder, widest, in_order, fi
 use Rattle.daq_table.specs.Tables.{Contents, frame_of}
 use Rattle.daq_table.specs.declared.table_head.Head.{Head}
 use Rattle.outer_world.specs.Device.{SinkState}
+use Rattle.outer_world.specs.Whole.{Writes}
 use Rattle.plane_schedule.specs.declared.policy.Plan.{Plan}
 use Rattle.plane_schedule.specs.declared.policy.Policy.{Policy}
 use Rattle.plane_schedule.specs.declared.policy.Policy.TheVariants as p
@@ -11,7 +12,6 @@ use Rattle.plane_reads.specs.declared.fault.ReadsFault.{ReadsFault}
 use Rattle.plane_reads.specs.declared.fault.ReadsFault.TheVariants as r
 use Rattle.plane_reads.specs.Reads as lists
 use Rattle.plane_reads.specs.Reads.{AreAllReads}
-use Rattle.query_model.specs.Validity.{IsValid}
 use Rattle.query_model.specs.declared.query.Shape.TheVariants.{Plain}
 use Rattle.query_model.specs.declared.query.TypedQuery.{TypedQuery}
 use Rattle.sql_text.specs.Answer.{IsFault, IsText}
@@ -24,6 +24,7 @@ use Rattle.sql_typing.specs.Refusals.{IsTyped}
 use Rattle.sql_typing.specs.declared.fault.TypeFault.{TypeFault}
 use Rattle.sql_typing.specs.declared.fault.TypeFault.TheVariants as y
 use Rattle.table_rounds.specs.Headline.{AreCertain}
+use Rattle.table_rounds.specs.Rounds.{AreAllRounds}
 use Rattle.daq_cli.specs.Report.{WritesRounds, report}
 use Rattle.daq_cli.specs.Steps.{Step}
 use Rattle.daq_cli.specs.Worlds.{Extent, partly}
@@ -74,7 +75,6 @@ pub record IsPlanOf (options : Options) (typed : TypedQuery) (head : Head) (plan
 -- the query is typed as one of aggregates over all rows that meet its condition, and there is a plan of the options
 pub record IsPlanned (question : Question) (typed : TypedQuery) (plan : Plan) : Type 0 where
   pub is_typed : IsTyped question.query question.table.head typed
-  pub valid : IsValid question.table.head typed
   pub plain : typed.shape ≡ Plain
   pub planned : IsPlanOf question.options typed question.table.head plan
 
@@ -96,7 +96,6 @@ pub record ShowsForm (question : Question) (why : Refusal) : Type 0 where
 pub record ShowsReads (question : Question) (why : Refusal) : Type 0 where
   pub typed : TypedQuery
   pub is_typed : IsTyped question.query question.table.head typed
-  pub valid : IsValid question.table.head typed
   pub plain : typed.shape ≡ Plain
   pub fault : ReadsFault
   pub shown : fault ≢ r.NoMemory
@@ -126,12 +125,22 @@ pub record ReportsRounds (query : sql.Query) (typed : TypedQuery) (plan : Plan) 
   pub written : WritesRounds (report (printed query) table.head plan typed table.cells) table.head plan typed table.cells extent out out'
   pub headline : AreCertain typed (frame_of table.head) table.cells written.reads
 
--- so was the question's
-pub record Reports (question : Question) (extent : Extent) (out out' : SinkState) : Type 0 where
+-- a report of the question: the text of all rounds of its plan. Each interval in it is certain
+pub record IsReport (question : Question) (text : List ℕ) : Type 0 where
   pub typed : TypedQuery
   pub plan : Plan
   pub planned : IsPlanned question typed plan
-  pub report : ReportsRounds question.query typed plan question.table extent out out'
+  pub reads : List ℕ
+  pub rounds : AreAllRounds plan typed (frame_of question.table.head) question.table.cells reads
+  pub headline : AreCertain typed (frame_of question.table.head) question.table.cells reads
+  pub is : text ≡ report (printed question.query) question.table.head plan typed question.table.cells reads
+
+-- the report of the question, which has no other, was written, whole or in part
+pub record Reports (question : Question) (extent : Extent) (out out' : SinkState) : Type 0 where
+  pub text : List ℕ
+  pub is_report : IsReport question text
+  pub only : (other : List ℕ) → IsReport question other → other ≡ text
+  pub written : Writes extent out out' text
 
 -- why the report of a question is not written whole; but for a failed write nothing was written
 pub data QuestionCause (question : Question) (out out' : SinkState) : Refusal → Type 0 where

@@ -18,3 +18,7 @@ pub record IsExact {A : Type 0} (step : Step A) : Type 0 where
   pub once : (a b : A) → step.accepts a → step.accepts b → a ≡ b
   pub same : (why other : Refusal) → step.shows why → step.shows other → why ≡ other
   pub apart : (a : A) (why : Refusal) → step.accepts a → step.shows why → ⊥
+
+-- a step accepts something or shows a refusal
+abbrev pub IsComplete : {A : Type 0} → Step A → Type 0
+IsComplete step = ((a : _) × step.accepts a) ⊎ ((why : Refusal) × step.shows why)

@@ -14,7 +14,7 @@ mod top;
 mod world;
 
 pub use command_line::Words;
-pub use laws::steps_are_exact;
+pub use laws::{steps_are_complete, steps_are_exact};
 pub use status::{Status, code};
 pub use top::run;
 pub use world::World;

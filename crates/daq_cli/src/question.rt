@@ -11,7 +11,6 @@ ghost use Rattle.sql_text.specs.Answer.{IsFault, IsText};
 ghost use Rattle.sql_print.specs.Printed.{printed};
 ghost use Rattle.sql_text.specs.Tree.{query_of};
 ghost use Rattle.sql_text.specs.declared.fault.SqlFault.{SqlFault};
-ghost use Rattle.sql_typing.specs.Refusals.{IsWellFormed};
 
 use crate::refusal::Refusal;
 use crate::report::report_table;
@@ -19,24 +18,23 @@ use command_line::{Options, ReadOrder};
 use daq_table::{Head, Table};
 use outer_world::Sink;
 use plane_kernels::Plane;
-use plane_reads::{ReadsFault, check_reads};
+use plane_reads::{ReadsFault, answers_are_one, check_reads};
 use plane_schedule::{Plan, Policy};
 use query_model::{Shape, TypedQuery};
 use round_engine::Engine;
 use sql_print::{print, reads_back};
 use sql_text::{SqlFault, Tree, parse};
-use sql_typing::{texts_are_well_formed, type_query};
+use sql_typing::{type_query, typed_queries_are_valid, typing_is_exact};
 use std::alloc::Global;
+use table_rounds::rounds_are_one;
 
 // The query of a text.
 pub(crate) fn read_query(alloc: Global, text: &str) -> Result<Tree, SqlFault>
     ensures query { IfOk result (λ tree. IsText text.now (query_of tree)) }
-    ensures well_formed { IfOk result (λ tree. IsWellFormed (query_of tree)) }
     ensures printable { IfOk result (λ tree. IsUtf8 (printed (query_of tree))) }
     ensures refused { IfErr result (IsFault text.now) }
     ensures too_long { (result ≡ Err SqlFault.TooLong) ↔ (4096 < length text.now) }
 {
-    texts_are_well_formed();
     reads_back();
     // Their clause says that they are UTF-8.
     let _bytes = text.as_bytes();
@@ -99,7 +97,6 @@ pub(crate) fn answer<K: Sink>(
     table: &Table,
     out: &mut K,
 ) -> Result<(), Refusal>
-    requires well_formed { IsWellFormed (query_of query.now) }
     requires printable { IsUtf8 (printed (query_of query.now)) }
     requires texts { HeadHasTexts table.now.head }
     requires width { options.now.width < 2 ^ 63 }
@@ -108,6 +105,10 @@ pub(crate) fn answer<K: Sink>(
     ensures refused { IfErr result (QuestionCause (question_of (query_of query.now) (options_of options.now) table.now)
         (K.state out.old) (K.state out.new)) }
 {
+    typing_is_exact();
+    typed_queries_are_valid();
+    answers_are_one();
+    rounds_are_one();
     let typed = type_query(alloc, query, table.head())?;
     if !is_plain(&typed) {
         return Err(Refusal::NotBuilt);

@@ -12,6 +12,8 @@ mod extremes;
 #[cfg(test)]
 mod large;
 #[cfg(test)]
+mod nulls;
+#[cfg(test)]
 mod plans;
 #[cfg(test)]
 mod sheets;

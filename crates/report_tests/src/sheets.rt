@@ -10,8 +10,8 @@ use std::alloc::{AllocError, Global};
 /// A CSV and its schema.
 #[derive(Clone, Copy)]
 pub(crate) struct Sheet {
-    csv: &'static str,
-    schema: &'static str,
+    pub(crate) csv: &'static str,
+    pub(crate) schema: &'static str,
 }
 
 /// A query over a sheet, and its whole report.

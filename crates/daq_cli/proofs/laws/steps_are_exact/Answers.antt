@@ -13,6 +13,7 @@ returns c = steps_exact (record {
   table_faults = c.faults_are_exact.ensures.one;
   good_tables = c.faults_are_exact.ensures.none;
   typings = c.typing_is_exact.ensures.once;
+  valid = c.typed_queries_are_valid.ensures;
   type_faults = c.typing_is_exact.ensures.one;
   good_typings = c.typing_is_exact.ensures.none;
   seeds = c.tables_are_one-2.ensures;

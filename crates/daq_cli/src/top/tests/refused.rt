@@ -1,12 +1,15 @@
 //! Runs that are refused: each status, with its line.
 
-use super::{Case, first_other};
+use super::{Case, first_other, world_of};
 use crate::status::Status;
+use crate::top::run;
+use command_line::Words;
+use std::alloc::{AllocError, Global};
 use std::test::Fail;
 
 const TOWNS: &str = "price,qty,city\n5,2,Oslo\n9,1,Rome\n12,4,Oslo\n3,3,Bern\n";
 
-const CASES: [Case; 23] = [
+const CASES: [Case; 25] = [
     Case {
         words: "",
         csv: "",
@@ -168,10 +171,77 @@ const CASES: [Case; 23] = [
         out: "",
         err: "daq: query refused: read 2 names no column of the query\n",
     },
+    Case {
+        words: "ask\np.csv\nv:int??,w:int\nSELECT SUM(v) FROM t\n",
+        csv: "v,w\n1,2\n",
+        status: Status::TableRefused,
+        out: "",
+        err: "daq: table refused: schema item at 0\n",
+    },
+    Case {
+        words: "ask\np.csv\nv:int?,w:int\nSELECT SUM(v) FROM t\n",
+        csv: "v,w\n,2\n1,\n",
+        status: Status::TableRefused,
+        out: "",
+        err: "daq: table refused: record 2 column 2 is no value of its kind\n",
+    },
 ];
 
 #[test]
 fn refusals_are_told(rt: HostRuntime) -> Result<(), Fail> {
     assert_eq!(rt; first_other(rt.alloc(), &CASES)?, None);
+    Ok(())
+}
+
+// Whether an `ask` with this schema and this SQL is refused with that line.
+fn is_told(alloc: Global, schema: &str, sql: &str, line: &str) -> Result<bool, AllocError> {
+    let mut words = Words::new(alloc);
+    for word in ["ask", "t.csv", schema, sql] {
+        words.push(word)?;
+    }
+    let mut world = world_of(alloc, "", 10)?;
+    let ended = run(alloc, &words, &mut world);
+    Ok(ended != Status::Done && world.err.contents() == line.as_bytes())
+}
+
+// A schema of so many columns.
+fn schema_of(alloc: Global, count: usize) -> Result<String, AllocError> {
+    let mut schema = String::from_str(alloc, "c:int")?;
+    for number in 1..count {
+        schema.push_str(format!(in alloc; ",c{number}:int?")?.as_str())?;
+    }
+    Ok(schema)
+}
+
+// A query of so many bytes, the last of them blanks.
+fn query_of_length(alloc: Global, length: usize) -> Result<String, AllocError> {
+    let mut sql = String::from_str(alloc, "SELECT COUNT(*) FROM t")?;
+    for _ in sql.len()..length {
+        sql.push_str(" ")?;
+    }
+    Ok(sql)
+}
+
+#[test]
+fn texts_past_their_limits(rt: HostRuntime) -> Result<(), Fail> {
+    let alloc = rt.alloc();
+    let many = schema_of(alloc, 65)?;
+    let long = query_of_length(alloc, 4097)?;
+    assert!(rt;
+        is_told(
+            alloc,
+            many.as_str(),
+            "SELECT COUNT(*) FROM t",
+            "daq: table refused: 65 schema items\n"
+        )?
+    );
+    assert!(rt;
+        is_told(
+            alloc,
+            "a:int",
+            long.as_str(),
+            "daq: query refused: longer than 4096 bytes\n"
+        )?
+    );
     Ok(())
 }

@@ -1,0 +1,134 @@
+-- Each step of an `ask` accepts something or shows a refusal.
+use Rattle.std.proofs.Common.{◌≡◌, ◌≢◌, ℕ, ◌≤◌, List, Ok, Err, Result, length, refl, inl, inr, ◌⊎◌, ◌∙◌, lit≤, sym}
+use Rattle.std.proofs.lemmas.Bool.{cases_lt}
+use Rattle.command_line.specs.Commands.{Options, ReadOrder, widest, in_order, filter_first, reads}
+use Rattle.csv_load.specs.Laws as table_laws
+use Rattle.daq_table.specs.SchemaFaults as schemas
+use Rattle.daq_table.specs.SchemaLaws as schema_laws
+use Rattle.daq_table.specs.Schemas.{Declares}
+use Rattle.daq_table.specs.Tables.{Contents}
+use Rattle.daq_table.specs.declared.schema_column.SchemaColumn.{SchemaColumn}
+use Rattle.daq_table.specs.declared.schema_fault.SchemaFault.{SchemaFault}
+use Rattle.daq_table.specs.declared.schema_fault.SchemaFault.TheVariants as s
+use Rattle.plane_reads.specs.Reads as reads_laws
+use Rattle.plane_reads.specs.Reads.{IsAnswer}
+use Rattle.plane_reads.specs.declared.fault.ReadsFault.{ReadsFault}
+use Rattle.plane_reads.specs.declared.fault.ReadsFault.TheVariants as r
+use Rattle.plane_schedule.specs.declared.policy.Policy.{Policy}
+use Rattle.plane_schedule.specs.declared.policy.Policy.TheVariants as p
+use Rattle.query_model.specs.declared.query.Shape.{Shape}
+use Rattle.query_model.specs.declared.query.Shape.TheVariants.{Plain, Grouped, Top}
+use Rattle.query_model.specs.declared.query.TypedQuery.{TypedQuery}
+use Rattle.sql_text.specs.Answer.{IsFault, IsText}
+use Rattle.sql_text.specs.Laws as text_laws
+use Rattle.sql_text.specs.Tree as sql
+use Rattle.sql_text.specs.declared.fault.SqlFault.{SqlFault}
+use Rattle.sql_text.specs.declared.fault.SqlFault.TheVariants as q
+use Rattle.sql_typing.specs.Laws as typing_laws
+use Rattle.sql_typing.specs.Refusals as typing
+use Rattle.sql_typing.specs.Refusals.{IsTyped}
+use Rattle.sql_typing.specs.declared.fault.TypeFault.{TypeFault}
+use Rattle.sql_typing.specs.declared.fault.TypeFault.TheVariants as y
+use Rattle.daq_cli.specs.Laws.{StepsAreComplete}
+use Rattle.daq_cli.specs.Questions.{IsPolicyOf, RefusesOrder, question_of, question_step, sql_step}
+use Rattle.daq_cli.specs.Steps.{IsComplete, Step, then}
+use Rattle.daq_cli.specs.commands.Ask.{limits, most_bytes, schema_step, table_step}
+use Rattle.daq_cli.specs.declared.refusal.Refusal.TheVariants.{NotBuilt, Query, Reads, Schema, Table, TooLong, Typing}
+
+-- a step and the one that follows it
+then_complete : {A B : Type 0} (first : Step A) (second : A → Step B) → IsComplete first → ((a : A) → first.accepts a → IsComplete (second a)) → IsComplete (then first second)
+then_complete first second (inr (why, shown)) rest = inr (why, inl shown)
+then_complete first second (inl (a, accepted)) rest = by (rest a accepted)
+  where
+    by : IsComplete (second a) → IsComplete (then first second)
+    by (inl (b, after)) = inl (b, (a, accepted, after))
+    by (inr (why, shown)) = inr (why, inr (a, accepted, shown))
+
+-- what is known of each step from the crate that carries it out
+pub record Laws : Type 0 where
+  pub texts : text_laws.IsAnswered
+  pub schemas : schema_laws.HasMeaning
+  pub tables : table_laws.HasAnswer
+  pub typings : typing_laws.HasTyping
+  pub valid : typing_laws.IsTypedValid
+  pub reads : reads_laws.WordsHaveAnswers
+
+module _ (law : Laws) where
+  sql_complete : (text : List ℕ) → IsComplete (sql_step text)
+  sql_complete text = by (law.texts text)
+    where
+      by : ((query : sql.Query) × IsText text query) ⊎ ((fault : SqlFault) × (fault ≢ q.NoMemory) × IsFault text fault) → IsComplete (sql_step text)
+      by (inl (query, is)) = inl (query, is)
+      by (inr (fault, shown, faulty)) = inr (Query fault, record { fault = fault; shown = shown; is = refl; faulty = faulty })
+
+  schema_complete : (text : List ℕ) → IsComplete (schema_step text)
+  schema_complete text = by (law.schemas text)
+    where
+      by : ((columns : List SchemaColumn) × Declares text columns) ⊎ ((fault : SchemaFault) × (fault ≢ s.NoMemory) × schemas.Refuses text fault) → IsComplete (schema_step text)
+      by (inl (columns, declared)) = inl (columns, declared)
+      by (inr (fault, shown, faulty)) = inr (Schema fault, record { fault = fault; shown = shown; is = refl; faulty = faulty })
+
+  table_complete : (schema : List ℕ) (columns : List SchemaColumn) (bytes : List ℕ) → Declares schema columns → IsComplete (table_step columns bytes)
+  table_complete schema columns bytes declared = elim (cases_lt most_bytes (length bytes)) [
+    | inl long ↦ inr (TooLong most_bytes, inl (record { longer = long; is = refl }))
+    | inr small ↦ by small (law.tables bytes schema columns limits declared (lit≤ tt))
+  ]
+    where
+      by : length bytes ≤ most_bytes → table_laws.IsAnswered bytes columns limits → IsComplete (table_step columns bytes)
+      by small (inl (table, is)) = inl (table, record { small = small; is_table = is })
+      by small (inr (fault, shown, faulty)) = inr (Table fault, inr (record { small = small; fault = fault; shown = shown; is = refl; faulty = faulty }))
+
+  module _ (query : sql.Query) (options : Options) (table : Contents) (typed : TypedQuery) (is_typed : IsTyped query table.head typed) where
+    -- the order is a policy, or a list that is refused
+    abbrev Ordered : ReadOrder → Type 0
+    Ordered order = ((policy : Policy) × IsPolicyOf order typed table.head policy) ⊎ ((fault : ReadsFault) × (fault ≢ r.NoMemory) × RefusesOrder order typed table.head fault)
+
+    ordered : (order : ReadOrder) → Ordered order
+    ordered widest = inl (p.Widest, refl)
+    ordered in_order = inl (p.InOrder, refl)
+    ordered filter_first = inl (p.FilterFirst, refl)
+    ordered (reads names) = by (law.reads names typed table.head (law.valid query table.head typed is_typed))
+      where
+        by : (answer : Result (List ℕ) ReadsFault) × IsAnswer names typed table.head answer → Ordered (reads names)
+        by (Ok list, all) = inl (p.Listed list, (list, refl, all))
+        by (Err (r.UnknownName place), faulty) = inr (r.UnknownName place, (λ e. cc), record { names = names; listed = refl; faulty = faulty })
+        by (Err (r.PastEnd place), faulty) = inr (r.PastEnd place, (λ e. cc), record { names = names; listed = refl; faulty = faulty })
+        by (Err r.NoMemory, faulty) = absurd faulty
+
+    planned : typed.shape ≡ Plain → IsComplete (question_step query options table)
+    planned plain = by (ordered options.order)
+      where
+        by : Ordered options.order → IsComplete (question_step query options table)
+        by (inl (policy, is)) = inl (
+          question_of query options table,
+          (
+            refl,
+            record {
+              typed = typed;
+              plan = record { policy = policy; width = options.width; most = options.rounds };
+              planned = record { is_typed = is_typed; plain = plain; planned = record { policy = is; width = refl; most = refl } };
+            },
+          ),
+        )
+        by (inr (fault, shown, faulty)) = inr (Reads fault, inr (inr (record { typed = typed; is_typed = is_typed; plain = plain; fault = fault; shown = shown; is = refl; faulty = faulty })))
+
+    shaped : (shape : Shape) → typed.shape ≡ shape → IsComplete (question_step query options table)
+    shaped Plain e = planned e
+    shaped (Grouped columns) e = inr (NotBuilt, inr (inl (record { typed = typed; is_typed = is_typed; other = λ plain. let both = sym e ∙ plain in cc; is = refl })))
+    shaped (Top key down limit) e = inr (NotBuilt, inr (inl (record { typed = typed; is_typed = is_typed; other = λ plain. let both = sym e ∙ plain in cc; is = refl })))
+
+  question_complete : (query : sql.Query) (options : Options) (table : Contents) → IsComplete (question_step query options table)
+  question_complete query options table = by (law.typings query table.head)
+    where
+      by : ((typed : TypedQuery) × IsTyped query table.head typed) ⊎ ((fault : TypeFault) × (fault ≢ y.NoMemory) × typing.Refuses query table.head fault) → IsComplete (question_step query options table)
+      by (inl (typed, is)) = shaped query options table typed is typed.shape refl
+      by (inr (fault, shown, faulty)) = inr (Typing fault, inl (record { fault = fault; shown = shown; is = refl; faulty = faulty }))
+
+  pub steps_complete : StepsAreComplete
+  steps_complete = record {
+    words = λ ask. then_complete _ _ (sql_complete ask.sql) (λ query _. schema_complete ask.schema);
+    ask = λ ask bytes.
+        then_complete _ _ (sql_complete ask.sql) (λ query _.
+        then_complete _ _ (schema_complete ask.schema) (λ columns declared.
+        then_complete _ _ (table_complete ask.schema columns bytes declared) (λ table _. question_complete query ask.options table)));
+  }

@@ -1,0 +1,12 @@
+use Rattle.daq_cli.proofs.Completeness.{steps_complete}
+use Rattle.daq_cli.proofs.laws.steps_are_complete.Goals as goal
+
+pub returns : goal.returns
+returns c = steps_complete (record {
+  texts = c.some_answer.ensures;
+  schemas = c.schemas_have_meanings.ensures;
+  tables = c.texts_have_answers.ensures;
+  typings = c.trees_have_typings.ensures;
+  valid = c.typed_queries_are_valid.ensures;
+  reads = c.words_have_answers.ensures;
+})
