@@ -10,7 +10,7 @@ use Rattle.query_model.specs.Knowledge.{prefix_of}
 use Rattle.query_model.proofs.Blocks.{plain_column, zero_quotient}
 use Rattle.known_column.specs.Columns.{KnownColumn, number_of}
 use Rattle.known_column.specs.KnownTables.{KnownTable, column_at}
-use Rattle.known_column.specs.Marks.{block_rows}
+use Rattle.known_column.specs.Columns.{block_rows}
 use Rattle.plane_bench.specs.Planes.{cells_of, first_digits, table_after, AreWide}
 use Rattle.plane_bench.proofs.WideCells.{wide_planes}
 

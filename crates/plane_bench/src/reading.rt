@@ -10,7 +10,7 @@ ghost use Rattle.known_column.specs.KnownTables.{read_column, unread_table};
 ghost use Rattle.plane_bench.specs.Planes.{alone, table_after, truths_after};
 
 use kleene_filter::Filter;
-use known_column::KnownColumns;
+use known_column::{KnownColumns, RowBlock};
 use plane_kernels::{Plane, transpose};
 use query_model::{Pred, planes_are_taken, start_is_known};
 use std::alloc::{AllocError, Global};
@@ -71,10 +71,11 @@ pub(crate) fn follow_planes(
 {
     start_is_known();
     let mut plane = Plane::blank(alloc, cells.len())?;
-    let mut filter = Filter::open(alloc, pred, &columns)?;
+    let mut block = RowBlock::open(alloc, &columns)?;
+    let mut filter = Filter::open(alloc, pred, &columns, &mut block)?;
     for _ in 0..rounds {
         read_next(&mut columns, cells, &mut plane);
-        filter.refresh(pred, &columns, 0, &plane);
+        filter.refresh(pred, &columns, 0, &plane, &mut block);
     }
     Ok(filter)
 }

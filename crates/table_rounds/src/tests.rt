@@ -39,11 +39,11 @@ impl PlaneSource for Numbers {
     }
 
     fn read(&mut self, column: usize, number: u8, into: &mut Plane) -> Result<(), u8> {
-        if self.fails || self.cells.len() != into.rows() {
+        let digits = width(&self.head.columns.as_slice()[column]);
+        if self.fails || number >= digits || self.cells.len() != into.rows() {
             return Err(7);
         }
-        let planes = width(&self.head.columns.as_slice()[column]);
-        transpose(&self.cells, planes, number, into);
+        transpose(&self.cells, digits, number, into);
         Ok(())
     }
 }

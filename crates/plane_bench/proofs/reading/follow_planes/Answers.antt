@@ -13,7 +13,8 @@ loop-init c =
     record {
       read = none;
       rows = ap length c.in_ok-plane.ensures ∙ length-replicate (length c.args.cells.now) false;
-      filter = c.in_ok-filter.ensures ∙ ap (truths_under (condition_of c.args.pred.now)) none;
+      lent = c.in_ok-filter.ensures.block;
+      filter = c.in_ok-filter.ensures.truths ∙ ap (truths_under (condition_of c.args.pred.now)) none;
     }
 
 pub refresh-requires-clause-stood : goal.refresh-requires-clause-stood

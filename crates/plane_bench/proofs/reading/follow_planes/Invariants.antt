@@ -8,5 +8,6 @@ abbrev pub invariant-loop : goal.invariant-loop
 invariant-loop l = record {
   read : l.columns ≡ table_after (ends_at l.fn.columns.frame 0) l.cells l.counter;
   rows : length l.plane ≡ length l.cells;
+  lent : l.block.frame.columns ≡ l.columns.frame.columns;
   filter : l.filter ≡ truths_after (condition_of l.pred) (ends_at l.fn.columns.frame 0) l.cells l.counter;
 }

@@ -1,7 +1,7 @@
 -- A block more of rows is summed.
 use Rattle.std.proofs.Common.{◌≡◌, ◌-◌, ◌*◌, min, length, map, take, ap, ◌∙◌, arith}
 use Rattle.known_column.specs.Columns.{number_of}
-use Rattle.known_column.specs.Marks.{block_rows}
+use Rattle.known_column.specs.Columns.{block_rows}
 use Rattle.plane_bench.proofs.Sums.{block_more}
 use Rattle.plane_bench.proofs.summing.sum_numbers.Goals as goal
 
