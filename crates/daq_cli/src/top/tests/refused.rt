@@ -183,7 +183,7 @@ const CASES: [Case; 25] = [
         csv: "v,w\n,2\n1,\n",
         status: Status::TableRefused,
         out: "",
-        err: "daq: table refused: record 2 column 2 is no value of its kind\n",
+        err: "daq: table refused: record 3 column 2 is no value of its kind\n",
     },
 ];
 
