@@ -1,9 +1,13 @@
 // A truth value for each row, as words of 64 bits: row r is bit r % 64 of word r / 64, and the bits past the last row are 0.
-ghost use Rattle.std.specs.Prelude.{◌≡◌, ◌<◌, ◌-◌, ◌*◌, ◌&&◌, ◌||◌, ◌↔◌, min, not, false, length, map, replicate, take, drop, count_by, position, slice_get, slice_set, Some, IfOk, IsNone};
-ghost use Rattle.std.specs.Simd.Lanes.{zip2};
-ghost use Rattle.plane_kernels.specs.Rows.{bits_of, digit_at};
+ghost use Rattle.std.specs.Prelude.{◌≡◌, ◌≤◌, ◌<◌, ◌+◌, ◌-◌, ◌*◌, ◌%◌, ◌&&◌, ◌||◌, ◌↔◌, min, not, false, length, map, replicate, take, drop, count_by, position, slice_get, slice_set, Some, IfOk, IsNone, IfErr, OnErr, OnOk};
+ghost use Rattle.std.specs.Simd.Lanes.{put_chunk, zip2};
+ghost use Rattle.plane_kernels.specs.Bytes.{HasNoPadBits, HasPadBits, bytes_of_rows, word_count};
+ghost use Rattle.plane_kernels.specs.Rows.{IsPadded, bits_of, block_rows, digit_at, rows_of};
 
+use crate::blocks::{block_of, set_block};
+use crate::bytes::{load_words, refuse_pad_bits, store_words};
 use crate::lanes::{and_not_words, and_words, count_both_words, count_words, or_words};
+use crate::pad_bits::PadBits;
 use crate::triples::{first_past, first_rest, or_rest_words, or_shared_words};
 use crate::words::{first_one, flip_words, gather_unset_words, gather_words, with_bit};
 use std::alloc::{AllocError, Global};
@@ -160,6 +164,23 @@ impl Bits {
         self.words[block]
     }
 
+    // The words with the bits of a block of 512 rows.
+    pub fn block(&self, block: usize) -> [u64; 8]
+        requires { 512 * block < length self.now }
+        ensures rows { rows_of (block_rows (length self.now) block) result ≡ take 512 (drop (512 * block) self.now) }
+        ensures padded { IsPadded (block_rows (length self.now) block) result }
+    {
+        block_of(&self.words, block)
+    }
+
+    // Makes the rows of a block these bits, and leaves the others.
+    pub fn set_block(&mut self, block: usize, words: &[u64; 8])
+        requires { 512 * block < length self.old }
+        ensures { self.new ≡ put_chunk (512 * block) self.old (rows_of (block_rows (length self.old) block) words.now) }
+    {
+        set_block(&mut self.words, self.rows, block, words);
+    }
+
     // The bit of each row is a digit of its cell.
     pub fn gather(&mut self, cells: &[u64], shift: u32)
         requires shift { shift < 64 }
@@ -175,5 +196,28 @@ impl Bits {
         ensures { self.new ≡ map not marks.now }
     {
         gather_unset_words(marks, &mut self.words);
+    }
+
+    // Writes the bytes of the words.
+    pub fn store(&self, out: &mut [u8])
+        requires { length out.old ≡ 8 * word_count (length self.now) }
+        ensures { out.new ≡ bytes_of_rows self.now }
+    {
+        store_words(&self.words, out);
+    }
+
+    // Reads the words from `first` on, or refuses their bytes.
+    pub fn load_words(&mut self, first: usize, bytes: &[u8]) -> Result<(), PadBits>
+        requires whole { length bytes.now % 8 ≡ 0 }
+        requires within { 8 * first + length bytes.now ≤ 8 * word_count (length self.old) }
+        ensures ok { OnOk result (bytes_of_rows self.new ≡ put_chunk (8 * first) (bytes_of_rows self.old) bytes.now) }
+        ensures rows { length self.new ≡ length self.old }
+        ensures clean { OnOk result (HasNoPadBits (length self.old) first bytes.now) }
+        ensures pad { IfErr result (λ pad. HasPadBits (length self.old) first bytes.now pad.word) }
+        ensures unchanged { OnErr result (self.new ≡ self.old) }
+    {
+        refuse_pad_bits(self.rows, first, bytes)?;
+        load_words(&mut self.words, first, bytes);
+        Ok(())
     }
 }

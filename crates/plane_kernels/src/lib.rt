@@ -2,14 +2,24 @@
 #![tactic(auto)]
 
 mod bits;
+mod blocks;
+mod bytes;
 mod lanes;
+mod laws;
 mod mask;
+mod pad_bits;
 mod plane;
 mod triples;
 mod words;
 
+pub use laws::bytes_are_exact;
 pub use mask::{Mask, split, step_compare};
+pub use pad_bits::PadBits;
 pub use plane::{Plane, transpose, validity};
 
+#[cfg(test)]
+mod block_tests;
+#[cfg(test)]
+mod byte_tests;
 #[cfg(test)]
 mod tests;

@@ -1,10 +1,12 @@
 // A plane: one binary digit of each row of a column.
-ghost use Rattle.std.specs.Prelude.{◌≡◌, ◌≤◌, ◌<◌, ◌+◌, ◌-◌, ◌*◌, ◌/◌, ◌%◌, ◌^◌, ◌==◌, ◌&&◌, min, not, false, length, map, replicate, take, drop, position, slice_get, Some, IfOk};
-ghost use Rattle.std.specs.Simd.Lanes.{zip2};
-ghost use Rattle.plane_kernels.specs.Rows.{bits_of};
+ghost use Rattle.std.specs.Prelude.{◌≡◌, ◌≤◌, ◌<◌, ◌+◌, ◌-◌, ◌*◌, ◌/◌, ◌%◌, ◌^◌, ◌==◌, ◌&&◌, min, not, false, length, map, replicate, take, drop, position, slice_get, Some, IfOk, IfErr, OnErr, OnOk};
+ghost use Rattle.std.specs.Simd.Lanes.{put_chunk, zip2};
+ghost use Rattle.plane_kernels.specs.Bytes.{HasNoPadBits, HasPadBits, bytes_of_rows, word_count};
+ghost use Rattle.plane_kernels.specs.Rows.{IsPadded, bits_of, block_rows, rows_of};
 
 use crate::bits::Bits;
 use crate::mask::Mask;
+use crate::pad_bits::PadBits;
 use std::alloc::{AllocError, Global};
 use std::marker::Model;
 
@@ -78,6 +80,54 @@ impl Plane {
         ensures { bits_of (min 64 (length self.now - 64 * block)) result ≡ take 64 (drop (64 * block) self.now) }
     {
         self.bits.word(block)
+    }
+
+    /// The words with the bits of a block of 512 rows, the first row's lowest; bits past the last row are 0.
+    pub fn block(&self, block: usize) -> [u64; 8]
+        requires { 512 * block < length self.now }
+        ensures rows { rows_of (block_rows (length self.now) block) result ≡ take 512 (drop (512 * block) self.now) }
+        ensures padded { IsPadded (block_rows (length self.now) block) result }
+    {
+        self.bits.block(block)
+    }
+
+    /// Writes the words, each as 8 bytes, the lowest byte first.
+    pub fn store(&self, out: &mut [u8])
+        requires { length out.old ≡ 8 * word_count (length self.now) }
+        ensures { out.new ≡ bytes_of_rows self.now }
+    {
+        self.bits.store(out);
+    }
+
+    /// Reads all words from bytes as `store` writes them.
+    ///
+    /// # Errors
+    /// Where a bit past the last row is 1.
+    pub fn load(&mut self, bytes: &[u8]) -> Result<(), PadBits>
+        requires { length bytes.now ≡ 8 * word_count (length self.old) }
+        ensures ok { OnOk result (bytes_of_rows self.new ≡ bytes.now) }
+        ensures rows { length self.new ≡ length self.old }
+        ensures clean { OnOk result (HasNoPadBits (length self.old) 0 bytes.now) }
+        ensures pad { IfErr result (λ pad. HasPadBits (length self.old) 0 bytes.now pad.word) }
+        ensures unchanged { OnErr result (self.new ≡ self.old) }
+    {
+        self.bits.load_words(0, bytes)
+    }
+
+    /// Reads as many words as the bytes are from `first` on, and leaves the others.
+    ///
+    /// # Errors
+    /// Where a bit past the last row is 1.
+    pub fn load_words(&mut self, first: usize, bytes: &[u8]) -> Result<(), PadBits>
+        requires whole { length bytes.now % 8 ≡ 0 }
+        requires within { 8 * first + length bytes.now ≤ 8 * word_count (length self.old) }
+        ensures ok { OnOk result (bytes_of_rows self.new ≡ put_chunk (8 * first) (bytes_of_rows self.old) bytes.now) }
+        ensures rows { length self.new ≡ length self.old }
+        ensures clean { OnOk result (HasNoPadBits (length self.old) first bytes.now) }
+        ensures pad { IfErr result (λ pad. HasPadBits (length self.old) first bytes.now pad.word) }
+        ensures unchanged { OnErr result (self.new ≡ self.old) }
+    {
+        self.bits.load_words(first, bytes)
     }
 }
 
