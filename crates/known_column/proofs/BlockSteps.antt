@@ -1,14 +1,12 @@
 -- Blocks of rows, digit by digit.
-use Rattle.std.proofs.Common.{◌≡◌, ◌≢◌, ℕ, zero, suc, ◌+◌, ◌*◌, ◌/◌, ◌%◌, ◌^◌, ◌<◌, ◌≤◌, ◌==◌, Bool, true, false, List, [], ◌∷◌, All, length, replicate, take, drop, set, get_or, cond, inl, inr, refl, ap, sym, subst, ◌∙◌, arith}
+use Rattle.std.proofs.Common.{◌≡◌, ◌≢◌, ℕ, zero, suc, ◌+◌, ◌*◌, ◌/◌, ◌%◌, ◌^◌, ◌<◌, ◌≤◌, ◌==◌, Bool, true, false, List, [], ◌∷◌, All, length, take, drop, set, get_or, cond, inl, inr, refl, ap, sym, subst, ◌∙◌, arith}
 use Rattle.std.specs.List.{fold}
 use Rattle.std.proofs.lemmas.Bool.{cases_eq}
 use Rattle.std.proofs.lemmas.List.{get_or-set_same, get_or-set_other}
-use Rattle.std.proofs.lemmas.List.Sums.{fold_more}
 use Rattle.std.proofs.Math.Nat.{pow-succ', mul-le-mul_right}
 use Rattle.plane_kernels.specs.Rows.{bits_of}
 use Rattle.query_model.specs.Knowledge.{longer}
 use Rattle.known_column.specs.Columns.{block_rows}
-use Rattle.known_column.specs.Marks.{block_after}
 
 -- ---- a list that is written from its start on
 
@@ -67,14 +65,6 @@ small-longer bound [] bits small k d below = absurd (omega arith)
 small-longer bound (p ∷ ps) [] small k d below = absurd (omega arith)
 small-longer bound (p ∷ ps) (b ∷ bits) small zero d below = small_one bound p b (small 0 0 (omega arith))
 small-longer bound (p ∷ ps) (b ∷ bits) small (suc k) d below = small-longer bound ps bits (λ i e h. small (suc i) e (omega arith)) k d (omega arith)
-
--- one plane more
-pub block_further : (block count j word : ℕ) (planes : List (List Bool)) (plane : List Bool) (numbers : List ℕ) → count ≤ 64 → j < length planes → plane ≡ get_or planes j plane → bits_of count word ≡ block_rows block plane →
-    take count numbers ≡ block_after block count (take j planes) → take count (longer numbers (bits_of 64 word)) ≡ block_after block count (take (j + 1) planes)
-block_further block count j word planes plane numbers few h is bits before =
-    take-longer count numbers (bits_of 64 word) ∙ ap (longer (take count numbers)) (take-bits_of count 64 word few ∙ bits) ∙ ap (λ l. longer l (block_rows block plane)) before
-    ∙ ap (λ l. longer (block_after block count (take j planes)) (block_rows block l)) is
-    ∙ sym (fold_more (λ ns p. longer ns (block_rows block p)) (replicate count 0) planes j plane h)
 
 -- ---- numbers without the digit that tells null
 

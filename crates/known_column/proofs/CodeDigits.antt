@@ -1,12 +1,14 @@
 -- Codes of cells, digit by digit from the highest.
-use Rattle.std.proofs.Common.{◌≡◌, ℕ, suc, ◌+◌, ◌-◌, ◌*◌, ◌/◌, ◌%◌, ◌^◌, ◌<◌, ◌≤◌, ◌==◌, true, false, cond, Some, None, ap, sym, ◌∙◌, arith}
+use Rattle.std.proofs.Common.{◌≡◌, ℕ, suc, ◌+◌, ◌-◌, ◌*◌, ◌/◌, ◌%◌, ◌^◌, ◌<◌, ◌≤◌, ◌==◌, nat_abs, true, false, cond, Some, None, ap, sym, ◌∙◌, arith}
 use Rattle.std.proofs.Math.Nat.{pow-suc, div-div-eq-div-mul, mod-lt, zero-div, mul-div_cancel, div-eq_of_lt, div-eq_of_lt-le, div-mul-le_self}
 use Rattle.std.proofs.lemmas.Nat.{pow-add, pow_pos, le-div}
+use Rattle.std.proofs.lemmas.Int.{ints}
 use Rattle.plane_kernels.proofs.RowLemmas.{lowest_as_number}
 use Rattle.daq_table.specs.declared.head.Ends.{Ends}
 use Rattle.daq_table.specs.Tables.{Cell, code, first_code, planes, spread, width}
 use Rattle.query_model.proofs.Blocks.{below_digits}
 use Rattle.query_model.specs.Knowledge.{bit_at, prefix_of}
+use Rattle.known_column.specs.Columns.{HasZero}
 
 -- a quotient by a power of two, out of the next one and a digit
 halved : (n d : ℕ) → n / 2 ^ d ≡ 2 * (n / 2 ^ suc d) + cond ((n / 2 ^ d) % 2 == 1) 1 0
@@ -77,3 +79,11 @@ pub prefix_mono : (ends : Ends) (read u v : ℕ) → u ≤ v → prefix_of ends 
 prefix_mono ends read u v h =
     let k = 2 ^ (planes ends - read) in
     le-div (prefix_of ends read (Some u)) (first_code ends + v) k (pow_pos (planes ends - read)) (omega (arith, div-mul-le_self (first_code ends + u) k))
+
+-- the number 0 of a column has no more digits than others
+pub zero_small : (ends : Ends) → HasZero ends → nat_abs ends.base < 2 ^ width ends
+zero_small ends has =
+    let below = has.0 in
+    let above = has.1 in
+    let most : nat_abs ends.base ≤ spread ends = omega (arith, ints) in
+    omega (arith, most, spread_small ends)

@@ -1,5 +1,5 @@
 -- Prefixes out of the digits of numbers and the rows that may have one.
-use Rattle.std.proofs.Common.{◌≡◌, ℕ, zero, suc, ◌+◌, ◌-◌, ◌*◌, ◌≤◌, min, nat_le, Bool, true, false, List, [], ◌∷◌, All, length, map, take, drop, cond, Some, refl, ap, sym, subst, ◌∙◌, arith}
+use Rattle.std.proofs.Common.{◌≡◌, ℕ, zero, suc, ◌+◌, ◌-◌, ◌*◌, ◌^◌, ◌≤◌, min, nat_le, Bool, true, false, List, [], ◌∷◌, All, length, map, take, drop, cond, Some, refl, ap, sym, subst, ◌∙◌, arith}
 use Rattle.std.specs.Simd.Lanes.{zip2}
 use Rattle.std.proofs.lemmas.Bool.Decides.{nat_tests}
 use Rattle.std.specs.List.{take-map, drop-map}
@@ -70,12 +70,13 @@ pub same_column : (ends other : Ends) (read reads : ℕ) (ps qs : List ℕ) → 
     (let column : KnownColumn = record { ends = ends; known = record { read = read; prefixes = ps } } in column) ≡ record { ends = other; known = record { read = reads; prefixes = qs } }
 same_column ends other read reads ps qs e f g = cc
 
-pub kept_block : (column : KnownColumn) (block : ℕ) (ends : Ends) (digits read rows : ℕ) (prefixes : List ℕ) → IsKnownColumn column → ends ≡ column.ends → digits ≡ width column.ends → digits ≤ 64 → read ≡ column.known.read → rows ≤ 64 →
-    take rows prefixes ≡ block_rows block column.known.prefixes → IsKeptBlock ends digits read rows prefixes
-kept_block column block ends digits read rows prefixes known e w few r most is = record {
+pub kept_block : (column : KnownColumn) (block : ℕ) (ends : Ends) (digits read rows least : ℕ) (prefixes : List ℕ) → IsKnownColumn column → ends ≡ column.ends → digits ≡ width column.ends → digits ≤ 64 → read ≡ column.known.read → rows ≤ 64 → least ≤ 2 ^ 64 →
+    take rows prefixes ≡ block_rows block column.known.prefixes → IsKeptBlock ends digits read rows least prefixes
+kept_block column block ends digits read rows least prefixes known e w few r most low is = record {
   digits = w ∙ ap width (sym e);
   few_digits = few;
   some_read = subst (λ n. n ≤ planes_of ends) (sym r) (subst (λ d. column.known.read ≤ planes_of d) (sym e) known.some_read);
   few_rows = most;
+  few_codes = low;
   legal = subst (λ d. All (IsLegal d read) (take rows prefixes)) (sym e) (subst (λ n. All (IsLegal column.ends n) (take rows prefixes)) (sym r) (subst (All (IsLegal column.ends column.known.read)) (sym is) (legal_block column block known)));
 }

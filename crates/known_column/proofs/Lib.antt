@@ -8,5 +8,7 @@ pub mod Nulls
 pub mod BlockSteps
 pub mod NumberBlocks
 pub mod Several
+pub mod WordDigits
+pub mod OctetDigits
 pub mod Joining
 pub mod TableBlocks

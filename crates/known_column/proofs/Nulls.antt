@@ -1,7 +1,6 @@
 -- What a legal prefix tells of null.
 use Rattle.std.proofs.Common.{◌≡◌, ℕ, zero, suc, ◌+◌, ◌-◌, ◌*◌, ◌^◌, ◌<◌, ◌≤◌, ◌==◌, nat_le, nat_lt, Bool, true, false, not, ◌&&◌, List, [], ◌∷◌, All, length, map, get_or, slice_get, cond, Some, refl, ap, sym, ◌∙◌, arith}
 use Rattle.std.proofs.lemmas.Bool.Decides.{nat_tests}
-use Rattle.std.proofs.lemmas.Int.{ints}
 use Rattle.std.proofs.lemmas.Nat.{pow_pos}
 use Rattle.daq_table.specs.declared.head.Ends.{Ends}
 use Rattle.std.proofs.Math.Nat.{mul-le-mul_right, div-mul-le_self}
@@ -10,8 +9,9 @@ use Rattle.query_model.specs.declared.bounds.Nullity.{Nullity}
 use Rattle.query_model.specs.declared.bounds.Nullity.TheVariants.{Never, Possibly, Always}
 use Rattle.query_model.specs.Truths.{may_be_null, may_be_number}
 use Rattle.query_model.specs.Knowledge.{IsLegal, is_legal, prefix_of}
-use Rattle.known_column.specs.Columns.{is_below_zero, is_possible, is_sure, zero_cell, HasZero}
-use Rattle.known_column.specs.Marks.{is_number, middle_cell, tells_null}
+use Rattle.known_column.specs.Columns.{is_below_zero, is_possible, is_sure, zero_cell, KnownColumn}
+use Rattle.known_column.specs.Marks.{is_number, tells_null, AreSigns, TellSigns}
+use Rattle.known_column.specs.declared.marks.Signs.{Signs}
 use Rattle.known_column.proofs.CodeDigits.{least_plain, spread_small}
 use Rattle.known_column.proofs.FirstMarks.{none_known}
 use Rattle.known_column.proofs.MarkSteps.{by_numbers, least_some}
@@ -99,15 +99,17 @@ row_test test (p ∷ ps) (suc r) b h e = row_test test ps r b (omega arith) e
 
 -- ---- 0
 
-pub zero_is_middle : (ends : Ends) → HasZero ends → middle_cell ends ≡ zero_cell ends
-zero_is_middle ends h = (let below = h.0 in let above = h.1 in ap Some (omega (arith, ints)))
+-- the rows below 0
+below_rows : (ends : Ends) (read : ℕ) (ps : List ℕ) → read ≤ planes_of ends → All (IsLegal ends read) ps →
+    map (λ p. is_number ends read p && nat_lt p (prefix_of ends read (zero_cell ends))) ps ≡ map (is_below_zero ends read) ps
+below_rows ends read ps h legal =
+    map_same (λ p. is_number ends read p && nat_lt p (prefix_of ends read (zero_cell ends))) (is_below_zero ends read) ps (λ r below.
+    ap (λ b. b && nat_lt (get_or ps r 0) (prefix_of ends read (zero_cell ends))) (possible_row ends read (get_or ps r 0) h (legal r 0 below)))
 
-pub below_rows : (ends : Ends) (read : ℕ) (ps : List ℕ) → read ≤ planes_of ends → All (IsLegal ends read) ps → HasZero ends →
-    map (λ p. is_number ends read p && nat_lt p (prefix_of ends read (middle_cell ends))) ps ≡ map (is_below_zero ends read) ps
-below_rows ends read ps h legal has =
-    map_same (λ p. is_number ends read p && nat_lt p (prefix_of ends read (middle_cell ends))) (is_below_zero ends read) ps (λ r below.
-    ap (λ m. is_number ends read (get_or ps r 0) && nat_lt (get_or ps r 0) (prefix_of ends read m)) (zero_is_middle ends has)
-    ∙ ap (λ b. b && nat_lt (get_or ps r 0) (prefix_of ends read (zero_cell ends))) (possible_row ends read (get_or ps r 0) h (legal r 0 below)))
+-- what the signs tell
+pub signs_tell : (ends : Ends) (read : ℕ) (ps : List ℕ) (signs : Signs) → read ≤ planes_of ends → All (IsLegal ends read) ps → AreSigns ends read ps signs →
+    TellSigns (let column : KnownColumn = record { ends = ends; known = record { read = read; prefixes = ps } } in column) signs
+signs_tell ends read ps signs h legal are = record { below = are.below ∙ below_rows ends read ps h legal; level = are.level; above = are.above }
 
 -- ---- codes within the column
 

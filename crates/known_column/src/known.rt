@@ -4,12 +4,12 @@ ghost use Rattle.std.specs.Prelude.{◌≡◌, ◌≤◌, ◌<◌, ◌+◌, ◌*
 ghost use Rattle.interval_calc.specs.Intervals.{interval_of};
 ghost use Rattle.daq_table.specs.Tables.{ends_of, planes, width};
 ghost use Rattle.known_column.specs.Columns.{count_in_block, digit_of, is_above_zero, is_at_top, is_below_zero, is_level_zero, is_possible, is_sure, missing_at, numbers_at, numbers_of_block, read_further, rows_of_column, rows_where, unread_column, HasZero, IsFirstOver, StaysLegal};
-ghost use Rattle.known_column.specs.Marks.{prefix_in};
+ghost use Rattle.known_column.specs.Marks.{prefix_in, TellSigns};
 ghost use Rattle.known_column.specs.RowBlocks.{IsKnownColumn};
 
 use crate::blocks::block_digits;
 use crate::codes::{code_digit, is_null_plane, plane_count, range_of};
-use crate::marks::{Marks, first_marks};
+use crate::marks::{Marks, Signs, first_marks};
 use daq_table::{ColumnHead, Ends, ends, width};
 use interval_calc::Interval;
 use plane_kernels::{Mask, Plane};
@@ -80,7 +80,7 @@ impl Known {
         let ends = ends(head);
         let width = width(head);
         let planes = blank_planes(alloc, plane_count(ends, width), rows)?;
-        let marks = first_marks(alloc, ends.nullable, rows)?;
+        let marks = first_marks(alloc, ends, rows)?;
         Ok(Known {
             ends,
             width,
@@ -105,10 +105,14 @@ impl Known {
         if let Some(row) = self.marks.first_over(plane, top) {
             return Err(OverTop { row });
         }
-        let nearest = self.ends.base.unsigned_abs().min(greatest);
-        let middle = code_digit(self.ends, self.width, nearest, self.read);
+        let zero = code_digit(
+            self.ends,
+            self.width,
+            self.ends.base.unsigned_abs(),
+            self.read,
+        );
         let first = is_null_plane(self.ends, self.read);
-        self.marks.follow(plane, first, top, middle);
+        self.marks.follow(plane, first, top, zero);
         self.planes[usize::from(self.read)].copy_from(plane);
         self.read += 1;
         Ok(())
@@ -125,6 +129,7 @@ impl Known {
     pub fn rows(&self) -> usize
         ensures rows { result ≡ rows_of_column self.now }
         ensures few { result ≤ 16777216 }
+        ensures known { IsKnownColumn self.now }
     {
         self.marks.at_top.rows()
     }
@@ -239,12 +244,23 @@ impl Known {
         &self.marks.at_top
     }
 
+    // The rows about 0.
+    fn signs(&self) -> &Signs
+        requires { HasZero self.now.ends }
+        ensures { TellSigns self.now result.now }
+    {
+        match &self.marks.signs {
+            Some(signs) => signs,
+            None => unreachable!(),
+        }
+    }
+
     /// The rows that may have a value and whose prefix is less than that of 0.
     pub fn below(&self) -> &Mask
         requires { HasZero self.now.ends }
         ensures { result.now ≡ rows_where is_below_zero self.now }
     {
-        &self.marks.below
+        &self.signs().below
     }
 
     /// The rows that may have a value and whose prefix is that of 0.
@@ -252,7 +268,7 @@ impl Known {
         requires { HasZero self.now.ends }
         ensures { result.now ≡ rows_where is_level_zero self.now }
     {
-        &self.marks.level
+        &self.signs().level
     }
 
     /// The rows that may have a value and whose prefix is greater than that of 0.
@@ -260,6 +276,6 @@ impl Known {
         requires { HasZero self.now.ends }
         ensures { result.now ≡ rows_where is_above_zero self.now }
     {
-        &self.marks.above
+        &self.signs().above
     }
 }

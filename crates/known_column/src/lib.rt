@@ -8,6 +8,7 @@ mod known;
 mod known_columns;
 mod known_rows;
 mod marks;
+mod octets;
 mod row_block;
 
 pub use known::{Known, OverTop};
