@@ -1,6 +1,11 @@
 pub mod Adding
 pub mod Appending
+pub mod BlockWords
 pub mod BoundFacts
-pub mod Selecting
+pub mod EndSigns
+pub mod EndSums
+pub mod ExtremeEnds
+pub mod MaskSums
+pub mod NumberRows
 pub mod Small
 pub mod Values

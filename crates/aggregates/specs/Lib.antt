@@ -1,3 +1,4 @@
+pub mod ExtremeRows
 pub mod Runnings
 pub mod Selections
 pub mod Tallies

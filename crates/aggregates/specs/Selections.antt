@@ -1,9 +1,11 @@
 -- The rows of a mask, and the ends of the numbers that their values in a column may be.
-use Rattle.std.specs.Prelude.{ℕ, ℤ, Bool, false, ◌&&◌, List, length, map, slice_index_or, IsTrue}
+use Rattle.std.specs.Prelude.{ℕ, ◌+◌, ◌≤◌, ℤ, Bool, false, cond, ◌&&◌, List, [], ◌∷◌, length, map, slice_index_or, IsTrue}
 use Rattle.std.specs.List.{filter, range_with_len}
 use Rattle.interval_calc.specs.Intervals.{Interval}
+use Rattle.daq_table.specs.Tables.{width}
 use Rattle.query_model.specs.Truths.{may_be_number}
 use Rattle.known_column.specs.Columns.{KnownColumn, range_at}
+use Rattle.known_column.specs.RowBlocks.{IsKnownColumn}
 use Rattle.aggregates.specs.declared.ends.End.{End}
 use Rattle.aggregates.specs.declared.ends.End.TheVariants.{Low, High}
 
@@ -41,3 +43,14 @@ highs_in column mask = map (λ row. (range_at column row).numbers.high) (rows_in
 -- the mask with those of its rows that meet a test
 abbrev pub those_of : List Bool → (ℕ → Bool) → List Bool
 those_of mask test = map (λ row. has_row mask row && test row) (range_with_len 0 (length mask))
+
+-- numbers of a list at the mask's rows, added up
+abbrev pub sum_where : List Bool → List ℕ → ℕ
+sum_where [] numbers = 0
+sum_where (b ∷ mask) [] = 0
+sum_where (b ∷ mask) (n ∷ numbers) = cond b n 0 + sum_where mask numbers
+
+-- what holds of every column: its prefixes are those of cells, and its numbers have at most 64 binary digits
+pub record IsSound (column : KnownColumn) : Type 0 where
+  pub known : IsKnownColumn column
+  pub digits : width column.ends ≤ 64

@@ -5,9 +5,13 @@ ghost use Rattle.std.specs.Int.{w64};
 ghost use Rattle.query_model.specs.declared.query.ItemKind.TheVariants.{Min, Max};
 ghost use Rattle.query_model.specs.Answers.{answer, total};
 ghost use Rattle.known_column.specs.Columns.{range_at, rows_of_column};
+ghost use Rattle.aggregates.specs.ExtremeRows.{kind_of};
 ghost use Rattle.aggregates.specs.Selections.{end_at, ends_in, highs_in, lows_in, rows_in, those_of, MayHaveValues};
 
-use crate::extremes::{greater, lesser};
+use crate::digits::number_planes;
+use crate::extreme_rows::{Extreme, extreme_row};
+use crate::signs::{highs_above_zero, lows_below_zero, select_none};
+use crate::sums::{add_highs, add_lows};
 use known_column::Known;
 use plane_kernels::Mask;
 
@@ -33,46 +37,16 @@ fn end_at(end: End, known: &Known, row: usize) -> i128
     }
 }
 
-// The ends at the mask's rows, added up.
-fn sum(end: End, known: &Known, mask: &Mask) -> i128
-    requires { length mask.now ≡ rows_of_column known.now }
-    ensures { result ≡ total (ends_in end known.now mask.now) }
+// The end at the row whose number is least or greatest, or none where the mask has no row.
+fn extreme_end(end: End, extreme: Extreme, known: &Known, mask: &Mask) -> Option<i128>
+    requires rows { length mask.now ≡ rows_of_column known.now }
+    requires values { MayHaveValues known.now mask.now }
+    ensures { result ≡ answer (kind_of extreme) (ends_in end known.now mask.now) }
 {
-    let mut sum = 0;
-    for row in 0..mask.rows() {
-        if mask.get(row) {
-            sum += end_at(end, known, row);
-        }
+    match extreme_row(extreme, known, mask) {
+        Some(row) => Some(end_at(end, known, row)),
+        None => None,
     }
-    sum
-}
-
-// The least end at the mask's rows.
-fn least(end: End, known: &Known, mask: &Mask) -> Option<i128>
-    requires { length mask.now ≡ rows_of_column known.now }
-    ensures { result ≡ answer Min (ends_in end known.now mask.now) }
-{
-    let mut least = None;
-    for row in 0..mask.rows() {
-        if mask.get(row) {
-            least = Some(lesser(least, end_at(end, known, row)));
-        }
-    }
-    least
-}
-
-// The greatest end at the mask's rows.
-fn greatest(end: End, known: &Known, mask: &Mask) -> Option<i128>
-    requires { length mask.now ≡ rows_of_column known.now }
-    ensures { result ≡ answer Max (ends_in end known.now mask.now) }
-{
-    let mut greatest = None;
-    for row in 0..mask.rows() {
-        if mask.get(row) {
-            greatest = Some(greater(greatest, end_at(end, known, row)));
-        }
-    }
-    greatest
 }
 
 /// The low ends at the mask's rows, added up.
@@ -81,7 +55,7 @@ pub fn sum_lows(known: &Known, mask: &Mask) -> i128
     requires values { MayHaveValues known.now mask.now }
     ensures { result ≡ total (lows_in known.now mask.now) }
 {
-    sum(End::Low, known, mask)
+    add_lows(known, mask)
 }
 
 /// The high ends at the mask's rows, added up.
@@ -90,7 +64,7 @@ pub fn sum_highs(known: &Known, mask: &Mask) -> i128
     requires values { MayHaveValues known.now mask.now }
     ensures { result ≡ total (highs_in known.now mask.now) }
 {
-    sum(End::High, known, mask)
+    add_highs(known, mask)
 }
 
 /// The least low end at the mask's rows, or none where it has no row.
@@ -100,7 +74,7 @@ pub fn least_low(known: &Known, mask: &Mask) -> Option<i128>
     ensures least { result ≡ answer Min (lows_in known.now mask.now) }
     ensures none { IsNone result ↔ (rows_in mask.now ≡ []) }
 {
-    least(End::Low, known, mask)
+    extreme_end(End::Low, Extreme::Least, known, mask)
 }
 
 /// The greatest low end at the mask's rows, or none where it has no row.
@@ -110,7 +84,7 @@ pub fn greatest_low(known: &Known, mask: &Mask) -> Option<i128>
     ensures greatest { result ≡ answer Max (lows_in known.now mask.now) }
     ensures none { IsNone result ↔ (rows_in mask.now ≡ []) }
 {
-    greatest(End::Low, known, mask)
+    extreme_end(End::Low, Extreme::Greatest, known, mask)
 }
 
 /// The least high end at the mask's rows, or none where it has no row.
@@ -120,7 +94,7 @@ pub fn least_high(known: &Known, mask: &Mask) -> Option<i128>
     ensures least { result ≡ answer Min (highs_in known.now mask.now) }
     ensures none { IsNone result ↔ (rows_in mask.now ≡ []) }
 {
-    least(End::High, known, mask)
+    extreme_end(End::High, Extreme::Least, known, mask)
 }
 
 /// The greatest high end at the mask's rows, or none where it has no row.
@@ -130,7 +104,7 @@ pub fn greatest_high(known: &Known, mask: &Mask) -> Option<i128>
     ensures greatest { result ≡ answer Max (highs_in known.now mask.now) }
     ensures none { IsNone result ↔ (rows_in mask.now ≡ []) }
 {
-    greatest(End::High, known, mask)
+    extreme_end(End::High, Extreme::Greatest, known, mask)
 }
 
 /// Selects the rows of a mask whose low end is below 0.
@@ -140,8 +114,13 @@ pub fn negative_lows(known: &Known, within: &Mask, out: &mut Mask)
     requires out { length out.old ≡ rows_of_column known.now }
     ensures { out.new ≡ those_of within.now (λ row. int_lt (range_at known.now row).numbers.low (pos 0)) }
 {
-    for row in 0..within.rows() {
-        out.set(row, within.get(row) & (end_at(End::Low, known, row) < 0));
+    if known.base() >= 0 {
+        select_none(within, out);
+    } else if known.top() < 0 {
+        let _planes = number_planes(known);
+        out.copy_from(within);
+    } else {
+        lows_below_zero(known, within, out);
     }
 }
 
@@ -152,7 +131,11 @@ pub fn positive_highs(known: &Known, within: &Mask, out: &mut Mask)
     requires out { length out.old ≡ rows_of_column known.now }
     ensures { out.new ≡ those_of within.now (λ row. int_lt (pos 0) (range_at known.now row).numbers.high) }
 {
-    for row in 0..within.rows() {
-        out.set(row, within.get(row) & (end_at(End::High, known, row) > 0));
+    if known.top() <= 0 {
+        select_none(within, out);
+    } else if known.base() > 0 {
+        out.copy_from(within);
+    } else {
+        highs_above_zero(known, within, out);
     }
 }

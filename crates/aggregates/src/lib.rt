@@ -1,9 +1,13 @@
 //! Bounds of aggregates, from counts, sums and ends.
 #![tactic(auto)]
 
+mod digits;
 mod ends;
+mod extreme_rows;
 mod extremes;
 mod running;
+mod signs;
+mod sums;
 mod tally;
 
 pub use ends::{

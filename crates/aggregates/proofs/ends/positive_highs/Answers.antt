@@ -1,8 +1,10 @@
-use Rattle.std.proofs.Common.{int_lt, pos, arith}
-use Rattle.known_column.specs.Columns.{range_at}
-use Rattle.aggregates.proofs.Selecting.{all_written}
+use Rattle.std.proofs.Common.{◌∙◌, arith}
+use Rattle.std.proofs.lemmas.Int.{ints}
+use Rattle.aggregates.proofs.EndSigns.{all_highs_above, no_high_above}
 use Rattle.aggregates.proofs.ends.positive_highs.Goals as goal
 
-pub returns : goal.returns
-returns c =
-    all_written c.loop-row.out c.args.within.now (λ row. int_lt (pos 0) (range_at c.args.known.now row).numbers.high) c.loop-row.invariant.count (λ k h. c.loop-row.invariant.done k (omega arith))
+pub returns-then-top-le0 : goal.returns-then-top-le0
+returns-then-top-le0 c = c.select_none.ensures ∙ no_high_above c.args.known.now c.args.within.now (omega (arith, ints, c.if-top-le0.true, c.top.ensures))
+
+pub returns-then-base-gt0 : goal.returns-then-base-gt0
+returns-then-base-gt0 c = c.copy_from.ensures ∙ all_highs_above c.args.known.now c.args.within.now (omega (arith, ints, c.if-base-gt0.true, c.base.ensures))

@@ -1,0 +1,102 @@
+-- The extreme ends at a mask's rows are those of the rows whose numbers are extreme.
+use Rattle.std.proofs.Common.{◌≡◌, ℕ, zero, suc, ◌+◌, ◌-◌, ◌*◌, ◌^◌, ◌≤◌, min, ℤ, pos, ◌+ℤ◌, ◌≤ℤ◌, Bool, true, false, List, [], ◌∷◌, length, map, filter, get_or, Some, None, inl, inr, refl, ap, sym, subst, ◌∙◌, arith}
+use Rattle.std.specs.List.{range_with_len}
+use Rattle.std.proofs.Math.Nat.{mul-le-mul_right}
+use Rattle.std.proofs.lemmas.Bool.{false≢true}
+use Rattle.std.proofs.lemmas.Int.{ints}
+use Rattle.daq_table.specs.Tables.{first_code, planes, spread}
+use Rattle.query_model.specs.declared.query.ItemKind.TheVariants.{Min, Max}
+use Rattle.query_model.specs.Answers.{answer, greatest, least}
+use Rattle.query_model.proofs.Extremes.{Has, greatest_above, greatest_stands, least_below, least_stands}
+use Rattle.known_column.specs.Columns.{KnownColumn}
+use Rattle.aggregates.specs.declared.ends.End.{End}
+use Rattle.aggregates.specs.declared.ends.End.TheVariants.{Low, High}
+use Rattle.aggregates.specs.declared.extreme_rows.Extreme.{Extreme}
+use Rattle.aggregates.specs.declared.extreme_rows.Extreme.TheVariants.{Least, Greatest}
+use Rattle.aggregates.specs.ExtremeRows.{kind_of, number_at, IsExtreme}
+use Rattle.aggregates.specs.Selections.{end_at, ends_in, has_row}
+use Rattle.aggregates.proofs.BlockWords.{row_within}
+use Rattle.aggregates.proofs.EndSums.{Counts, numbers}
+use Rattle.aggregates.proofs.MaskSums.{first_row}
+use Rattle.aggregates.proofs.NumberRows.{IsNumber}
+
+-- ---- lists
+
+least_is : (xs : List ℤ) (v : ℤ) → Has v xs → ((x : ℤ) → Has x xs → v ≤ℤ x) → answer Min xs ≡ Some v
+least_is [] v h each = absurd h
+least_is (x ∷ xs) v h each = (let below = least_below v (x ∷ xs) h in let above = each (least (x ∷ xs)) (least_stands x xs) in ap Some (omega (arith, ints, below, above)))
+
+greatest_is : (xs : List ℤ) (v : ℤ) → Has v xs → ((x : ℤ) → Has x xs → x ≤ℤ v) → answer Max xs ≡ Some v
+greatest_is [] v h each = absurd h
+greatest_is (x ∷ xs) v h each = (let above = greatest_above v (x ∷ xs) h in let below = each (greatest (x ∷ xs)) (greatest_stands x xs) in ap Some (omega (arith, ints, below, above)))
+
+-- ---- a function's values at the rows of a mask
+
+stands_in : (f : ℕ → ℤ) (mask : List Bool) (r : ℕ) → has_row mask r ≡ true → Has (f r) (map f (filter (has_row mask) (range_with_len 0 (length mask))))
+stands_in f [] r e = absurd (false≢true e)
+stands_in f (true ∷ mask) zero e = subst (Has (f 0)) (sym (first_row f true mask)) (inl refl)
+stands_in f (true ∷ mask) (suc r) e = subst (Has (f (suc r))) (sym (first_row f true mask)) (inr (stands_in (λ k. f (suc k)) mask r e))
+stands_in f (false ∷ mask) zero e = absurd (false≢true e)
+stands_in f (false ∷ mask) (suc r) e = subst (Has (f (suc r))) (sym (first_row f false mask)) (stands_in (λ k. f (suc k)) mask r e)
+
+each_in : (f : ℕ → ℤ) (mask : List Bool) (P : ℤ → Type 0) → ((r : ℕ) → has_row mask r ≡ true → P (f r)) → (x : ℤ) → Has x (map f (filter (has_row mask) (range_with_len 0 (length mask)))) → P x
+each_in f [] P each x h = absurd h
+each_in f (true ∷ mask) P each x h =
+    elim (subst (Has x) (first_row f true mask) h) [
+      | inl e ↦ subst P (sym e) (each 0 refl)
+      | inr k ↦ each_in (λ r. f (suc r)) mask P (λ r has. each (suc r) has) x k
+    ]
+each_in f (false ∷ mask) P each x h = each_in (λ r. f (suc r)) mask P (λ r has. each (suc r) has) x (subst (Has x) (first_row f false mask) h)
+
+none_in : (f : ℕ → ℤ) (mask : List Bool) → ((r : ℕ) → has_row mask r ≡ false) → map f (filter (has_row mask) (range_with_len 0 (length mask))) ≡ []
+none_in f [] each = refl
+none_in f (true ∷ mask) each = absurd (false≢true (sym (each 0)))
+none_in f (false ∷ mask) each = first_row f false mask ∙ none_in (λ r. f (suc r)) mask (λ r. each (suc r))
+
+-- ---- ends out of numbers
+
+-- a greater number has no lesser ends
+lows_mono : (column : KnownColumn) (p q n m : ℕ) → IsNumber column.ends column.known.read p n → IsNumber column.ends column.known.read q m → n ≤ m →
+    (column.ends.base +ℤ pos (p * 2 ^ (planes column.ends - column.known.read) - first_code column.ends)) ≤ℤ (column.ends.base +ℤ pos (q * 2 ^ (planes column.ends - column.known.read) - first_code column.ends))
+lows_mono column p q n m a b h =
+    let k = 2 ^ (planes column.ends - column.known.read) in
+    let more : n * k ≤ m * k = mul-le-mul_right k h in
+    omega (arith, ints, more, a.above, b.above)
+
+highs_mono : (column : KnownColumn) (p q : ℕ) → p ≤ q →
+    (column.ends.base +ℤ pos (min ((p + 1) * 2 ^ (planes column.ends - column.known.read) - 1 - first_code column.ends) (spread column.ends)))
+    ≤ℤ (column.ends.base +ℤ pos (min ((q + 1) * 2 ^ (planes column.ends - column.known.read) - 1 - first_code column.ends) (spread column.ends)))
+highs_mono column p q h =
+    let k = 2 ^ (planes column.ends - column.known.read) in
+    let one : p + 1 ≤ q + 1 = omega (arith, h) in
+    let more : (p + 1) * k ≤ (q + 1) * k = mul-le-mul_right k one in
+    omega (arith, ints, more)
+
+ends_mono : (end : End) (column : KnownColumn) (mask : List Bool) (r s : ℕ) → Counts column mask → has_row mask r ≡ true → has_row mask s ≡ true → number_at column r ≤ number_at column s →
+    end_at end column r ≤ℤ end_at end column s
+ends_mono end column mask r s h has_r has_s less =
+    let p = get_or column.known.prefixes r 0 in
+    let q = get_or column.known.prefixes s 0 in
+    let a = numbers column mask h r (omega (arith, row_within mask r has_r, h.rows)) has_r in
+    let b = numbers column mask h s (omega (arith, row_within mask s has_s, h.rows)) has_s in
+    let up : p ≤ q = omega (arith, a.least, b.least, less) in
+    by_end end (lows_mono column p q (number_at column r) (number_at column s) a b less) (highs_mono column p q up)
+  where
+    by_end : (end : End) → end_at Low column r ≤ℤ end_at Low column s → end_at High column r ≤ℤ end_at High column s → end_at end column r ≤ℤ end_at end column s
+    by_end Low low high = low
+    by_end High low high = high
+
+-- ---- the extreme end
+
+pub extreme_there : (extreme : Extreme) (end : End) (column : KnownColumn) (mask : List Bool) (row : ℕ) → Counts column mask → IsExtreme extreme column mask row →
+    answer (kind_of extreme) (ends_in end column mask) ≡ Some (end_at end column row)
+extreme_there Least end column mask row h best =
+    least_is (ends_in end column mask) (end_at end column row) (stands_in (end_at end column) mask row best.has)
+    (each_in (end_at end column) mask (λ x. end_at end column row ≤ℤ x) (λ r has. ends_mono end column mask row r h best.has has (best.furthest r has)))
+extreme_there Greatest end column mask row h best =
+    greatest_is (ends_in end column mask) (end_at end column row) (stands_in (end_at end column) mask row best.has)
+    (each_in (end_at end column) mask (λ x. x ≤ℤ end_at end column row) (λ r has. ends_mono end column mask r row h has best.has (best.furthest r has)))
+
+pub extreme_nowhere : (extreme : Extreme) (end : End) (column : KnownColumn) (mask : List Bool) → ((r : ℕ) → has_row mask r ≡ false) → answer (kind_of extreme) (ends_in end column mask) ≡ None
+extreme_nowhere Least end column mask each = ap (answer Min) (none_in (end_at end column) mask each)
+extreme_nowhere Greatest end column mask each = ap (answer Max) (none_in (end_at end column) mask each)

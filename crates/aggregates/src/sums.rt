@@ -1,0 +1,105 @@
+// Sums of the ends at some rows, by counts of rows plane by plane.
+
+ghost use Rattle.std.specs.Prelude.{◌≡◌, ◌≤◌, ◌+◌, ◌-◌, ◌*◌, ◌^◌, ◌%◌, ◌*ℤ◌, ◌-ℤ◌, nat_abs, ◌+ℤ◌, ◌≤ℤ◌, negsuc, pos, length, map};
+ghost use Rattle.query_model.specs.Answers.{total};
+ghost use Rattle.daq_table.specs.Tables.{planes};
+ghost use Rattle.known_column.specs.Columns.{number_of, rows_of_column};
+ghost use Rattle.aggregates.specs.Selections.{IsSound, MayHaveValues, highs_in, lows_in, sum_where};
+
+use crate::digits::number_planes;
+use known_column::Known;
+use plane_kernels::Mask;
+
+// A number so many times.
+fn times(number: i64, count: u64) -> i128
+    requires { count ≤ 16777216 }
+    ensures product { result ≡ number *ℤ pos count }
+    ensures few { (negsuc 309485009821345068724781056 ≤ℤ result) × (result ≤ℤ pos 309485009821345068724781056) }
+{
+    i128::from(number) * i128::from(count)
+}
+
+// A number so many times, and another that so many digits follow.
+fn multiples(base: i64, count: u64, number: u128, unread: u8) -> i128
+    requires count { count ≤ 16777216 }
+    requires unread { unread ≤ 65 }
+    requires few { number * 2 ^ unread ≤ 2 ^ 89 }
+    ensures sum { result ≡ (base *ℤ pos count) +ℤ pos (number * 2 ^ unread) }
+    ensures few { (negsuc 1237940039285380274899124224 ≤ℤ result) × (result ≤ℤ pos 1237940039285380274899124224) }
+{
+    times(base, count) + (number << unread) as i128
+}
+
+// The digits that were read of the numbers at the mask's rows, added up as numbers.
+fn sum_numbers(known: &Known, mask: &Mask) -> u128
+    requires rows { length mask.now ≡ rows_of_column known.now }
+    requires values { MayHaveValues known.now mask.now }
+    ensures sum { result ≡ sum_where mask.now (map (number_of known.now.ends known.now.known.read) known.now.known.prefixes) }
+    ensures few { result * 2 ^ (planes known.now.ends - known.now.known.read) ≤ 2 ^ 89 }
+    ensures sound { IsSound known.now }
+{
+    let (from, to) = number_planes(known);
+    let mut sum = 0;
+    for j in from..to {
+        sum = 2 * sum + u128::from(mask.count_plane(known.plane(j)));
+    }
+    sum
+}
+
+// The low ends at the mask's rows, added up.
+pub(crate) fn add_lows(known: &Known, mask: &Mask) -> i128
+    requires rows { length mask.now ≡ rows_of_column known.now }
+    requires values { MayHaveValues known.now mask.now }
+    ensures sum { result ≡ total (lows_in known.now mask.now) }
+    ensures few { (negsuc 1237940039285380274899124224 ≤ℤ result) × (result ≤ℤ pos 1237940039285380274899124224) }
+    ensures sound { IsSound known.now }
+{
+    let numbers = sum_numbers(known, mask);
+    let unread = known.unread();
+    let _rows = known.rows();
+    multiples(known.base(), mask.count(), numbers, unread)
+}
+
+// How far a range's high end lies above its low end where it does not end at top.
+fn block_span(unread: u8) -> u128
+    requires { unread ≤ 65 }
+    ensures span { result ≡ 2 ^ unread - 1 }
+    ensures few { result ≤ 36893488147419103232 }
+{
+    (1u128 << unread) - 1
+}
+
+// The same at top's prefix.
+fn top_span(base: i64, top: i64, unread: u8) -> u128
+    requires { unread ≤ 65 }
+    ensures span { result ≡ nat_abs (top -ℤ base) % 2 ^ unread }
+    ensures few { result ≤ 36893488147419103232 }
+{
+    u128::from(top.abs_diff(base)) % (1u128 << unread)
+}
+
+// A span so many times.
+fn many_times(count: u64, span: u128) -> u128
+    requires count { count ≤ 16777216 }
+    requires span { span ≤ 36893488147419103232 }
+    ensures product { result ≡ count * span }
+    ensures few { result ≤ 618970019642690137449562112 }
+{
+    u128::from(count) * span
+}
+
+// The high ends at the mask's rows, added up.
+pub(crate) fn add_highs(known: &Known, mask: &Mask) -> i128
+    requires rows { length mask.now ≡ rows_of_column known.now }
+    requires values { MayHaveValues known.now mask.now }
+    ensures { result ≡ total (highs_in known.now mask.now) }
+{
+    let lows = add_lows(known, mask);
+    let unread = known.unread();
+    let _rows = known.rows();
+    let at_top = mask.count_and(known.at_top());
+    let others = mask.count() - at_top;
+    let wide = many_times(at_top, top_span(known.base(), known.top(), unread))
+        + many_times(others, block_span(unread));
+    lows + wide as i128
+}
