@@ -127,7 +127,7 @@ le_fails a b e = (grind (arith, ints), grind (arith, ints))
 eq_holds : (a b : ℤ) → int_eq a b ≡ true → a ≡ b
 eq_holds a b e = (Decides-int_eq a b).0 e
 
-eq_fails : (a b : ℤ) → (a ≡ b → ⊥) → int_eq a b ≡ false
+pub eq_fails : (a b : ℤ) → (a ≡ b → ⊥) → int_eq a b ≡ false
 eq_fails a b n = elim (cases_Bool (int_eq a b)) [ inl t ↦ absurd (n (eq_holds a b t)) | inr f ↦ f ]
 
 -- equal numbers of two ranges
@@ -202,17 +202,17 @@ against_one op i z o = over_one i z (compares op) _ _ o (answers_of op i (only z
 
 -- ---- between two numbers
 
-and_true : (a b : Bool) → a ≡ true → b ≡ true → (a && b) ≡ true
+pub and_true : (a b : Bool) → a ≡ true → b ≡ true → (a && b) ≡ true
 and_true a b e f = ap (λ v. v && b) e ∙ f
 
-and_false_left : (a b : Bool) → a ≡ false → (a && b) ≡ false
+pub and_false_left : (a b : Bool) → a ≡ false → (a && b) ≡ false
 and_false_left a b e = ap (λ v. v && b) e
 
-and_false_right : (a b : Bool) → b ≡ false → (a && b) ≡ false
+pub and_false_right : (a b : Bool) → b ≡ false → (a && b) ≡ false
 and_false_right true b f = f
 and_false_right false b f = refl
 
-le_is : (a b : ℤ) → a ≤ℤ b → int_le a b ≡ true
+pub le_is : (a b : ℤ) → a ≤ℤ b → int_le a b ≡ true
 le_is a b h = grind (arith, ints)
 
 never_between : (low high x : ℤ) → (low ≤ℤ x → x ≤ℤ high → ⊥) → between low high x ≡ false

@@ -12,7 +12,7 @@ use Rattle.query_model.specs.Knowledge.{ColumnKnowledge, known_at, longer_column
 use Rattle.query_model.specs.Meaning.{among, between, columns_of_atom, columns_of_pred, compares}
 use Rattle.query_model.specs.Truths.{Ranges, and_over, not_over, or_over, truth_among, truths_of, truths_of_atom, truths_of_null, truths_over, truths_over_both}
 use Rattle.known_column.specs.KnownTables.{KnownTable}
-use Rattle.kleene_filter.specs.Filters.{StoodBefore, stands_in, truths_under}
+use Rattle.kleene_filter.specs.Filters.{Judgement, StoodBefore, stands_in, truths_under}
 
 -- ranges that differ at one column at most
 abbrev AgreeBeside : ℕ → Ranges → Ranges → Type 0
@@ -55,9 +55,9 @@ same_map : (f g : ℕ → Truth) (xs : List ℕ) → ((x : ℕ) → f x ≡ g x)
 same_map f g [] h = refl
 same_map f g (x ∷ xs) h = ap (λ t. t ∷ map f xs) (h x) ∙ ap (λ ts. g x ∷ ts) (same_map f g xs h)
 
-pub still_stands : (truths : List Truth) (pred : Condition) (table : KnownTable) (column : ℕ) (bits : List Bool) → StoodBefore truths pred table column bits → stands_in (columns_of_pred pred) column ≡ false → truths ≡ truths_under pred table
-still_stands truths pred table column bits stood h =
+pub still_stands : (filter : Judgement) (pred : Condition) (table : KnownTable) (column : ℕ) (bits : List Bool) → StoodBefore filter pred table column bits → stands_in (columns_of_pred pred) column ≡ false → filter.truths ≡ truths_under pred table
+still_stands filter pred table column bits stood h =
     let before = stood.before in
-    stood.stood
+    stood.stood.truths
     ∙ sym (same_map _ _ (rows_of before.frame) (λ row. ap truth_among (pred_alike pred column (ranges_of before.frame (taken before.known column bits) row) (ranges_of before.frame before.known row) (ranges_alike before column bits row) h)))
     ∙ ap (truths_under pred) (sym stood.taken)

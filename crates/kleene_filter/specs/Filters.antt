@@ -1,5 +1,5 @@
 -- What is known of a condition at each row.
-use Rattle.std.specs.Prelude.{◌≡◌, ℕ, ◌+◌, ◌<◌, ◌==◌, Bool, true, false, List, [], ◌∷◌, length, map, slice_index_or, IsTrue}
+use Rattle.std.specs.Prelude.{◌≡◌, ℕ, ◌+◌, ◌*◌, ◌<◌, ◌==◌, Bool, true, false, List, [], ◌∷◌, length, map, slice_index_or, IsTrue}
 use Rattle.std.specs.List.{list_any}
 use Rattle.daq_table.specs.Tables.{rows_of}
 use Rattle.query_model.specs.Queries.{Condition}
@@ -8,7 +8,11 @@ use Rattle.query_model.specs.declared.bounds.Truth.TheVariants.{False, Unknown, 
 use Rattle.query_model.specs.declared.bounds.Truths.{Truths}
 use Rattle.query_model.specs.Knowledge.{CanTake, ranges_of}
 use Rattle.query_model.specs.Truths.{truth_of, truths_of}
-use Rattle.known_column.specs.KnownTables.{KnownTable, read_column}
+use Rattle.plane_kernels.specs.Rows.{digit_at}
+use Rattle.known_column.specs.Columns.{count_in_block}
+use Rattle.known_column.specs.KnownTables.{IsKnownTable, KnownTable, read_column}
+use Rattle.kleene_filter.specs.declared.masks.AtomMasks.{AtomMasks}
+use Rattle.kleene_filter.specs.Masks.{atoms_of, AreMasksOf}
 
 abbrev pub is_certain : Truth → Bool
 is_certain False = false
@@ -40,10 +44,22 @@ truth_at pred table row = truth_of pred (ranges_of table.frame table.known row)
 abbrev pub truths_under : Condition → KnownTable → List Truth
 truths_under pred table = map (truth_at pred table) (rows_of table.frame)
 
--- the columns are those from which these bits were read as the next plane of one, and the truths were those of the condition before
-pub record StoodBefore (truths : List Truth) (pred : Condition) (table : KnownTable) (column : ℕ) (bits : List Bool) : Type 0 where
+-- what a filter keeps: the truth of its condition at each row, and masks of its atoms
+pub record Judgement : Type 0 where
+  pub truths : List Truth
+  pub masks : List AtomMasks
+
+-- the filter is that of the condition over columns of which this is known
+pub record StandsFor (filter : Judgement) (pred : Condition) (table : KnownTable) : Type 0 where
+  pub truths : filter.truths ≡ truths_under pred table
+  pub count : length filter.masks ≡ length (atoms_of pred)
+  pub masks : AreMasksOf filter.masks 0 (atoms_of pred) table
+  pub known : IsKnownTable table
+
+-- the columns are those from which these bits were read as the next plane of one, and the filter was that of the condition before
+pub record StoodBefore (filter : Judgement) (pred : Condition) (table : KnownTable) (column : ℕ) (bits : List Bool) : Type 0 where
   pub before : KnownTable
-  pub stood : truths ≡ truths_under pred before
+  pub stood : StandsFor filter pred before
   pub could : CanTake before.frame before.known column bits
   pub taken : table ≡ read_column before column bits
 
@@ -54,8 +70,14 @@ AreNested [] (n ∷ ns) = ⊥
 AreNested (m ∷ ms) [] = ⊥
 AreNested (m ∷ ms) (n ∷ ns) = (IsTrue m → IsTrue n) × AreNested ms ns
 
--- the bits of a block's rows, from the first on, are what a test says of the condition there; those before are as they were
-pub record IsJudged (test : Truth → Bool) (pred : Condition) (block : KnownTable) (first : ℕ) (old new : List Bool) : Type 0 where
+-- the bits of a block's rows are what a test says of the condition there, and those before are as they were
+pub record IsJudged (test : Truth → Bool) (pred : Condition) (table : KnownTable) (block : ℕ) (old new : List Bool) : Type 0 where
   pub rows : length new ≡ length old
-  pub before : (k : ℕ) → k < first → slice_index_or new k false ≡ slice_index_or old k false
-  pub here : (r : ℕ) → r < block.frame.rows → slice_index_or new (first + r) false ≡ test (truth_at pred block r)
+  pub before : (k : ℕ) → k < 64 * block → slice_index_or new k false ≡ slice_index_or old k false
+  pub here : (r : ℕ) → r < count_in_block block table.frame.rows → slice_index_or new (64 * block + r) false ≡ test (truth_at pred table (64 * block + r))
+
+-- the bits of a block's rows are those of the word, and those before are as they were
+pub record IsWritten (block word : ℕ) (old new : List Bool) : Type 0 where
+  pub rows : length new ≡ length old
+  pub before : (k : ℕ) → k < 64 * block → slice_index_or new k false ≡ slice_index_or old k false
+  pub here : (r : ℕ) → r < count_in_block block (length old) → slice_index_or new (64 * block + r) false ≡ digit_at r word

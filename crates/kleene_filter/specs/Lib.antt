@@ -1,2 +1,5 @@
 pub mod ByEnds
 pub mod Filters
+pub mod Words
+pub mod Parted
+pub mod Masks

@@ -13,7 +13,7 @@ use known_column::KnownRows;
 use query_model::{Atom, Pred, Truths};
 
 // The truths of a condition on one column or on two.
-fn atom_at<R: KnownRows>(atom: &Atom, row: usize, rows: &R) -> Truths
+pub(crate) fn atom_at<R: KnownRows>(atom: &Atom, row: usize, rows: &R) -> Truths
     requires columns { AtomReadsBelow (length (R.table rows.now).frame.columns) atom.now }
     requires row { row < (R.table rows.now).frame.rows }
     ensures { result ≡ truths_of_atom atom.now (ranges_of (R.table rows.now).frame (R.table rows.now).known row) }

@@ -1,81 +1,190 @@
 //! The rows of a condition.
 
-ghost use Rattle.std.specs.Prelude.{◌≡◌, ◌≤◌, ◌+◌, length, map, count_by, IfOk};
+ghost use Rattle.std.specs.Prelude.{◌≡◌, ◌≤◌, ◌<◌, ◌+◌, ◌*◌, length, map, count_by, IfOk, OnOk};
+ghost use Rattle.query_model.specs.declared.query.Atom.{Atom};
 ghost use Rattle.query_model.specs.Meaning.{PredReadsBelow};
 ghost use Rattle.query_model.specs.Queries.{condition_of};
-ghost use Rattle.kleene_filter.specs.Filters.{is_certain, is_possible, is_unknown, truths_under, IsJudged, StoodBefore};
+ghost use Rattle.std.specs.Prelude.{List};
+ghost use Rattle.known_column.specs.KnownTables.{IsKnownTable};
+ghost use Rattle.kleene_filter.specs.Filters.{is_certain, is_possible, is_unknown, truths_under, IsJudged, IsWritten, StandsFor, StoodBefore};
+ghost use Rattle.kleene_filter.specs.Masks.{atoms_of, AddsMasks, AreMasksOf, AreRowsOf, WereMasksOf};
 
-use crate::atoms::pred_at;
+use crate::judging::pred_truths;
+use crate::masks::AtomMasks;
 use crate::reads::pred_reads;
-use crate::truths::{may_hold, must_hold};
-use known_column::{KnownColumns, RowBlock, blocks_have_their_rows};
+use crate::words::must_hold;
+use known_column::{KnownColumns, KnownRows, RowBlock, blocks_have_their_rows};
 use plane_kernels::{Mask, Plane};
 use query_model::Pred;
 use std::alloc::{AllocError, Global};
 use std::marker::Model;
 
-/// What is known of a condition at each row: a list of truths.
+// So many comparisons keep masks. Those behind them are judged row by row.
+const LIMIT: usize = 64;
+
+// The rows at which a condition holds for certain, and those at which it may hold.
 #[derive(Drop)]
-pub struct Filter {
+pub(crate) struct TruthMasks {
     must: Mask,
     may: Mask,
 }
 
-impl Model for Filter {
-    ghost use Rattle.std.specs.Prelude.{List};
-    ghost use Rattle.std.specs.Simd.Lanes.{zip2};
-    ghost use Rattle.query_model.specs.declared.bounds.Truth.{Truth};
-    ghost use Rattle.query_model.specs.Truths.{truth_from};
-    ghost use Rattle.kleene_filter.specs.Filters.{AreNested};
-
-    ghost Value = { List Truth };
-
-    ghost view = { λ f. zip2 truth_from f.must f.may };
-
-    ghost invariant = { λ f. AreNested f.must f.may };
+/// What is known of a condition at each row: a list of truths, with masks of its atoms that follow the columns.
+#[derive(Drop)]
+pub struct Filter {
+    truths: TruthMasks,
+    masks: Vec<AtomMasks>,
 }
 
-// Sets the bits of the rows of a block, from the first on, by what is known of the condition there.
-fn judge_block(pred: &Pred, block: &RowBlock, first: usize, must: &mut Mask, may: &mut Mask)
-    requires columns { PredReadsBelow (length block.now.frame.columns) (condition_of pred.now) }
-    requires few { first ≤ 16777216 }
-    requires must { first + block.now.frame.rows ≤ length must.old }
-    requires may { first + block.now.frame.rows ≤ length may.old }
-    ensures must { IsJudged is_certain (condition_of pred.now) block.now first must.old must.new }
-    ensures may { IsJudged is_possible (condition_of pred.now) block.now first may.old may.new }
+impl Model for Filter {
+    ghost use Rattle.std.specs.Simd.Lanes.{zip2};
+    ghost use Rattle.query_model.specs.Truths.{truth_from};
+    ghost use Rattle.kleene_filter.specs.Filters.{AreNested, Judgement};
+
+    ghost Value = { Judgement };
+
+    ghost view = { λ f. record { truths = zip2 truth_from f.truths.must f.truths.may; masks = f.masks.items } };
+
+    ghost invariant = { λ f. AreNested f.truths.must f.truths.may };
+}
+
+// Makes the bits of a block's rows those of the word.
+fn write_word(mask: &mut Mask, block: usize, word: u64)
+    requires { 64 * block < length mask.old }
+    ensures { IsWritten block word mask.old mask.new }
 {
-    for row in 0..block.rows() {
-        let truths = pred_at(pred, row, block);
-        must.set(first + row, must_hold(truths));
-        may.set(first + row, may_hold(truths));
+    if mask.word(block) == word {
+        return;
+    }
+    let count = (mask.rows() - 64 * block).min(64);
+    for row in 0..count {
+        mask.set(64 * block + row, (word >> row) & 1 == 1);
+    }
+}
+
+// Sets the bits of a block's rows, which stand in others from the first on, by what is known of the condition there.
+fn judge_rows<R: KnownRows>(
+    pred: &Pred,
+    masks: &[AtomMasks],
+    columns: &KnownColumns,
+    number: usize,
+    rows: &R,
+    first: usize,
+    truths: &mut TruthMasks,
+)
+    requires columns { PredReadsBelow (length columns.now.frame.columns) (condition_of pred.now) }
+    requires masks { AreMasksOf masks.now 0 (atoms_of (condition_of pred.now)) columns.now }
+    requires known { IsKnownTable columns.now }
+    requires block { 64 * number < columns.now.frame.rows }
+    requires rows { AreRowsOf columns.now number (R.table rows.now) first }
+    requires must { length truths.old.must ≡ columns.now.frame.rows }
+    requires may { length truths.old.may ≡ columns.now.frame.rows }
+    ensures must { IsJudged is_certain (condition_of pred.now) columns.now number truths.old.must truths.new.must }
+    ensures may { IsJudged is_possible (condition_of pred.now) columns.now number truths.old.may truths.new.may }
+{
+    let words = pred_truths(pred, masks, 0, columns, number, rows, first).words;
+    write_word(&mut truths.must, number, must_hold(words));
+    write_word(&mut truths.may, number, words.may_hold);
+}
+
+// The same for a block of the columns, whose rows are read where an atom is judged row by row.
+fn judge_block(
+    pred: &Pred,
+    masks: &[AtomMasks],
+    by_rows: bool,
+    columns: &KnownColumns,
+    number: usize,
+    block: &mut RowBlock,
+    truths: &mut TruthMasks,
+)
+    requires columns { PredReadsBelow (length columns.now.frame.columns) (condition_of pred.now) }
+    requires masks { AreMasksOf masks.now 0 (atoms_of (condition_of pred.now)) columns.now }
+    requires known { IsKnownTable columns.now }
+    requires number { 64 * number < columns.now.frame.rows }
+    requires block { block.old.frame.columns ≡ columns.now.frame.columns }
+    requires must { length truths.old.must ≡ columns.now.frame.rows }
+    requires may { length truths.old.may ≡ columns.now.frame.rows }
+    ensures block { block.new.frame.columns ≡ columns.now.frame.columns }
+    ensures must { IsJudged is_certain (condition_of pred.now) columns.now number truths.old.must truths.new.must }
+    ensures may { IsJudged is_possible (condition_of pred.now) columns.now number truths.old.may truths.new.may }
+{
+    blocks_have_their_rows();
+    if by_rows {
+        block.read(columns, number);
+        judge_rows(pred, masks, columns, number, &*block, 0, truths);
+    } else {
+        judge_rows(pred, masks, columns, number, columns, 64 * number, truths);
     }
 }
 
 // Sets each row's bits by what is known of the condition there, block by block.
-fn judge_rows(
+fn judge_all(
     pred: &Pred,
+    masks: &[AtomMasks],
     columns: &KnownColumns,
     block: &mut RowBlock,
-    must: &mut Mask,
-    may: &mut Mask,
+    truths: &mut TruthMasks,
 )
     requires columns { PredReadsBelow (length columns.now.frame.columns) (condition_of pred.now) }
+    requires masks { AreMasksOf masks.now 0 (atoms_of (condition_of pred.now)) columns.now }
     requires block { block.old.frame.columns ≡ columns.now.frame.columns }
-    requires must { length must.old ≡ columns.now.frame.rows }
-    requires may { length may.old ≡ columns.now.frame.rows }
+    requires must { length truths.old.must ≡ columns.now.frame.rows }
+    requires may { length truths.old.may ≡ columns.now.frame.rows }
     ensures block { block.new.frame.columns ≡ columns.now.frame.columns }
-    ensures must { must.new ≡ map is_certain (truths_under (condition_of pred.now) columns.now) }
-    ensures may { may.new ≡ map is_possible (truths_under (condition_of pred.now) columns.now) }
+    ensures must { truths.new.must ≡ map is_certain (truths_under (condition_of pred.now) columns.now) }
+    ensures may { truths.new.may ≡ map is_possible (truths_under (condition_of pred.now) columns.now) }
 {
-    blocks_have_their_rows();
+    let by_rows = masks.iter().any(|own| own.is_by_rows());
     for number in 0..columns.rows().div_ceil(64) {
-        block.read(columns, number);
-        judge_block(pred, block, 64 * number, must, may);
+        judge_block(pred, masks, by_rows, columns, number, block, truths);
+    }
+}
+
+// How many of these keep masks.
+fn kept(masks: &[AtomMasks]) -> usize {
+    masks.iter().filter(|own| own.has_masks()).count()
+}
+
+// Adds the masks of each atom of the condition.
+fn open_each(
+    alloc: Global,
+    pred: &Pred,
+    columns: &KnownColumns,
+    masks: &mut Vec<AtomMasks>,
+) -> Result<(), AllocError>
+    requires columns { PredReadsBelow (length columns.now.frame.columns) (condition_of pred.now) }
+    requires known { IsKnownTable columns.now }
+    ensures { OnOk result (AddsMasks masks.old.items masks.new.items (atoms_of (condition_of pred.now)) columns.now) }
+{
+    match pred {
+        Pred::All => Ok(()),
+        Pred::Atom(atom) => {
+            let has_room = kept(masks) < LIMIT;
+            masks.push(AtomMasks::open(alloc, atom, columns, has_room)?)?;
+            Ok(())
+        }
+        Pred::And(a, b) | Pred::Or(a, b) => {
+            open_each(alloc, a, columns, masks)?;
+            open_each(alloc, b, columns, masks)
+        }
+        Pred::Not(a) => open_each(alloc, a, columns, masks),
+    }
+}
+
+// Has the masks of each atom follow the columns after a plane of one of them.
+fn follow_each(masks: &mut [AtomMasks], columns: &KnownColumns, column: usize, plane: &Plane)
+    requires { (atoms : List Atom) × WereMasksOf masks.old atoms columns.now column plane.now }
+    ensures count { length masks.new ≡ length masks.old }
+    ensures follow { (atoms : List Atom) → WereMasksOf masks.old atoms columns.now column plane.now → AreMasksOf masks.new 0 atoms columns.now }
+{
+    for i in 0..masks.len() {
+        masks[i].follow(columns, column, plane);
     }
 }
 
 impl Filter {
-    /// The filter of the condition over columns of which planes may be read. Their rows are read through the block.
+    /// The filter of the condition over columns of which planes may be read. Their rows are read through the block. All
+    /// room is taken here.
     pub fn open(
         alloc: Global,
         pred: &Pred,
@@ -85,12 +194,17 @@ impl Filter {
         requires columns { PredReadsBelow (length columns.now.frame.columns) (condition_of pred.now) }
         requires block { block.old.frame.columns ≡ columns.now.frame.columns }
         ensures block { block.new.frame.columns ≡ columns.now.frame.columns }
-        ensures truths { IfOk result (λ filter. filter ≡ truths_under (condition_of pred.now) columns.now) }
+        ensures stands { IfOk result (λ filter. StandsFor filter (condition_of pred.now) columns.now) }
     {
-        let mut must = Mask::none(alloc, columns.rows())?;
-        let mut may = Mask::none(alloc, columns.rows())?;
-        judge_rows(pred, columns, block, &mut must, &mut may);
-        Ok(Filter { must, may })
+        let rows = columns.rows();
+        let mut truths = TruthMasks {
+            must: Mask::none(alloc, rows)?,
+            may: Mask::none(alloc, rows)?,
+        };
+        let mut masks = Vec::new(alloc);
+        open_each(alloc, pred, columns, &mut masks)?;
+        judge_all(pred, &masks, columns, block, &mut truths);
+        Ok(Filter { truths, masks })
     }
 
     /// Follows the columns after a plane of one of them was taken. Before, the filter was that of the condition then. Nothing
@@ -107,32 +221,34 @@ impl Filter {
         requires stood { StoodBefore self.old (condition_of pred.now) columns.now column plane.now }
         requires block { block.old.frame.columns ≡ columns.now.frame.columns }
         ensures block { block.new.frame.columns ≡ columns.now.frame.columns }
-        ensures truths { self.new ≡ truths_under (condition_of pred.now) columns.now }
+        ensures stands { StandsFor self.new (condition_of pred.now) columns.now }
     {
+        let _rows = columns.rows();
+        follow_each(&mut self.masks, columns, column, plane);
         if !pred_reads(pred, column) {
             return;
         }
-        judge_rows(pred, columns, block, &mut self.must, &mut self.may);
+        judge_all(pred, &self.masks, columns, block, &mut self.truths);
     }
 
     /// The rows at which the condition holds for certain.
     pub fn must(&self) -> &Mask
-        ensures { result.now ≡ map is_certain self.now }
+        ensures { result.now ≡ map is_certain self.now.truths }
     {
-        &self.must
+        &self.truths.must
     }
 
     /// The rows at which the condition may hold.
     pub fn may(&self) -> &Mask
-        ensures { result.now ≡ map is_possible self.now }
+        ensures { result.now ≡ map is_possible self.now.truths }
     {
-        &self.may
+        &self.truths.may
     }
 
     /// The number of rows at which it is not known whether the condition holds.
     pub fn unknown(&self) -> u64
-        ensures { result ≡ count_by is_unknown self.now }
+        ensures { result ≡ count_by is_unknown self.now.truths }
     {
-        self.may.count() - self.must.count()
+        self.truths.may.count() - self.truths.must.count()
     }
 }

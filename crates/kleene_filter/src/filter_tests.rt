@@ -2,7 +2,7 @@
 ghost use Rattle.std.specs.Prelude.{◌≡◌, ◌<◌, ◌≤◌, length, IfOk, IfSome};
 ghost use Rattle.query_model.specs.Meaning.{AtomReadsBelow, PredReadsBelow};
 ghost use Rattle.query_model.specs.Queries.{condition_of};
-ghost use Rattle.kleene_filter.specs.Filters.{truths_under};
+ghost use Rattle.kleene_filter.specs.Filters.{StandsFor};
 
 use crate::Filter;
 use crate::atoms::pred_at;
@@ -59,11 +59,11 @@ fn step(
     requires column { 0 < length columns.old.frame.columns }
     requires reads { PredReadsBelow (length columns.old.frame.columns) (condition_of pred.now) }
     requires rows { length plane.now ≡ columns.old.frame.rows }
-    requires stands { filter.old ≡ truths_under (condition_of pred.now) columns.old }
+    requires stands { StandsFor filter.old (condition_of pred.now) columns.old }
     requires block { block.old.frame.columns ≡ columns.old.frame.columns }
     ensures block { block.new.frame.columns ≡ columns.old.frame.columns }
     ensures frame { columns.new.frame ≡ columns.old.frame }
-    ensures stands { IfSome result (λ _. filter.new ≡ truths_under (condition_of pred.now) columns.new) }
+    ensures stands { IfSome result (λ _. StandsFor filter.new (condition_of pred.now) columns.new) }
 {
     if columns.unread(0) == 0 {
         return None;
@@ -92,7 +92,7 @@ fn three_steps(
     requires rows { columns.old.frame.rows ≡ 4 }
     requires plane { length plane.old ≡ 4 }
     requires digits { (3 ≤ digits) × (digits ≤ 64) }
-    requires stands { filter.old ≡ truths_under (condition_of pred.now) columns.old }
+    requires stands { StandsFor filter.old (condition_of pred.now) columns.old }
     requires block { block.old.frame.columns ≡ columns.old.frame.columns }
 {
     transpose(codes, digits, 0, plane);

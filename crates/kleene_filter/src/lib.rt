@@ -3,9 +3,13 @@
 
 mod atoms;
 mod filter;
+mod judging;
+mod masks;
+mod parted;
 mod ranges;
 mod reads;
 mod truths;
+mod words;
 
 pub use filter::Filter;
 pub use reads::pred_reads;

@@ -67,7 +67,7 @@ pub(crate) fn follow_planes(
     requires few { rounds ≤ planes (ends_at columns.frame 0) }
     requires cells { All (λ cell. cell ≤ spread (ends_at columns.frame 0)) cells.now }
     requires start { columns ≡ unread_table (alone (ends_at columns.frame 0) cells.now) }
-    ensures { IfOk result (λ filter. filter ≡ truths_after (condition_of pred.now) (ends_at columns.frame 0) cells.now rounds) }
+    ensures { IfOk result (λ filter. filter.truths ≡ truths_after (condition_of pred.now) (ends_at columns.frame 0) cells.now rounds) }
 {
     start_is_known();
     let mut plane = Plane::blank(alloc, cells.len())?;

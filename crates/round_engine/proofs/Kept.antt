@@ -1,16 +1,17 @@
 -- What is kept of each item, at the stage that an engine stands for.
-use Rattle.std.proofs.Common.{◌≡◌, ℕ, ◌<◌, Bool, List, [], length, map, Option, Some, None, IfSome, slice_get, get_or, subst, sym, refl, ap, ◌∙◌, arith, inl, inr}
+use Rattle.std.proofs.Common.{◌≡◌, ◌≢◌, ℕ, ◌<◌, Bool, List, [], length, map, Option, Some, None, IfSome, slice_get, get_or, subst, sym, refl, ap, ◌∙◌, arith, inl, inr}
 use Rattle.std.specs.List.{range_with_len}
 use Rattle.std.proofs.lemmas.List.{length-map, get_or-map}
 use Rattle.std.proofs.lemmas.List.Elements.{All-from_recursion, All-get_or}
 use Rattle.std.proofs.lemmas.List.FromFn.{length-map-range_with_len, get_or-map-range_with_len}
 use Rattle.std.proofs.lemmas.Option.{get_or_from_slice_get, slice_get_within, slice_get_cases}
-use Rattle.aggregates.specs.Runnings.{StandsFor, Tallies}
+use Rattle.query_model.specs.declared.bounds.AverageBound as code
 use Rattle.query_model.specs.declared.bounds.Bound.{Bound}
 use Rattle.query_model.specs.declared.bounds.Truth.{Truth}
 use Rattle.query_model.specs.Queries.{Aggregate, Query}
 use Rattle.query_model.specs.declared.query.ItemKind.{ItemKind}
-use Rattle.query_model.specs.Bounds.{AverageBound, Pair, average_bound_of, average_under, bound_of, bound_under, pairs}
+use Rattle.query_model.specs.declared.query.ItemKind.TheVariants.{Avg}
+use Rattle.query_model.specs.Bounds.{Pair, average_under, bound_under, fractions_of, pairs}
 use Rattle.query_model.specs.Knowledge.{ranges_of}
 use Rattle.query_model.specs.Truths.{truth_of}
 use Rattle.round_engine.specs.declared.answers.Answers.TheVariants.{Totals}
@@ -18,7 +19,9 @@ use Rattle.round_engine.specs.declared.state.State.{State}
 use Rattle.round_engine.specs.declared.totals.Totals as declared
 use Rattle.round_engine.specs.Engines.{AreAnswers, IsEngine, stage_of}
 use Rattle.round_engine.specs.Stages.{IsOpenItem, IsOpenStage, Stage}
-use Rattle.round_engine.specs.Totals.{AreTotals, HasTotal, IsTotal}
+use Rattle.round_engine.specs.declared.item_bound.ItemBound.{ItemBound}
+use Rattle.round_engine.specs.declared.item_bound.ItemBound.TheVariants.{Numbers, Fractions}
+use Rattle.round_engine.specs.Totals.{AreEach, AreTotals, HasFractions, HasNumbers, IsBoundOf}
 
 -- ---- the value of an option
 
@@ -35,57 +38,58 @@ of_some o P x p e = subst (λ w. IfSome w P) e p
 
 -- ---- the totals of a stage
 
-module _ (stage : Stage) (totals : List Tallies) (n : ℕ) (total : Tallies) (are : AreTotals stage totals) (there : slice_get totals n ≡ Some total) where
-  pub total_at : (i : Aggregate) → slice_get stage.query.items n ≡ Some i → IsTotal stage i total
-  total_at i e = are.each n i total e there
+-- a place within the items has one
+pub item_at : (items : List Aggregate) (n : ℕ) → n < length items → (i : Aggregate) × (slice_get items n ≡ Some i)
+item_at items n within =
+    elim (slice_get_cases items n).1 [
+      | inl found ↦ (found.0, found.2)
+      | inr past ↦ (let beyond = past.0 in absurd (omega arith))
+    ]
 
-  -- the item that the total is for
-  pub item_at : (i : Aggregate) × (slice_get stage.query.items n ≡ Some i)
-  item_at =
-      let within = slice_get_within totals n total there in
+-- each total has its item
+pub item_of : {X : Type 0} (R : ℕ → Aggregate → X → Type 0) (items : List Aggregate) (xs : List X) (n : ℕ) (x : X) → AreEach R items xs → slice_get xs n ≡ Some x → (i : Aggregate) × (slice_get items n ≡ Some i) × R n i x
+item_of R items xs n x are there =
+    let within = slice_get_within xs n x there in
+    let count = are.count in
+    elim (slice_get_cases items n).1 [
+      | inl found ↦ (found.0, found.2, are.each n found.0 x found.2 there)
+      | inr past ↦ (let beyond = past.0 in absurd (omega arith))
+    ]
+
+numbers_if : (bounds : List ItemBound) (n : ℕ) (kind : ItemKind) (ps : List Pair) (bound : ItemBound) → slice_get bounds n ≡ Some bound → IsBoundOf kind ps bound → kind ≢ Avg → HasNumbers bounds n
+numbers_if bounds n kind ps (Numbers bound) there is h = record { bound = bound; there = there }
+numbers_if bounds n kind ps (Fractions bound) there is h = absurd (h is.0)
+
+fractions_if : (bounds : List ItemBound) (n : ℕ) (kind : ItemKind) (ps : List Pair) (bound : ItemBound) → slice_get bounds n ≡ Some bound → IsBoundOf kind ps bound → kind ≡ Avg → HasFractions bounds n
+fractions_if bounds n kind ps (Numbers bound) there is h = absurd (is.0 h)
+fractions_if bounds n kind ps (Fractions bound) there is h = record { bound = bound; there = there }
+
+module _ (stage : Stage) (bounds : List ItemBound) (n : ℕ) (are : AreTotals stage bounds) where
+  total_there : n < length stage.query.items → (bound : ItemBound) × (slice_get bounds n ≡ Some bound)
+  total_there within =
       let count = are.count in
-      elim (slice_get_cases stage.query.items n).1 [
+      elim (slice_get_cases bounds n).1 [
         | inl found ↦ (found.0, found.2)
         | inr past ↦ (let beyond = past.0 in absurd (omega arith))
       ]
 
-  pub bound_at : (bound : Bound) → ((ps : List Pair) → StandsFor total 0 ps → bound ≡ bound_of total.kind ps) → (i : Aggregate) → slice_get stage.query.items n ≡ Some i →
-      bound ≡ bound_under stage.query i [] stage.frame stage.known
-  bound_at bound h i e =
-      let filled = total_at i e in
-      h (pairs stage.query i [] stage.frame stage.known) filled.stands ∙ ap (λ kind. bound_of kind (pairs stage.query i [] stage.frame stage.known)) filled.kind
+  pub has_numbers : n < length stage.query.items → IfSome (slice_get stage.query.items n) (λ i. i.kind ≢ Avg) → HasNumbers bounds n
+  has_numbers within h =
+      let (bound, there) = total_there within in
+      let (i, at, is) = item_of _ stage.query.items bounds n bound are there in
+      numbers_if bounds n i.kind (pairs stage.query i [] stage.frame stage.known) bound there is (of_some (slice_get stage.query.items n) (λ i. i.kind ≢ Avg) i h at)
 
-  pub average_at : (bound : AverageBound) → ((ps : List Pair) → StandsFor total 0 ps → bound ≡ average_bound_of ps) → (i : Aggregate) → slice_get stage.query.items n ≡ Some i →
-      bound ≡ average_under stage.query i [] stage.frame stage.known
-  average_at bound h i e = h (pairs stage.query i [] stage.frame stage.known) (total_at i e).stands
+  pub has_fractions : n < length stage.query.items → IfSome (slice_get stage.query.items n) (λ i. i.kind ≡ Avg) → HasFractions bounds n
+  has_fractions within h =
+      let (bound, there) = total_there within in
+      let (i, at, is) = item_of _ stage.query.items bounds n bound are there in
+      fractions_if bounds n i.kind (pairs stage.query i [] stage.frame stage.known) bound there is (of_some (slice_get stage.query.items n) (λ i. i.kind ≡ Avg) i h at)
 
-  pub has_total_there : (P : ItemKind → Type 0) → IfSome (slice_get stage.query.items n) (λ i. P i.kind) → HasTotal totals n P
-  has_total_there P h =
-      let found = item_at in
-      let filled = total_at found.0 found.1 in
-      let cells = filled.cells in
-      record {
-        total = total;
-        there = there;
-        cell = omega arith;
-        kind = subst P (sym filled.kind) (of_some (slice_get stage.query.items n) (λ i. P i.kind) found.0 h found.1);
-      }
+  pub bound_at : (bound : Bound) → slice_get bounds n ≡ Some (Numbers bound) → IfSome (slice_get stage.query.items n) (λ i. bound ≡ bound_under stage.query i [] stage.frame stage.known)
+  bound_at bound there = if_some (slice_get stage.query.items n) _ (λ i at. (are.each n i (Numbers bound) at there).1)
 
-pub has_total : (stage : Stage) (totals : List Tallies) (n : ℕ) → AreTotals stage totals → n < length stage.query.items → (P : ItemKind → Type 0) → IfSome (slice_get stage.query.items n) (λ i. P i.kind) → HasTotal totals n P
-has_total stage totals n are within P h =
-    let count = are.count in
-    elim (slice_get_cases totals n).1 [
-      | inl found ↦ has_total_there stage totals n found.0 are found.2 P h
-      | inr past ↦ (let beyond = past.0 in absurd (omega arith))
-    ]
-
--- the total that is read is the one that is there
-pub read_total : (totals : List Tallies) (n : ℕ) (P : ItemKind → Type 0) (total : Tallies) → (has : HasTotal totals n P) → total ≡ get_or totals n total → has.total ≡ total
-read_total totals n P total has is =
-    sym (is ∙ get_or_from_slice_get totals n has.total total has.there)
-
-pub total_there : (totals : List Tallies) (n : ℕ) (P : ItemKind → Type 0) (total : Tallies) → HasTotal totals n P → total ≡ get_or totals n total → slice_get totals n ≡ Some total
-total_there totals n P total has is = has.there ∙ ap Some (read_total totals n P total has is)
+  pub average_at : (bound : code.AverageBound) → slice_get bounds n ≡ Some (Fractions bound) → IfSome (slice_get stage.query.items n) (λ i. fractions_of bound ≡ average_under stage.query i [] stage.frame stage.known)
+  average_at bound there = if_some (slice_get stage.query.items n) _ (λ i at. (are.each n i (Fractions bound) at there).1)
 
 pub open_item_at : (stage : Stage) (n : ℕ) (i : Aggregate) → IsOpenStage stage → slice_get stage.query.items n ≡ Some i → IsOpenItem stage.frame i
 open_item_at stage n i kept e =
@@ -99,8 +103,8 @@ open_item_at stage n i kept e =
 pub answers_at : (query : Query) (state : State) (stage : Stage) → IsEngine query state → stage_of query state.columns ≡ stage → AreAnswers stage state.answers
 answers_at query state stage kept is = subst (λ s. AreAnswers s state.answers) is kept.answered
 
-pub totals_at : (query : Query) (state : State) (stage : Stage) (totals : declared.Totals) → IsEngine query state → stage_of query state.columns ≡ stage → state.answers ≡ Totals totals → AreTotals stage totals.runnings.items
-totals_at query state stage totals kept is form = subst (AreAnswers stage) form (answers_at query state stage kept is)
+pub totals_at : (query : Query) (state : State) (stage : Stage) (totals : declared.Totals) → IsEngine query state → stage_of query state.columns ≡ stage → state.answers ≡ Totals totals → AreTotals stage totals.bounds.items
+totals_at query state stage totals kept is form = (subst (AreAnswers stage) form (answers_at query state stage kept is)).0
 
 pub open_at : (query : Query) (state : State) (stage : Stage) → IsEngine query state → stage_of query state.columns ≡ stage → IsOpenStage stage
 open_at query state stage kept is = subst IsOpenStage is kept.open_stage
@@ -111,8 +115,8 @@ open_at query state stage kept is = subst IsOpenStage is kept.open_stage
 abbrev pub AreJudged : Stage → List Truth → Type 0
 AreJudged stage truths = truths ≡ map (λ r. truth_of stage.query.pred (ranges_of stage.frame stage.known r)) (range_with_len 0 stage.frame.rows)
 
-pub judged_at : (query : Query) (state : State) (stage : Stage) → IsEngine query state → stage_of query state.columns ≡ stage → AreJudged stage state.filter
-judged_at query state stage k e = subst (λ s. AreJudged s state.filter) e k.judged
+pub judged_at : (query : Query) (state : State) (stage : Stage) → IsEngine query state → stage_of query state.columns ≡ stage → AreJudged stage state.filter.truths
+judged_at query state stage k e = subst (λ s. AreJudged s state.filter.truths) e k.judged.truths
 
 pub rows_judged : (stage : Stage) (truths : List Truth) (test : Truth → Bool) → AreJudged stage truths → length (map test truths) ≡ stage.frame.rows
 rows_judged stage truths test j =

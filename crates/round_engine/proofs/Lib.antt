@@ -6,7 +6,10 @@ pub mod Shown
 pub mod Ratios
 pub mod Interleaved
 pub mod Counted
-pub mod Ends
+pub mod Narrow
 pub mod Declared
 pub mod BlockRows
 pub mod Places
+pub mod Unmoved
+pub mod Walks
+pub mod Masked

@@ -1,8 +1,8 @@
 -- A query of which nothing is read, and items that are filled one by one.
-use Rattle.std.proofs.Common.{◌≡◌, ◌≢◌, ℕ, zero, suc, ◌+◌, ◌<◌, ◌≤◌, List, [], ◌∷◌, ◌++◌, length, length-append, length-set, get_or, set, slice_get, take, Some, sym, ap, subst, ◌∙◌, arith}
+use Rattle.std.proofs.Common.{◌≡◌, ◌≢◌, ℕ, zero, suc, ◌+◌, ◌<◌, ◌≤◌, Bool, true, false, List, [], ◌∷◌, ◌++◌, length, length-append, get_or, slice_get, take, Some, refl, sym, ap, subst, ◌∙◌, arith}
 use Rattle.std.specs.List.{AllByRecursion}
 use Rattle.std.proofs.lemmas.List.{length-map, take_more}
-use Rattle.std.proofs.lemmas.Option.{none-some, same_Some}
+use Rattle.std.proofs.lemmas.Option.{none-some, same_Some, slice_get_within}
 use Rattle.daq_table.specs.declared.table_head.Head.{Head}
 use Rattle.daq_table.specs.Tables.{ends_at, frame_of}
 use Rattle.query_model.specs.Queries.{Aggregate, Query}
@@ -11,13 +11,16 @@ use Rattle.query_model.specs.Laws.{StartIsKnowledge}
 use Rattle.query_model.specs.Meaning.{PredReadsBelow, ReadsBelow}
 use Rattle.query_model.specs.Projection.{projected_frame}
 use Rattle.query_model.specs.Validity.{IsValid, IsValidItem}
-use Rattle.known_column.specs.KnownTables.{KnownTable, unread_table}
+use Rattle.known_column.specs.KnownTables.{KnownTable, read_column, unread_table}
 use Rattle.aggregates.specs.Runnings.{IsBlank, Tallies}
+use Rattle.round_engine.specs.declared.item_bound.ItemBound.{ItemBound}
 use Rattle.round_engine.specs.declared.answers.Answers.{Answers}
 use Rattle.round_engine.specs.declared.answers.Answers.TheVariants.{Totals}
-use Rattle.round_engine.specs.Engines.{stage_of, AreAnswers, HoldItems}
+use Rattle.round_engine.specs.Engines.{stage_of, AreAnswers, AreAnswersBeside, HoldItems}
+use Rattle.round_engine.specs.Moves.{AreMoved, is_marked, is_moved}
 use Rattle.round_engine.specs.Stages.{IsOpenItem, IsOpenQuery, IsOpenStage, Stage}
-use Rattle.round_engine.specs.Totals.{AreTotals, HaveRoom, IsTotal}
+use Rattle.round_engine.specs.Totals.{AreTotals, AreTotalsBeside, HaveRoom, IsBoundOf}
+use Rattle.round_engine.proofs.Unmoved.{pairs_unmoved}
 
 -- ---- the query
 
@@ -70,37 +73,29 @@ opened_more items i item runnings running within there opened blank =
       each = agree_push (λ (it : Aggregate) (r : Tallies). (r.kind ≡ it.kind) × (r.room ≡ 1)) (take i items) runnings item running opened.count opened.each (blank.kind_is, blank.room_is);
     })
 
--- where an element of the second list is replaced
-pub agree_set : {X Y : Type 0} (R : X → Y → Type 0) (xs : List X) (ys : List Y) (i : ℕ) (x : X) (y : Y) → slice_get xs i ≡ Some x → R x y → (j : ℕ) (a : X) (b : Y) →
-    slice_get xs j ≡ Some a → slice_get (set ys i y) j ≡ Some b → (j ≢ i → slice_get ys j ≡ Some b → R a b) → R a b
-agree_set R [] ys i x y there here j a b at_a at_b other = absurd (none-some a at_a)
-agree_set R (p ∷ xs) [] i x y there here j a b at_a at_b other = absurd (none-some b at_b)
-agree_set R (p ∷ xs) (q ∷ ys) zero x y there here zero a b at_a at_b other = subst (λ v. R v b) (same_Some x a (sym there ∙ at_a)) (subst (R x) (same_Some y b at_b) here)
-agree_set R (p ∷ xs) (q ∷ ys) zero x y there here (suc j) a b at_a at_b other = other (omega arith) at_b
-agree_set R (p ∷ xs) (q ∷ ys) (suc i) x y there here zero a b at_a at_b other = other (omega arith) at_b
-agree_set R (p ∷ xs) (q ∷ ys) (suc i) x y there here (suc j) a b at_a at_b other = agree_set R xs ys i x y there here j a b at_a at_b (λ apart. other (λ same. apart (omega arith)))
+-- ---- what is computed anew after a plane, and what stays
 
--- ---- items that are filled one by one
-
-pub opened_still : (items : List Aggregate) (runnings : List Tallies) (i : ℕ) (item : Aggregate) (running : Tallies) → slice_get items i ≡ Some item → HaveRoom items runnings → running.kind ≡ item.kind → running.room ≡ 1 →
-    HaveRoom items (set runnings i running)
-opened_still items runnings i item running there opened kind room = record {
-  count = length-set runnings i running ∙ opened.count;
-  each = λ j a b at_a at_b. agree_set (λ (it : Aggregate) (r : Tallies). (r.kind ≡ it.kind) × (r.room ≡ 1)) items runnings i item running there (kind, room) j a b at_a at_b (λ apart at. opened.each j a b at_a at);
-}
-
-pub total_still : (stage : Stage) (totals : List Tallies) (i : ℕ) (item : Aggregate) (total : Tallies) → slice_get stage.query.items i ≡ Some item → IsTotal stage item total →
-    ((j : ℕ) (a : Aggregate) (b : Tallies) → j < i → slice_get stage.query.items j ≡ Some a → slice_get totals j ≡ Some b → IsTotal stage a b) →
-    (j : ℕ) (a : Aggregate) (b : Tallies) → j < i + 1 → slice_get stage.query.items j ≡ Some a → slice_get (set totals i total) j ≡ Some b → IsTotal stage a b
-total_still stage totals i item total there filled before j a b below at_a at_b =
-    agree_set (IsTotal stage) stage.query.items totals i item total there filled j a b at_a at_b (λ apart at. before j a b (omega arith) at_a at)
-
--- what is filled has room to be filled anew
-pub room_again : (stage : Stage) (totals : List Tallies) → AreTotals stage totals → HaveRoom stage.query.items totals
-room_again stage totals are = record {
+beside_moved : (query : Query) (before columns : KnownTable) (column : ℕ) (bits marks : List Bool) (bounds : List ItemBound) → query.shape ≡ Plain → AreMoved query column marks → AreTotals (stage_of query before) bounds →
+    columns ≡ read_column before column bits → AreTotalsBeside (stage_of query columns) marks bounds
+beside_moved query before columns column bits marks bounds plain moved are taken = subst (λ t. AreTotalsBeside (stage_of query t) marks bounds) (sym taken) (record {
   count = are.count;
-  each = λ i item total at_item at_total. (let here = are.each i item total at_item at_total in (here.kind, here.room));
-}
+  each = λ i item bound at_item at_bound unmarked.
+      (let still : is_moved query column item ≡ false = is_false (is_moved query column item) (λ yes. unmarked (moved i item at_item ∙ yes)) in
+      subst (λ ps. IsBoundOf item.kind ps bound) (sym (pairs_unmoved query item before.frame before.known column bits plain still)) (are.each i item bound at_item at_bound));
+})
+  where
+    is_false : (b : Bool) → b ≢ true → b ≡ false
+    is_false true h = absurd (h refl)
+    is_false false h = refl
 
-pub room_kept : (stage : Stage) (answers : Answers) → AreAnswers stage answers → HoldItems stage.query.items answers
-room_kept stage (Totals totals) are = room_again stage totals.runnings.items are
+-- what a plane does not move is told still
+pub still_told : (query : Query) (before columns : KnownTable) (column : ℕ) (bits marks : List Bool) (answers : Answers) → query.shape ≡ Plain → AreMoved query column marks → AreAnswers (stage_of query before) answers →
+    columns ≡ read_column before column bits → AreAnswersBeside (stage_of query columns) marks answers
+still_told query before columns column bits marks (Totals totals) plain moved are taken = (beside_moved query before columns column bits marks totals.bounds.items plain moved are.0 taken, are.1)
+
+-- where all are marked, room is enough
+pub all_marked : (stage : Stage) (marks : List Bool) (answers : Answers) → ((i : ℕ) → i < length stage.query.items → is_marked marks i ≡ true) → HoldItems stage.query.items answers → AreAnswersBeside stage marks answers
+all_marked stage marks (Totals totals) all hold = (
+  record { count = hold.0; each = λ i item bound at_item at_bound unmarked. absurd (unmarked (all i (slice_get_within stage.query.items i item at_item))) },
+  hold.1,
+)

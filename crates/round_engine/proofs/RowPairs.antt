@@ -53,7 +53,7 @@ plain_truth : (query : Query) (ranges : Ranges) → query.shape ≡ Plain → tr
 plain_truth query ranges plain = ap (λ (shape : Shape). and_of (truth_of query.pred ranges) (truth_of_group (groups_of shape) [] ranges)) plain ∙ and_true (truth_of query.pred ranges)
 
 -- where nothing is grouped, a row gives a value where the condition holds and the argument is not null
-plain_pair : (query : Query) (item : Aggregate) (ranges : Ranges) → query.shape ≡ Plain → pair_of query item [] ranges ≡ pair_by (truth_of query.pred ranges) item ranges
+pub plain_pair : (query : Query) (item : Aggregate) (ranges : Ranges) → query.shape ≡ Plain → pair_of query item [] ranges ≡ pair_by (truth_of query.pred ranges) item ranges
 plain_pair query item ranges plain = ap (λ t. pair_by t item ranges) (plain_truth query ranges plain)
 
 none_if_impossible : (t u : Truth) (span : Interval) → is_possible t ≡ false → pair_unless_false (and_of t u) span ≡ None

@@ -7,7 +7,9 @@ use Rattle.query_model.specs.declared.bounds.Nullity.{Nullity}
 use Rattle.query_model.specs.declared.bounds.Nullity.TheVariants.{Never, Possibly, Always}
 use Rattle.query_model.specs.declared.query.ItemKind.{ItemKind}
 use Rattle.query_model.specs.declared.query.ItemKind.TheVariants.{Count, Sum, Min, Max, Avg}
-use Rattle.query_model.specs.Bounds.{AverageBound, Pair, average_bound_of, bound_of, pairs}
+use Rattle.query_model.specs.Bounds.{AverageBound, Pair, average_bound_of, bound_of, fractions_of, pairs}
+use Rattle.round_engine.specs.declared.item_bound.ItemBound.{ItemBound}
+use Rattle.round_engine.specs.declared.item_bound.ItemBound.TheVariants.{Numbers, Fractions}
 use Rattle.round_engine.specs.Stages.{Stage}
 
 -- whether there is an answer is known, and where there is one, its ends are near
@@ -45,3 +47,12 @@ pub record FitsNarrow (width : ℕ) (bound : AverageBound) : Type 0 where
   pub low : FitsSigned w128 (bound.lo.num *ℤ pos bound.hi.den)
   pub difference : FitsSigned w128 ((bound.hi.num *ℤ pos bound.lo.den) -ℤ (bound.lo.num *ℤ pos bound.hi.den))
   pub limit : FitsSigned w128 (pos (width * bound.lo.den * bound.hi.den))
+
+-- a bound in the form of its kind is narrow
+abbrev pub is_narrow_of : ℕ → ItemBound → Bool
+is_narrow_of width (Numbers bound) = is_narrow_bound width bound
+is_narrow_of width (Fractions bound) = is_narrow_average width (fractions_of bound)
+
+abbrev pub FitsNarrowOf : ℕ → ItemBound → Type 0
+FitsNarrowOf width (Numbers bound) = Unit {0}
+FitsNarrowOf width (Fractions bound) = FitsNarrow width (fractions_of bound)

@@ -1,64 +1,89 @@
--- The answers of a query without groups and order: for each item one cell stands for its pairs.
-use Rattle.std.specs.Prelude.{◌≡◌, ℕ, ◌<◌, List, [], length, slice_get}
+-- The answers of a query without groups and order: for each item the bound of its pairs.
+use Rattle.std.specs.Prelude.{◌≡◌, ◌≢◌, ℕ, Bool, true, not, ◌&&◌, List, [], length, slice_get}
 use Rattle.std.specs.declared.option.Option.{Option}
 use Rattle.std.specs.declared.option.Option.TheVariants.{Some}
 use Rattle.aggregates.specs.Runnings.{IsBlank, StandsFor, Tallies}
-use Rattle.query_model.specs.Queries.{Aggregate, Query}
+use Rattle.query_model.specs.declared.bounds.AverageBound.{AverageBound}
+use Rattle.query_model.specs.declared.bounds.Bound.{Bound}
+use Rattle.query_model.specs.Queries.{Aggregate}
 use Rattle.query_model.specs.declared.query.ItemKind.{ItemKind}
-use Rattle.query_model.specs.Bounds.{Pair, pair_of, pairs, pairs_below}
+use Rattle.query_model.specs.declared.query.ItemKind.TheVariants.{Avg}
+use Rattle.query_model.specs.Bounds.{Pair, average_bound_of, bound_of, fractions_of, pair_of, pairs, pairs_below}
 use Rattle.query_model.specs.Knowledge.{ranges_of}
+use Rattle.round_engine.specs.declared.item_bound.ItemBound.{ItemBound}
+use Rattle.round_engine.specs.declared.item_bound.ItemBound.TheVariants.{Numbers, Fractions}
+use Rattle.daq_table.specs.Tables.{Frame}
+use Rattle.round_engine.specs.Counts.{is_counted}
+use Rattle.round_engine.specs.Moves.{is_marked}
 use Rattle.round_engine.specs.Stages.{IsOpenStage, Stage}
 
 -- the pair of a row, if the row may give a value
 abbrev pub pair_at : Stage → Aggregate → ℕ → Option Pair
 pair_at stage item row = pair_of stage.query item [] (ranges_of stage.frame stage.known row)
 
--- the one cell stands for the item's pairs
-pub record IsTotal (stage : Stage) (item : Aggregate) (total : Tallies) : Type 0 where
-  pub kind : total.kind ≡ item.kind
-  pub room : total.room ≡ 1
-  pub cells : length total.cells ≡ 1
-  pub stands : StandsFor total 0 (pairs stage.query item [] stage.frame stage.known)
+-- the bound of a list of pairs, in the form of an item's kind
+abbrev pub IsBoundOf : ItemKind → List Pair → ItemBound → Type 0
+IsBoundOf kind ps (Numbers bound) = (kind ≢ Avg) × (bound ≡ bound_of kind ps)
+IsBoundOf kind ps (Fractions bound) = (kind ≡ Avg) × (fractions_of bound ≡ average_bound_of ps)
 
--- there is a total for each item, to which it is related
-pub record AreEach (R : Aggregate → Tallies → Type 0) (items : List Aggregate) (totals : List Tallies) : Type 0 where
-  pub count : length totals ≡ length items
-  pub each : (i : ℕ) (item : Aggregate) (total : Tallies) →
-      slice_get items i ≡ Some item → slice_get totals i ≡ Some total → R item total
+-- the bound of the item's pairs
+abbrev pub IsTotal : Stage → Aggregate → ItemBound → Type 0
+IsTotal stage item bound = IsBoundOf item.kind (pairs stage.query item [] stage.frame stage.known) bound
 
--- there is one for each item
-abbrev pub AreTotals : Stage → List Tallies → Type 0
-AreTotals stage totals = AreEach (IsTotal stage) stage.query.items totals
+-- there is one for each item, to which it is related
+pub record AreEach {X : Type 0} (R : ℕ → Aggregate → X → Type 0) (items : List Aggregate) (xs : List X) : Type 0 where
+  pub count : length xs ≡ length items
+  pub each : (i : ℕ) (item : Aggregate) (x : X) → slice_get items i ≡ Some item → slice_get xs i ≡ Some x → R i item x
 
--- there is room for one of each item, whatever its cell stands for
+-- there is a total for each item
+abbrev pub AreTotals : Stage → List ItemBound → Type 0
+AreTotals stage bounds = AreEach (λ i item bound. IsTotal stage item bound) stage.query.items bounds
+
+-- there is one for each item that is not marked
+abbrev pub AreTotalsBeside : Stage → List Bool → List ItemBound → Type 0
+AreTotalsBeside stage marks bounds = AreEach (λ i item bound. is_marked marks i ≢ true → IsTotal stage item bound) stage.query.items bounds
+
+-- they are those of an open stage
+pub record AreSomeTotals (bounds : List ItemBound) : Type 0 where
+  pub stage : Stage
+  pub open_stage : IsOpenStage stage
+  pub totals_are : AreTotals stage bounds
+
+-- there is room to add the rows of each item, whatever was added
 abbrev pub HaveRoom : List Aggregate → List Tallies → Type 0
-HaveRoom items totals = AreEach (λ item total. (total.kind ≡ item.kind) × (total.room ≡ 1)) items totals
+HaveRoom items runnings = AreEach (λ i item running. (running.kind ≡ item.kind) × (running.room ≡ 1)) items runnings
+
+-- no row was added
+abbrev pub AreBlank : List Aggregate → List Tallies → Type 0
+AreBlank items runnings = AreEach (λ i item running. IsBlank running item.kind 1 1) items runnings
 
 -- the one cell stands for the item's pairs of the rows below a number
-pub record IsFilledBelow (stage : Stage) (item : Aggregate) (rows : ℕ) (total : Tallies) : Type 0 where
-  pub kind : total.kind ≡ item.kind
-  pub room : total.room ≡ 1
-  pub cells : length total.cells ≡ 1
-  pub stands : StandsFor total 0 (pairs_below stage.query item [] stage.frame stage.known rows)
+pub record IsFilledBelow (stage : Stage) (item : Aggregate) (rows : ℕ) (running : Tallies) : Type 0 where
+  pub kind : running.kind ≡ item.kind
+  pub room : running.room ≡ 1
+  pub cells : length running.cells ≡ 1
+  pub stands : StandsFor running 0 (pairs_below stage.query item [] stage.frame stage.known rows)
 
--- so do those of all items
-abbrev pub AreFilledBelow : Stage → ℕ → List Tallies → Type 0
-AreFilledBelow stage rows totals = AreEach (λ item total. IsFilledBelow stage item rows total) stage.query.items totals
+-- there is room for each item, and that of a marked one is filled so far
+pub record IsFilledIf (marked : Bool) (stage : Stage) (item : Aggregate) (rows : ℕ) (running : Tallies) : Type 0 where
+  pub kind : running.kind ≡ item.kind
+  pub room : running.room ≡ 1
+  pub filled : marked ≡ true → IsFilledBelow stage item rows running
 
--- there is a blank one for each item
-abbrev pub AreBlank : List Aggregate → List Tallies → Type 0
-AreBlank items totals = AreEach (λ item total. IsBlank total item.kind 1 1) items totals
+abbrev pub AreFilledBelow : Stage → List Bool → ℕ → List Tallies → Type 0
+AreFilledBelow stage marks rows runnings =
+    AreEach (λ i item running. IsFilledIf (is_marked marks i) stage item rows running) stage.query.items runnings
 
--- they are those of the query at some stage
-pub record AreTotalsOf (query : Query) (totals : List Tallies) : Type 0 where
-  pub stage : Stage
-  pub same : stage.query ≡ query
-  pub open_stage : IsOpenStage stage
-  pub totals_are : AreTotals stage totals
+-- of the marked items those are marked besides whose rows are added one by one
+abbrev pub AreAdded : Frame → List Aggregate → List Bool → List Bool → Type 0
+AreAdded frame items marks added =
+    (i : ℕ) (item : Aggregate) → slice_get items i ≡ Some item → is_marked added i ≡ (is_marked marks i && not (is_counted frame item))
 
--- an item has a cell, and a kind that passes
-pub record HasTotal (totals : List Tallies) (item : ℕ) (Passes : ItemKind → Type 0) : Type 0 where
-  pub total : Tallies
-  pub there : slice_get totals item ≡ Some total
-  pub cell : 0 < length total.cells
-  pub kind : Passes total.kind
+-- an item has a bound of this form
+pub record HasNumbers (bounds : List ItemBound) (item : ℕ) : Type 0 where
+  pub bound : Bound
+  pub there : slice_get bounds item ≡ Some (Numbers bound)
+
+pub record HasFractions (bounds : List ItemBound) (item : ℕ) : Type 0 where
+  pub bound : AverageBound
+  pub there : slice_get bounds item ≡ Some (Fractions bound)

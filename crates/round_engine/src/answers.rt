@@ -2,7 +2,7 @@
 
 ghost use Rattle.std.specs.Prelude.{◌≡◌, ◌<◌, ◌^◌, IfOk};
 ghost use Rattle.kleene_filter.specs.Filters.{truths_under};
-ghost use Rattle.round_engine.specs.Engines.{stage_of, AreAnswers, AreAnswersOf, HoldItems};
+ghost use Rattle.round_engine.specs.Engines.{stage_of, AreAnswers, AreSomeAnswers, AreAnswersBeside, HoldItems};
 ghost use Rattle.round_engine.specs.Narrowness.{is_narrow};
 ghost use Rattle.round_engine.specs.Stages.{IsOpenStage, Stage};
 
@@ -26,34 +26,35 @@ impl Answers {
         Ok(Answers::Totals(Totals::open(alloc, query.items.as_slice())?))
     }
 
-    // Computes them anew.
+    // Computes the marked ones anew.
     pub(crate) fn fill(
         &mut self,
         query: &TypedQuery,
         columns: &KnownColumns,
         filter: &Filter,
         block: &mut RowBlock,
+        marks: &[bool; 16],
     )
         requires open_stage { IsOpenStage (stage_of query.now columns.now) }
-        requires judged { filter.now ≡ truths_under query.now.pred columns.now }
-        requires room { HoldItems query.now.items self.old }
+        requires judged { filter.now.truths ≡ truths_under query.now.pred columns.now }
+        requires beside { AreAnswersBeside (stage_of query.now columns.now) marks.now self.old }
         requires same { block.old.frame.columns ≡ columns.now.frame.columns }
         ensures same { block.new.frame.columns ≡ columns.now.frame.columns }
         ensures answers { AreAnswers (stage_of query.now columns.now) self.new }
     {
         match self {
-            Answers::Totals(totals) => totals.fill(query, columns, filter, block),
+            Answers::Totals(totals) => totals.fill(query, columns, filter, block, marks),
         }
     }
 
     // Whether the bound of each is narrow.
-    pub(crate) fn is_narrow(&self, query: &TypedQuery, width: u64) -> bool
-        requires answers { AreAnswersOf query.now self.now }
+    pub(crate) fn is_narrow(&self, width: u64) -> bool
+        requires answers { AreSomeAnswers self.now }
         requires width { width < 2 ^ 63 }
-        ensures { (stage : Stage) → stage.query ≡ query.now → AreAnswers stage self.now → result ≡ is_narrow width stage }
+        ensures { (stage : Stage) → AreAnswers stage self.now → result ≡ is_narrow width stage }
     {
         match self {
-            Answers::Totals(totals) => totals.is_narrow(query, width),
+            Answers::Totals(totals) => totals.is_narrow(width),
         }
     }
 

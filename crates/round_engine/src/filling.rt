@@ -22,7 +22,7 @@ use query_model::{Expr, Item, Nullity, TypedQuery, pairs_are_few, sums_of_items_
 use row_values::{null_of, span_of};
 
 // Whether an expression may be null, by what is declared of its columns.
-fn may_be_null(expr: &Expr, columns: &KnownColumns) -> bool
+pub(crate) fn may_be_null(expr: &Expr, columns: &KnownColumns) -> bool
     requires { ReadsBelow (length columns.now.frame.columns) (term_of expr.now) }
     ensures { result ≡ may_be_null (null_of (term_of expr.now) (declared_ranges columns.now.frame)) }
 {
@@ -81,7 +81,7 @@ fn pair_at(
 ) -> Option<(bool, Interval)>
     requires open_stage { IsOpenStage (stage_of query.now columns.now) }
     requires open_item { IsOpenItem columns.now.frame item.now }
-    requires judged { filter.now ≡ truths_under query.now.pred columns.now }
+    requires judged { filter.now.truths ≡ truths_under query.now.pred columns.now }
     requires nullable { nullable ≡ may_be_null (null_of item.now.arg (declared_ranges columns.now.frame)) }
     requires row { row < columns.now.frame.rows }
     requires block { block.now ≡ block_of columns.now (row / 64) }
@@ -114,7 +114,7 @@ pub(crate) fn fill_block(
 )
     requires open_stage { IsOpenStage (stage_of query.now columns.now) }
     requires open_item { IsOpenItem columns.now.frame item.now }
-    requires judged { filter.now ≡ truths_under query.now.pred columns.now }
+    requires judged { filter.now.truths ≡ truths_under query.now.pred columns.now }
     requires rows { 64 * number < columns.now.frame.rows }
     requires block { block.now ≡ block_of columns.now number }
     requires filled { IsFilledBelow (stage_of query.now columns.now) item.now (64 * number) running.old }

@@ -2,9 +2,12 @@
 #![tactic(auto)]
 
 mod answers;
+mod counts;
 mod engine;
 mod filling;
+mod item_bound;
 mod laws;
+mod moved;
 mod narrowness;
 mod progress;
 mod readers;

@@ -170,75 +170,53 @@ fn possibly(lo: i128, hi: i128, missing: Nullity) -> Told {
     Some((Bound { null, lo, hi }, missing))
 }
 
+// What is to be told after so many planes, of which the first tells where v is null and the fifth where w is: the ends of
+// COUNT(v), SUM(v) and SUM(v + w).
+fn wanted(
+    planes: usize,
+    count: (i128, i128),
+    sum: (i128, i128),
+    sum_of_both: (i128, i128),
+) -> [Told; 4] {
+    let start = planes == 0;
+    let missing = if start {
+        Nullity::Possibly
+    } else {
+        Nullity::Always
+    };
+    [
+        never(3, 3, Nullity::Never),
+        never(count.0, count.1, missing),
+        if start {
+            possibly(sum.0, sum.1, missing)
+        } else {
+            never(sum.0, sum.1, missing)
+        },
+        if planes < 5 {
+            possibly(sum_of_both.0, sum_of_both.1, missing)
+        } else {
+            never(sum_of_both.0, sum_of_both.1, missing)
+        },
+    ]
+}
+
 #[test]
 fn null_is_left_out(rt: HostRuntime) -> Result<(), Fail> {
-    let (no, maybe, yes) = (Nullity::Never, Nullity::Possibly, Nullity::Always);
-    for (planes, want) in [
-        (
-            0,
-            [
-                never(3, 3, no),
-                never(0, 3, maybe),
-                possibly(5, 27, maybe),
-                possibly(6, 33, maybe),
-            ],
-        ),
-        (
-            1,
-            [
-                never(3, 3, no),
-                never(2, 2, yes),
-                never(10, 18, yes),
-                possibly(6, 22, yes),
-            ],
-        ),
-        (
-            2,
-            [
-                never(3, 3, no),
-                never(2, 2, yes),
-                never(14, 17, yes),
-                possibly(6, 21, yes),
-            ],
-        ),
-        (
-            3,
-            [
-                never(3, 3, no),
-                never(2, 2, yes),
-                never(14, 15, yes),
-                possibly(6, 19, yes),
-            ],
-        ),
-        (
-            4,
-            [
-                never(3, 3, no),
-                never(2, 2, yes),
-                never(14, 14, yes),
-                possibly(6, 18, yes),
-            ],
-        ),
-        (
-            5,
-            [
-                never(3, 3, no),
-                never(2, 2, yes),
-                never(14, 14, yes),
-                never(6, 7, yes),
-            ],
-        ),
-        (
-            6,
-            [
-                never(3, 3, no),
-                never(2, 2, yes),
-                never(14, 14, yes),
-                never(6, 6, yes),
-            ],
-        ),
+    for (planes, count, sum, sum_of_both) in [
+        (0, (0, 3), (5, 27), (6, 33)),
+        (1, (2, 2), (10, 18), (6, 22)),
+        (2, (2, 2), (14, 17), (6, 21)),
+        (3, (2, 2), (14, 15), (6, 19)),
+        (4, (2, 2), (14, 14), (6, 18)),
+        (5, (2, 2), (14, 14), (6, 7)),
+        (6, (2, 2), (14, 14), (6, 6)),
     ] {
-        assert_eq!(rt; told_after(rt.alloc(), Pred::All, planes)?, want);
+        let want = wanted(planes, count, sum, sum_of_both);
+        assert_eq!(rt;
+            told_after(rt.alloc(), Pred::All, planes)?,
+            want,
+            "{planes} planes"
+        );
     }
     Ok(())
 }

@@ -61,7 +61,7 @@ impl Engine {
         requires { width < 2 ^ 63 }
         ensures { result ≡ is_narrow width self.now }
     {
-        self.state.answers.is_narrow(&self.query, width)
+        self.state.answers.is_narrow(width)
     }
 
     /// How far the query has come.

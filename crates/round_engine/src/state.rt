@@ -11,6 +11,7 @@ ghost use Rattle.round_engine.specs.Engines.{stage_of, IsEngine};
 ghost use Rattle.round_engine.specs.Stages.{HasPlane, IsFirstOver};
 
 use crate::answers::Answers;
+use crate::moved::moved_items;
 use crate::roles::roles_of;
 use daq_table::Head;
 use kleene_filter::Filter;
@@ -43,7 +44,7 @@ impl State {
         let mut block = RowBlock::open(alloc, &columns)?;
         let filter = Filter::open(alloc, &query.pred, &columns, &mut block)?;
         let mut answers = Answers::open(alloc, query)?;
-        answers.fill(query, &columns, &filter, &mut block);
+        answers.fill(query, &columns, &filter, &mut block, &[true; 16]);
         Ok(State {
             columns,
             block,
@@ -74,7 +75,9 @@ impl State {
         let block = &mut self.block;
         self.filter
             .refresh(&query.pred, &self.columns, column, plane, block);
-        self.answers.fill(query, &self.columns, &self.filter, block);
+        let moved = moved_items(query, column);
+        self.answers
+            .fill(query, &self.columns, &self.filter, block, &moved);
         Ok(())
     }
 }

@@ -1,9 +1,9 @@
 -- The filter follows each plane of the one column.
-use Rattle.std.proofs.Common.{false, length, sym, ap, ◌∙◌}
+use Rattle.std.proofs.Common.{false, length, subst, sym, ap, ◌∙◌}
 use Rattle.std.proofs.lemmas.List.{length-replicate}
 use Rattle.daq_table.specs.Tables.{ends_at}
 use Rattle.query_model.specs.Queries.{condition_of}
-use Rattle.kleene_filter.specs.Filters.{truths_under}
+use Rattle.kleene_filter.specs.Filters.{StandsFor}
 use Rattle.plane_bench.proofs.Steps.{nothing_read}
 use Rattle.plane_bench.proofs.reading.follow_planes.Goals as goal
 
@@ -14,13 +14,13 @@ loop-init c =
       read = none;
       rows = ap length c.in_ok-plane.ensures ∙ length-replicate (length c.args.cells.now) false;
       lent = c.in_ok-filter.ensures.block;
-      filter = c.in_ok-filter.ensures.truths ∙ ap (truths_under (condition_of c.args.pred.now)) none;
+      filter = subst (StandsFor c.in_ok-filter.filter (condition_of c.args.pred.now)) none c.in_ok-filter.ensures.stands;
     }
 
 pub refresh-requires-clause-stood : goal.refresh-requires-clause-stood
 refresh-requires-clause-stood c = record {
   before = c.loop.columns;
-  stood = c.loop.invariant.filter ∙ ap (truths_under (condition_of c.args.pred.now)) (sym c.loop.invariant.read);
+  stood = subst (StandsFor c.loop.filter (condition_of c.args.pred.now)) (sym c.loop.invariant.read) c.loop.invariant.filter;
   could = c.read_next.ensures.legal;
   taken = c.read_next.ensures.taken;
 }

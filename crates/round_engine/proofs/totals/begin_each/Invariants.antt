@@ -1,11 +1,7 @@
-use Rattle.std.proofs.Common.{◌≡◌, ℕ, ◌<◌, ◌≤◌, length, slice_get, Some}
-use Rattle.query_model.specs.Queries.{Aggregate}
-use Rattle.aggregates.specs.Runnings.{IsBlank, Tallies}
+use Rattle.std.proofs.Common.{◌≡◌}
+use Rattle.aggregates.specs.Runnings.{IsBlank}
+use Rattle.round_engine.proofs.Walks.{Walks}
 use Rattle.round_engine.proofs.totals.begin_each.Given as goal
 
 abbrev pub invariant-loop-i : goal.invariant-loop-i
-invariant-loop-i l = record {
-  count : length l.runnings ≡ length l.query.items;
-  done : (j : ℕ) (a : Aggregate) (b : Tallies) → j < l.i → slice_get l.query.items j ≡ Some a → slice_get l.runnings j ≡ Some b → IsBlank b a.kind 1 1;
-  rest : (j : ℕ) (a : Aggregate) (b : Tallies) → l.i ≤ j → slice_get l.query.items j ≡ Some a → slice_get l.runnings j ≡ Some b → (b.kind ≡ a.kind) × (b.room ≡ 1);
-}
+invariant-loop-i l = Walks (λ i item running. (running.kind ≡ item.kind) × (running.room ≡ 1)) (λ i item running. IsBlank running item.kind 1 1) l.query.items l.runnings l.i

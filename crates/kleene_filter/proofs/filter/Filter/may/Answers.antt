@@ -1,7 +1,8 @@
 use Rattle.std.proofs.Common.{map, ◌∙◌, ap}
+use Rattle.kleene_filter.specs.Filters.{Judgement}
 use Rattle.kleene_filter.specs.Filters.{is_possible}
-use Rattle.kleene_filter.proofs.Masks.{possible_mask}
+use Rattle.kleene_filter.proofs.TruthBits.{possible_mask}
 use Rattle.kleene_filter.proofs.filter.Filter.may.Goals as goal
 
 pub returns : goal.returns
-returns c = possible_mask c.self.inside.must c.self.inside.may c.self.invariant ∙ ap (map is_possible) c.self.view_is
+returns c = possible_mask c.self.inside.truths.must c.self.inside.truths.may c.self.invariant ∙ ap (map is_possible) (ap (λ (f : Judgement). f.truths) c.self.view_is)

@@ -1,7 +1,8 @@
 use Rattle.std.proofs.Common.{map, ◌∙◌, ap}
+use Rattle.kleene_filter.specs.Filters.{Judgement}
 use Rattle.kleene_filter.specs.Filters.{is_certain}
-use Rattle.kleene_filter.proofs.Masks.{certain_mask}
+use Rattle.kleene_filter.proofs.TruthBits.{certain_mask}
 use Rattle.kleene_filter.proofs.filter.Filter.must.Goals as goal
 
 pub returns : goal.returns
-returns c = certain_mask c.self.inside.must c.self.inside.may c.self.invariant ∙ ap (map is_certain) c.self.view_is
+returns c = certain_mask c.self.inside.truths.must c.self.inside.truths.may c.self.invariant ∙ ap (map is_certain) (ap (λ (f : Judgement). f.truths) c.self.view_is)

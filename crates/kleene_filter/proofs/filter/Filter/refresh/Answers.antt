@@ -1,23 +1,71 @@
-use Rattle.std.proofs.Common.{length, sym, ap, ◌∙◌}
+use Rattle.std.proofs.Common.{◌≡◌, ◌++◌, List, length, take, drop, sym, ap, subst, ◌∙◌, arith}
+use Rattle.std.proofs.lemmas.List.{take_at}
 use Rattle.query_model.specs.Queries.{condition_of}
-use Rattle.kleene_filter.specs.Filters.{truths_under}
-use Rattle.kleene_filter.proofs.Masks.{masks_nest, masks_tell, nested_rows, rows_of_truths, stood_rows}
+use Rattle.kleene_filter.specs.declared.masks.AtomMasks.{AtomMasks}
+use Rattle.kleene_filter.specs.Filters.{truths_under, Judgement}
+use Rattle.kleene_filter.specs.Masks.{atoms_of, AreMasksOf}
+use Rattle.kleene_filter.proofs.Tracking.{were_masks}
+use Rattle.kleene_filter.proofs.TruthBits.{masks_nest, masks_tell, nested_rows, rows_of_truths, stood_rows}
 use Rattle.kleene_filter.proofs.Unread.{still_stands}
 use Rattle.kleene_filter.proofs.filter.Filter.refresh.Goals as goal
 
-pub judge_rows-requires-clause-must : goal.judge_rows-requires-clause-must
-judge_rows-requires-clause-must c =
-    sym (rows_of_truths c.self.inside.must c.self.inside.may c.self.invariant) ∙ ap length c.self.view_is ∙ stood_rows _ _ _ _ _ c.requires.stood
+pub follow_each-requires : goal.follow_each-requires
+follow_each-requires c =
+    let pred = condition_of c.args.pred.now in
+    let same : c.args.self.now.masks ≡ c.deref_mut.result.now = sym (ap (λ (f : Judgement). f.masks) c.self.view_is) ∙ sym c.deref_mut.ensures.value in
+    (atoms_of pred, were_masks c.args.self.now pred c.args.columns.now c.args.column c.args.plane.now c.deref_mut.result.now c.requires.columns c.requires.stood same)
 
-pub judge_rows-requires-clause-may : goal.judge_rows-requires-clause-may
-judge_rows-requires-clause-may c =
-    nested_rows c.self.inside.must c.self.inside.may c.self.invariant ∙ sym (rows_of_truths c.self.inside.must c.self.inside.may c.self.invariant) ∙ ap length c.self.view_is ∙ stood_rows _ _ _ _ _ c.requires.stood
+pub returns-then-not-pred_reads-clause-stands : goal.returns-then-not-pred_reads-clause-stands
+returns-then-not-pred_reads-clause-stands c =
+    let pred = condition_of c.args.pred.now in
+    let same : c.args.self.now.masks ≡ c.deref_mut.result.now = sym (ap (λ (f : Judgement). f.masks) c.self.view_is) ∙ sym c.deref_mut.ensures.value in
+    let were = were_masks c.args.self.now pred c.args.columns.now c.args.column c.args.plane.now c.deref_mut.result.now c.requires.columns c.requires.stood same in
+    let new = c.follow_each.new.masks in
+    let rest = drop (length new) c.self.inside.masks.items in
+    let whole : take c.self.inside.masks.len (new ++ rest) ≡ new =
+    take_at new rest c.self.inside.masks.len (omega (arith, ap length c.deref_mut.ensures.value, c.follow_each.ensures.count, c.self.inside.masks.ok.0, c.deref_mut.ensures.len)) in
+    record {
+      truths = ap (λ (f : Judgement). f.truths) c.self.view_is ∙ still_stands c.args.self.now pred c.args.columns.now c.args.column c.args.plane.now c.requires.stood (sym c.pred_reads.ensures ∙ c.if-not-pred_reads.true);
+      count = ap length whole ∙ c.follow_each.ensures.count ∙ were.count;
+      masks = subst (λ (l : List AtomMasks). AreMasksOf l 0 (atoms_of pred) c.args.columns.now) (sym whole) (c.follow_each.ensures.follow (atoms_of pred) were);
+      known = c.rows-rows.ensures.known;
+    }
 
-pub invariant_of-self : goal.invariant_of-self
-invariant_of-self c = rw (c.judge_rows.ensures.must, c.judge_rows.ensures.may) (masks_nest (truths_under (condition_of c.args.pred.now) c.args.columns.now))
+pub judge_all-requires-clause-masks : goal.judge_all-requires-clause-masks
+judge_all-requires-clause-masks c =
+    let pred = condition_of c.args.pred.now in
+    let same : c.args.self.now.masks ≡ c.deref_mut.result.now = sym (ap (λ (f : Judgement). f.masks) c.self.view_is) ∙ sym c.deref_mut.ensures.value in
+    let were = were_masks c.args.self.now pred c.args.columns.now c.args.column c.args.plane.now c.deref_mut.result.now c.requires.columns c.requires.stood same in
+    let new = c.follow_each.new.masks in
+    let rest = drop (length new) c.self.inside.masks.items in
+    let whole : take c.self.inside.masks.len (new ++ rest) ≡ new =
+    take_at new rest c.self.inside.masks.len (omega (arith, ap length c.deref_mut.ensures.value, c.follow_each.ensures.count, c.self.inside.masks.ok.0, c.deref_mut.ensures.len)) in
+    subst (λ (l : List AtomMasks). AreMasksOf l 0 (atoms_of pred) c.args.columns.now) (sym (c.deref.ensures.value ∙ whole)) (c.follow_each.ensures.follow (atoms_of pred) were)
 
-pub returns-then-not-pred_reads-clause-truths : goal.returns-then-not-pred_reads-clause-truths
-returns-then-not-pred_reads-clause-truths c = still_stands c.args.self.now (condition_of c.args.pred.now) c.args.columns.now c.args.column c.args.plane.now c.requires.stood (sym c.pred_reads.ensures ∙ c.if-not-pred_reads.true)
+pub judge_all-requires-clause-must : goal.judge_all-requires-clause-must
+judge_all-requires-clause-must c =
+    sym (rows_of_truths c.self.inside.truths.must c.self.inside.truths.may c.self.invariant) ∙ ap (λ (f : Judgement). length f.truths) c.self.view_is ∙ stood_rows c.args.self.now _ _ _ _ c.requires.stood
 
-pub returns-clause-truths : goal.returns-clause-truths
-returns-clause-truths c = rw (c.judge_rows.ensures.must, c.judge_rows.ensures.may) (masks_tell (truths_under (condition_of c.args.pred.now) c.args.columns.now))
+pub judge_all-requires-clause-may : goal.judge_all-requires-clause-may
+judge_all-requires-clause-may c =
+    nested_rows c.self.inside.truths.must c.self.inside.truths.may c.self.invariant ∙ sym (rows_of_truths c.self.inside.truths.must c.self.inside.truths.may c.self.invariant)
+    ∙ ap (λ (f : Judgement). length f.truths) c.self.view_is ∙ stood_rows c.args.self.now _ _ _ _ c.requires.stood
+
+pub invariant_of-self-2 : goal.invariant_of-self-2
+invariant_of-self-2 c = rw (c.judge_all.ensures.must, c.judge_all.ensures.may) (masks_nest (truths_under (condition_of c.args.pred.now) c.args.columns.now))
+
+pub returns-clause-stands : goal.returns-clause-stands
+returns-clause-stands c =
+    let pred = condition_of c.args.pred.now in
+    let same : c.args.self.now.masks ≡ c.deref_mut.result.now = sym (ap (λ (f : Judgement). f.masks) c.self.view_is) ∙ sym c.deref_mut.ensures.value in
+    let were = were_masks c.args.self.now pred c.args.columns.now c.args.column c.args.plane.now c.deref_mut.result.now c.requires.columns c.requires.stood same in
+    let new = c.follow_each.new.masks in
+    let rest = drop (length new) c.self.inside.masks.items in
+    let whole : take c.self.inside.masks.len (new ++ rest) ≡ new =
+    take_at new rest c.self.inside.masks.len (omega (arith, ap length c.deref_mut.ensures.value, c.follow_each.ensures.count, c.self.inside.masks.ok.0, c.deref_mut.ensures.len)) in
+    record {
+      truths = rw (c.judge_all.ensures.must, c.judge_all.ensures.may) (masks_tell (truths_under pred c.args.columns.now));
+      count = ap length whole ∙ c.follow_each.ensures.count ∙ were.count;
+      masks = subst (λ (l : List AtomMasks). AreMasksOf l 0 (atoms_of pred) c.args.columns.now) (sym whole) (c.follow_each.ensures.follow (atoms_of pred) were);
+      known = c.rows-rows.ensures.known;
+    }

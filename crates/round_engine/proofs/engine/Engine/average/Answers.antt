@@ -1,6 +1,5 @@
-use Rattle.std.proofs.Common.{◌≡◌, slice_get}
-use Rattle.query_model.specs.declared.query.ItemKind.TheVariants.{Avg}
-use Rattle.round_engine.proofs.Kept.{has_total, if_some, open_at, totals_at}
+use Rattle.std.proofs.Common.{slice_get}
+use Rattle.round_engine.proofs.Kept.{average_at, has_fractions, if_some, open_at, totals_at}
 use Rattle.round_engine.proofs.Certain.{average_is_certain}
 use Rattle.round_engine.proofs.engine.Engine.average.Goals as goal
 
@@ -9,13 +8,14 @@ average-requires c =
     let e = c.self.inside in
     let stage = c.args.self.now in
     let totals = c.totals.result.now in
-    has_total stage totals.runnings.items c.args.item (totals_at e.query e.state stage totals c.self.invariant c.self.view_is c.totals.ensures) c.requires.item (λ kind. kind ≡ Avg) c.requires.kind
+    has_fractions stage totals.bounds.items c.args.item (totals_at e.query e.state stage totals c.self.invariant c.self.view_is c.totals.ensures) c.requires.item c.requires.kind
 
 pub returns-clause-bound : goal.returns-clause-bound
 returns-clause-bound c =
     let e = c.self.inside in
     let stage = c.args.self.now in
-    c.average.ensures stage (totals_at e.query e.state stage c.totals.result.now c.self.invariant c.self.view_is c.totals.ensures)
+    let totals = c.totals.result.now in
+    average_at stage totals.bounds.items c.args.item (totals_at e.query e.state stage totals c.self.invariant c.self.view_is c.totals.ensures) c.average.result c.average.ensures
 
 pub returns-clause-certain : goal.returns-clause-certain
 returns-clause-certain c =

@@ -2,7 +2,7 @@ use Rattle.std.proofs.Common.{◌≢◌, [], slice_get, sym, subst}
 use Rattle.query_model.specs.declared.query.ItemKind.TheVariants.{Avg}
 use Rattle.query_model.specs.Bounds.{pairs}
 use Rattle.round_engine.specs.Promises.{IsShownWithin}
-use Rattle.round_engine.proofs.Kept.{has_total, if_some_also, open_at, open_item_at, totals_at}
+use Rattle.round_engine.proofs.Kept.{bound_at, has_numbers, if_some_also, open_at, open_item_at, totals_at}
 use Rattle.round_engine.proofs.Certain.{bound_is_certain}
 use Rattle.round_engine.proofs.Shown.{pairs_within, shown_within}
 use Rattle.round_engine.proofs.engine.Engine.plain.Goals as goal
@@ -12,13 +12,14 @@ bound-requires c =
     let e = c.self.inside in
     let stage = c.args.self.now in
     let totals = c.totals.result.now in
-    has_total stage totals.runnings.items c.args.item (totals_at e.query e.state stage totals c.self.invariant c.self.view_is c.totals.ensures) c.requires.item (λ kind. kind ≢ Avg) c.requires.kind
+    has_numbers stage totals.bounds.items c.args.item (totals_at e.query e.state stage totals c.self.invariant c.self.view_is c.totals.ensures) c.requires.item c.requires.kind
 
 pub returns-clause-bound : goal.returns-clause-bound
 returns-clause-bound c =
     let e = c.self.inside in
     let stage = c.args.self.now in
-    c.bound.ensures stage (totals_at e.query e.state stage c.totals.result.now c.self.invariant c.self.view_is c.totals.ensures)
+    let totals = c.totals.result.now in
+    bound_at stage totals.bounds.items c.args.item (totals_at e.query e.state stage totals c.self.invariant c.self.view_is c.totals.ensures) c.bound.result c.bound.ensures
 
 pub returns-clause-certain : goal.returns-clause-certain
 returns-clause-certain c =
@@ -33,7 +34,8 @@ returns-clause-shown c =
     let e = c.self.inside in
     let stage = c.args.self.now in
     let kept = open_at e.query e.state stage c.self.invariant c.self.view_is in
-    let is_bound = c.bound.ensures stage (totals_at e.query e.state stage c.totals.result.now c.self.invariant c.self.view_is c.totals.ensures) in
+    let totals = c.totals.result.now in
+    let is_bound = bound_at stage totals.bounds.items c.args.item (totals_at e.query e.state stage totals c.self.invariant c.self.view_is c.totals.ensures) c.bound.result c.bound.ensures in
     if_some_also (slice_get stage.query.items c.args.item) _ _ is_bound (λ i is same.
     subst (IsShownWithin stage.frame i.face) (sym same)
     (shown_within i.kind i.arg i.face stage.frame (pairs stage.query i [] stage.frame stage.known) (open_item_at stage c.args.item i kept is).face

@@ -10,7 +10,7 @@ use Rattle.query_model.specs.declared.bounds.Truth.TheVariants.{False, Unknown, 
 use Rattle.query_model.specs.Truths.{truth_from}
 use Rattle.query_model.specs.Queries.{Condition}
 use Rattle.known_column.specs.KnownTables.{KnownTable}
-use Rattle.kleene_filter.specs.Filters.{is_certain, is_possible, is_unknown, truth_at, AreNested, StoodBefore}
+use Rattle.kleene_filter.specs.Filters.{is_certain, is_possible, is_unknown, truth_at, AreNested, Judgement, StoodBefore}
 
 -- a truth is told by its two bits
 told : (t : Truth) → truth_from (is_certain t) (is_possible t) ≡ t
@@ -84,6 +84,6 @@ pub rows_of_truths : (ms ns : List Bool) → AreNested ms ns → length (zip2 tr
 rows_of_truths ms ns h = length-zip2 truth_from ms ns (sym (nested_rows ms ns h))
 
 -- there is a truth for each row
-pub stood_rows : (truths : List Truth) (pred : Condition) (table : KnownTable) (column : ℕ) (bits : List Bool) → StoodBefore truths pred table column bits → length truths ≡ table.frame.rows
-stood_rows truths pred table column bits stood =
-    ap length stood.stood ∙ length-map-range_with_len (truth_at pred stood.before) 0 stood.before.frame.rows ∙ sym (ap (λ (t : KnownTable). t.frame.rows) stood.taken)
+pub stood_rows : (filter : Judgement) (pred : Condition) (table : KnownTable) (column : ℕ) (bits : List Bool) → StoodBefore filter pred table column bits → length filter.truths ≡ table.frame.rows
+stood_rows filter pred table column bits stood =
+    ap length stood.stood.truths ∙ length-map-range_with_len (truth_at pred stood.before) 0 stood.before.frame.rows ∙ sym (ap (λ (t : KnownTable). t.frame.rows) stood.taken)

@@ -1,0 +1,199 @@
+-- Rows parted by their prefixes, plane by plane, and their sides as words.
+use Rattle.std.proofs.Common.{◌≡◌, ℕ, ℤ, suc, ◌+◌, ◌-◌, ◌*◌, ◌^◌, ◌<◌, ◌≤◌, ◌==◌, nat_lt, min, Bool, true, false, not, ◌&&◌, ◌||◌, List, [], ◌∷◌, length, map, replicate, take, drop, get_or, slice_get, cond, Some, IsTrue, refl, ap, sym, subst, ◌∙◌, arith}
+use Rattle.std.specs.Prelude.{nat_abs, ◌-ℤ◌}
+use Rattle.std.specs.List.{position}
+use Rattle.std.proofs.lemmas.Bool.{eqb-true}
+use Rattle.std.proofs.lemmas.Bool.Decides.{nat_tests}
+use Rattle.std.proofs.lemmas.Int.{ints}
+use Rattle.std.proofs.lemmas.List.{get_or-take, get_or-drop, get_or-map, length-map}
+use Rattle.std.proofs.lemmas.List.Quantifiers.{position-Some}
+use Rattle.std.proofs.lemmas.Nat.{le-div, pow_pos}
+use Rattle.std.proofs.lemmas.Option.{get_or_from_slice_get}
+use Rattle.plane_kernels.specs.Rows.{bits_of, digit_at, greater_rows, kept_rows, less_rows}
+use Rattle.plane_kernels.proofs.RowLemmas.{get-bits_of}
+use Rattle.daq_table.specs.declared.head.Ends.{Ends}
+use Rattle.daq_table.specs.Tables.{code, first_code, planes, spread}
+use Rattle.query_model.specs.declared.bounds.Truth.{Truth}
+use Rattle.query_model.specs.declared.query.Comparison.{Comparison}
+use Rattle.query_model.specs.Knowledge.{IsLegal, bit_at, longer, prefix_of, range_of}
+use Rattle.query_model.specs.Meaning.{compares}
+use Rattle.query_model.specs.Truths.{may_be_number, truth_over}
+use Rattle.known_column.specs.Columns.{KnownColumn, count_in_block, numbers_at, range_at, rows_of_column, rows_where}
+use Rattle.known_column.specs.RowBlocks.{IsKnownColumn}
+use Rattle.known_column.proofs.CodeDigits.{prefix_further, spread_small}
+use Rattle.known_column.proofs.FirstMarks.{none_known}
+use Rattle.known_column.proofs.Growing.{map-longer_or, map-longer_same}
+use Rattle.known_column.proofs.Nulls.{legal_code}
+use Rattle.known_column.proofs.Steps.{equal_further, greater_further}
+use Rattle.kleene_filter.specs.declared.parted.Parted.{Parted}
+use Rattle.kleene_filter.specs.declared.parted.SideWords.{SideWords}
+use Rattle.kleene_filter.specs.declared.parted.Sides.{Sides}
+use Rattle.kleene_filter.specs.declared.parted.Sides.TheVariants as sides
+use Rattle.kleene_filter.specs.Parted.{cell_with, equal_at, greater_at, is_greater, is_less, is_level, less_at, AreSideWords, HasRow, HasSides, IsAtEqual, IsBetweenEnds, IsParted, IsTruthAt, ReadFurther}
+use Rattle.kleene_filter.proofs.SideTruths.{IsTold, told_all_less, told_all_greater, told_parted}
+
+-- ---- words of masks
+
+-- a bit of a block's word is the bit of its row
+pub mask_bit : (mask : List Bool) (word block r : ℕ) → bits_of (min 64 (length mask - 64 * block)) word ≡ take 64 (drop (64 * block) mask) → r < 64 → 64 * block + r < length mask → digit_at r word ≡ get_or mask (64 * block + r) false
+mask_bit mask word block r e few below =
+    let n = min 64 (length mask - 64 * block) in
+    let here : slice_get (bits_of n word) r ≡ Some (digit_at r word) = get-bits_of n word r (omega arith) in
+    sym (get_or_from_slice_get (bits_of n word) r (digit_at r word) false here) ∙ ap (λ l. get_or l r false) e ∙ get_or-take 64 (drop (64 * block) mask) r false few ∙ get_or-drop (64 * block) mask r false
+
+-- a row of a column is one of these where its prefix passes the test
+pub row_where : (test : Ends → ℕ → ℕ → Bool) (column : KnownColumn) (mask : List Bool) (row : ℕ) → mask ≡ rows_where test column → row < rows_of_column column → get_or mask row false ≡ test column.ends column.known.read (get_or column.known.prefixes row 0)
+row_where test column mask row is below = ap (λ l. get_or l row false) is ∙ get_or-map (test column.ends column.known.read) column.known.prefixes row 0 false below
+
+pub length_where : (test : Ends → ℕ → ℕ → Bool) (column : KnownColumn) (mask : List Bool) → mask ≡ rows_where test column → length mask ≡ rows_of_column column
+length_where test column mask is = ap length is ∙ length-map column.known.prefixes (test column.ends column.known.read)
+
+pub where_bit : (test : Ends → ℕ → ℕ → Bool) (column : KnownColumn) (mask : List Bool) (word block r : ℕ) → mask ≡ rows_where test column →
+    bits_of (min 64 (length mask - 64 * block)) word ≡ take 64 (drop (64 * block) mask) → r < count_in_block block (rows_of_column column) →
+    digit_at r word ≡ test column.ends column.known.read (get_or column.known.prefixes (64 * block + r) 0)
+where_bit test column mask word block r is e few =
+    let rows = length_where test column mask is in
+    mask_bit mask word block r e (omega arith) (omega arith) ∙ row_where test column mask (64 * block + r) is (omega arith)
+
+-- ---- one plane more
+
+less_true : (m m' p : ℕ) (b : Bool) → m' ≡ 2 * m + 1 → nat_lt (2 * p + cond b 1 0) m' ≡ (nat_lt p m || ((p == m) && not b))
+less_true m m' p true e = grind (arith, nat_tests)
+less_true m m' p false e = grind (arith, nat_tests)
+
+less_false : (m m' p : ℕ) (b : Bool) → m' ≡ 2 * m + 0 → nat_lt (2 * p + cond b 1 0) m' ≡ nat_lt p m
+less_false m m' p true e = grind (arith, nat_tests)
+less_false m m' p false e = grind (arith, nat_tests)
+
+less_further : (m m' : ℕ) (digit : Bool) → m' ≡ 2 * m + cond digit 1 0 → (ps : List ℕ) (bits : List Bool) → length bits ≡ length ps →
+    map (λ p. nat_lt p m') (longer ps bits) ≡ less_rows digit (map (λ p. nat_lt p m) ps) (map (λ p. p == m) ps) bits
+less_further m m' true e ps bits same = map-longer_or (λ p. nat_lt p m') (λ p. nat_lt p m) (λ p. p == m) (λ a b. a && not b) (λ p b. less_true m m' p b e) ps bits same
+less_further m m' false e ps bits same = map-longer_same (λ p. nat_lt p m') (λ p. nat_lt p m) (λ p b. less_false m m' p b e) ps bits same
+
+module _ (before column : KnownColumn) (bits : List Bool) (op : Comparison) (value : ℤ) (old : Parted) (bit : Bool)
+    (stood : IsParted before op value old) (further : ReadFurther before bits column) (digit : bit ≡ bit_at before.ends before.known.read (cell_with value before.ends)) where
+  next : prefix_of before.ends (before.known.read + 1) (cell_with value before.ends) ≡ 2 * prefix_of before.ends before.known.read (cell_with value before.ends) + cond bit 1 0
+  next = prefix_further before.ends before.known.read (cell_with value before.ends) further.unread ∙ ap (λ b. 2 * prefix_of before.ends before.known.read (cell_with value before.ends) + cond b 1 0) (sym digit)
+
+  pub equal_next : kept_rows bit old.equal bits ≡ rows_where (is_level value) column
+  equal_next =
+      ap (λ l. kept_rows bit l bits) stood.equal
+      ∙ sym (equal_further (prefix_of before.ends before.known.read (cell_with value before.ends)) (prefix_of before.ends (before.known.read + 1) (cell_with value before.ends)) bit next before.known.prefixes bits)
+      ∙ ap (rows_where (is_level value)) (sym further.is)
+
+  pub less_next : less_rows bit old.less old.equal bits ≡ rows_where (is_less value) column
+  less_next =
+      ap (λ l. less_rows bit l old.equal bits) stood.less ∙ ap (λ l. less_rows bit (rows_where (is_less value) before) l bits) stood.equal
+      ∙ sym (less_further (prefix_of before.ends before.known.read (cell_with value before.ends)) (prefix_of before.ends (before.known.read + 1) (cell_with value before.ends)) bit next before.known.prefixes bits further.rows)
+      ∙ ap (rows_where (is_less value)) (sym further.is)
+
+  pub greater_next : greater_rows bit old.greater old.equal bits ≡ rows_where (is_greater value) column
+  greater_next =
+      ap (λ l. greater_rows bit l old.equal bits) stood.greater ∙ ap (λ l. greater_rows bit (rows_where (is_greater value) before) l bits) stood.equal
+      ∙ sym (greater_further (prefix_of before.ends before.known.read (cell_with value before.ends)) (prefix_of before.ends (before.known.read + 1) (cell_with value before.ends)) bit next before.known.prefixes bits further.rows)
+      ∙ ap (rows_where (is_greater value)) (sym further.is)
+
+  pub ends_stay : before.ends ≡ column.ends
+  ends_stay = ap (λ (c : KnownColumn). c.ends) (sym further.is)
+
+  pub read_more : column.known.read ≡ before.known.read + 1
+  read_more = ap (λ (c : KnownColumn). c.known.read) further.is
+
+-- the digit of the number's code in the plane that was read last
+pub last_digit : (before column : KnownColumn) (bits : List Bool) (value : ℤ) (own : ℕ) (bit : Bool) → own ≡ code before.ends (cell_with value before.ends) → ReadFurther before bits column →
+    bit ≡ digit_at (planes column.ends - column.known.read) own → bit ≡ bit_at before.ends before.known.read (cell_with value before.ends)
+last_digit before column bits value own bit is further e =
+    e ∙ ap (digit_at (planes column.ends - column.known.read)) is ∙ ap (λ (k : KnownColumn). digit_at (planes k.ends - k.known.read) (code before.ends (cell_with value before.ends))) further.is
+
+-- ---- the range of the number's own prefix
+
+pub level_shared : (column : KnownColumn) (op : Comparison) (value : ℤ) (equal : List Bool) (row : ℕ) (truth : Truth) → equal ≡ rows_where (is_level value) column → position (λ b. b) equal ≡ Some row →
+    truth_over (numbers_at column row) (λ x. compares op x value) ≡ truth → IsTruthAt column op value equal truth
+level_shared column op value equal row truth is first told = λ r below on.
+    let found = position-Some (λ b. b) equal row false first in
+    let count = length_where (is_level value) column equal is in
+    let m = prefix_of column.ends column.known.read (cell_with value column.ends) in
+    let here : get_or column.known.prefixes r 0 ≡ m = eqb-true (get_or column.known.prefixes r 0) m (sym (row_where (is_level value) column equal r is below) ∙ on) in
+    let there : get_or column.known.prefixes row 0 ≡ m = eqb-true (get_or column.known.prefixes row 0) m (sym (row_where (is_level value) column equal row is (omega arith)) ∙ found.1) in
+    ap (λ p. truth_over (range_of column.ends column.known.read p).numbers (λ x. compares op x value)) (here ∙ sym there) ∙ told
+
+-- ---- nothing is read
+
+no_prefix : (ends : Ends) (p : ℕ) → IsLegal ends 0 p → p ≡ 0
+no_prefix ends p legal =
+    let k = 2 ^ (planes ends - 0) in
+    let most : p ≤ prefix_of ends 0 (Some (spread ends)) = le-div p (first_code ends + spread ends) k (pow_pos (planes ends - 0)) (legal_code ends 0 p legal) in
+    omega (arith, most, none_known ends (spread ends) (spread_small ends))
+
+same_all : (test : ℕ → Bool) (b : Bool) (ps : List ℕ) → test 0 ≡ b → ((r : ℕ) → r < length ps → get_or ps r 0 ≡ 0) → replicate (length ps) b ≡ map test ps
+same_all test b [] e each = refl
+same_all test b (p ∷ ps) e each = ap (λ x. x ∷ replicate (length ps) b) (sym e ∙ ap test (sym (each 0 (omega arith)))) ∙ ap (λ l. test p ∷ l) (same_all test b ps e (λ r h. each (suc r) (omega arith)))
+
+pub starts_where : (test : Ends → ℕ → ℕ → Bool) (b : Bool) (column : KnownColumn) → column.known.read ≡ 0 → IsKnownColumn column → test column.ends 0 0 ≡ b → replicate (rows_of_column column) b ≡ rows_where test column
+starts_where test b column none known e =
+    same_all (test column.ends column.known.read) b column.known.prefixes (ap (λ n. test column.ends n 0) none ∙ e)
+    (λ r below. no_prefix column.ends (get_or column.known.prefixes r 0) (subst (λ n. IsLegal column.ends n (get_or column.known.prefixes r 0)) none (known.legal r 0 below)))
+
+-- the number's own prefix is that of all
+pub no_value_prefix : (ends : Ends) (value : ℤ) → IsBetweenEnds ends value → prefix_of ends 0 (cell_with value ends) ≡ 0
+no_value_prefix ends value between =
+    let small = spread_small ends in
+    let above = between.above in
+    let below = between.below in
+    let within : nat_abs (value -ℤ ends.base) ≤ spread ends = omega (arith, ints) in
+    none_known ends (nat_abs (value -ℤ ends.base)) (omega arith)
+
+-- ---- the sides of a row
+
+pub has_row : (column : KnownColumn) (op : Comparison) (value : ℤ) (s : Sides) (row : ℕ) → HasSides column op value s → row < rows_of_column column → HasRow row s
+has_row column op value sides.AllLess row has below = tt
+has_row column op value (sides.Parted parted) row has below =
+    let less = length_where (is_less value) column parted.less has.less in
+    let equal = length_where (is_level value) column parted.equal has.equal in
+    let greater = length_where (is_greater value) column parted.greater has.greater in
+    (omega arith, omega arith, omega arith)
+has_row column op value sides.AllGreater row has below = tt
+
+pub told_sides : (column : KnownColumn) (op : Comparison) (value : ℤ) (s : Sides) (row : ℕ) (at_equal : Truth) → HasSides column op value s → IsKnownColumn column → row < rows_of_column column → IsAtEqual s at_equal →
+    IsTrue (may_be_number (range_at column row).null) → IsTold op at_equal (truth_over (numbers_at column row) (λ x. compares op x value)) (less_at s row) (equal_at s row) (greater_at s row)
+told_sides column op value sides.AllLess row at_equal has known below is some =
+    told_all_less column.ends column.known.read (get_or column.known.prefixes row 0) op value at_equal (known.legal row 0 below) has
+told_sides column op value (sides.Parted parted) row at_equal has known below is some =
+    let p = get_or column.known.prefixes row 0 in
+    let m = prefix_of column.ends column.known.read (cell_with value column.ends) in
+    let truth = truth_over (numbers_at column row) (λ x. compares op x value) in
+    let less = row_where (is_less value) column parted.less row has.less below in
+    let equal = row_where (is_level value) column parted.equal row has.equal below in
+    let greater = row_where (is_greater value) column parted.greater row has.greater below in
+    subst (λ b. IsTold op at_equal truth b (get_or parted.equal row false) (get_or parted.greater row false)) (sym less)
+    (subst (λ b. IsTold op at_equal truth (nat_lt p m) b (get_or parted.greater row false)) (sym equal)
+    (subst (λ b. IsTold op at_equal truth (nat_lt p m) (p == m) b) (sym greater)
+    (told_parted column.ends column.known.read p m op value at_equal (known.legal row 0 below) some has.between.above refl
+    (λ e. has.at_equal row below (equal ∙ e) ∙ sym is))))
+told_sides column op value sides.AllGreater row at_equal has known below is some =
+    told_all_greater column.ends column.known.read (get_or column.known.prefixes row 0) op value at_equal (known.legal row 0 below) has
+
+-- ---- the truths of a row
+
+pub only_numbers : (n x y : Bool) → (n ≡ true → x ≡ y) → (n && x) ≡ (n && y)
+only_numbers true x y h = h refl
+only_numbers false x y h = refl
+
+pub not_sure : (b : Bool) → not (not b) ≡ b
+not_sure true = refl
+not_sure false = refl
+
+-- where the row may have a number, its bits in the words tell whether the comparison may hold and may fail
+pub row_told : (column : KnownColumn) (op : Comparison) (value : ℤ) (s : Sides) (block r : ℕ) (words : SideWords) → HasSides column op value s → IsKnownColumn column → r < count_in_block block (rows_of_column column) →
+    AreSideWords s block words → IsTrue (may_be_number (range_at column (64 * block + r)).null) →
+    IsTold op words.at_equal (truth_over (numbers_at column (64 * block + r)) (λ x. compares op x value)) (digit_at r words.less) (digit_at r words.equal) (digit_at r words.greater)
+row_told column op value s block r words has known few on some =
+    let row = 64 * block + r in
+    let truth = truth_over (numbers_at column row) (λ x. compares op x value) in
+    let inside = has_row column op value s row has (omega arith) in
+    let less = on.less r (omega arith) inside in
+    let equal = on.equal r (omega arith) inside in
+    let greater = on.greater r (omega arith) inside in
+    subst (λ b. IsTold op words.at_equal truth b (digit_at r words.equal) (digit_at r words.greater)) (sym less)
+    (subst (λ b. IsTold op words.at_equal truth (less_at s row) b (digit_at r words.greater)) (sym equal)
+    (subst (λ b. IsTold op words.at_equal truth (less_at s row) (equal_at s row) b) (sym greater) (told_sides column op value s row words.at_equal has known (omega arith) on.at_equal some)))

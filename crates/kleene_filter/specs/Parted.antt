@@ -1,0 +1,133 @@
+-- Rows parted by how their prefixes compare with the prefix of a number.
+use Rattle.std.specs.Prelude.{◌≡◌, ℕ, ◌+◌, ◌*◌, ◌<◌, ℤ, ◌-ℤ◌, ◌≤ℤ◌, ◌<ℤ◌, ◌==◌, nat_lt, nat_abs, Bool, true, false, not, ◌&&◌, ◌||◌, List, length, slice_index_or}
+use Rattle.std.specs.declared.option.Option.TheVariants.{Some}
+use Rattle.plane_kernels.specs.Rows.{digit_at}
+use Rattle.daq_table.specs.declared.head.Ends.{Ends}
+use Rattle.daq_table.specs.Tables.{Cell, code, planes as planes_of}
+use Rattle.query_model.specs.declared.bounds.Truth.{Truth}
+use Rattle.query_model.specs.declared.query.Comparison.{Comparison}
+use Rattle.query_model.specs.declared.query.Comparison.TheVariants.{Eq, Ne, Lt, Le, Gt, Ge}
+use Rattle.query_model.specs.Knowledge.{prefix_of}
+use Rattle.query_model.specs.Meaning.{compares}
+use Rattle.query_model.specs.Truths.{is_false, is_true, truth_over}
+use Rattle.known_column.specs.Columns.{KnownColumn, numbers_at, read_further, rows_of_column, rows_where}
+use Rattle.kleene_filter.specs.declared.parted.Parted.{Parted}
+use Rattle.kleene_filter.specs.declared.parted.Sides.{Sides}
+use Rattle.kleene_filter.specs.declared.parted.Sides.TheVariants as sides
+use Rattle.kleene_filter.specs.declared.parted.SideWords.{SideWords}
+
+-- the cell of a number of the column
+abbrev pub cell_with : ℤ → Ends → Cell
+cell_with value ends = Some (nat_abs (value -ℤ ends.base))
+
+-- the prefix is less than that of the number, the same, or greater
+abbrev pub is_less : ℤ → Ends → ℕ → ℕ → Bool
+is_less value ends read prefix = nat_lt prefix (prefix_of ends read (cell_with value ends))
+
+abbrev pub is_level : ℤ → Ends → ℕ → ℕ → Bool
+is_level value ends read prefix = prefix == prefix_of ends read (cell_with value ends)
+
+abbrev pub is_greater : ℤ → Ends → ℕ → ℕ → Bool
+is_greater value ends read prefix = nat_lt (prefix_of ends read (cell_with value ends)) prefix
+
+-- this is what is known of the comparison at each of these rows
+abbrev pub IsTruthAt : KnownColumn → Comparison → ℤ → List Bool → Truth → Type 0
+IsTruthAt column op value rows truth =
+    (row : ℕ) → row < rows_of_column column → slice_index_or rows row false ≡ true → truth_over (numbers_at column row) (λ x. compares op x value) ≡ truth
+
+-- the number lies between the column's ends
+pub record IsBetweenEnds (ends : Ends) (value : ℤ) : Type 0 where
+  pub above : ends.base ≤ℤ value
+  pub below : value ≤ℤ ends.top
+
+-- the rows of a column are parted by their prefixes, and the comparison is known at the rows with the number's own prefix
+pub record IsParted (column : KnownColumn) (op : Comparison) (value : ℤ) (parted : Parted) : Type 0 where
+  pub between : IsBetweenEnds column.ends value
+  pub code : parted.code ≡ code column.ends (cell_with value column.ends)
+  pub less : parted.less ≡ rows_where (is_less value) column
+  pub equal : parted.equal ≡ rows_where (is_level value) column
+  pub greater : parted.greater ≡ rows_where (is_greater value) column
+  pub at_equal : IsTruthAt column op value parted.equal parted.at_equal
+
+-- all numbers of the column are less than the number, or greater, or its rows are parted
+abbrev pub HasSides : KnownColumn → Comparison → ℤ → Sides → Type 0
+HasSides column op value sides.AllLess = column.ends.top <ℤ value
+HasSides column op value (sides.Parted parted) = IsParted column op value parted
+HasSides column op value sides.AllGreater = value <ℤ column.ends.base
+
+-- the column was read further by these bits, the next plane of those it has
+pub record ReadFurther (before : KnownColumn) (bits : List Bool) (column : KnownColumn) : Type 0 where
+  pub unread : before.known.read < planes_of before.ends
+  pub rows : length bits ≡ rows_of_column before
+  pub is : column ≡ read_further before bits
+
+-- they were the sides before the column was read further
+pub record HadSides (column : KnownColumn) (bits : List Bool) (op : Comparison) (value : ℤ) (old : Sides) : Type 0 where
+  pub before : KnownColumn
+  pub sides : HasSides before op value old
+  pub further : ReadFurther before bits column
+
+-- ---- what the sides tell of a comparison
+
+-- a lesser number compares so, a greater one does
+abbrev pub less_holds : Comparison → Bool
+less_holds Eq = false
+less_holds Ne = true
+less_holds Lt = true
+less_holds Le = true
+less_holds Gt = false
+less_holds Ge = false
+
+abbrev pub greater_holds : Comparison → Bool
+greater_holds Eq = false
+greater_holds Ne = true
+greater_holds Lt = false
+greater_holds Le = false
+greater_holds Gt = true
+greater_holds Ge = true
+
+-- a row is on one of the chosen sides
+abbrev pub on_chosen : Bool → Bool → Bool → Bool → Bool → Bool → Bool
+on_chosen l e g less equal greater = (l && less) || (e && equal) || (g && greater)
+
+-- the comparison may hold, may fail, at a row on this side
+abbrev pub holds_on : Comparison → Truth → Bool → Bool → Bool → Bool
+holds_on op at_equal = on_chosen (less_holds op) (not (is_false at_equal)) (greater_holds op)
+
+abbrev pub fails_on : Comparison → Truth → Bool → Bool → Bool → Bool
+fails_on op at_equal = on_chosen (not (less_holds op)) (not (is_true at_equal)) (not (greater_holds op))
+
+-- the row is one of the masks, if there are masks
+abbrev pub HasRow : ℕ → Sides → Type 0
+HasRow row sides.AllLess = Unit {0}
+HasRow row (sides.Parted parted) = (row < length parted.less) × (row < length parted.equal) × (row < length parted.greater)
+HasRow row sides.AllGreater = Unit {0}
+
+-- the row is on the side
+abbrev pub less_at : Sides → ℕ → Bool
+less_at sides.AllLess row = true
+less_at (sides.Parted parted) row = slice_index_or parted.less row false
+less_at sides.AllGreater row = false
+
+abbrev pub equal_at : Sides → ℕ → Bool
+equal_at sides.AllLess row = false
+equal_at (sides.Parted parted) row = slice_index_or parted.equal row false
+equal_at sides.AllGreater row = false
+
+abbrev pub greater_at : Sides → ℕ → Bool
+greater_at sides.AllLess row = false
+greater_at (sides.Parted parted) row = slice_index_or parted.greater row false
+greater_at sides.AllGreater row = true
+
+-- what is known of the comparison at the rows of the number's own prefix
+abbrev pub IsAtEqual : Sides → Truth → Type 0
+IsAtEqual sides.AllLess truth = Unit {0}
+IsAtEqual (sides.Parted parted) truth = truth ≡ parted.at_equal
+IsAtEqual sides.AllGreater truth = Unit {0}
+
+-- the sides of the rows of a block, as words
+pub record AreSideWords (sides : Sides) (block : ℕ) (words : SideWords) : Type 0 where
+  pub less : (r : ℕ) → r < 64 → HasRow (64 * block + r) sides → digit_at r words.less ≡ less_at sides (64 * block + r)
+  pub equal : (r : ℕ) → r < 64 → HasRow (64 * block + r) sides → digit_at r words.equal ≡ equal_at sides (64 * block + r)
+  pub greater : (r : ℕ) → r < 64 → HasRow (64 * block + r) sides → digit_at r words.greater ≡ greater_at sides (64 * block + r)
+  pub at_equal : IsAtEqual sides words.at_equal
