@@ -3,10 +3,14 @@ pub mod Counts
 pub mod Narrow
 pub mod Outlooks
 pub mod Listing
+pub mod Digits
 pub mod Reached
 pub mod Going
+pub mod Agreeing
+pub mod OfTables
 pub mod Certain
 pub mod One
 pub mod Taking
 pub mod Steps
 pub mod Fewer
+pub mod HandedOver

@@ -1,95 +1,154 @@
--- One round more.
-use Rattle.std.proofs.Common.{◌≡◌, ℕ, ◌+◌, ◌<◌, Bool, List, [], ◌∷◌, ◌++◌, length, get_or, set, refl, sym, ap, ◌∙◌, subst, arith, IsNone, length-append, map, replicate, zero, suc}
-use Rattle.std.proofs.lemmas.List.{length-map}
-use Rattle.std.specs.List.{range_with_len}
+-- One round more, or none.
+use Rattle.std.proofs.Common.{◌≡◌, ℕ, ◌+◌, ◌<◌, Bool, List, [], ◌∷◌, ◌++◌, length, get_or, refl, sym, ap, ◌∙◌, subst, arith, IsNone, length-append, replicate}
+use Rattle.std.proofs.lemmas.List.{length-map, get_or-map, same_lists, get_or_default}
+use Rattle.std.proofs.lemmas.List.FromFn.{length-map-range_with_len}
+use Rattle.std.specs.Io.KnownBytes.{Appends}
 use Rattle.std.specs.declared.option.Option.{Option}
 use Rattle.std.specs.declared.option.Option.TheVariants.{Some, None}
-use Rattle.daq_table.specs.Tables.{Cells, Frame, IsTable, ends_at, frame_of}
+use Rattle.std.specs.declared.result.Result.TheVariants.{Err}
+use Rattle.daq_table.specs.declared.table_head.Head.{Head}
+use Rattle.daq_table.specs.Tables.{Frame, frame_of, no_ends}
+use Rattle.daq_table.specs.declared.head.Ends.{Ends}
 use Rattle.plane_schedule.specs.Choices.{Chooses, HasChoice}
 use Rattle.plane_schedule.specs.Laws.{PoliciesChoose}
 use Rattle.plane_schedule.specs.Plans.{IsReadable}
 use Rattle.plane_schedule.specs.declared.policy.Plan.{Plan}
-use Rattle.query_model.specs.Knowledge.{AreCounts, known_at, known_of}
-use Rattle.query_model.specs.Laws.{PlanesAreTaken, StartIsKnown, TablesAgree, TablesHaveParts}
-use Rattle.query_model.specs.Projection.{projected}
-use Rattle.query_model.specs.Worlds.{NamesColumns}
+use Rattle.query_model.specs.Knowledge.{CanTake, ColumnKnowledge, IsKnowledge, known_at, start, taken}
+use Rattle.query_model.specs.Laws.{StartIsKnowledge, TakenIsKnowledge}
 use Rattle.query_model.specs.declared.query.TypedQuery.{TypedQuery}
-use Rattle.round_engine.specs.Stages.{HasPlane, Stage, stepped}
-use Rattle.table_rounds.specs.Headline.{RoundsBegin, RoundsHavePlanes, RoundsKnowTheirTable}
-use Rattle.table_rounds.specs.Rounds.{IsAfter, counts_after, ending_at, outlook_at, stage_with}
-use Rattle.table_rounds.specs.Sources.{IsNextRound, IsPlane, IsTold, KnowsTable, ToldTable}
-use Rattle.table_rounds.proofs.Counts.{next_counts}
-use Rattle.table_rounds.proofs.Going.{choice_of, get_last, one_round_more, same_counts}
-use Rattle.table_rounds.proofs.Reached.{columns_of_part, part_of, reads_after}
-use Rattle.table_rounds.proofs.Taking.{takes}
-use Rattle.plane_schedule.proofs.Same.{choice_is_unread}
+use Rattle.round_engine.specs.Stages.{HasPlane, IsFirstOver, Stage, stepped}
+use Rattle.table_rounds.specs.Headline.{RoundsBegin, RoundsHavePlanes}
+use Rattle.table_rounds.specs.Rounds.{AreFollowed, IsAfter, Planes, counts_after, ending_at, outlook_at, prefixes_by, stage_after}
+use Rattle.table_rounds.specs.Sources.{IsNextRound, IsOverTop, IsPlane, OnOverTop, Places, StepHandsOver, StopsAt, StopsNext, ToldPlanes, next_places}
+use Rattle.table_rounds.specs.declared.reading.StepFault.{StepFault}
+use Rattle.table_rounds.specs.declared.reading.StepFault.TheVariants.{Source, OverTop}
+use Rattle.table_rounds.proofs.Counts.{count_there}
+use Rattle.table_rounds.proofs.Going.{choice_of, last_known, one_round_more}
+use Rattle.table_rounds.proofs.Reached.{columns_of_part, known_there, part_of, read_there}
 
-module _ (agree : TablesAgree) (taking : PlanesAreTaken) (plan : Plan) (query : TypedQuery) (frame : Frame) (cells : Cells) (named : NamesColumns query frame) (table : IsTable frame cells) where
-  -- where the old stage is after these rounds, and the policy chooses the column, the next plane of the column makes one round more
-  next_round : (old new : Stage) (reads : List ℕ) (c : ℕ) → IsNone (ending_at plan old) → IsAfter plan query frame cells reads old → Chooses plan.policy (outlook_at old) c →
-      new ≡ stage_with query frame cells (set (counts_after query reads (length reads)) c (get_or (counts_after query reads (length reads)) c 0 + 1)) → IsAfter plan query frame cells (reads ++ c ∷ []) new
-  next_round old new reads c going after chosen taken =
+module _ (have : RoundsHavePlanes) (choose : PoliciesChoose) (plan : Plan) (frame : Frame) (bits : Planes) (old : Stage) (same : part_of old.query frame ≡ old.frame)
+    (reads : List ℕ) (after : IsAfter plan old.query frame bits reads old) where
+  abbrev query : TypedQuery
+  query = old.query
+
+  -- the column that the policy chooses is the next
+  pub followed_by : (c : ℕ) → (HasChoice plan.policy (outlook_at old) → Chooses plan.policy (outlook_at old) c) → IsReadable plan.policy old.frame → IsNone (ending_at plan old) →
+      AreFollowed plan query frame bits reads c
+  followed_by c follows readable going =
+      let going_there = subst (λ s. IsNone (ending_at plan s)) after.known going in
+      let choice = choice_of plan query frame bits have choose plan.policy refl (subst (IsReadable plan.policy) (sym same) readable) reads after.rounds going_there in
+      record {
+        rounds = after.rounds;
+        going = going_there;
+        chosen = subst (λ s. Chooses plan.policy (outlook_at s) c) after.known (follows (subst (λ s. HasChoice plan.policy (outlook_at s)) (sym after.known) choice));
+      }
+
+  column_in : (c : ℕ) → HasPlane old c → c < length (part_of query frame).columns
+  column_in c has = subst (λ f. c < length f.columns) (sym same) has.column
+
+  -- its next plane is counted by the reads
+  pub next_read : (c : ℕ) → HasPlane old c → (known_at old.known c).read ≡ get_or (counts_after query reads (length reads)) c 0
+  next_read c has = ap (λ s. (known_at s.known c).read) after.known ∙ read_there query frame bits (counts_after query reads (length reads)) c (column_in c has)
+
+  -- where it is taken there is one round more
+  pub goes_on : TakenIsKnowledge → (new : Stage) (c : ℕ) (plane : List Bool) → AreFollowed plan query frame bits reads c → HasPlane old c → IsKnowledge old.frame old.known →
+      CanTake old.frame old.known c plane → plane ≡ bits (get_or query.columns c 0) (known_at old.known c).read → new ≡ stepped old c plane →
+      IsAfter plan query frame bits (reads ++ c ∷ []) new
+  goes_on taken_is new c plane followed has knowledge can cut step =
       let counts = counts_after query reads (length reads) in
-      let chosen_there = subst (λ s. Chooses plan.policy (outlook_at s) c) after.known chosen in
-      let more = one_round_more plan query frame cells reads c after.rounds (subst (λ s. IsNone (ending_at plan s)) after.known going) chosen_there in
+      let plane' = bits (get_or query.columns c 0) (get_or counts c 0) in
+      let here : plane ≡ plane' = cut ∙ ap (bits (get_or query.columns c 0)) (next_read c has) in
+      let inside : c < length query.columns = subst (λ n. c < n) (columns_of_part query frame) (column_in c has) in
+      let known : taken old.known c plane ≡ taken (stage_after query frame bits reads (length reads)).known c plane' =
+      ap (taken old.known c) here ∙ ap (λ (s : Stage). taken s.known c plane') after.known in
+      let legal : IsKnowledge (part_of query frame) (taken (stage_after query frame bits reads (length reads)).known c plane') =
+      subst (IsKnowledge (part_of query frame)) known (subst (λ f. IsKnowledge f (taken old.known c plane)) (sym same) (taken_is old.frame old.known c plane knowledge can)) in
       let long : length (reads ++ c ∷ []) ≡ length reads + 1 = length-append reads (c ∷ []) in
-      let last : get_or (reads ++ c ∷ []) (length reads) 0 ≡ c = get_last reads c (length reads) refl in
-      let unread = choice_is_unread plan.policy (outlook_at (stage_with query frame cells counts)) c chosen_there in
-      let c_in : c < length query.columns = subst (λ n. c < n) (columns_of_part query frame) unread.column in
-      let counted = next_counts query (reads ++ c ∷ []) (length reads) (omega (arith, long)) (subst (λ k. k < length query.columns) (sym last) c_in) in
-      let unchanged : counts_after query (reads ++ c ∷ []) (length reads) ≡ counts = same_counts query reads (c ∷ []) (length reads) (omega arith) in
-      let here : counts_after query (reads ++ c ∷ []) (length reads + 1) ≡ set counts c (get_or counts c 0 + 1) =
-      counted ∙ ap (λ xs. set xs (get_or (reads ++ c ∷ []) (length reads) 0) (get_or xs (get_or (reads ++ c ∷ []) (length reads) 0) 0 + 1)) unchanged ∙ ap (λ k. set counts k (get_or counts k 0 + 1)) last in
-      let at_end : counts_after query (reads ++ c ∷ []) (length (reads ++ c ∷ [])) ≡ set counts c (get_or counts c 0 + 1) = ap (counts_after query (reads ++ c ∷ [])) long ∙ here in
-      record { rounds = more; known = taken ∙ ap (stage_with query frame cells) (sym at_end) }
+      record {
+        rounds = one_round_more plan query frame bits reads c followed legal;
+        known = step ∙ ap (λ f. record { query = query; frame = f; known = taken old.known c plane }) (sym same)
+            ∙ ap (λ k. record { query = query; frame = part_of query frame; known = k }) (known ∙ last_known query frame bits reads c inside)
+            ∙ ap (stage_after query frame bits (reads ++ c ∷ [])) (sym long);
+      }
 
-  -- where the rounds go on, the policy chooses a column
-  choice_at : RoundsHavePlanes → PoliciesChoose → (old : Stage) (reads : List ℕ) → IsReadable plan.policy (part_of query frame) → IsNone (ending_at plan old) →
-      IsAfter plan query frame cells reads old → HasChoice plan.policy (outlook_at old)
-  choice_at have choose old reads readable going after =
-      subst (λ s. HasChoice plan.policy (outlook_at s)) (sym after.known)
-      (choice_of agree taking plan query frame cells named table have choose plan.policy refl readable reads after.rounds (subst (λ s. IsNone (ending_at plan s)) after.known going))
+  -- where the source fails, or the plane is refused, the rounds stop there
+  pub stops : {E : Type 0} (head : Head) (places : Places) (fault : StepFault E) (c : ℕ) (plane : List Bool) (now end : Option (List ℕ)) → AreFollowed plan query frame bits reads c → HasPlane old c →
+      OnOverTop fault (IsOverTop (record { head = head; bits = Some bits }) old plane c) → StepHandsOver {T = Unit {0}} (Err fault) now end (next_places places old c) →
+      (handed : List ℕ) × StopsAt plan query frame bits places reads fault handed × Appends now end handed
+  stops head places (Source error) c plane now end followed has over (front, rest, split, grown) =
+      (front, (c, followed, (rest, ap (places (get_or query.columns c 0)) (sym (next_read c has)) ∙ split)), grown)
+  stops head places (OverTop column number row) c plane now end followed has over grown =
+      let place : places column number ≡ next_places places old c = ap (λ i. places i number) over.column_is ∙ ap (places (get_or query.columns c 0)) over.plane_is in (
+        places column number,
+        (
+          record {
+            next = c;
+            followed = followed;
+            column_is = over.column_is;
+            plane_is = over.plane_is ∙ next_read c has;
+            over = subst (λ (s : Stage). IsFirstOver s c (bits column number) row) after.known (subst (λ bs. IsFirstOver old c bs row) over.is_plane over.over);
+          },
+          refl,
+        ),
+        subst (Appends now end) (sym place) grown,
+      )
 
--- the same where the table may be told or not
-module _ (agree : TablesAgree) (taking : PlanesAreTaken) (have : RoundsHavePlanes) (choose : PoliciesChoose) (plan : Plan) (table : ToldTable) (old : Stage) (named : NamesColumns old.query (frame_of table.head)) (told : IsTold table) where
-  pub goes_on : (new : Stage) (c : ℕ) (bits : List Bool) → part_of old.query (frame_of table.head) ≡ old.frame → (HasChoice plan.policy (outlook_at old) → Chooses plan.policy (outlook_at old) c) →
-      IsReadable plan.policy old.frame → IsNone (ending_at plan old) → HasPlane old c → IsPlane table (get_or old.query.columns c 0) (known_at old.known c).read bits → new ≡ stepped old c bits →
-      IsNextRound plan table old new c
-  goes_on new c bits same follows readable going has is step = by table.cells told is
+-- the same of planes that may be told or not
+module _ (have : RoundsHavePlanes) (choose : PoliciesChoose) (plan : Plan) (told : ToldPlanes) (old : Stage) (same : part_of old.query (frame_of told.head) ≡ old.frame) (c : ℕ) (plane : List Bool)
+    (follows : HasChoice plan.policy (outlook_at old) → Chooses plan.policy (outlook_at old) c) (readable : IsReadable plan.policy old.frame) (going : IsNone (ending_at plan old)) (has : HasPlane old c) where
+  pub next_round : TakenIsKnowledge → (new : Stage) → IsKnowledge old.frame old.known → CanTake old.frame old.known c plane →
+      IsPlane told (get_or old.query.columns c 0) (known_at old.known c).read plane → new ≡ stepped old c plane → IsNextRound plan told old new c
+  next_round taken_is new knowledge can is step = by told.bits is
     where
-      by : (cells : Option Cells) → IsTold (record { head = table.head; cells = cells }) → IsPlane (record { head = table.head; cells = cells }) (get_or old.query.columns c 0) (known_at old.known c).read bits →
-          IsNextRound plan (record { head = table.head; cells = cells }) old new c
-      by None told is = tt
-      by (Some cells) told is = λ reads after.
-          let frame = frame_of table.head in
-          let counts = counts_after old.query reads (length reads) in
-          let are = reads_after agree taking plan old.query frame cells named told reads after.rounds (length reads) (omega arith) in
-          let took = takes agree taking old.query frame cells named told old counts c bits after.known (subst (λ f. AreCounts f counts) same are) has is in
-          let chosen = follows (choice_at agree taking plan old.query frame cells named told have choose old reads (subst (IsReadable plan.policy) (sym same) readable) going after) in
-          next_round agree taking plan old.query frame cells named told old new reads c going after chosen (step ∙ took.known)
+      by : (bits : Option Planes) → IsPlane (record { head = told.head; bits = bits }) (get_or old.query.columns c 0) (known_at old.known c).read plane →
+          IsNextRound plan (record { head = told.head; bits = bits }) old new c
+      by None is = tt
+      by (Some bits) is = λ reads after.
+          let followed = followed_by have choose plan (frame_of told.head) bits old same reads after c follows readable going in
+          goes_on have choose plan (frame_of told.head) bits old same reads after taken_is new c plane followed has knowledge can is step
+
+  pub stops_next : {E : Type 0} (places : Places) (fault : StepFault E) (now end : Option (List ℕ)) → OnOverTop fault (IsOverTop told old plane c) →
+      StepHandsOver {T = Unit {0}} (Err fault) now end (next_places places old c) → StopsNext plan told places old now end fault
+  stops_next places fault now end over grown = by told.bits over
+    where
+      by : (bits : Option Planes) → OnOverTop fault (IsOverTop (record { head = told.head; bits = bits }) old plane c) →
+          StopsNext plan (record { head = told.head; bits = bits }) places old now end fault
+      by None over = tt
+      by (Some bits) over = λ reads after.
+          let followed = followed_by have choose plan (frame_of told.head) bits old same reads after c follows readable going in
+          stops have choose plan (frame_of told.head) bits old same reads after told.head places fault c plane now end followed has over grown
+
+pub over_of_some : {E : Type 0} (fault : StepFault E) (P : ℕ → ℕ → ℕ → ℕ → Type 0) (c : ℕ) → OnOverTop fault (P c) → OnOverTop fault (λ column number row. (d : ℕ) × P d column number row)
+over_of_some (Source error) P c over = tt
+over_of_some (OverTop column number row) P c over = (c, over)
 
 -- ---- round 0
 
-all_zero : (a n : ℕ) (f : ℕ → ℕ) → ((c : ℕ) → f c ≡ 0) → map f (range_with_len a n) ≡ replicate n 0
-all_zero a zero f h = refl
-all_zero a (suc n) f h = ap (λ x. x ∷ map f (range_with_len (a + 1) n)) (h a) ∙ ap (λ xs. 0 ∷ xs) (all_zero (a + 1) n f h)
+pub rounds_begin : StartIsKnowledge → RoundsBegin
+rounds_begin start_is plan query head bits = record {
+  rounds = record {
+    going = λ round h. absurd (omega arith);
+    chosen = λ round h. absurd (omega arith);
+    legal = λ round h. (let none : 0 ≡ round = omega (arith, h) in
+        subst (λ n. IsKnowledge (part_of query (frame_of head)) (stage_after query (frame_of head) bits [] n).known) none
+        (subst (IsKnowledge (part_of query (frame_of head))) begun (start_is (part_of query (frame_of head)))));
+  };
+  known = ap (λ known. record { query = query; frame = part_of query (frame_of head); known = known }) begun;
+}
+  where
+    frame : Frame
+    frame = frame_of head
 
-none_counted : (query : TypedQuery) (frame : Frame) → counts_after query [] 0 ≡ replicate (length (part_of query frame).columns) 0
-none_counted query frame = all_zero 0 (length query.columns) _ (λ c. refl) ∙ ap (λ n. replicate n 0) (sym (length-map query.columns (ends_at frame)))
-
-pub rounds_begin : StartIsKnown → TablesHaveParts → RoundsBegin
-rounds_begin start parts plan query head cells named table =
-    let part = part_of query (frame_of head) in
-    let here = start part (projected query cells) ((parts query (frame_of head) named).part cells table) in
-    record {
-      rounds = record { going = λ round h. absurd (omega arith); chosen = λ round h. absurd (omega arith) };
-      known = ap (λ known. record { query = query; frame = part; known = known }) (sym (ap (known_of part (projected query cells)) (none_counted query (frame_of head)) ∙ here));
-    }
-
-pub rounds_know_their_table : TablesAgree → PlanesAreTaken → RoundsKnowTheirTable
-rounds_know_their_table agree taking plan query head cells reads stage named table after =
-    subst (KnowsTable (record { head = head; cells = Some cells })) (sym after.known) (
-      counts_after query reads (length reads),
-      reads_after agree taking plan query (frame_of head) cells named table reads after.rounds (length reads) (omega arith),
-      refl,
-    )
+    begun : start (part_of query frame) ≡ (stage_after query frame bits [] 0).known
+    begun =
+        let rule : Ends → ColumnKnowledge = λ _. record { read = 0; prefixes = replicate frame.rows 0 } in
+        let known = (stage_after query frame bits [] 0).known in
+        let long : length (start (part_of query frame)) ≡ length query.columns = length-map (part_of query frame).columns rule ∙ columns_of_part query frame in
+        let long' : length known ≡ length query.columns = length-map-range_with_len _ 0 (length query.columns) in
+        same_lists (start (part_of query frame)) known (long ∙ sym long') (λ c d h.
+        let inside : c < length query.columns = subst (λ n. c < n) long h in
+        let nothing : ColumnKnowledge = record { read = 0; prefixes = [] } in
+        get_or-map rule (part_of query frame).columns c no_ends d (subst (λ n. c < n) (sym (columns_of_part query frame)) inside)
+        ∙ ap (λ n. record { read = n; prefixes = prefixes_by frame.rows (bits (get_or query.columns c 0)) n }) (sym (count_there query [] 0 c 0 inside))
+        ∙ sym (known_there query frame bits (counts_after query [] 0) c inside)
+        ∙ get_or_default known c nothing d (subst (λ n. c < n) (sym long') inside))

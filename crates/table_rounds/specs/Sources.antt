@@ -1,46 +1,93 @@
 -- Where planes come from, and what the step of a round does with one.
-use Rattle.std.specs.Prelude.{◌≡◌, ℕ, Bool, List, [], ◌∷◌, ◌++◌, slice_index, IfSome}
+use Rattle.std.specs.Prelude.{◌≡◌, ℕ, zero, suc, Bool, List, [], ◌∷◌, ◌++◌, length, slice_index, IfSome, MatchResult, Ok, Err}
+use Rattle.std.specs.Io.KnownBytes.{Appends}
 use Rattle.std.specs.declared.option.Option.{Option}
-use Rattle.std.specs.declared.option.Option.TheVariants.{None}
-use Rattle.daq_table.specs.Tables.{Cells, IsTable, frame_of}
+use Rattle.std.specs.declared.result.Result.{Result}
+use Rattle.daq_table.specs.Tables.{Frame, frame_of}
 use Rattle.daq_table.specs.declared.table_head.Head.{Head}
 use Rattle.plane_schedule.specs.declared.policy.Plan.{Plan}
-use Rattle.query_model.specs.Knowledge.{AreCounts, known_at, plane_of}
+use Rattle.query_model.specs.Knowledge.{known_at}
+use Rattle.query_model.specs.declared.query.TypedQuery.{TypedQuery}
 use Rattle.round_engine.specs.Stages.{IsFirstOver, Stage}
-use Rattle.table_rounds.specs.Rounds.{IsAfter, stage_with}
+use Rattle.table_rounds.specs.Rounds.{AreFollowed, AreRefused, HaveRows, IsAfter, Planes, counts_after}
 use Rattle.table_rounds.specs.declared.reading.StepFault.{StepFault}
 use Rattle.table_rounds.specs.declared.reading.StepFault.TheVariants.{Source, OverTop}
 
--- the table that a source stands for: its head, and its cells where they are told
-pub record ToldTable : Type 0 where
+-- what a source tells of a table: its head, and its planes where they are told
+pub record ToldPlanes : Type 0 where
   pub head : Head
-  pub cells : Option Cells
+  pub bits : Option Planes
 
--- told cells are those of a table with that head
-abbrev pub IsTold : ToldTable → Type 0
-IsTold table = IfSome table.cells (λ cells. IsTable (frame_of table.head) cells)
+-- told planes are as long as the table
+abbrev pub AreTold : ToldPlanes → Type 0
+AreTold told = IfSome told.bits (HaveRows (frame_of told.head))
 
--- the bits are that plane of the table's column, where the cells are told
-abbrev pub IsPlane : ToldTable → ℕ → ℕ → List Bool → Type 0
-IsPlane table column number bits = IfSome table.cells (λ cells. bits ≡ plane_of (frame_of table.head) cells column number)
+-- the bits are that plane, where it is told
+abbrev pub IsPlane : ToldPlanes → ℕ → ℕ → List Bool → Type 0
+IsPlane told column number plane = IfSome told.bits (λ bits. plane ≡ bits column number)
 
--- what is known is what so many planes of the table tell, where its cells are told
-abbrev pub KnowsTable : ToldTable → Stage → Type 0
-KnowsTable table stage =
-    IfSome table.cells (λ cells. (counts : List ℕ) × AreCounts stage.frame counts × (stage ≡ stage_with stage.query (frame_of table.head) cells counts))
+-- ---- what is handed over
 
--- where the old stage is after rounds of the plan over the told table, the new one is after one more, which read this column
-abbrev pub IsNextRound : Plan → ToldTable → Stage → Stage → ℕ → Type 0
-IsNextRound plan table old new column =
-    IfSome table.cells (λ cells. (reads : List ℕ) → IsAfter plan old.query (frame_of table.head) cells reads old →
-    IsAfter plan old.query (frame_of table.head) cells (reads ++ column ∷ []) new)
+-- the places from which the planes of a table's columns are read
+abbrev pub Places : Type 0
+Places = ℕ → ℕ → List ℕ
 
--- this plane of the table's column is refused, at this row: it was the next of a column of the query, and the table's cells are not told
-pub record IsOverTop (table : ToldTable) (stage : Stage) (bits : List Bool) (column plane row : ℕ) : Type 0 where
-  pub untold : table.cells ≡ None
-  pub number : ℕ
-  pub place : column ≡ slice_index stage.query.columns number
-  pub next : plane ≡ (known_at stage.known number).read
+-- some of these places were handed over, from the front
+abbrev pub AppendsFront : Option (List ℕ) → Option (List ℕ) → List ℕ → Type 0
+AppendsFront old new places = (front rest : List ℕ) × (places ≡ front ++ rest) × Appends old new front
+
+-- these places were handed over; at an error some of them, from the front
+abbrev pub HandsOver : {T E : Type 0} → Result T E → Option (List ℕ) → Option (List ℕ) → List ℕ → Type 0
+HandsOver result old new places = MatchResult result (λ _. Appends old new places) (λ _. AppendsFront old new places)
+
+-- a step hands over the places of its plane: all of them, but where the source failed some of them, from the front
+abbrev pub StepHandsOver : {T E : Type 0} → Result T (StepFault E) → Option (List ℕ) → Option (List ℕ) → List ℕ → Type 0
+StepHandsOver (Ok done) old new places = Appends old new places
+StepHandsOver (Err (Source error)) old new places = AppendsFront old new places
+StepHandsOver (Err (OverTop column plane row)) old new places = Appends old new places
+
+-- the places of the next plane of a column of the query
+abbrev pub next_places : Places → Stage → ℕ → List ℕ
+next_places places stage c = places (slice_index stage.query.columns c) (known_at stage.known c).read
+
+-- the same after a round
+abbrev pub places_after : Places → TypedQuery → List ℕ → ℕ → ℕ → List ℕ
+places_after places query reads round c = places (slice_index query.columns c) (slice_index (counts_after query reads round) c)
+
+-- the places of the planes that so many rounds read, in order
+abbrev pub places_of : Places → TypedQuery → List ℕ → ℕ → List ℕ
+places_of places query reads zero = []
+places_of places query reads (suc round) =
+    places_of places query reads round ++ places_after places query reads round (slice_index reads round)
+
+-- ---- the step of a round
+
+-- where the old stage is after rounds of the plan over the told planes, the new one is after one more, which read this column
+abbrev pub IsNextRound : Plan → ToldPlanes → Stage → Stage → ℕ → Type 0
+IsNextRound plan told old new column =
+    IfSome told.bits (λ bits. (reads : List ℕ) → IsAfter plan old.query (frame_of told.head) bits reads old →
+    IsAfter plan old.query (frame_of told.head) bits (reads ++ column ∷ []) new)
+
+-- the rounds stop at their next plane: the source failed, with some of the plane's places handed over, from the front; or the plane is
+-- refused, with all of them handed over
+abbrev pub StopsAt : {E : Type 0} → Plan → TypedQuery → Frame → Planes → Places → List ℕ → StepFault E → List ℕ → Type 0
+StopsAt plan query frame bits places reads (Source error) handed =
+    (next : ℕ) × AreFollowed plan query frame bits reads next
+    × ((rest : List ℕ) × (places_after places query reads (length reads) next ≡ handed ++ rest))
+StopsAt plan query frame bits places reads (OverTop column plane row) handed =
+    AreRefused plan query frame bits reads column plane row × (handed ≡ places column plane)
+
+-- where the stage is after rounds of the plan over the told planes, they stop
+abbrev pub StopsNext : {E : Type 0} → Plan → ToldPlanes → Places → Stage → Option (List ℕ) → Option (List ℕ) → StepFault E → Type 0
+StopsNext plan told places stage old new fault =
+    IfSome told.bits (λ bits. (reads : List ℕ) → IsAfter plan stage.query (frame_of told.head) bits reads stage →
+    (handed : List ℕ) × StopsAt plan stage.query (frame_of told.head) bits places reads fault handed × Appends old new handed)
+
+-- this plane of the table's column, the next of a column of the query, is refused, at this row
+pub record IsOverTop (told : ToldPlanes) (stage : Stage) (bits : List Bool) (number column plane row : ℕ) : Type 0 where
+  pub column_is : column ≡ slice_index stage.query.columns number
+  pub plane_is : plane ≡ (known_at stage.known number).read
+  pub is_plane : IsPlane told column plane bits
   pub over : IsFirstOver stage number bits row
 
 -- what holds of the column, the plane and the row of a refused plane; nothing is said of a fault of the source

@@ -1,14 +1,34 @@
 //! What holds of rounds. Each law stands on a function that does nothing.
 
-ghost use Rattle.table_rounds.specs.Headline.{FullStagesAreNarrow, ListsAreRead, RoundsAreCertain, RoundsAreCounted, RoundsAreOne, RoundsBegin, RoundsHaveAnEnd, RoundsHavePlanes, RoundsKnowTheirTable};
+ghost use Rattle.table_rounds.specs.Headline.{FullStagesAreNarrow, LegalPlanesHaveTables, ListsAreRead, PlanesTellStages, RoundsAreCertain, RoundsAreCounted, RoundsAreOfTables, RoundsAreOne, RoundsBegin, RoundsHaveAnEnd, RoundsHavePlanes, RoundsHaveTables, TablesAreTaken, TablesTellStages};
 
 use plane_schedule::{choices_are_one, policies_choose};
 use query_model::{
     average_bounds_become_exact_on_tables, average_bounds_contain_on_tables, average_bounds_nest,
     average_ends_meet, bounds_are_extremes_on_tables, bounds_become_exact_on_tables,
-    bounds_contain_on_tables, bounds_nest, ends_meet, planes_are_taken, start_is_known,
-    tables_agree, tables_have_parts, words_become_exact,
+    bounds_contain_on_tables, bounds_nest, ends_meet, planes_are_taken, start_is_knowledge,
+    tables_agree, tables_exist, tables_have_parts, taken_is_knowledge, words_become_exact,
 };
+
+/// The planes of a table tell of it what is known of it.
+pub fn tables_tell_stages()
+    ensures { TablesTellStages }
+{
+    planes_are_taken();
+}
+
+/// What is known depends on the planes read alone.
+pub fn planes_tell_stages()
+    ensures { PlanesTellStages }
+{}
+
+/// Planes whose prefixes are legal are those of some table.
+pub fn legal_planes_have_tables()
+    ensures { LegalPlanesHaveTables }
+{
+    planes_are_taken();
+    tables_exist();
+}
 
 /// With nothing unread a round is narrow, for every width.
 pub fn full_stages_are_narrow()
@@ -30,31 +50,42 @@ pub fn rounds_have_planes()
 pub fn rounds_begin()
     ensures { RoundsBegin }
 {
-    start_is_known();
-    tables_have_parts();
+    start_is_knowledge();
 }
 
-/// What is known after rounds over a table is what some planes of it tell.
-pub fn rounds_know_their_table()
-    ensures { RoundsKnowTheirTable }
+/// Rounds over planes are those of each table that has the planes read, and so is what is known after each.
+pub fn rounds_are_of_tables()
+    ensures { RoundsAreOfTables }
+{}
+
+/// And there is such a table.
+pub fn rounds_have_tables()
+    ensures { RoundsHaveTables }
 {
-    tables_agree();
     planes_are_taken();
+    tables_exist();
 }
 
-/// Rounds go on to a last one; a list has to be one that can be read to its end.
+/// Rounds go on to a last one, or to a plane that is refused; a list has to be one that can be read to its end.
 pub fn rounds_have_an_end()
     ensures { RoundsHaveAnEnd }
 {
-    tables_agree();
-    planes_are_taken();
     policies_choose();
     rounds_have_planes();
+    taken_is_knowledge();
 }
 
-/// In each round the table agrees with the planes read; each bound admits the answer on every table that does, is as narrow as it
-/// can be where its item reads no column twice and is no average, and lies within the one before; with all planes read its ends are the
-/// answer. There are no more reads than planes.
+/// No plane of a table is refused.
+pub fn tables_are_taken()
+    ensures { TablesAreTaken }
+{
+    tables_have_parts();
+    planes_are_taken();
+}
+
+/// In each round each table that has the planes read agrees with what is known; each bound admits the answer on every table that does, is
+/// as narrow as it can be where its item reads no column twice and is no average, and lies within the one before; with all planes read
+/// its ends are the answer. There are no more reads than planes.
 pub fn rounds_are_certain()
     ensures { RoundsAreCertain }
 {
@@ -72,10 +103,7 @@ pub fn rounds_are_certain()
 /// Each round but the first reads one plane.
 pub fn rounds_are_counted()
     ensures { RoundsAreCounted }
-{
-    tables_agree();
-    planes_are_taken();
-}
+{}
 
 /// There is one list of columns that the rounds of a plan read.
 pub fn rounds_are_one()
@@ -87,7 +115,4 @@ pub fn rounds_are_one()
 /// Rounds by a list read its columns, in order.
 pub fn lists_are_read()
     ensures { ListsAreRead }
-{
-    tables_agree();
-    planes_are_taken();
-}
+{}

@@ -1,24 +1,25 @@
 //! The step of a round: the next plane of a column is read, and taken.
 
-ghost use Rattle.std.specs.Prelude.{◌≡◌, ◌<◌, ◌^◌, length, slice_index, IfOk, IfErr, IfNone, IsNone, OnOk, OnErr};
+ghost use Rattle.std.specs.Prelude.{◌≡◌, ◌<◌, ◌^◌, ℕ, length, slice_index, IfOk, IfErr, IfNone, IsNone, OnOk, OnErr};
+ghost use Rattle.std.specs.Io.KnownBytes.{Appends};
 ghost use Rattle.daq_table.specs.Tables.{ends_at, frame_of, planes};
 ghost use Rattle.plane_schedule.specs.declared.policy.Plan.{Plan};
 ghost use Rattle.plane_schedule.specs.declared.policy.Policy.{Policy};
 ghost use Rattle.plane_schedule.specs.Choices.{Chooses, HasChoice, HasUnread, IsUnread};
 ghost use Rattle.plane_schedule.specs.Keeping.{Follows, Keeps};
 ghost use Rattle.plane_schedule.specs.Plans.{IsReadable};
-ghost use Rattle.query_model.specs.Knowledge.{known_at};
+ghost use Rattle.query_model.specs.Knowledge.{CanTake, known_at};
 ghost use Rattle.query_model.specs.Validity.{FitsHead};
 ghost use Rattle.round_engine.specs.Stages.{HasPlane, stepped};
 ghost use Rattle.table_rounds.specs.Rounds.{ending_at, outlook_at, unread_planes};
-ghost use Rattle.table_rounds.specs.Sources.{IsNextRound, IsOverTop, IsPlane, KnowsTable, OnOverTop};
+ghost use Rattle.table_rounds.specs.Sources.{IsNextRound, IsOverTop, IsPlane, OnOverTop, StepHandsOver, StopsNext, next_places};
 
 use crate::laws::rounds_have_planes;
 use crate::source::PlaneSource;
 use daq_table::{Head, planes};
 use plane_kernels::Plane;
 use plane_schedule::{Chooser, Ending, Plan, Progress, policies_choose};
-use query_model::{planes_are_taken, tables_agree, valid_queries_name_columns};
+use query_model::{taken_is_knowledge, valid_queries_name_columns};
 use round_engine::Engine;
 
 /// Why a round was not read. Columns are those of the table; all numbers count from 0.
@@ -68,20 +69,21 @@ fn take_next<S: PlaneSource>(
     number: usize,
     plane: &mut Plane,
 ) -> Result<(), StepFault<S::Error>>
-    requires fits { FitsHead engine.old.query engine.old.frame (S.table source.old).head }
-    requires knows { KnowsTable (S.table source.old) engine.old }
+    requires fits { FitsHead engine.old.query engine.old.frame (S.told source.old).head }
     requires plane { HasPlane engine.old number }
     requires rows { length plane.old ≡ engine.old.frame.rows }
     ensures rows { length plane.new ≡ length plane.old }
-    ensures table { S.table source.new ≡ S.table source.old }
+    ensures told { S.told source.new ≡ S.told source.old }
+    ensures places { S.places source.new ≡ S.places source.old }
+    ensures handed { StepHandsOver result (S.handed source.old) (S.handed source.new)
+        (next_places (S.places source.old) engine.old number) }
     ensures taken { OnOk result (engine.new ≡ stepped engine.old number plane.new) }
-    ensures bits { OnOk result (IsPlane (S.table source.old) (slice_index engine.old.query.columns number) (known_at engine.old.known number).read plane.new) }
+    ensures legal { OnOk result (CanTake engine.old.frame engine.old.known number plane.new) }
+    ensures bits { OnOk result (IsPlane (S.told source.old)
+        (slice_index engine.old.query.columns number) (known_at engine.old.known number).read plane.new) }
     ensures unchanged { OnErr result (engine.new ≡ engine.old) }
-    ensures over { IfErr result (λ fault. OnOverTop fault (IsOverTop (S.table source.old) engine.old plane.new)) }
+    ensures over { IfErr result (λ fault. OnOverTop fault (IsOverTop (S.told source.old) engine.old plane.new number)) }
 {
-    tables_agree();
-    planes_are_taken();
-    valid_queries_name_columns();
     let (column, next) = next_place(engine, source.head(), number);
     match source.read(column, next, plane) {
         Ok(()) => match engine.step(number, plane) {
@@ -97,40 +99,48 @@ fn take_next<S: PlaneSource>(
 }
 
 /// Reads the next plane of the column that the chooser names, and takes it: the next round of each plan that the chooser follows. Gives
-/// the number of the column. At an error the engine is unchanged; a source that tells its table's cells gives no plane that is refused.
+/// the number of the column. At an error the engine is unchanged, and the rounds of each such plan stop here. What the source hands over
+/// are the places of the plane, or some of them, from the front, where it fails.
 pub fn read_next<S: PlaneSource, F: Fn(&Progress) -> usize>(
     engine: &mut Engine,
     source: &mut S,
     chooser: &Chooser<F>,
     plane: &mut Plane,
 ) -> Result<usize, StepFault<S::Error>>
-    requires fits { FitsHead engine.old.query engine.old.frame (S.table source.old).head }
-    requires knows { KnowsTable (S.table source.old) engine.old }
+    requires fits { FitsHead engine.old.query engine.old.frame (S.told source.old).head }
     requires rows { length plane.old ≡ engine.old.frame.rows }
     requires kept { Keeps F.Fn chooser.now.choose }
     requires unread { HasUnread (outlook_at engine.old) }
     ensures rows { length plane.new ≡ length plane.old }
-    ensures table { S.table source.new ≡ S.table source.old }
+    ensures told { S.told source.new ≡ S.told source.old }
+    ensures places { S.places source.new ≡ S.places source.old }
     ensures query { engine.new.query ≡ engine.old.query }
     ensures frame { engine.new.frame ≡ engine.old.frame }
-    ensures knows { KnowsTable (S.table source.new) engine.new }
+    // The plane of the column that is chosen is taken.
     ensures unread { IfOk result (λ column. IsUnread (outlook_at engine.old) column) }
-    ensures chosen { IfOk result (λ column. (policy : Policy) → Follows F.Fn chooser.now.choose policy → HasChoice policy (outlook_at engine.old)
-        → Chooses policy (outlook_at engine.old) column) }
+    ensures chosen { IfOk result (λ column. (policy : Policy) → Follows F.Fn chooser.now.choose policy
+        → HasChoice policy (outlook_at engine.old) → Chooses policy (outlook_at engine.old) column) }
     ensures taken { IfOk result (λ column. engine.new ≡ stepped engine.old column plane.new) }
+    ensures bits { IfOk result (λ column. IsPlane (S.told source.old)
+        (slice_index engine.old.query.columns column) (known_at engine.old.known column).read plane.new) }
+    ensures handed { IfOk result (λ column. Appends (S.handed source.old) (S.handed source.new)
+        (next_places (S.places source.old) engine.old column)) }
     ensures fewer { OnOk result (unread_planes engine.new < unread_planes engine.old) }
-    ensures next { IfOk result (λ column. (plan : Plan) → Follows F.Fn chooser.now.choose plan.policy → IsReadable plan.policy engine.old.frame
-        → IsNone (ending_at plan engine.old) → IsNextRound plan (S.table source.old) engine.old engine.new column) }
+    ensures next { IfOk result (λ column. (plan : Plan) → Follows F.Fn chooser.now.choose plan.policy
+        → IsReadable plan.policy engine.old.frame → IsNone (ending_at plan engine.old)
+        → IsNextRound plan (S.told source.old) engine.old engine.new column) }
+    // Or the rounds stop.
     ensures unchanged { OnErr result (engine.new ≡ engine.old) }
-    ensures over { IfErr result (λ fault. OnOverTop fault (IsOverTop (S.table source.old) engine.old plane.new)) }
+    ensures over { IfErr result (λ fault. OnOverTop fault (λ column number row. (c : ℕ)
+        × IsOverTop (S.told source.old) engine.old plane.new c column number row)) }
+    ensures stops { IfErr result (λ fault. (plan : Plan) → Follows F.Fn chooser.now.choose plan.policy
+        → IsReadable plan.policy engine.old.frame → IsNone (ending_at plan engine.old)
+        → StopsNext plan (S.told source.old) (S.places source.old) engine.old (S.handed source.old) (S.handed source.new) fault) }
 {
-    tables_agree();
-    planes_are_taken();
-    valid_queries_name_columns();
+    taken_is_knowledge();
     policies_choose();
     rounds_have_planes();
-    // The head's clause says that told cells fit it, and the query's that what is known is a knowledge.
-    let _head = source.head();
+    // The query's clause says that what is known is a knowledge.
     let _query = engine.query();
     let Some(number) = chooser.next(&engine.progress()) else {
         unreachable!()

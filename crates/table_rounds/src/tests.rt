@@ -1,4 +1,4 @@
-//! Rounds from a source that does not tell its table.
+//! Rounds from a source that does not tell its planes.
 
 ghost use Rattle.std.specs.Prelude.{◌≡◌, pos, [], ◌∷◌, length, map, slice_get, IfOk, Some, None};
 ghost use Rattle.daq_table.specs.declared.head.Kind.TheVariants.{Int};
@@ -32,7 +32,11 @@ struct Numbers {
 impl PlaneSource for Numbers {
     type Error = u8;
 
-    ghost table = { λ s. record { head = s.head; cells = None } };
+    ghost told = { λ s. record { head = s.head; bits = None } };
+
+    ghost places = { λ s column number. [] };
+
+    ghost handed = { λ s. None };
 
     fn head(&self) -> &Head {
         &self.head

@@ -2,4 +2,4 @@ use Rattle.table_rounds.proofs.Steps.{rounds_begin}
 use Rattle.table_rounds.proofs.laws.rounds_begin.Goals as goal
 
 pub returns : goal.returns
-returns c = rounds_begin c.start_is_known.ensures c.tables_have_parts.ensures
+returns c = rounds_begin c.start_is_knowledge.ensures

@@ -1,21 +1,10 @@
 -- The policies see the progress as they see the stage, so the column is theirs.
+use Rattle.std.proofs.Common.{subst}
+use Rattle.table_rounds.specs.Sources.{IsOverTop, StepHandsOver, next_places}
 use Rattle.table_rounds.proofs.Fewer.{fewer_unread}
 use Rattle.table_rounds.proofs.Outlooks.{choice_back, choice_there, unread_back, unread_has_plane}
-use Rattle.table_rounds.proofs.Steps.{goes_on}
-use Rattle.table_rounds.proofs.Taking.{still_known}
-use Rattle.table_rounds.specs.Sources.{KnowsTable}
-use Rattle.std.proofs.Common.{subst, sym}
+use Rattle.table_rounds.proofs.Steps.{next_round, over_of_some, stops_next}
 use Rattle.table_rounds.proofs.reading.read_next.Goals as goal
-
-pub returns-in-Ok-clause-knows : goal.returns-in-Ok-clause-knows
-returns-in-Ok-clause-knows g c =
-    let table = g.S.PlaneSource.table c.args.source.now in
-    let stage = c.args.engine.now in
-    let named = c.valid_queries_name_columns.ensures table.head stage.query c.requires.fits.valid in
-    let has = unread_has_plane stage c.in-Some.number (unread_back stage c.progress.result c.in-Some.number c.progress.ensures c.in-Some.ensures.unread) in
-    subst (λ t. KnowsTable t c.take_next.new.engine) (sym c.take_next.ensures.table)
-    (still_known c.tables_agree.ensures c.planes_are_taken.ensures stage table named c.head-head.ensures.told c.take_next.new.engine c.in-Some.number c.take_next.new.plane
-    c.requires.knows has c.in-Ok.ensures.bits c.in-Ok.ensures.taken)
 
 pub returns-in-Ok-clause-chosen : goal.returns-in-Ok-clause-chosen
 returns-in-Ok-clause-chosen g c = λ policy follows choice.
@@ -24,18 +13,31 @@ returns-in-Ok-clause-chosen g c = λ policy follows choice.
 
 pub returns-in-Ok-clause-next : goal.returns-in-Ok-clause-next
 returns-in-Ok-clause-next g c = λ plan follows readable going.
-    let table = g.S.PlaneSource.table c.args.source.now in
     let stage = c.args.engine.now in
-    let named = c.valid_queries_name_columns.ensures table.head stage.query c.requires.fits.valid in
     let has = unread_has_plane stage c.in-Some.number (unread_back stage c.progress.result c.in-Some.number c.progress.ensures c.in-Some.ensures.unread) in
-    goes_on c.tables_agree.ensures c.planes_are_taken.ensures c.rounds_have_planes.ensures c.policies_choose.ensures plan table stage named c.head-head.ensures.told
-    c.take_next.new.engine c.in-Some.number c.take_next.new.plane c.requires.fits.same
+    next_round c.rounds_have_planes.ensures c.policies_choose.ensures plan (g.S.PlaneSource.told c.args.source.now) stage c.requires.fits.same c.in-Some.number c.take_next.new.plane
     (λ choice. choice_back plan.policy stage c.progress.result c.in-Some.number c.progress.ensures
     (c.in-Some.ensures.follows plan.policy follows (choice_there plan.policy stage c.progress.result c.progress.ensures choice)))
-    readable going has c.in-Ok.ensures.bits c.in-Ok.ensures.taken
+    readable going has c.taken_is_knowledge.ensures c.take_next.new.engine c.query-query.ensures.knowledge c.in-Ok.ensures.legal c.in-Ok.ensures.bits c.in-Ok.ensures.taken
 
 pub returns-in-Ok-clause-fewer : goal.returns-in-Ok-clause-fewer
 returns-in-Ok-clause-fewer g c =
     let stage = c.args.engine.now in
     let has = unread_has_plane stage c.in-Some.number (unread_back stage c.progress.result c.in-Some.number c.progress.ensures c.in-Some.ensures.unread) in
     fewer_unread stage c.take_next.new.engine c.in-Some.number c.take_next.new.plane c.query-query.ensures.knowledge has c.in-Ok.ensures.taken
+
+pub returns-in-Err-clause-stops : goal.returns-in-Err-clause-stops
+returns-in-Err-clause-stops g c = λ plan follows readable going.
+    let stage = c.args.engine.now in
+    let has = unread_has_plane stage c.in-Some.number (unread_back stage c.progress.result c.in-Some.number c.progress.ensures c.in-Some.ensures.unread) in
+    stops_next c.rounds_have_planes.ensures c.policies_choose.ensures plan (g.S.PlaneSource.told c.args.source.now) stage c.requires.fits.same c.in-Some.number c.take_next.new.plane
+    (λ choice. choice_back plan.policy stage c.progress.result c.in-Some.number c.progress.ensures
+    (c.in-Some.ensures.follows plan.policy follows (choice_there plan.policy stage c.progress.result c.progress.ensures choice)))
+    readable going has (g.S.PlaneSource.places c.args.source.now) c.in-Err.fault (g.S.PlaneSource.handed c.args.source.now) (g.S.PlaneSource.handed c.take_next.new.source)
+    c.in-Err.ensures.over
+    (subst (λ r. StepHandsOver r (g.S.PlaneSource.handed c.args.source.now) (g.S.PlaneSource.handed c.take_next.new.source) (next_places (g.S.PlaneSource.places c.args.source.now) stage c.in-Some.number))
+    c.in-Err.is c.take_next.ensures.handed)
+
+pub returns-in-Err-clause-over : goal.returns-in-Err-clause-over
+returns-in-Err-clause-over g c =
+    over_of_some c.in-Err.fault (IsOverTop (g.S.PlaneSource.told c.args.source.now) c.args.engine.now c.take_next.new.plane) c.in-Some.number c.in-Err.ensures.over
