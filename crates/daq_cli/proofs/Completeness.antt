@@ -1,4 +1,4 @@
--- Each step of an `ask` accepts something or shows a refusal.
+-- Each step of an `ask` and of a `demo` accepts something or shows a refusal.
 use Rattle.std.proofs.Common.{◌≡◌, ◌≢◌, ℕ, ◌≤◌, List, Ok, Err, Result, length, refl, inl, inr, ◌⊎◌, ◌∙◌, lit≤, sym}
 use Rattle.std.proofs.lemmas.Bool.{cases_lt}
 use Rattle.command_line.specs.Commands.{Options, ReadOrder, widest, in_order, filter_first, reads}
@@ -29,11 +29,14 @@ use Rattle.sql_typing.specs.Refusals as typing
 use Rattle.sql_typing.specs.Refusals.{IsTyped}
 use Rattle.sql_typing.specs.declared.fault.TypeFault.{TypeFault}
 use Rattle.sql_typing.specs.declared.fault.TypeFault.TheVariants as y
+use Rattle.table_gen.specs.Laws as seed_laws
+use Rattle.table_gen.specs.TableOf.{IsTableOfSeed}
 use Rattle.daq_cli.specs.Laws.{StepsAreComplete}
 use Rattle.daq_cli.specs.Questions.{IsPolicyOf, RefusesOrder, question_of, question_step, sql_step}
 use Rattle.daq_cli.specs.Steps.{IsComplete, Step, then}
 use Rattle.daq_cli.specs.commands.Ask.{limits, most_bytes, schema_step, table_step}
-use Rattle.daq_cli.specs.declared.refusal.Refusal.TheVariants.{NotBuilt, Query, Reads, Schema, Table, TooLong, Typing}
+use Rattle.daq_cli.specs.commands.Demo.{generator_step, most_rows}
+use Rattle.daq_cli.specs.declared.refusal.Refusal.TheVariants.{NotBuilt, Query, Reads, Schema, Table, TooLong, TooManyRows, Typing}
 
 -- a step and the one that follows it
 then_complete : {A B : Type 0} (first : Step A) (second : A → Step B) → IsComplete first → ((a : A) → first.accepts a → IsComplete (second a)) → IsComplete (then first second)
@@ -49,6 +52,7 @@ pub record Laws : Type 0 where
   pub texts : text_laws.IsAnswered
   pub schemas : schema_laws.HasMeaning
   pub tables : table_laws.HasAnswer
+  pub seeds : seed_laws.HaveTables
   pub typings : typing_laws.HasTyping
   pub valid : typing_laws.IsTypedValid
   pub reads : reads_laws.WordsHaveAnswers
@@ -77,6 +81,15 @@ module _ (law : Laws) where
       by : length bytes ≤ most_bytes → table_laws.IsAnswered bytes columns limits → IsComplete (table_step columns bytes)
       by small (inl (table, is)) = inl (table, record { small = small; is_table = is })
       by small (inr (fault, shown, faulty)) = inr (Table fault, inr (record { small = small; fault = fault; shown = shown; is = refl; faulty = faulty }))
+
+  generator_complete : (seed rows : ℕ) → IsComplete (generator_step seed rows)
+  generator_complete seed rows = elim (cases_lt most_rows rows) [
+    | inl many ↦ inr (TooManyRows, record { many = many; is = refl })
+    | inr few ↦ by few (law.seeds seed rows few)
+  ]
+    where
+      by : rows ≤ most_rows → ((table : Contents) × IsTableOfSeed seed rows table) → IsComplete (generator_step seed rows)
+      by few (table, is) = inl (table, record { few = few; is_table = is })
 
   module _ (query : sql.Query) (options : Options) (table : Contents) (typed : TypedQuery) (is_typed : IsTyped query table.head typed) where
     -- the order is a policy, or a list that is refused
@@ -131,4 +144,7 @@ module _ (law : Laws) where
         then_complete _ _ (sql_complete ask.sql) (λ query _.
         then_complete _ _ (schema_complete ask.schema) (λ columns declared.
         then_complete _ _ (table_complete ask.schema columns bytes declared) (λ table _. question_complete query ask.options table)));
+    demo = λ demo.
+        then_complete _ _ (sql_complete demo.sql) (λ query _.
+        then_complete _ _ (generator_complete demo.seed demo.rows) (λ table _. question_complete query demo.options table));
   }

@@ -15,3 +15,4 @@ pub mod Widths
 pub mod Blocks
 pub mod Rounds
 pub mod Loops
+pub mod Tables

@@ -14,7 +14,7 @@ use Rattle.sql_print.specs.Printed.{printed}
 use Rattle.sql_typing.specs.Laws as typing_laws
 use Rattle.table_rounds.specs.Headline.{RoundsAreOne}
 use Rattle.table_rounds.specs.Rounds.{AreAllRounds}
-use Rattle.daq_cli.specs.Questions.{IsPlanOf, IsPlanned, IsPolicyOf, IsReport, Question, Reports, ReportsRounds}
+use Rattle.daq_cli.specs.Questions.{IsPlanOf, IsPlanned, IsPolicyOf, IsReport, Question, Reports, ReportsRounds, planes_of}
 use Rattle.daq_cli.specs.Report.{report}
 use Rattle.daq_cli.specs.Worlds.{Extent}
 
@@ -47,24 +47,24 @@ module _ (law : Laws) (question : Question) where
   pub one_report : (a b : List ℕ) → IsReport question a → IsReport question b → a ≡ b
   one_report a b p r =
       let head = question.table.head in
-      let cells = question.table.cells in
+      let bits = planes_of question.table in
       let same : r.typed ≡ p.typed = law.typings question.query head r.typed p.typed r.planned.is_typed p.planned.is_typed in
       let plan : r.plan ≡ p.plan =
       one_plan law question p.typed (law.valid question.query head p.typed p.planned.is_typed) r.plan p.plan (subst (λ (t : TypedQuery). IsPlanOf question.options t head r.plan) same r.planned.planned) p.planned.planned in
-      let rounds : AreAllRounds p.plan p.typed (frame_of head) cells r.reads =
-      subst (λ (t : TypedQuery). AreAllRounds p.plan t (frame_of head) cells r.reads) same (subst (λ (n : Plan). AreAllRounds n r.typed (frame_of head) cells r.reads) plan r.rounds) in
-      let reads : r.reads ≡ p.reads = law.rounds p.plan p.typed (frame_of head) cells r.reads p.reads rounds p.rounds in
+      let rounds : AreAllRounds p.plan p.typed (frame_of head) bits r.reads =
+      subst (λ (t : TypedQuery). AreAllRounds p.plan t (frame_of head) bits r.reads) same (subst (λ (n : Plan). AreAllRounds n r.typed (frame_of head) bits r.reads) plan r.rounds) in
+      let reads : r.reads ≡ p.reads = law.rounds p.plan p.typed (frame_of head) bits r.reads p.reads rounds p.rounds in
       p.is
-      ∙ sym (ap (λ (t : TypedQuery). report (printed question.query) head p.plan t cells p.reads) same)
-      ∙ sym (ap (λ (n : Plan). report (printed question.query) head n r.typed cells p.reads) plan)
-      ∙ sym (ap (λ (n : List ℕ). report (printed question.query) head r.plan r.typed cells n) reads) ∙ sym r.is
+      ∙ sym (ap (λ (t : TypedQuery). report (printed question.query) head p.plan t bits p.reads) same)
+      ∙ sym (ap (λ (n : Plan). report (printed question.query) head n r.typed bits p.reads) plan)
+      ∙ sym (ap (λ (n : List ℕ). report (printed question.query) head r.plan r.typed bits n) reads) ∙ sym r.is
 
   -- the report of the rounds is that of the question
   pub reports_of : (typed other : TypedQuery) (plan : Plan) (extent : Extent) (old new : SinkState) → other ≡ typed → IsPlanned question typed plan →
       ReportsRounds question.query other plan question.table extent old new → Reports question extent old new
   reports_of typed other plan extent old new same planned done =
       let rounds = subst (λ (t : TypedQuery). ReportsRounds question.query t plan question.table extent old new) same done in
-      let text = report (printed question.query) question.table.head plan typed question.table.cells rounds.written.reads in
+      let text = report (printed question.query) question.table.head plan typed (planes_of question.table) rounds.written.reads in
       let is_report : IsReport question text = record {
         typed = typed;
         plan = plan;

@@ -1,106 +1,163 @@
 -- How far the rounds of a report have come.
-use Rattle.std.proofs.Common.{◌≡◌, ℕ, ◌+◌, List, [], ◌∷◌, ◌++◌, length, refl, sym, ap, ◌∙◌, subst, arith, Option, Some, None, IsSome, length-append, append_assoc}
-use Rattle.std.proofs.KnownBytes.{Appends-nil}
+use Rattle.std.proofs.Common.{◌≡◌, ℕ, ◌+◌, ◌<◌, List, [], ◌∷◌, ◌++◌, length, refl, sym, ap, ◌∙◌, subst, arith, Option, Some, None, IsNone, IsSome, append-nil, append_assoc, length-append}
+use Rattle.std.proofs.KnownBytes.{Appends-nil, Appends-trans}
+use Rattle.std.specs.Io.KnownBytes.{Appends}
 use Rattle.daq_report.specs.Blocks.{block_text}
-use Rattle.daq_table.specs.Tables.{Cells, IsTable, frame_of}
+use Rattle.daq_table.specs.Tables.{frame_of}
 use Rattle.daq_table.specs.declared.table_head.Head.{Head}
 use Rattle.outer_world.proofs.Writes.{writes_both, writes_cut}
 use Rattle.outer_world.specs.Device.{SinkState}
 use Rattle.outer_world.specs.Whole.{Writes}
-use Rattle.daq_cli.specs.Worlds.{Extent, partly, whole}
-use Rattle.plane_schedule.specs.Plans.{IsReadable}
+use Rattle.daq_cli.specs.Worlds.{partly, whole}
 use Rattle.plane_schedule.specs.declared.policy.Ending.{Ending}
 use Rattle.plane_schedule.specs.declared.policy.Plan.{Plan}
 use Rattle.query_model.specs.Projection.{projected_frame}
-use Rattle.query_model.specs.Worlds.{NamesColumns}
 use Rattle.query_model.specs.declared.query.TypedQuery.{TypedQuery}
+use Rattle.table_rounds.proofs.HandedOver.{next_handed}
 use Rattle.round_engine.specs.Progresses.{planes_read}
 use Rattle.round_engine.specs.Stages.{Stage}
-use Rattle.table_rounds.specs.Headline.{RoundsAreCounted, RoundsHaveAnEnd}
-use Rattle.table_rounds.specs.Rounds.{IsAfter, column_read, ending_at, stage_after}
-use Rattle.daq_cli.specs.Report.{WritesRounds, block_of, blocks_below, end_line, ending_line, query_line, report, rounds_text}
-use Rattle.daq_cli.proofs.Blocks.{blocks_before, blocks_rest, column_last, next_block, no_blocks}
+use Rattle.table_rounds.specs.Headline.{RoundsAreCounted}
+use Rattle.table_rounds.specs.Rounds.{IsAfter, Planes, column_read, ending_at, stage_after}
+use Rattle.table_rounds.specs.Sources.{Places, StopsAt, next_places, places_of}
+use Rattle.table_rounds.specs.declared.reading.StepFault.{StepFault}
+use Rattle.daq_cli.specs.Report.{Fails, FailsInLast, Finishes, Stops, block_of, blocks_below, end_line, ending_line, last_text, rounds_text}
+use Rattle.daq_cli.proofs.Blocks.{blocks_before, column_last, next_block, no_blocks}
 
--- the blocks of the rounds so far but for the last are written: these columns were read, and that is what is known
-pub record Reached (plan : Plan) (head : Head) (query : TypedQuery) (cells : Cells) (stage : Stage) (last : Option ℕ) (old new : SinkState) : Type 0 where
+-- the blocks of the rounds so far but for the last are written: these columns were read, that is what is known, and the places of their planes were handed over
+pub record Reached (plan : Plan) (head : Head) (query : TypedQuery) (bits : Planes) (places : Places) (stage : Stage) (last : Option ℕ) (old new : SinkState) (from to : Option (List ℕ)) : Type 0 where
   pub reads : List ℕ
-  pub after : IsAfter plan query (frame_of head) cells reads stage
+  pub after : IsAfter plan query (frame_of head) bits reads stage
   pub last_is : last ≡ column_read reads (length reads)
-  pub text : Writes whole old new (blocks_below head query cells reads (length reads))
+  pub text : Writes whole old new (blocks_below head query bits reads (length reads))
+  pub handed : Appends from to (places_of places query reads (length reads))
 
-module _ (plan : Plan) (head : Head) (query : TypedQuery) (cells : Cells) where
+pub no_line : (o : Option Ending) → IsNone o → end_line o ≡ []
+no_line None none = refl
+no_line (Some ending) none = cc
+
+module _ (plan : Plan) (head : Head) (query : TypedQuery) (bits : Planes) (places : Places) where
   -- the same said of a query that is the same
-  pub after_of : (reads : List ℕ) (stage : Stage) (one : TypedQuery) → one ≡ query → IsAfter plan one (frame_of head) cells reads stage → IsAfter plan query (frame_of head) cells reads stage
-  after_of reads stage one same = subst (λ q. IsAfter plan q (frame_of head) cells reads stage) same
+  pub after_of : (reads : List ℕ) (stage : Stage) (one : TypedQuery) → one ≡ query → IsAfter plan one (frame_of head) bits reads stage → IsAfter plan query (frame_of head) bits reads stage
+  after_of reads stage one same = subst (λ q. IsAfter plan q (frame_of head) bits reads stage) same
 
-  pub first_reached : (stage : Stage) (old : SinkState) → IsAfter plan query (frame_of head) cells [] stage → Reached plan head query cells stage None old old
-  first_reached stage old after = record {
+  pub first_reached : (stage : Stage) (old : SinkState) (from : Option (List ℕ)) → IsAfter plan query (frame_of head) bits [] stage → Reached plan head query bits places stage None old old from from
+  first_reached stage old from after = record {
     reads = [];
     after = after;
     last_is = refl;
-    text = subst (Writes whole old old) (sym (no_blocks head query cells [])) (record { done = Appends-nil old.written; part = tt; cause = record { later = omega arith; failed = tt } });
+    text = subst (Writes whole old old) (sym (no_blocks head query bits [])) (record { done = Appends-nil old.written; part = tt; cause = record { later = omega arith; failed = tt } });
+    handed = Appends-nil from;
   }
 
   -- the block that is written is the round's
-  pub block_is : RoundsAreCounted → NamesColumns query (frame_of head) → IsTable (frame_of head) cells → (stage : Stage) (last : Option ℕ) (old now : SinkState) (done : ℕ) →
-      (r : Reached plan head query cells stage last old now) → done ≡ planes_read stage.known → block_text head stage done last ≡ block_of head query cells r.reads (length r.reads)
-  block_is counted named table stage last old now done r is =
+  pub block_is : RoundsAreCounted → (stage : Stage) (last : Option ℕ) (old now : SinkState) (from to : Option (List ℕ)) (done : ℕ) →
+      (r : Reached plan head query bits places stage last old now from to) → done ≡ planes_read stage.known → block_text head stage done last ≡ block_of head query bits r.reads (length r.reads)
+  block_is counted stage last old now from to done r is =
       let round = length r.reads in
-      let n : done ≡ round = is ∙ counted plan query (frame_of head) cells r.reads stage named table r.after in
+      let n : done ≡ round = is ∙ counted plan query (frame_of head) bits r.reads stage r.after in
       ap (λ k. block_text head stage k last) n ∙ ap (block_text head stage round) r.last_is ∙ ap (λ s. block_text head s round (column_read r.reads round)) r.after.known
 
-  -- all blocks so far, after that of the last round
-  all_blocks : (result : Extent) (stage : Stage) (last : Option ℕ) (old mid now : SinkState) → (r : Reached plan head query cells stage last old mid) →
-      Writes result mid now (block_of head query cells r.reads (length r.reads)) → Writes result old now (blocks_below head query cells r.reads (length r.reads + 1))
-  all_blocks result stage last old mid now r written = subst (Writes result old now) (sym (next_block head query cells r.reads (length r.reads))) (writes_both tt result old mid now _ _ r.text written)
-
   -- with its block written and the next plane read, the rounds have come one further
-  pub next_reached : (stage new : Stage) (last : Option ℕ) (c : ℕ) (old mid now : SinkState) → (r : Reached plan head query cells stage last old mid) →
-      Writes whole mid now (block_of head query cells r.reads (length r.reads)) → IsAfter plan query (frame_of head) cells (r.reads ++ c ∷ []) new →
-      Reached plan head query cells new (Some c) old now
-  next_reached stage new last c old mid now r written after =
+  pub next_reached : (stage new : Stage) (last : Option ℕ) (c : ℕ) (old mid now : SinkState) (from at to : Option (List ℕ)) → (r : Reached plan head query bits places stage last old mid from at) →
+      Writes whole mid now (block_of head query bits r.reads (length r.reads)) → IsAfter plan query (frame_of head) bits (r.reads ++ c ∷ []) new →
+      Appends from to (places_of places query (r.reads ++ c ∷ []) (length r.reads + 1)) → Reached plan head query bits places new (Some c) old now from to
+  next_reached stage new last c old mid now from at to r written after handed =
       let long : length (r.reads ++ c ∷ []) ≡ length r.reads + 1 = length-append r.reads (c ∷ []) in
-      let same = blocks_before head query cells r.reads (c ∷ []) (length r.reads + 1) (omega arith) in
+      let same = blocks_before head query bits r.reads (c ∷ []) (length r.reads + 1) (omega arith) in
+      let all : Writes whole old now (blocks_below head query bits r.reads (length r.reads + 1)) =
+      subst (Writes whole old now) (sym (next_block head query bits r.reads (length r.reads))) (writes_both tt whole old mid now _ _ r.text written) in
       record {
         reads = r.reads ++ c ∷ [];
         after = after;
-        last_is = sym (ap (column_read (r.reads ++ c ∷ [])) long ∙ column_last head query cells r.reads c);
-        text = subst (Writes whole old now) (sym (ap (blocks_below head query cells (r.reads ++ c ∷ [])) long ∙ same)) (all_blocks whole stage last old mid now r written);
+        last_is = sym (ap (column_read (r.reads ++ c ∷ [])) long ∙ column_last head query bits r.reads c);
+        text = subst (Writes whole old now) (sym (ap (blocks_below head query bits (r.reads ++ c ∷ [])) long ∙ same)) all;
+        handed = subst (λ n. Appends from to (places_of places query (r.reads ++ c ∷ []) n)) (sym long) handed;
       }
 
+  -- the same by the step of a round
+  pub read_further : (one : TypedQuery) → one ≡ query → (stage new : Stage) (last : Option ℕ) (c : ℕ) (old mid now : SinkState) (from at to : Option (List ℕ)) →
+      (r : Reached plan head query bits places stage last old mid from at) → Writes whole mid now (block_of head query bits r.reads (length r.reads)) →
+      ((reads : List ℕ) → IsAfter plan one (frame_of head) bits reads stage → IsAfter plan one (frame_of head) bits (reads ++ c ∷ []) new) →
+      c < length (projected_frame query (frame_of head)).columns → Appends at to (next_places places stage c) → Reached plan head query bits places new (Some c) old now from to
+  read_further one same stage new last c old mid now from at to r written step inside grown =
+      let after = after_of (r.reads ++ c ∷ []) new one same (step r.reads (subst (λ q. IsAfter plan q (frame_of head) bits r.reads stage) (sym same) r.after)) in
+      next_reached stage new last c old mid now from at to r written after
+      (next_handed places query plan (frame_of head) bits r.reads stage c from at to (ap (λ s. s.query) r.after.known) r.after inside r.handed grown)
+
+  -- the last of the rounds so far is written whole, or in part
+  pub last_whole : (line reads : List ℕ) (old mid new : SinkState) → Writes whole old mid (line ++ blocks_below head query bits reads (length reads)) →
+      Writes whole mid new (last_text head plan query bits reads) → Writes whole old new (line ++ rounds_text head plan query bits reads)
+  last_whole line reads old mid new begun last =
+      subst (Writes whole old new) (append_assoc line (blocks_below head query bits reads (length reads)) (last_text head plan query bits reads)) (writes_both tt whole old mid new _ _ begun last)
+
+  pub last_in_part : (line reads : List ℕ) (old mid new : SinkState) → Writes whole old mid (line ++ blocks_below head query bits reads (length reads)) →
+      Writes partly mid new (last_text head plan query bits reads) → Writes partly old new (line ++ rounds_text head plan query bits reads)
+  last_in_part line reads old mid new begun last =
+      subst (Writes partly old new) (append_assoc line (blocks_below head query bits reads (length reads)) (last_text head plan query bits reads)) (writes_both tt partly old mid new _ _ begun last)
+
+  fails_in_last : (line reads : List ℕ) (old mid new : SinkState) → Writes whole old mid (line ++ blocks_below head query bits reads (length reads)) →
+      Writes partly mid new (last_text head plan query bits reads) → FailsInLast line head plan query bits reads old new
+  fails_in_last line [] old mid new begun last = last_in_part line [] old mid new begun last
+  fails_in_last line (c ∷ reads) old mid new begun last = (mid, begun, last)
+
+  -- what fails in the last round is a part of the text
+  pub part_of_text : (line reads : List ℕ) (old new : SinkState) → FailsInLast line head plan query bits reads old new → Writes partly old new (line ++ rounds_text head plan query bits reads)
+  part_of_text line [] old new fails = fails
+  part_of_text line (c ∷ reads) old new (mid, begun, last) = last_in_part line (c ∷ reads) old mid new begun last
+
+  -- the end line of the last round
+  end_is : (stage : Stage) (ending : Ending) (reads : List ℕ) → IsAfter plan query (frame_of head) bits reads stage → ending_at plan stage ≡ Some ending →
+      ending_at plan (stage_after query (frame_of head) bits reads (length reads)) ≡ Some ending
+  end_is stage ending reads after ended = ap (ending_at plan) (sym after.known) ∙ ended
+
   -- the last round's block was written, and the end line whole or in part
-  pub all_written : (result : Extent) (stage : Stage) (last : Option ℕ) (ending : Ending) (old mid now end : SinkState) → (r : Reached plan head query cells stage last old mid) →
-      Writes whole mid now (block_of head query cells r.reads (length r.reads)) → ending_at plan stage ≡ Some ending → Writes result now end (ending_line ending) →
-      WritesRounds (rounds_text head plan query cells) head plan query cells result old end
-  all_written result stage last ending old mid now end r written ended line =
-      let is : ending_at plan (stage_after query (frame_of head) cells r.reads (length r.reads)) ≡ Some ending = ap (ending_at plan) (sym r.after.known) ∙ ended in
+  pub all_written : (stage : Stage) (last : Option ℕ) (ending : Ending) (old mid now end : SinkState) (from to : Option (List ℕ)) → (r : Reached plan head query bits places stage last old mid from to) →
+      Writes whole mid now (block_of head query bits r.reads (length r.reads)) → ending_at plan stage ≡ Some ending → Writes whole now end (ending_line ending) →
+      Finishes [] head plan query bits places old end from to
+  all_written stage last ending old mid now end from to r written ended line =
+      let is = end_is stage ending r.reads r.after ended in
       record {
         reads = r.reads;
         rounds = record { rounds = r.after.rounds; ended = subst IsSome (sym is) refl };
-        written = writes_both tt result old now end _ _ (all_blocks whole stage last old mid now r written) (subst (λ e. Writes result now end (end_line e)) (sym is) line);
+        written = last_whole [] r.reads old mid end r.text (writes_both tt whole mid now end _ _ written (subst (λ e. Writes whole now end (end_line e)) (sym is) line));
+        handed = r.handed;
+      }
+
+  pub line_in_part : (stage : Stage) (last : Option ℕ) (ending : Ending) (old mid now end : SinkState) (from to : Option (List ℕ)) → (r : Reached plan head query bits places stage last old mid from to) →
+      Writes whole mid now (block_of head query bits r.reads (length r.reads)) → ending_at plan stage ≡ Some ending → Writes partly now end (ending_line ending) →
+      Fails [] head plan query bits places old end from to
+  line_in_part stage last ending old mid now end from to r written ended line =
+      let is = end_is stage ending r.reads r.after ended in
+      record {
+        reads = r.reads;
+        rounds = r.after.rounds;
+        written = fails_in_last [] r.reads old mid end r.text (writes_both tt partly mid now end _ _ written (subst (λ e. Writes partly now end (end_line e)) (sym is) line));
+        handed = r.handed;
       }
 
   -- the last block was not written whole
-  pub block_in_part : RoundsHaveAnEnd → NamesColumns query (frame_of head) → IsTable (frame_of head) cells → IsReadable plan.policy (projected_frame query (frame_of head)) →
-      (stage : Stage) (last : Option ℕ) (old mid now : SinkState) → (r : Reached plan head query cells stage last old mid) →
-      Writes partly mid now (block_of head query cells r.reads (length r.reads)) → WritesRounds (rounds_text head plan query cells) head plan query cells partly old now
-  block_in_part ends named table readable stage last old mid now r written =
-      let (rest, all) = ends plan query (frame_of head) cells r.reads named table readable r.after.rounds in
-      let reads = r.reads ++ rest in
-      let n = length r.reads + 1 in
-      let longer : length reads ≡ length r.reads + length rest = length-append r.reads rest in
-      let begun = all_blocks partly stage last old mid now r written in
-      let same = blocks_before head query cells r.reads rest n (omega arith) in
-      let (more, whole_is) = blocks_rest head query cells reads n (length reads + 1) (omega (arith, longer)) in
-      let end = end_line (ending_at plan (stage_after query (frame_of head) cells reads (length reads))) in
-      let all_is : rounds_text head plan query cells reads ≡ blocks_below head query cells r.reads n ++ (more ++ end) =
-      ap (λ l. l ++ end) (whole_is ∙ ap (λ l. l ++ more) same) ∙ append_assoc (blocks_below head query cells r.reads n) more end in
-      record { reads = reads; rounds = all; written = subst (Writes partly old now) (sym all_is) (writes_cut tt partly old now _ (more ++ end) refl begun) }
+  pub block_in_part : (stage : Stage) (last : Option ℕ) (old mid now : SinkState) (from to : Option (List ℕ)) → (r : Reached plan head query bits places stage last old mid from to) →
+      Writes partly mid now (block_of head query bits r.reads (length r.reads)) → Fails [] head plan query bits places old now from to
+  block_in_part stage last old mid now from to r written = record {
+    reads = r.reads;
+    rounds = r.after.rounds;
+    written = fails_in_last [] r.reads old mid now r.text (writes_cut tt partly mid now _ (end_line (ending_at plan (stage_after query (frame_of head) bits r.reads (length r.reads)))) refl written);
+    handed = r.handed;
+  }
 
-  -- the query's line was not written whole
-  pub line_in_part : RoundsHaveAnEnd → NamesColumns query (frame_of head) → IsTable (frame_of head) cells → IsReadable plan.policy (projected_frame query (frame_of head)) →
-      (stage : Stage) → IsAfter plan query (frame_of head) cells [] stage → (sql : List ℕ) (old now : SinkState) → Writes partly old now (query_line sql) →
-      WritesRounds (report sql head plan query cells) head plan query cells partly old now
-  line_in_part ends named table readable stage after sql old now written =
-      let (rest, all) = ends plan query (frame_of head) cells [] named table readable after.rounds in
-      record { reads = rest; rounds = all; written = writes_cut tt partly old now _ (rounds_text head plan query cells rest) refl written }
+  -- the rounds stopped at the next plane
+  pub stopped : {E : Type 0} (one : TypedQuery) → one ≡ query → (stage : Stage) (last : Option ℕ) (fault : StepFault E) (old mid now : SinkState) (from at to : Option (List ℕ)) →
+      (r : Reached plan head query bits places stage last old mid from at) → Writes whole mid now (block_of head query bits r.reads (length r.reads)) → IsNone (ending_at plan stage) →
+      ((reads : List ℕ) → IsAfter plan one (frame_of head) bits reads stage → (handed : List ℕ) × StopsAt plan one (frame_of head) bits places reads fault handed × Appends at to handed) →
+      Stops [] head plan query bits places fault old now from to
+  stopped one same stage last fault old mid now from at to r written going stop =
+      let (handed, stops, grown) = stop r.reads (subst (λ q. IsAfter plan q (frame_of head) bits r.reads stage) (sym same) r.after) in
+      let none = no_line (ending_at plan (stage_after query (frame_of head) bits r.reads (length r.reads))) (subst (λ s. IsNone (ending_at plan s)) r.after.known going) in
+      let block = block_of head query bits r.reads (length r.reads) in
+      record {
+        reads = r.reads;
+        more = handed;
+        stop = subst (λ q. StopsAt plan q (frame_of head) bits places r.reads fault handed) same stops;
+        written = last_whole [] r.reads old mid now r.text (subst (Writes whole mid now) (sym (ap (λ l. block ++ l) none ∙ append-nil block)) written);
+        handed = Appends-trans from at to (places_of places query r.reads (length r.reads)) handed r.handed grown;
+      }

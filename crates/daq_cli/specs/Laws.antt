@@ -11,7 +11,8 @@ pub record StepsAreExact : Type 0 where
   pub ask : (ask : Ask) (bytes : List ℕ) → IsExact (ask_step ask bytes)
   pub demo : (demo : Demo) → IsExact (demo_step demo)
 
--- words of an `ask`, and words with an input, are accepted or show a refusal
+-- words of an `ask`, words with an input, and words of a `demo` are accepted or show a refusal
 pub record StepsAreComplete : Type 0 where
   pub words : (ask : Ask) → IsComplete (words_step ask)
   pub ask : (ask : Ask) (bytes : List ℕ) → IsComplete (ask_step ask bytes)
+  pub demo : (demo : Demo) → IsComplete (demo_step demo)

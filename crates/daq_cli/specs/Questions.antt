@@ -12,6 +12,7 @@ use Rattle.plane_reads.specs.declared.fault.ReadsFault.{ReadsFault}
 use Rattle.plane_reads.specs.declared.fault.ReadsFault.TheVariants as r
 use Rattle.plane_reads.specs.Reads as lists
 use Rattle.plane_reads.specs.Reads.{AreAllReads}
+use Rattle.query_model.specs.Knowledge.{plane_of}
 use Rattle.query_model.specs.declared.query.Shape.TheVariants.{Plain}
 use Rattle.query_model.specs.declared.query.TypedQuery.{TypedQuery}
 use Rattle.sql_text.specs.Answer.{IsFault, IsText}
@@ -24,7 +25,7 @@ use Rattle.sql_typing.specs.Refusals.{IsTyped}
 use Rattle.sql_typing.specs.declared.fault.TypeFault.{TypeFault}
 use Rattle.sql_typing.specs.declared.fault.TypeFault.TheVariants as y
 use Rattle.table_rounds.specs.Headline.{AreCertain}
-use Rattle.table_rounds.specs.Rounds.{AreAllRounds}
+use Rattle.table_rounds.specs.Rounds.{AreAllRounds, Planes}
 use Rattle.daq_cli.specs.Report.{WritesRounds, report}
 use Rattle.daq_cli.specs.Steps.{Step}
 use Rattle.daq_cli.specs.Worlds.{Extent, partly}
@@ -119,10 +120,15 @@ question_step query options table =
 
 -- ---- the answer
 
+-- the planes of the table
+abbrev pub planes_of : Contents → Planes
+planes_of table = plane_of (frame_of table.head) table.cells
+
 -- the report of all rounds of the plan was written, whole or in part: a block for each. Each interval in it is certain
 pub record ReportsRounds (query : sql.Query) (typed : TypedQuery) (plan : Plan) (table : Contents) (extent : Extent)
     (out out' : SinkState) : Type 0 where
-  pub written : WritesRounds (report (printed query) table.head plan typed table.cells) table.head plan typed table.cells extent out out'
+  pub written : WritesRounds (report (printed query) table.head plan typed (planes_of table))
+      table.head plan typed (planes_of table) extent out out'
   pub headline : AreCertain typed (frame_of table.head) table.cells written.reads
 
 -- a report of the question: the text of all rounds of its plan. Each interval in it is certain
@@ -131,9 +137,9 @@ pub record IsReport (question : Question) (text : List ℕ) : Type 0 where
   pub plan : Plan
   pub planned : IsPlanned question typed plan
   pub reads : List ℕ
-  pub rounds : AreAllRounds plan typed (frame_of question.table.head) question.table.cells reads
+  pub rounds : AreAllRounds plan typed (frame_of question.table.head) (planes_of question.table) reads
   pub headline : AreCertain typed (frame_of question.table.head) question.table.cells reads
-  pub is : text ≡ report (printed question.query) question.table.head plan typed question.table.cells reads
+  pub is : text ≡ report (printed question.query) question.table.head plan typed (planes_of question.table) reads
 
 -- the report of the question, which has no other, was written, whole or in part
 pub record Reports (question : Question) (extent : Extent) (out out' : SinkState) : Type 0 where

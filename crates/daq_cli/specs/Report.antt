@@ -1,10 +1,11 @@
 -- The text of a report: the query, a block for each round, and why the rounds ended.
-use Rattle.std.specs.Prelude.{ℕ, zero, suc, ◌+◌, Ok, Err, IfSome, List, [], ◌++◌, length, codes}
+use Rattle.std.specs.Prelude.{ℕ, zero, suc, Ok, Err, IfSome, List, [], ◌∷◌, ◌++◌, length, codes}
+use Rattle.std.specs.Io.KnownBytes.{Appends}
 use Rattle.std.specs.declared.option.Option.{Option}
 use Rattle.std.specs.declared.option.Option.TheVariants.{Some, None}
 use Rattle.std.specs.declared.result.Result.{Result}
 use Rattle.daq_report.specs.Blocks.{block_text}
-use Rattle.daq_table.specs.Tables.{Cells, frame_of}
+use Rattle.daq_table.specs.Tables.{frame_of}
 use Rattle.daq_table.specs.declared.table_head.Head.{Head}
 use Rattle.outer_world.specs.Device.{SinkState}
 use Rattle.outer_world.specs.Whole.{Writes}
@@ -12,22 +13,22 @@ use Rattle.plane_schedule.specs.declared.policy.Ending.{Ending}
 use Rattle.plane_schedule.specs.declared.policy.Ending.TheVariants.{Narrow, Rounds, Reads}
 use Rattle.plane_schedule.specs.declared.policy.Plan.{Plan}
 use Rattle.query_model.specs.declared.query.TypedQuery.{TypedQuery}
-use Rattle.table_rounds.specs.Rounds.{AreAllRounds, column_read, ending_at, stage_after}
-use Rattle.table_rounds.specs.Sources.{ToldTable}
-use Rattle.table_rounds.specs.declared.reading.StepFault.TheVariants.{OverTop, Source}
+use Rattle.table_rounds.specs.Rounds.{AreAllRounds, AreRounds, Planes, column_read, ending_at, stage_after}
+use Rattle.table_rounds.specs.Sources.{Places, StopsAt, ToldPlanes, places_of}
+use Rattle.table_rounds.specs.declared.reading.StepFault.{StepFault}
 use Rattle.daq_cli.specs.Worlds.{Extent, partly, whole}
 use Rattle.daq_cli.specs.declared.stop.Stop.{Stop}
 use Rattle.daq_cli.specs.declared.stop.Stop.TheVariants.{Failed, Step}
 
 -- the block of a round, where the rounds read these columns
-abbrev pub block_of : Head → TypedQuery → Cells → List ℕ → ℕ → List ℕ
-block_of head query cells reads round =
-    block_text head (stage_after query (frame_of head) cells reads round) round (column_read reads round)
+abbrev pub block_of : Head → TypedQuery → Planes → List ℕ → ℕ → List ℕ
+block_of head query bits reads round =
+    block_text head (stage_after query (frame_of head) bits reads round) round (column_read reads round)
 
 -- the blocks of the rounds below a number
-unfoldable pub blocks_below : Head → TypedQuery → Cells → List ℕ → ℕ → List ℕ
-blocks_below head query cells reads zero = []
-blocks_below head query cells reads (suc round) = blocks_below head query cells reads round ++ block_of head query cells reads round
+unfoldable pub blocks_below : Head → TypedQuery → Planes → List ℕ → ℕ → List ℕ
+blocks_below head query bits reads zero = []
+blocks_below head query bits reads (suc round) = blocks_below head query bits reads round ++ block_of head query bits reads round
 
 -- the first line of a report shows the printed form of the query
 abbrev pub query_line : List ℕ → List ℕ
@@ -43,31 +44,72 @@ abbrev pub end_line : Option Ending → List ℕ
 end_line None = []
 end_line (Some ending) = ending_line ending
 
--- the blocks of the rounds up to the last, and the end line
-abbrev pub rounds_text : Head → Plan → TypedQuery → Cells → List ℕ → List ℕ
-rounds_text head plan query cells reads =
-    blocks_below head query cells reads (length reads + 1)
-    ++ end_line (ending_at plan (stage_after query (frame_of head) cells reads (length reads)))
+-- the block of the last of these rounds, and the end line where the rounds end with it
+abbrev pub last_text : Head → Plan → TypedQuery → Planes → List ℕ → List ℕ
+last_text head plan query bits reads =
+    block_of head query bits reads (length reads) ++ end_line (ending_at plan (stage_after query (frame_of head) bits reads (length reads)))
+
+-- the blocks of these rounds, and the end line where they end
+abbrev pub rounds_text : Head → Plan → TypedQuery → Planes → List ℕ → List ℕ
+rounds_text head plan query bits reads = blocks_below head query bits reads (length reads) ++ last_text head plan query bits reads
 
 -- the whole report of the query with that printed form, all of whose rounds by the plan read these columns
-abbrev pub report : List ℕ → Head → Plan → TypedQuery → Cells → List ℕ → List ℕ
-report sql head plan query cells reads = query_line sql ++ rounds_text head plan query cells reads
+abbrev pub report : List ℕ → Head → Plan → TypedQuery → Planes → List ℕ → List ℕ
+report sql head plan query bits reads = query_line sql ++ rounds_text head plan query bits reads
 
 -- such a text of all rounds of the plan was written, whole or in part
-pub record WritesRounds (text : List ℕ → List ℕ) (head : Head) (plan : Plan) (query : TypedQuery) (cells : Cells) (extent : Extent) (old new : SinkState) : Type 0 where
+pub record WritesRounds (text : List ℕ → List ℕ) (head : Head) (plan : Plan) (query : TypedQuery) (bits : Planes) (extent : Extent)
+    (old new : SinkState) : Type 0 where
   pub reads : List ℕ
-  pub rounds : AreAllRounds plan query (frame_of head) cells reads
+  pub rounds : AreAllRounds plan query (frame_of head) bits reads
   pub written : Writes extent old new (text reads)
 
--- what becomes of the rounds over the table of a source: after a failed write a part of the text stands
-abbrev pub EndsRounds : {E : Type 0} → (text : List ℕ → List ℕ) → Head → Plan → TypedQuery → Cells → Result (Unit {0}) (Stop E) → SinkState → SinkState → Type 0
-EndsRounds text head plan query cells (Ok done) old new = WritesRounds text head plan query cells whole old new
-EndsRounds text head plan query cells (Err Failed) old new = WritesRounds text head plan query cells partly old new
-EndsRounds text head plan query cells (Err (Step (Source why))) old new = Unit {0}
-EndsRounds text head plan query cells (Err (Step (OverTop column plane row))) old new = ⊥
+-- ---- the rounds over the planes that a source tells, behind a line
 
--- the same of a source that may tell its table, where it does
-abbrev pub EndsTold : {E : Type 0} → (text : Head → Plan → TypedQuery → Cells → List ℕ → List ℕ) → Plan → TypedQuery → ToldTable → Result (Unit {0}) (Stop E)
-    → SinkState → SinkState → Type 0
-EndsTold text plan query table result old new =
-    IfSome table.cells (λ cells. EndsRounds (text table.head plan query cells) table.head plan query cells result old new)
+-- a write failed in the last of these rounds: what comes before its block was written, and of its block and the end line a part; in the
+-- first round the line may be written in part
+abbrev pub FailsInLast : List ℕ → Head → Plan → TypedQuery → Planes → List ℕ → SinkState → SinkState → Type 0
+FailsInLast line head plan query bits [] old new = Writes partly old new (line ++ rounds_text head plan query bits [])
+FailsInLast line head plan query bits (c ∷ reads) old new =
+    (mid : SinkState) × Writes whole old mid (line ++ blocks_below head query bits (c ∷ reads) (length (c ∷ reads)))
+    × Writes partly mid new (last_text head plan query bits (c ∷ reads))
+
+-- all rounds were written, and the places of their planes handed over
+pub record Finishes (line : List ℕ) (head : Head) (plan : Plan) (query : TypedQuery) (bits : Planes) (places : Places)
+    (old new : SinkState) (from to : Option (List ℕ)) : Type 0 where
+  pub reads : List ℕ
+  pub rounds : AreAllRounds plan query (frame_of head) bits reads
+  pub written : Writes whole old new (line ++ rounds_text head plan query bits reads)
+  pub handed : Appends from to (places_of places query reads (length reads))
+
+-- a write failed in the last of the rounds so far, and the places of their planes were handed over
+pub record Fails (line : List ℕ) (head : Head) (plan : Plan) (query : TypedQuery) (bits : Planes) (places : Places)
+    (old new : SinkState) (from to : Option (List ℕ)) : Type 0 where
+  pub reads : List ℕ
+  pub rounds : AreRounds plan query (frame_of head) bits reads
+  pub written : FailsInLast line head plan query bits reads old new
+  pub handed : Appends from to (places_of places query reads (length reads))
+
+-- the source failed at the plane after the rounds so far, or this plane was refused: they were written, and the places of their planes
+-- handed over, and of this plane's what the stop says
+pub record Stops {E : Type 0} (line : List ℕ) (head : Head) (plan : Plan) (query : TypedQuery) (bits : Planes) (places : Places)
+    (fault : StepFault E) (old new : SinkState) (from to : Option (List ℕ)) : Type 0 where
+  pub reads : List ℕ
+  pub more : List ℕ
+  pub stop : StopsAt plan query (frame_of head) bits places reads fault more
+  pub written : Writes whole old new (line ++ rounds_text head plan query bits reads)
+  pub handed : Appends from to (places_of places query reads (length reads) ++ more)
+
+-- what becomes of the rounds
+abbrev pub EndsRounds : {E : Type 0} → List ℕ → Head → Plan → TypedQuery → Planes → Places → Result (Unit {0}) (Stop E)
+    → SinkState → SinkState → Option (List ℕ) → Option (List ℕ) → Type 0
+EndsRounds line head plan query bits places (Ok done) old new from to = Finishes line head plan query bits places old new from to
+EndsRounds line head plan query bits places (Err Failed) old new from to = Fails line head plan query bits places old new from to
+EndsRounds line head plan query bits places (Err (Step fault)) old new from to =
+    Stops line head plan query bits places fault old new from to
+
+-- the same of a source that may tell its planes, where it does
+abbrev pub EndsTold : {E : Type 0} → List ℕ → Plan → TypedQuery → ToldPlanes → Places → Result (Unit {0}) (Stop E) → SinkState → SinkState
+    → Option (List ℕ) → Option (List ℕ) → Type 0
+EndsTold line plan query told places result old new from to =
+    IfSome told.bits (λ bits. EndsRounds line told.head plan query bits places result old new from to)

@@ -22,7 +22,7 @@ pub fn steps_are_exact()
     table_gen::tables_are_one();
 }
 
-/// The words of an `ask`, and they with the bytes of an input, are accepted or show a refusal: nothing falls between.
+/// The words of an `ask`, they with the bytes of an input, and the words of a `demo` are accepted or show a refusal: nothing falls between.
 pub fn steps_are_complete()
     ensures { StepsAreComplete }
 {
@@ -32,4 +32,5 @@ pub fn steps_are_complete()
     trees_have_typings();
     typed_queries_are_valid();
     words_have_answers();
+    table_gen::seeds_have_tables();
 }

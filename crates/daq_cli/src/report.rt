@@ -1,6 +1,6 @@
 //! The report of a query: its line, a block for each round of a plan, and why the rounds ended.
 
-ghost use Rattle.std.specs.Prelude.{◌≡◌, ◌^◌, ◌<◌, OnOk, OnErr, length};
+ghost use Rattle.std.specs.Prelude.{◌≡◌, ◌^◌, ◌<◌, [], OnOk, OnErr, length};
 ghost use Rattle.daq_table.specs.ValueTexts.{HeadHasTexts};
 ghost use Rattle.outer_world.specs.Whole.{Writes};
 ghost use Rattle.plane_schedule.specs.Keeping.{Follows, Keeps};
@@ -8,7 +8,7 @@ ghost use Rattle.plane_schedule.specs.Plans.{IsReadable};
 ghost use Rattle.query_model.specs.Validity.{IsValid};
 ghost use Rattle.round_engine.specs.Stages.{opened};
 ghost use Rattle.daq_cli.specs.Questions.{ReportsRounds};
-ghost use Rattle.daq_cli.specs.Report.{EndsTold, ending_line, query_line, report, rounds_text};
+ghost use Rattle.daq_cli.specs.Report.{EndsTold, ending_line, query_line};
 ghost use Rattle.daq_cli.specs.Worlds.{partly, whole};
 ghost use Rattle.sql_print.specs.Printed.{printed};
 ghost use Rattle.sql_text.specs.Tree.{Query};
@@ -25,7 +25,7 @@ use query_model::valid_queries_name_columns;
 use round_engine::Engine;
 use table_rounds::{
     PlaneSource, StepFault, ending, read_next, rounds_are_certain, rounds_are_counted,
-    rounds_begin, rounds_have_an_end,
+    rounds_begin, rounds_have_an_end, tables_are_taken,
 };
 
 // Writes the line of the query with that printed form.
@@ -56,22 +56,19 @@ fn write_rounds<S: PlaneSource, F: Fn(&Progress) -> usize, K: Sink>(
     plane: &mut Plane,
     out: &mut K,
 ) -> Result<(), Stop<S::Error>>
-    requires valid { IsValid (S.table source.old).head engine.old.query }
-    requires opened { engine.old ≡ opened engine.old.query (S.table source.old).head }
-    requires texts { HeadHasTexts (S.table source.old).head }
+    requires valid { IsValid (S.told source.old).head engine.old.query }
+    requires opened { engine.old ≡ opened engine.old.query (S.told source.old).head }
+    requires texts { HeadHasTexts (S.told source.old).head }
     requires rows { length plane.old ≡ engine.old.frame.rows }
     requires width { plan.now.width < 2 ^ 63 }
     requires readable { IsReadable plan.now.policy engine.old.frame }
     requires kept { Keeps F.Fn chooser.now.choose }
     requires follows { Follows F.Fn chooser.now.choose plan.now.policy }
-    ensures { EndsTold rounds_text plan.now engine.old.query (S.table source.old) result (K.state out.old) (K.state out.new) }
+    ensures { EndsTold [] plan.now engine.old.query (S.told source.old) (S.places source.old) result
+        (K.state out.old) (K.state out.new) (S.handed source.old) (S.handed source.new) }
 {
     rounds_begin();
-    rounds_have_an_end();
     rounds_are_counted();
-    valid_queries_name_columns();
-    // The head's clause says that told cells are a table's.
-    let _told = source.head();
     let mut last = None;
     'rounds: loop {
         let ended = ending(engine, plan);
@@ -94,13 +91,14 @@ fn write_planned<S: PlaneSource, K: Sink>(
     plane: &mut Plane,
     out: &mut K,
 ) -> Result<(), Stop<S::Error>>
-    requires valid { IsValid (S.table source.old).head engine.old.query }
-    requires opened { engine.old ≡ opened engine.old.query (S.table source.old).head }
-    requires texts { HeadHasTexts (S.table source.old).head }
+    requires valid { IsValid (S.told source.old).head engine.old.query }
+    requires opened { engine.old ≡ opened engine.old.query (S.told source.old).head }
+    requires texts { HeadHasTexts (S.told source.old).head }
     requires rows { length plane.old ≡ engine.old.frame.rows }
     requires width { plan.now.width < 2 ^ 63 }
     requires readable { IsReadable plan.now.policy engine.old.frame }
-    ensures { EndsTold rounds_text plan.now engine.old.query (S.table source.old) result (K.state out.old) (K.state out.new) }
+    ensures { EndsTold [] plan.now engine.old.query (S.told source.old) (S.places source.old) result
+        (K.state out.old) (K.state out.new) (S.handed source.old) (S.handed source.new) }
 {
     match &plan.policy {
         Policy::Widest => write_rounds(
@@ -147,19 +145,16 @@ pub(crate) fn write_report<S: PlaneSource, K: Sink>(
     plane: &mut Plane,
     out: &mut K,
 ) -> Result<(), Stop<S::Error>>
-    requires valid { IsValid (S.table source.old).head engine.old.query }
-    requires opened { engine.old ≡ opened engine.old.query (S.table source.old).head }
-    requires texts { HeadHasTexts (S.table source.old).head }
+    requires valid { IsValid (S.told source.old).head engine.old.query }
+    requires opened { engine.old ≡ opened engine.old.query (S.told source.old).head }
+    requires texts { HeadHasTexts (S.told source.old).head }
     requires rows { length plane.old ≡ engine.old.frame.rows }
     requires width { plan.now.width < 2 ^ 63 }
     requires readable { IsReadable plan.now.policy engine.old.frame }
-    ensures { EndsTold (report sql.now) plan.now engine.old.query (S.table source.old) result (K.state out.old) (K.state out.new) }
+    ensures { EndsTold (query_line sql.now) plan.now engine.old.query (S.told source.old) (S.places source.old) result
+        (K.state out.old) (K.state out.new) (S.handed source.old) (S.handed source.new) }
 {
     rounds_begin();
-    rounds_have_an_end();
-    valid_queries_name_columns();
-    // The head's clause says that told cells are a table's.
-    let _told = source.head();
     write_query(sql, out)?;
     write_planned(plan, engine, source, plane, out)
 }
@@ -185,6 +180,8 @@ pub(crate) fn report_table<K: Sink>(
         → ReportsRounds query engine.old.query plan.now table.now partly (K.state out.old) (K.state out.new)) }
 {
     rounds_are_certain();
+    rounds_have_an_end();
+    tables_are_taken();
     valid_queries_name_columns();
     // The head's clause says that the cells fit it.
     let _told = table.head();

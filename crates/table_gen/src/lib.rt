@@ -12,6 +12,6 @@ mod rows;
 #[cfg(test)]
 mod tests;
 
-pub use exactness::{heads_have_texts, tables_are_one};
+pub use exactness::{heads_have_texts, seeds_have_tables, tables_are_one};
 pub use fault::GenFault;
 pub use making::{MOST_ROWS, make};

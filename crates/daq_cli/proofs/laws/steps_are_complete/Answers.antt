@@ -6,6 +6,7 @@ returns c = steps_complete (record {
   texts = c.some_answer.ensures;
   schemas = c.schemas_have_meanings.ensures;
   tables = c.texts_have_answers.ensures;
+  seeds = c.seeds_have_tables.ensures;
   typings = c.trees_have_typings.ensures;
   valid = c.typed_queries_are_valid.ensures;
   reads = c.words_have_answers.ensures;

@@ -1,8 +1,12 @@
 -- The report of the rounds over the table, each of whose intervals is certain.
-use Rattle.std.proofs.Common.{◌∙◌, Err, ap, subst}
+use Rattle.std.proofs.Common.{◌∙◌, [], Err, Some, refl, ap, subst}
 use Rattle.daq_table.specs.Tables.{frame_of}
-use Rattle.daq_cli.specs.Report.{EndsRounds, WritesRounds, report}
+use Rattle.plane_schedule.specs.Plans.{IsReadable}
+use Rattle.query_model.specs.Knowledge.{plane_of}
+use Rattle.daq_cli.specs.Report.{EndsRounds, WritesRounds, query_line, report}
 use Rattle.daq_cli.specs.Worlds.{partly, whole}
+use Rattle.daq_cli.specs.declared.stop.Stop.TheVariants.{Step}
+use Rattle.daq_cli.proofs.Tables.{in_part, is_whole, never_refused}
 use Rattle.daq_cli.proofs.report.report_table.Goals as goal
 
 pub returns-in-Ok-clause-done : goal.returns-in-Ok-clause-done
@@ -10,19 +14,42 @@ returns-in-Ok-clause-done g c = λ query is.
     let head = c.args.table.now.head in
     let typed = c.args.engine.now.query in
     let cells = c.args.table.now.cells in
+    let bits = plane_of (frame_of head) cells in
+    let plan = c.args.plan.now in
     let named = c.valid_queries_name_columns.ensures head typed c.requires.valid in
-    let written = subst (λ t. WritesRounds (report t head c.args.plan.now typed cells) head c.args.plan.now typed cells whole (g.K.Sink.state c.args.out.now) (g.K.Sink.state c.write_report.new.out)) is c.in-Ok.ensures in
-    record { written = written; headline = c.rounds_are_certain.ensures c.args.plan.now typed (frame_of head) cells written.reads named c.head-told.ensures.is_table written.rounds.rounds }
+    let table = c.head-told.ensures.is_table in
+    let all = is_whole (query_line c.args.sql.now) head plan typed cells (λ column number. []) named table c.tables_are_taken.ensures (g.K.Sink.state c.args.out.now) (g.K.Sink.state c.write_report.new.out) _ _ c.in-Ok.ensures in
+    let written = subst (λ t. WritesRounds (report t head plan typed bits) head plan typed bits whole (g.K.Sink.state c.args.out.now) (g.K.Sink.state c.write_report.new.out)) is all in
+    record { written = written; headline = c.rounds_are_certain.ensures plan typed (frame_of head) bits written.reads cells named written.rounds.rounds (record { table = table; same = λ i j h k. refl }) }
 
 pub returns-in-Err-Failed-clause-failed : goal.returns-in-Err-Failed-clause-failed
 returns-in-Err-Failed-clause-failed g c = λ query is.
     let head = c.args.table.now.head in
     let typed = c.args.engine.now.query in
     let cells = c.args.table.now.cells in
+    let bits = plane_of (frame_of head) cells in
+    let plan = c.args.plan.now in
     let old = g.K.Sink.state c.args.out.now in
     let new = g.K.Sink.state c.write_report.new.out in
     let named = c.valid_queries_name_columns.ensures head typed c.requires.valid in
-    let failed : WritesRounds (report c.args.sql.now head c.args.plan.now typed cells) head c.args.plan.now typed cells partly old new =
-    subst (λ r. EndsRounds (report c.args.sql.now head c.args.plan.now typed cells) head c.args.plan.now typed cells r old new) (c.in-Err-Failed.is ∙ ap Err c.in-Err-Failed.field-0-is) c.write_report.ensures in
-    let written = subst (λ t. WritesRounds (report t head c.args.plan.now typed cells) head c.args.plan.now typed cells partly old new) is failed in
-    record { written = written; headline = c.rounds_are_certain.ensures c.args.plan.now typed (frame_of head) cells written.reads named c.head-told.ensures.is_table written.rounds.rounds }
+    let table = c.head-told.ensures.is_table in
+    let readable = subst (IsReadable plan.policy) (ap (λ s. s.frame) c.requires.opened) c.requires.readable in
+    let failed = subst (λ r. EndsRounds (query_line c.args.sql.now) head plan typed bits (λ column number. []) r old new (Some []) (Some [])) (c.in-Err-Failed.is ∙ ap Err c.in-Err-Failed.field-0-is) c.write_report.ensures in
+    let part = in_part (query_line c.args.sql.now) head plan typed cells (λ column number. []) named table c.tables_are_taken.ensures c.rounds_have_an_end.ensures readable old new (Some []) (Some []) failed in
+    let written = subst (λ t. WritesRounds (report t head plan typed bits) head plan typed bits partly old new) is part in
+    record { written = written; headline = c.rounds_are_certain.ensures plan typed (frame_of head) bits written.reads cells named written.rounds.rounds (record { table = table; same = λ i j h k. refl }) }
+
+-- no plane of a table is refused
+pub unreachable-requires : goal.unreachable-requires
+unreachable-requires g c =
+    let head = c.args.table.now.head in
+    let typed = c.args.engine.now.query in
+    let cells = c.args.table.now.cells in
+    let old = g.K.Sink.state c.args.out.now in
+    let new = g.K.Sink.state c.write_report.new.out in
+    let arm = c.in-Err-Step-OverTop in
+    let named = c.valid_queries_name_columns.ensures head typed c.requires.valid in
+    let over = subst (λ r. EndsRounds (query_line c.args.sql.now) head c.args.plan.now typed (plane_of (frame_of head) cells) (λ column number. []) r old new (Some []) (Some []))
+    (arm.is ∙ ap Err (arm.field-0-is ∙ ap Step arm.field-0-0-is)) c.write_report.ensures in
+    never_refused (query_line c.args.sql.now) head c.args.plan.now typed cells (λ column number. []) named c.head-told.ensures.is_table c.tables_are_taken.ensures
+    arm.field-0-0-0 arm.field-0-0-1 arm.field-0-0-2 old new (Some []) (Some []) over

@@ -1,0 +1,87 @@
+-- What becomes of the rounds over the planes of a table: no plane is refused, so what is written is the report or a part of it.
+use Rattle.std.proofs.Common.{◌≡◌, ◌⊎◌, ℕ, ◌+◌, List, [], ◌∷◌, ◌++◌, length, refl, sym, ap, ◌∙◌, subst, arith, inl, inr, Option, IsNone, IsSome, append-nil, append_assoc, length-append}
+use Rattle.std.proofs.lemmas.Bool.{cases_Bool}
+use Rattle.std.proofs.lemmas.List.{length-map}
+use Rattle.std.specs.Option.{is_some}
+use Rattle.daq_table.specs.Tables.{Cells, Frame, IsTable, ends_at, frame_of}
+use Rattle.daq_table.specs.declared.table_head.Head.{Head}
+use Rattle.outer_world.proofs.Writes.{writes_cut}
+use Rattle.outer_world.specs.Device.{SinkState}
+use Rattle.outer_world.specs.Whole.{Writes}
+use Rattle.plane_schedule.specs.Plans.{IsReadable}
+use Rattle.plane_schedule.specs.declared.policy.Plan.{Plan}
+use Rattle.query_model.specs.Knowledge.{bit_at, plane_of}
+use Rattle.query_model.specs.Projection.{projected_frame}
+use Rattle.query_model.specs.Worlds.{NamesColumns}
+use Rattle.query_model.specs.declared.query.TypedQuery.{TypedQuery}
+use Rattle.table_rounds.specs.Headline.{RoundsHaveAnEnd, TablesAreTaken}
+use Rattle.table_rounds.specs.Rounds.{AreAllRounds, AreRefused, HaveRows, Planes, ending_at, stage_after}
+use Rattle.table_rounds.specs.Sources.{Places}
+use Rattle.table_rounds.specs.declared.reading.StepFault.TheVariants.{OverTop}
+use Rattle.daq_cli.specs.Report.{Fails, Finishes, Stops, WritesRounds, block_of, blocks_below, end_line, last_text, rounds_text}
+use Rattle.daq_cli.specs.Worlds.{partly, whole}
+use Rattle.daq_cli.proofs.Blocks.{blocks_before, blocks_rest, next_block}
+use Rattle.daq_cli.proofs.Rounds.{no_line, part_of_text}
+
+pub rows_of_table : (frame : Frame) (cells : Cells) → IsTable frame cells → HaveRows frame (plane_of frame cells)
+rows_of_table frame cells table column number h k = length-map _ (bit_at (ends_at frame column) number) ∙ table.rows column h
+
+module _ (line : List ℕ) (head : Head) (plan : Plan) (query : TypedQuery) (bits : Planes) where
+  -- where they do not end, the text of rounds begins that of more rounds
+  goes_on : (reads rest : List ℕ) → IsNone (ending_at plan (stage_after query (frame_of head) bits reads (length reads))) →
+      (more : List ℕ) × (line ++ rounds_text head plan query bits (reads ++ rest) ≡ (line ++ rounds_text head plan query bits reads) ++ more)
+  goes_on reads [] going = ([], ap (λ l. line ++ rounds_text head plan query bits l) (append-nil reads) ∙ sym (append-nil (line ++ rounds_text head plan query bits reads)))
+  goes_on reads (c ∷ rest) going =
+      let all = reads ++ c ∷ rest in
+      let n = length reads in
+      let long : length all ≡ n + length (c ∷ rest) = length-append reads (c ∷ rest) in
+      let (between, whole_is) = blocks_rest head query bits all (n + 1) (length all) (omega (arith, long)) in
+      let before = blocks_below head query bits reads n in
+      let block = block_of head query bits reads n in
+      let last = last_text head plan query bits all in
+      let first : blocks_below head query bits all (n + 1) ≡ before ++ block = blocks_before head query bits reads (c ∷ rest) (n + 1) (omega arith) ∙ next_block head query bits reads n in
+      let end : block ++ end_line (ending_at plan (stage_after query (frame_of head) bits reads n)) ≡ block =
+      ap (λ l. block ++ l) (no_line (ending_at plan (stage_after query (frame_of head) bits reads n)) going) ∙ append-nil block in (
+        between ++ last,
+        ap (λ l. line ++ (l ++ last)) (whole_is ∙ ap (λ l. l ++ between) first)
+            ∙ ap (λ l. line ++ l) (append_assoc (before ++ block) between last)
+            ∙ sym (append_assoc line (before ++ block) (between ++ last))
+            ∙ sym (ap (λ l. (line ++ (before ++ l)) ++ (between ++ last)) end),
+      )
+
+module _ (line : List ℕ) (head : Head) (plan : Plan) (query : TypedQuery) (cells : Cells) (places : Places) (named : NamesColumns query (frame_of head)) (table : IsTable (frame_of head) cells) (taken : TablesAreTaken) where
+  abbrev bits : Planes
+  bits = plane_of (frame_of head) cells
+
+  pub is_whole : (old new : SinkState) (from to : Option (List ℕ)) → Finishes line head plan query bits places old new from to →
+      WritesRounds (λ reads. line ++ rounds_text head plan query bits reads) head plan query bits whole old new
+  is_whole old new from to all = record { reads = all.reads; rounds = all.rounds; written = all.written }
+
+  -- a part of the text of some rounds is a part of that of all
+  pub in_part : RoundsHaveAnEnd → IsReadable plan.policy (projected_frame query (frame_of head)) → (old new : SinkState) (from to : Option (List ℕ)) →
+      Fails line head plan query bits places old new from to → WritesRounds (λ reads. line ++ rounds_text head plan query bits reads) head plan query bits partly old new
+  in_part ends readable old new from to fails =
+      by (cases_Bool (is_some (ending_at plan (stage_after query (frame_of head) bits fails.reads (length fails.reads)))))
+    where
+      written : Writes partly old new (line ++ rounds_text head plan query bits fails.reads)
+      written = part_of_text plan head query bits places line fails.reads old new fails.written
+
+      to_end : IsNone (ending_at plan (stage_after query (frame_of head) bits fails.reads (length fails.reads))) → (rest : List ℕ) →
+          (AreAllRounds plan query (frame_of head) bits (fails.reads ++ rest) ⊎ ((column plane row : ℕ) × AreRefused plan query (frame_of head) bits (fails.reads ++ rest) column plane row)) →
+          WritesRounds (λ reads. line ++ rounds_text head plan query bits reads) head plan query bits partly old new
+      to_end going rest (inl all) =
+          let (more, same) = goes_on line head plan query bits fails.reads rest going in
+          record { reads = fails.reads ++ rest; rounds = all; written = subst (Writes partly old new) (sym same) (writes_cut tt partly old new _ more refl written) }
+      to_end going rest (inr (column, plane, row, refused)) = absurd (taken plan query (frame_of head) cells (fails.reads ++ rest) column plane row named table refused)
+
+      by : (IsSome (ending_at plan (stage_after query (frame_of head) bits fails.reads (length fails.reads))) ⊎ IsNone (ending_at plan (stage_after query (frame_of head) bits fails.reads (length fails.reads)))) →
+          WritesRounds (λ reads. line ++ rounds_text head plan query bits reads) head plan query bits partly old new
+      by (inl ended) = record { reads = fails.reads; rounds = record { rounds = fails.rounds; ended = ended }; written = written }
+      by (inr going) =
+          let (rest, end) = ends plan query (frame_of head) bits fails.reads named (rows_of_table (frame_of head) cells table) readable fails.rounds in
+          to_end going rest end
+
+  -- no plane is refused
+  pub never_refused : {E : Type 0} (column plane row : ℕ) (old new : SinkState) (from to : Option (List ℕ)) →
+      Stops {E = E} line head plan query bits places (OverTop column plane row) old new from to → ⊥
+  never_refused column plane row old new from to stops = taken plan query (frame_of head) cells stops.reads column plane row named table stops.stop.0
