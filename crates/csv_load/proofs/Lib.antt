@@ -9,6 +9,7 @@ pub mod EndFacts
 pub mod NullFacts
 pub mod TableFacts
 pub mod LoadFacts
+pub mod NumberFacts
 pub mod OneFault
 pub mod HeadTexts
 pub mod OneTable

@@ -66,7 +66,7 @@ stays_all : (texts names : List (List ℕ)) (name : List ℕ) → list_any (byte
 stays_all [] names name h = h
 stays_all (text ∷ texts) names name h = stays_all texts (insert_key (slice_cmp nat_cmp) names text) name (stays names name text h)
 
-all_come : (texts names : List (List ℕ)) → All (λ text. IsTrue (list_any (bytes_eq text) (fold (insert_key (slice_cmp nat_cmp)) names texts))) texts
+pub all_come : (texts names : List (List ℕ)) → All (λ text. IsTrue (list_any (bytes_eq text) (fold (insert_key (slice_cmp nat_cmp)) names texts))) texts
 all_come [] names = λ k d lt. absurd (omega (arith, lt))
 all_come (text ∷ texts) names =
     let after = insert_key (slice_cmp nat_cmp) names text in

@@ -19,7 +19,7 @@ use Rattle.csv_load.specs.Rows.{AreGoodBefore, AreGoodRows, HasRoom, IsGoodCell,
 use Rattle.csv_load.specs.States.{AreStates, HasRoomFor, Kept, State, Takes, TakesRow, TookBelow, kept_of, kept_with, names_with, state_of, state_with}
 use Rattle.csv_load.specs.declared.limits.Limits.{Limits}
 
-distinct_more : (texts : List (List ℕ)) (text : List ℕ) → insert_key (slice_cmp nat_cmp) (distinct texts) text ≡ distinct (texts ++ text ∷ [])
+pub distinct_more : (texts : List (List ℕ)) (text : List ℕ) → insert_key (slice_cmp nat_cmp) (distinct texts) text ≡ distinct (texts ++ text ∷ [])
 distinct_more texts text = sym (fold-append (insert_key (slice_cmp nat_cmp)) [] texts (text ∷ []))
 
 pub dictionary_more : (kind : Kind) (texts : List (List ℕ)) (text : List ℕ) → names_with kind (dictionary kind texts) text ≡ dictionary kind (texts ++ text ∷ [])

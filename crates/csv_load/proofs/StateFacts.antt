@@ -1,13 +1,14 @@
 -- How the values that are kept of a column grow.
-use Rattle.std.proofs.Common.{◌≡◌, ℕ, ℤ, true, List, [], ◌∷◌, ◌++◌, map, refl, ap, sym}
+use Rattle.std.proofs.Common.{◌≡◌, ℕ, ℤ, true, List, [], ◌∷◌, ◌++◌, map, refl, ap, sym, ◌∙◌}
 use Rattle.std.specs.BTreeSet.{insert_key}
 use Rattle.std.specs.Cmp.Lexicographic.{slice_cmp}
 use Rattle.std.specs.Ordering.{match_ordering, nat_cmp}
 use Rattle.std.specs.declared.cmp.Ordering.TheVariants.{Less, Equal, Greater}
 use Rattle.daq_table.specs.declared.head.Kind.{Kind}
 use Rattle.daq_table.specs.declared.head.Kind.TheVariants.{Int, Dec, Date, Text}
-use Rattle.csv_load.specs.Columns.{IsShortText, IsValue, is_text}
+use Rattle.csv_load.specs.Columns.{IsShortText, IsValue, distinct, is_text}
 use Rattle.csv_load.specs.States.{Kept, kept_with, names_with}
+use Rattle.csv_load.proofs.RowFacts.{distinct_more}
 
 pub text_is_value : (kind : Kind) (text : List ℕ) → is_text kind ≡ true → IsShortText text → IsValue kind text
 text_is_value Int text h s = absurd cc
@@ -24,12 +25,10 @@ insert_viewed view (x ∷ keys) key =
     elim (slice_cmp nat_cmp (view key) (view x)) as (λ o. map view (match_ordering o (key ∷ x ∷ keys) (x ∷ keys) (x ∷ insert_key (λ x y. slice_cmp nat_cmp (view x) (view y)) keys key)) ≡ match_ordering o (view key ∷ view x ∷ map view keys) (view x ∷ map view keys) (view x ∷ insert_key (slice_cmp nat_cmp) (map view keys) (view key)))
     [ Less ↦ refl | Equal ↦ refl | Greater ↦ ap (λ ks. view x ∷ ks) more ]
 
-pub names_viewed : {K : Type 0} (view : K → List ℕ) (keys new : List K) (key : K) (kind : Kind) (text : List ℕ)
-    → is_text kind ≡ true → new ≡ insert_key (λ x y. slice_cmp nat_cmp (view x) (view y)) keys key → view key ≡ text
-    → names_with kind (map view keys) text ≡ map view new
-names_viewed view keys new key kind text h e v = rw (h, e, ← v) (sym (insert_viewed view keys key))
+-- the names and the values with one more text
+pub names_taken : (kind : Kind) (texts later : List (List ℕ)) (text : List ℕ) → is_text kind ≡ true → later ≡ texts ++ text ∷ [] → names_with kind (distinct texts) text ≡ distinct later
+names_taken kind texts later text h e = rw h (distinct_more texts text ∙ ap distinct (sym e))
 
-pub text_taken : {K : Type 0} (view : K → List ℕ) (kind : Kind) (numbers : List ℤ) (texts later : List (List ℕ)) (keys new : List K) (key : K) (text : List ℕ)
-    → is_text kind ≡ true → new ≡ insert_key (λ x y. slice_cmp nat_cmp (view x) (view y)) keys key → view key ≡ text → later ≡ texts ++ text ∷ []
-    → ◌≡◌ {A = Kept} (record { kind = kind; numbers = numbers; texts = later; names = map view new }) (kept_with (record { kind = kind; numbers = numbers; texts = texts; names = map view keys }) text)
-text_taken view kind numbers texts later keys new key text h e v t = rw (h, e, t, ← v) (ap (λ (ks : List (List ℕ)). record { kind = kind; numbers = numbers; texts = texts ++ view key ∷ []; names = ks }) (insert_viewed view keys key))
+pub text_taken : (kind : Kind) (numbers : List ℤ) (texts later : List (List ℕ)) (text : List ℕ) → is_text kind ≡ true → later ≡ texts ++ text ∷ []
+    → ◌≡◌ {A = Kept} (record { kind = kind; numbers = numbers; texts = later; names = distinct later }) (kept_with (record { kind = kind; numbers = numbers; texts = texts; names = distinct texts }) text)
+text_taken kind numbers texts later text h e = rw (h, e) (ap (λ (ns : List (List ℕ)). record { kind = kind; numbers = numbers; texts = texts ++ text ∷ []; names = ns }) (sym (distinct_more texts text)))

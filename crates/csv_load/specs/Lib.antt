@@ -1,5 +1,6 @@
 pub mod Records
 pub mod Columns
+pub mod Numbered
 pub mod Rows
 pub mod Faults
 pub mod TableOf

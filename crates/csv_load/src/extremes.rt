@@ -31,7 +31,7 @@ pub(crate) fn greatest_number(numbers: &[i64]) -> i64
 pub(crate) fn distances(alloc: Global, numbers: &[i64], base: i64) -> Result<Vec<u64>, AllocError>
     ensures { IfOk result (λ cells. cells.items ≡ map (λ z. unsigned_abs (z -ℤ base)) numbers.now) }
 {
-    let mut cells = Vec::new(alloc);
+    let mut cells = Vec::with_capacity(alloc, numbers.len())?;
     for number in numbers {
         cells.push(number.abs_diff(base))?;
     }

@@ -18,6 +18,7 @@ mod reading;
 mod record;
 #[cfg(test)]
 mod tests;
+mod texts;
 mod values;
 
 pub use exactness::{faults_are_exact, heads_have_texts, tables_are_one, texts_have_answers};

@@ -5,7 +5,7 @@ use daq_table::Schema;
 use std::alloc::Global;
 use std::test::Fail;
 
-// A column of a table: its ends, the number of its names, the numbers of its cells and its marks.
+// The first column of a table: its ends, the number of its names, the numbers of its cells and its marks.
 #[derive(Drop)]
 struct Found {
     base: i64,
@@ -14,6 +14,115 @@ struct Found {
     cells: Vec<u64>,
     nulls: Vec<bool>,
 }
+
+// A CSV under a schema, and what is found of its first column.
+#[derive(Clone, Copy)]
+struct Case {
+    csv: &'static str,
+    schema: &'static str,
+    ends: (i64, i64),
+    names: usize,
+    cells: &'static [u64],
+    nulls: &'static [bool],
+}
+
+const SOME_ARE_NULL: [Case; 5] = [
+    Case {
+        csv: "v,w\n5,1\n,2\n9,\n",
+        schema: "v:int?,w:int?",
+        ends: (5, 9),
+        names: 0,
+        cells: &[0, 0, 4],
+        nulls: &[false, true, false],
+    },
+    Case {
+        csv: "v,w\n,1\n-0.5,2\n",
+        schema: "v:dec1?,w:int",
+        ends: (-5, -5),
+        names: 0,
+        cells: &[0, 0],
+        nulls: &[true, false],
+    },
+    Case {
+        csv: "v,w\n1970-01-03,1\n\"\",2\n1970-01-02,3\n",
+        schema: "v:date?,w:int",
+        ends: (1, 2),
+        names: 0,
+        cells: &[1, 0, 0],
+        nulls: &[false, true, false],
+    },
+    Case {
+        csv: "v,w\nb,1\n,2\na,3\nb,4\n",
+        schema: "v:text?,w:int",
+        ends: (0, 1),
+        names: 2,
+        cells: &[1, 0, 0, 1],
+        nulls: &[false, true, false, false],
+    },
+    // A line without a byte is no record, so in a column alone a null is written in quotes.
+    Case {
+        csv: "v\n3\n\n\"\"\n",
+        schema: "v:int?",
+        ends: (3, 3),
+        names: 0,
+        cells: &[0, 0],
+        nulls: &[false, true],
+    },
+];
+
+const ALL_ARE_NULL: [Case; 3] = [
+    Case {
+        csv: "v,w\n,1\n,2\n",
+        schema: "v:int?,w:int",
+        ends: (0, 0),
+        names: 0,
+        cells: &[0, 0],
+        nulls: &[true, true],
+    },
+    Case {
+        csv: "v,w\n,1\n",
+        schema: "v:date?,w:int",
+        ends: (0, 0),
+        names: 0,
+        cells: &[0],
+        nulls: &[true],
+    },
+    Case {
+        csv: "v,w\n,1\n,2\n",
+        schema: "v:text?,w:int",
+        ends: (0, 0),
+        names: 0,
+        cells: &[0, 0],
+        nulls: &[true, true],
+    },
+];
+
+const NONE_IS_NULL: [Case; 3] = [
+    Case {
+        csv: "v\n7\n",
+        schema: "v:int?",
+        ends: (7, 7),
+        names: 0,
+        cells: &[0],
+        nulls: &[false],
+    },
+    Case {
+        csv: "v\nb\na\n",
+        schema: "v:text?",
+        ends: (0, 1),
+        names: 2,
+        cells: &[1, 0],
+        nulls: &[false, false],
+    },
+    Case {
+        csv: "v\n",
+        schema: "v:text?",
+        ends: (0, 0),
+        names: 0,
+        cells: &[],
+        nulls: &[],
+    },
+];
 
 // The first column of the table.
 fn first_column(alloc: Global, text: &str, schema: &str) -> Result<Found, TableFault> {
@@ -34,100 +143,23 @@ fn first_column(alloc: Global, text: &str, schema: &str) -> Result<Found, TableF
     })
 }
 
+// Whether that is found of the first column.
+fn is_found(alloc: Global, case: &Case) -> Result<bool, TableFault> {
+    let found = first_column(alloc, case.csv, case.schema)?;
+    Ok(
+        (found.base, found.top) == case.ends
+            && found.names == case.names
+            && found.cells.as_slice() == case.cells
+            && found.nulls.as_slice() == case.nulls,
+    )
+}
+
 #[test]
 fn columns_with_nulls(rt: HostRuntime) -> Result<(), Fail> {
-    for (text, schema, ends, names, cells, nulls) in [
-        // Some are null.
-        (
-            "v,w\n5,1\n,2\n9,\n",
-            "v:int?,w:int?",
-            (5, 9),
-            0,
-            [0u64, 0, 4].as_slice(),
-            [false, true, false].as_slice(),
-        ),
-        (
-            "v,w\n,1\n-0.5,2\n",
-            "v:dec1?,w:int",
-            (-5, -5),
-            0,
-            [0, 0].as_slice(),
-            [true, false].as_slice(),
-        ),
-        (
-            "v,w\n1970-01-03,1\n\"\",2\n1970-01-02,3\n",
-            "v:date?,w:int",
-            (1, 2),
-            0,
-            [1, 0, 0].as_slice(),
-            [false, true, false].as_slice(),
-        ),
-        (
-            "v,w\nb,1\n,2\na,3\nb,4\n",
-            "v:text?,w:int",
-            (0, 1),
-            2,
-            [1, 0, 0, 1].as_slice(),
-            [false, true, false, false].as_slice(),
-        ),
-        // All are null.
-        (
-            "v,w\n,1\n,2\n",
-            "v:int?,w:int",
-            (0, 0),
-            0,
-            [0, 0].as_slice(),
-            [true, true].as_slice(),
-        ),
-        (
-            "v,w\n,1\n",
-            "v:date?,w:int",
-            (0, 0),
-            0,
-            [0].as_slice(),
-            [true].as_slice(),
-        ),
-        (
-            "v,w\n,1\n,2\n",
-            "v:text?,w:int",
-            (0, 0),
-            0,
-            [0, 0].as_slice(),
-            [true, true].as_slice(),
-        ),
-        // None is null.
-        (
-            "v\n7\n",
-            "v:int?",
-            (7, 7),
-            0,
-            [0].as_slice(),
-            [false].as_slice(),
-        ),
-        (
-            "v\nb\na\n",
-            "v:text?",
-            (0, 1),
-            2,
-            [1, 0].as_slice(),
-            [false, false].as_slice(),
-        ),
-        ("v\n", "v:text?", (0, 0), 0, [].as_slice(), [].as_slice()),
-        // A line without a byte is no record, so in a column alone a null is written in quotes.
-        (
-            "v\n3\n\n\"\"\n",
-            "v:int?",
-            (3, 3),
-            0,
-            [0, 0].as_slice(),
-            [false, true].as_slice(),
-        ),
-    ] {
-        let found = first_column(rt.alloc(), text, schema)?;
-        assert_eq!(rt; (found.base, found.top), ends, "at {text}");
-        assert_eq!(rt; found.names, names, "at {text}");
-        assert_eq!(rt; found.cells.as_slice(), cells, "at {text}");
-        assert_eq!(rt; found.nulls.as_slice(), nulls, "at {text}");
+    for cases in [SOME_ARE_NULL.as_slice(), &ALL_ARE_NULL, &NONE_IS_NULL] {
+        for case in cases {
+            assert!(rt; is_found(rt.alloc(), case)?, "{}", case.csv);
+        }
     }
     Ok(())
 }

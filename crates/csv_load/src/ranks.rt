@@ -1,4 +1,4 @@
-//! The dictionary of a column of texts, and the ranks of its cells.
+//! Names in order, and the ranks of texts among them.
 
 ghost use Rattle.std.specs.Prelude.{◌≡◌, ◌<◌, pos, length, map, vec_items, All, IfOk, IsTrue};
 ghost use Rattle.std.specs.Cmp.Lexicographic.{slice_cmp};
@@ -6,11 +6,8 @@ ghost use Rattle.std.specs.List.{list_any};
 ghost use Rattle.std.specs.List.Sorted.{IsStrictlySortedBy};
 ghost use Rattle.std.specs.Ordering.{nat_cmp};
 ghost use Rattle.std.specs.Str.{bytes_eq};
-ghost use Rattle.csv.specs.Records.{fields_of};
 ghost use Rattle.csv_load.specs.Columns.{rank_of};
 
-use crate::record::field_at;
-use csv::ByteRecord;
 use daq_table::{Dictionary, Text};
 use std::alloc::{AllocError, Global};
 use std::collections::BTreeSet;
@@ -43,19 +40,19 @@ fn rank(names: &[Text], text: &[u8]) -> usize
     }
 }
 
-/// The ranks of the texts.
-pub(crate) fn ranks(
+/// The ranks of texts that are all among the names.
+pub(crate) fn ranks_of(
     alloc: Global,
-    texts: &ByteRecord,
+    texts: &[Vec<u8>],
     names: &[Text],
 ) -> Result<Vec<i64>, AllocError>
     requires sorted { IsStrictlySortedBy (slice_cmp nat_cmp) names.now }
-    requires known { All (λ text. IsTrue (list_any (bytes_eq text) names.now)) (fields_of texts.now) }
-    ensures { IfOk result (λ ranks. ranks.items ≡ map (λ text. pos (rank_of names.now text)) (fields_of texts.now)) }
+    requires known { All (λ text. IsTrue (list_any (bytes_eq text) names.now)) (map vec_items texts.now) }
+    ensures { IfOk result (λ ranks. ranks.items ≡ map (λ text. pos (rank_of names.now text)) (map vec_items texts.now)) }
 {
-    let mut ranks = Vec::new(alloc);
-    for place in 0..texts.len() {
-        ranks.push(rank(names, field_at(texts, place)) as i64)?;
+    let mut ranks = Vec::with_capacity(alloc, texts.len())?;
+    for text in texts {
+        ranks.push(rank(names, text) as i64)?;
     }
     Ok(ranks)
 }

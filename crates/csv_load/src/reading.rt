@@ -9,7 +9,7 @@ use crate::fault::TableFault;
 use crate::limits::Limits;
 use crate::marks::past_marks;
 use crate::record::take_record;
-use csv::ReaderBuilder;
+use csv::{ByteRecord, ReaderBuilder};
 use daq_table::{Schema, SchemaColumn};
 use std::alloc::{AllocError, Global};
 
@@ -36,19 +36,23 @@ pub(crate) fn read_columns(
     ensures err { IfErr result (Refuses bytes.now schema.now.columns limits.now) }
 {
     let mut columns = empty_columns(alloc, schema.columns.as_slice())?;
-    let mut records = 0;
-    let reader = ReaderBuilder::new()
+    let mut reader = ReaderBuilder::new()
         .has_headers(false)
         .flexible(true)
         .from_reader(alloc, past_marks(bytes));
-    for row in reader.into_byte_records() {
-        let Ok(row) = row else {
+    let mut record = ByteRecord::new(alloc);
+    let mut records = 0;
+    'records: loop {
+        let Ok(found) = reader.read_byte_record(&mut record) else {
             return Err(TableFault::NoMemory);
         };
+        if !found {
+            break;
+        }
         take_record(
             alloc,
             &mut columns,
-            &row,
+            &record,
             schema.columns.as_slice(),
             limits,
             records,

@@ -1,23 +1,18 @@
 //! The values of a column while its CSV is read: its cells that are not null.
 
-ghost use Rattle.std.specs.Prelude.{◌≡◌, ◌↔◌, ◌≢◌, ◌≤◌, length, IfOk, OnOk, IfErr, IsTrue, [], true, false};
-ghost use Rattle.std.specs.Cmp.Lexicographic.{slice_cmp};
-ghost use Rattle.std.specs.List.Sorted.{IsStrictlySortedBy};
+ghost use Rattle.std.specs.Prelude.{◌≡◌, ◌↔◌, ◌≢◌, pos, map, IfOk, OnOk, IfErr, IsTrue, [], true, false};
 ghost use Rattle.std.specs.Option.{SomeIff};
-ghost use Rattle.std.specs.Ordering.{nat_cmp};
 ghost use Rattle.daq_table.specs.CellTexts.{IsCellText, cell_number};
 ghost use Rattle.daq_table.specs.declared.head.Kind.TheVariants.{Text};
-ghost use Rattle.csv_load.specs.Columns.{IsShortText, is_text};
+ghost use Rattle.csv_load.specs.Columns.{IsShortText, is_text, rank_of};
 ghost use Rattle.csv_load.specs.States.{HasValues, IsComplete, RefusesValue, TakesValue, kept_of, kept_with, numbers_in};
 
 use crate::extremes::{distances, greatest_number, least_number};
 use crate::fault::TableFault;
 use crate::place::Place;
-use crate::ranks::{ranks, sorted_names};
-use csv::ByteRecord;
-use daq_table::{ColumnHead, Kind, Name, Text, cell_value};
+use crate::texts::Texts;
+use daq_table::{ColumnHead, Kind, Name, cell_value};
 use std::alloc::{AllocError, Global};
-use std::collections::BTreeSet;
 use std::marker::Model;
 use std::str::from_utf8;
 
@@ -26,13 +21,11 @@ use std::str::from_utf8;
 pub(crate) struct Values {
     kind: Kind,
     numbers: Vec<i64>,
-    texts: ByteRecord,
-    names: BTreeSet<Vec<u8>>,
+    texts: Texts,
 }
 
 impl Model for Values {
-    ghost use Rattle.std.specs.Prelude.{◌≡◌, [], map, vec_items};
-    ghost use Rattle.csv.specs.Records.{fields_of, partial_of};
+    ghost use Rattle.csv_load.specs.Columns.{distinct};
     ghost use Rattle.csv_load.specs.States.{Kept};
 
     ghost Value = { Kept };
@@ -40,11 +33,9 @@ impl Model for Values {
     ghost view = { λ c. record {
       kind = c.kind;
       numbers = c.numbers.items;
-      texts = fields_of c.texts;
-      names = map vec_items c.names.keys;
+      texts = c.texts;
+      names = distinct c.texts;
     } };
-
-    ghost invariant = { λ c. partial_of c.texts ≡ [] };
 }
 
 // The number of a cell that is no text.
@@ -74,8 +65,7 @@ impl Values {
         Values {
             kind,
             numbers: Vec::new(alloc),
-            texts: ByteRecord::new(alloc),
-            names: BTreeSet::new(alloc),
+            texts: Texts::new(alloc),
         }
     }
 
@@ -137,32 +127,25 @@ impl Values {
                 column: place.column,
             });
         }
-        self.names.insert(Vec::from_slice(alloc, text)?)?;
-        if self.names.len() as u64 > limit {
+        self.texts.push(alloc, text)?;
+        if self.texts.count() as u64 > limit {
             return Err(TableFault::TooManyNames {
                 column: place.column,
             });
         }
-        if self.texts.push_field(text).is_err() {
-            // Drops what may be left of the field.
-            self.texts.clear();
-            return Err(TableFault::NoMemory);
-        }
         Ok(())
     }
 
-    // The numbers of the values, by the sorted names.
-    fn numbers(&self, alloc: Global, names: &[Text]) -> Result<Vec<i64>, AllocError>
-        requires names { names.now ≡ self.now.names }
-        requires sorted { IsStrictlySortedBy (slice_cmp nat_cmp) names.now }
-        requires complete { IsComplete self.now }
-        ensures { IfOk result (λ numbers. numbers.items ≡ numbers_in self.now) }
+    // The numbers of the values: those that were read, and for texts their ranks.
+    fn numbers<'v>(&'v self, ranks: &'v [i64]) -> &'v [i64]
+        requires { ranks.now ≡ map (λ text. pos (rank_of self.now.names text)) self.now.texts }
+        ensures { result.now ≡ numbers_in self.now }
     {
         match self.kind {
-            Kind::Int => Vec::from_slice(alloc, &self.numbers),
-            Kind::Dec(_) => Vec::from_slice(alloc, &self.numbers),
-            Kind::Date => Vec::from_slice(alloc, &self.numbers),
-            Kind::Text => ranks(alloc, &self.texts, names),
+            Kind::Int => &self.numbers,
+            Kind::Dec(_) => &self.numbers,
+            Kind::Date => &self.numbers,
+            Kind::Text => ranks,
         }
     }
 
@@ -176,16 +159,17 @@ impl Values {
         requires { IsComplete self.now }
         ensures { IfOk result (λ column. HasValues self.now nullable name column.0 column.1.items) }
     {
-        let names = sorted_names(alloc, &self.names)?;
-        let numbers = self.numbers(alloc, names.as_slice())?;
-        let base = least_number(&numbers);
-        let cells = distances(alloc, &numbers, base)?;
+        let names = self.texts.dictionary(alloc)?;
+        let ranks = self.texts.ranks(alloc, names.as_slice())?;
+        let numbers = self.numbers(&ranks);
+        let base = least_number(numbers);
+        let cells = distances(alloc, numbers, base)?;
         let head = ColumnHead {
             name,
             kind: self.kind,
             nullable,
             base,
-            top: greatest_number(&numbers),
+            top: greatest_number(numbers),
             names,
         };
         Ok((head, cells))

@@ -9,8 +9,8 @@ pub invariant_of-head : goal.invariant_of-head
 invariant_of-head c =
     let low : FitsSigned w64 c.least_number-base.result = record { sfits = c.least_number-base.type_inv } in
     let high : FitsSigned w64 c.greatest_number.result = record { sfits = c.greatest_number.type_inv } in
-    let base = c.least_number-base.ensures ∙ ap least (c.deref.ensures.value ∙ c.in_ok-numbers.ensures) in
-    let top = c.greatest_number.ensures ∙ ap greatest (c.deref-3.ensures.value ∙ c.in_ok-numbers.ensures) in
+    let base = c.least_number-base.ensures ∙ ap least c.numbers-numbers.ensures in
+    let top = c.greatest_number.ensures ∙ ap greatest c.numbers-numbers.ensures in
     let named : IsName c.args.name = subst IsName c.name.view_is c.name.invariant in
     let kind : c.self.inside.kind ≡ c.args.self.now.kind = ap (λ (k : Kept). k.kind) c.self.view_is in
     let names = c.in_ok-names.ensures.same ∙ ap (λ (k : Kept). k.names) c.self.view_is in
@@ -20,8 +20,8 @@ pub returns : goal.returns
 returns c =
     let low : FitsSigned w64 c.least_number-base.result = record { sfits = c.least_number-base.type_inv } in
     let high : FitsSigned w64 c.greatest_number.result = record { sfits = c.greatest_number.type_inv } in
-    let base = c.least_number-base.ensures ∙ ap least (c.deref.ensures.value ∙ c.in_ok-numbers.ensures) in
-    let top = c.greatest_number.ensures ∙ ap greatest (c.deref-3.ensures.value ∙ c.in_ok-numbers.ensures) in
+    let base = c.least_number-base.ensures ∙ ap least c.numbers-numbers.ensures in
+    let top = c.greatest_number.ensures ∙ ap greatest c.numbers-numbers.ensures in
     let kind : c.self.inside.kind ≡ c.args.self.now.kind = ap (λ (k : Kept). k.kind) c.self.view_is in
     let names = c.in_ok-names.ensures.same ∙ ap (λ (k : Kept). k.names) c.self.view_is in
     record {
@@ -31,5 +31,5 @@ returns c =
       names = names;
       base = to_z-of_z low ∙ base;
       top = to_z-of_z high ∙ top;
-      numbers_are = cells_of (numbers_in c.args.self.now) c.deref-2.result.now (to_z w64 (of_z w64 c.least_number-base.result)) c.in_ok-cells.cells.items (to_z-of_z low ∙ base) (c.deref-2.ensures.value ∙ c.in_ok-numbers.ensures) c.in_ok-cells.ensures;
+      numbers_are = cells_of (numbers_in c.args.self.now) c.numbers-numbers.result.now (to_z w64 (of_z w64 c.least_number-base.result)) c.in_ok-cells.cells.items (to_z-of_z low ∙ base) c.numbers-numbers.ensures c.in_ok-cells.ensures;
     }
