@@ -2,7 +2,10 @@ pub mod TestsByEnds
 pub mod TruthBits
 pub mod Unread
 pub mod Judged
+pub mod Decided
 pub mod WordBits
 pub mod SideTruths
+pub mod BetweenTruths
+pub mod MemberTruths
 pub mod Parting
 pub mod Tracking

@@ -25,11 +25,10 @@ use Rattle.known_column.proofs.FirstMarks.{none_known}
 use Rattle.known_column.proofs.Growing.{map-longer_or, map-longer_same}
 use Rattle.known_column.proofs.Nulls.{legal_code}
 use Rattle.known_column.proofs.Steps.{equal_further, greater_further}
-use Rattle.kleene_filter.specs.declared.parted.Parted.{Parted}
 use Rattle.kleene_filter.specs.declared.parted.SideWords.{SideWords}
 use Rattle.kleene_filter.specs.declared.parted.Sides.{Sides}
 use Rattle.kleene_filter.specs.declared.parted.Sides.TheVariants as sides
-use Rattle.kleene_filter.specs.Parted.{cell_with, equal_at, greater_at, is_greater, is_less, is_level, less_at, AreSideWords, HasRow, HasSides, IsAtEqual, IsBetweenEnds, IsParted, IsTruthAt, ReadFurther}
+use Rattle.kleene_filter.specs.Parted.{cell_with, equal_at, greater_at, is_greater, is_less, is_level, less_at, AreSideWords, HasRow, HasSides, IsAtEqual, IsBetweenEnds, IsTruthAt, ReadFurther}
 use Rattle.kleene_filter.proofs.SideTruths.{IsTold, told_all_less, told_all_greater, told_parted}
 
 -- ---- words of masks
@@ -70,34 +69,30 @@ less_further : (m m' : ℕ) (digit : Bool) → m' ≡ 2 * m + cond digit 1 0 →
 less_further m m' true e ps bits same = map-longer_or (λ p. nat_lt p m') (λ p. nat_lt p m) (λ p. p == m) (λ a b. a && not b) (λ p b. less_true m m' p b e) ps bits same
 less_further m m' false e ps bits same = map-longer_same (λ p. nat_lt p m') (λ p. nat_lt p m) (λ p b. less_false m m' p b e) ps bits same
 
-module _ (before column : KnownColumn) (bits : List Bool) (op : Comparison) (value : ℤ) (old : Parted) (bit : Bool)
-    (stood : IsParted before op value old) (further : ReadFurther before bits column) (digit : bit ≡ bit_at before.ends before.known.read (cell_with value before.ends)) where
-  next : prefix_of before.ends (before.known.read + 1) (cell_with value before.ends) ≡ 2 * prefix_of before.ends before.known.read (cell_with value before.ends) + cond bit 1 0
-  next = prefix_further before.ends before.known.read (cell_with value before.ends) further.unread ∙ ap (λ b. 2 * prefix_of before.ends before.known.read (cell_with value before.ends) + cond b 1 0) (sym digit)
+-- a number's prefix and the rows of a column, after one plane more
+module _ (before column : KnownColumn) (bits : List Bool) (value : ℤ) (bit : Bool) (further : ReadFurther before bits column) (digit : bit ≡ bit_at before.ends before.known.read (cell_with value before.ends)) where
+  abbrev now : ℕ
+  now = prefix_of before.ends before.known.read (cell_with value before.ends)
 
-  pub equal_next : kept_rows bit old.equal bits ≡ rows_where (is_level value) column
-  equal_next =
-      ap (λ l. kept_rows bit l bits) stood.equal
-      ∙ sym (equal_further (prefix_of before.ends before.known.read (cell_with value before.ends)) (prefix_of before.ends (before.known.read + 1) (cell_with value before.ends)) bit next before.known.prefixes bits)
-      ∙ ap (rows_where (is_level value)) (sym further.is)
+  abbrev later : ℕ
+  later = prefix_of before.ends (before.known.read + 1) (cell_with value before.ends)
 
-  pub less_next : less_rows bit old.less old.equal bits ≡ rows_where (is_less value) column
-  less_next =
-      ap (λ l. less_rows bit l old.equal bits) stood.less ∙ ap (λ l. less_rows bit (rows_where (is_less value) before) l bits) stood.equal
-      ∙ sym (less_further (prefix_of before.ends before.known.read (cell_with value before.ends)) (prefix_of before.ends (before.known.read + 1) (cell_with value before.ends)) bit next before.known.prefixes bits further.rows)
-      ∙ ap (rows_where (is_less value)) (sym further.is)
+  next : later ≡ 2 * now + cond bit 1 0
+  next = prefix_further before.ends before.known.read (cell_with value before.ends) further.unread ∙ ap (λ b. 2 * now + cond b 1 0) (sym digit)
 
-  pub greater_next : greater_rows bit old.greater old.equal bits ≡ rows_where (is_greater value) column
-  greater_next =
-      ap (λ l. greater_rows bit l old.equal bits) stood.greater ∙ ap (λ l. greater_rows bit (rows_where (is_greater value) before) l bits) stood.equal
-      ∙ sym (greater_further (prefix_of before.ends before.known.read (cell_with value before.ends)) (prefix_of before.ends (before.known.read + 1) (cell_with value before.ends)) bit next before.known.prefixes bits further.rows)
-      ∙ ap (rows_where (is_greater value)) (sym further.is)
+  pub equal_next : (equal : List Bool) → equal ≡ rows_where (is_level value) before → kept_rows bit equal bits ≡ rows_where (is_level value) column
+  equal_next equal stood =
+      ap (λ l. kept_rows bit l bits) stood ∙ sym (equal_further now later bit next before.known.prefixes bits) ∙ ap (rows_where (is_level value)) (sym further.is)
 
-  pub ends_stay : before.ends ≡ column.ends
-  ends_stay = ap (λ (c : KnownColumn). c.ends) (sym further.is)
+  pub less_next : (less equal : List Bool) → less ≡ rows_where (is_less value) before → equal ≡ rows_where (is_level value) before → less_rows bit less equal bits ≡ rows_where (is_less value) column
+  less_next less equal stood level =
+      ap (λ l. less_rows bit l equal bits) stood ∙ ap (λ l. less_rows bit (rows_where (is_less value) before) l bits) level
+      ∙ sym (less_further now later bit next before.known.prefixes bits further.rows) ∙ ap (rows_where (is_less value)) (sym further.is)
 
-  pub read_more : column.known.read ≡ before.known.read + 1
-  read_more = ap (λ (c : KnownColumn). c.known.read) further.is
+  pub greater_next : (greater equal : List Bool) → greater ≡ rows_where (is_greater value) before → equal ≡ rows_where (is_level value) before → greater_rows bit greater equal bits ≡ rows_where (is_greater value) column
+  greater_next greater equal stood level =
+      ap (λ l. greater_rows bit l equal bits) stood ∙ ap (λ l. greater_rows bit (rows_where (is_greater value) before) l bits) level
+      ∙ sym (greater_further now later bit next before.known.prefixes bits further.rows) ∙ ap (rows_where (is_greater value)) (sym further.is)
 
 -- the digit of the number's code in the plane that was read last
 pub last_digit : (before column : KnownColumn) (bits : List Bool) (value : ℤ) (own : ℕ) (bit : Bool) → own ≡ code before.ends (cell_with value before.ends) → ReadFurther before bits column →
@@ -107,15 +102,15 @@ last_digit before column bits value own bit is further e =
 
 -- ---- the range of the number's own prefix
 
-pub level_shared : (column : KnownColumn) (op : Comparison) (value : ℤ) (equal : List Bool) (row : ℕ) (truth : Truth) → equal ≡ rows_where (is_level value) column → position (λ b. b) equal ≡ Some row →
-    truth_over (numbers_at column row) (λ x. compares op x value) ≡ truth → IsTruthAt column op value equal truth
-level_shared column op value equal row truth is first told = λ r below on.
+pub level_shared : (column : KnownColumn) (test : ℤ → Bool) (value : ℤ) (equal : List Bool) (row : ℕ) (truth : Truth) → equal ≡ rows_where (is_level value) column → position (λ b. b) equal ≡ Some row →
+    truth_over (numbers_at column row) test ≡ truth → IsTruthAt column test equal truth
+level_shared column test value equal row truth is first told = λ r below on.
     let found = position-Some (λ b. b) equal row false first in
     let count = length_where (is_level value) column equal is in
     let m = prefix_of column.ends column.known.read (cell_with value column.ends) in
     let here : get_or column.known.prefixes r 0 ≡ m = eqb-true (get_or column.known.prefixes r 0) m (sym (row_where (is_level value) column equal r is below) ∙ on) in
     let there : get_or column.known.prefixes row 0 ≡ m = eqb-true (get_or column.known.prefixes row 0) m (sym (row_where (is_level value) column equal row is (omega arith)) ∙ found.1) in
-    ap (λ p. truth_over (range_of column.ends column.known.read p).numbers (λ x. compares op x value)) (here ∙ sym there) ∙ told
+    ap (λ p. truth_over (range_of column.ends column.known.read p).numbers test) (here ∙ sym there) ∙ told
 
 -- ---- nothing is read
 

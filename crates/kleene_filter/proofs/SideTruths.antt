@@ -142,7 +142,7 @@ nat_cases p m =
     ]
 
 -- a number of the range of a prefix has that prefix
-has_prefix : (ends : Ends) (read p : ℕ) (x : ℤ) → IsLegal ends read p → IsTrue (may_be_number (null_with ends read p)) → Within (range_of ends read p).numbers x → prefix_of ends read (cell_with x ends) ≡ p
+pub has_prefix : (ends : Ends) (read p : ℕ) (x : ℤ) → IsLegal ends read p → IsTrue (may_be_number (null_with ends read p)) → Within (range_of ends read p).numbers x → prefix_of ends read (cell_with x ends) ≡ p
 has_prefix ends read p x legal some within = (range_gives ends read p (Some x) legal (some, within)).2
 
 -- its prefix tells on which side of another it stands

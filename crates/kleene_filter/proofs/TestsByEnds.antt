@@ -118,13 +118,13 @@ at_most_stays x y x' y' h k e = grind (arith, ints)
 
 -- ---- equality
 
-le_holds : (a b : ℤ) → int_le a b ≡ true → a ≤ℤ b
+pub le_holds : (a b : ℤ) → int_le a b ≡ true → a ≤ℤ b
 le_holds a b e = grind (arith, ints)
 
 le_fails : (a b : ℤ) → int_le a b ≡ false → (b ≡ a → ⊥) × (b ≤ℤ a)
 le_fails a b e = (grind (arith, ints), grind (arith, ints))
 
-eq_holds : (a b : ℤ) → int_eq a b ≡ true → a ≡ b
+pub eq_holds : (a b : ℤ) → int_eq a b ≡ true → a ≡ b
 eq_holds a b e = (Decides-int_eq a b).0 e
 
 pub eq_fails : (a b : ℤ) → (a ≡ b → ⊥) → int_eq a b ≡ false

@@ -1,5 +1,5 @@
 -- Bits of words.
-use Rattle.std.proofs.Common.{◌≡◌, ℕ, zero, suc, ◌+◌, ◌-◌, ◌^◌, ◌<◌, ◌==◌, min, max, Bool, true, false, not, ◌&&◌, ◌||◌, inl, inr, refl, ap, sym, ◌∙◌, arith}
+use Rattle.std.proofs.Common.{◌≡◌, ℕ, ◌+◌, ◌-◌, ◌^◌, ◌<◌, ◌==◌, min, max, Bool, true, false, not, ◌&&◌, ◌||◌, inl, inr, refl, ap, sym, ◌∙◌, arith}
 use Rattle.std.proofs.lemmas.Nat.Bits.{bit_at_and, bit_at_or, bit_at_not, bit_at_ones, bit_at-zero, bit_at-lt}
 use Rattle.std.specs.Int.{w64, bit_at, bit_not}
 use Rattle.std.specs.Int.Bits.{bit_and, bit_or}
@@ -10,29 +10,16 @@ use Rattle.kleene_filter.specs.Filters.{is_certain}
 use Rattle.kleene_filter.specs.declared.words.TruthWords.{TruthWords}
 use Rattle.kleene_filter.specs.Words.{AddsBit, AddsTruths, AreTruthsAt}
 use Rattle.std.proofs.lemmas.Bool.{cases_lt}
+use Rattle.std.proofs.lemmas.Bool.Decides.{nat_tests}
 
 least : (a b : ℕ) → a < 2 → b < 2 → (min a b == 1) ≡ ((a == 1) && (b == 1))
-least zero zero h k = refl
-least zero (suc zero) h k = refl
-least zero (suc (suc b)) h k = absurd (omega (arith, k))
-least (suc zero) zero h k = refl
-least (suc zero) (suc zero) h k = refl
-least (suc zero) (suc (suc b)) h k = absurd (omega (arith, k))
-least (suc (suc a)) b h k = absurd (omega (arith, h))
+least a b h k = grind (arith, nat_tests)
 
 greatest : (a b : ℕ) → a < 2 → b < 2 → (max a b == 1) ≡ ((a == 1) || (b == 1))
-greatest zero zero h k = refl
-greatest zero (suc zero) h k = refl
-greatest zero (suc (suc b)) h k = absurd (omega (arith, k))
-greatest (suc zero) zero h k = refl
-greatest (suc zero) (suc zero) h k = refl
-greatest (suc zero) (suc (suc b)) h k = absurd (omega (arith, k))
-greatest (suc (suc a)) b h k = absurd (omega (arith, h))
+greatest a b h k = grind (arith, nat_tests)
 
 turned : (a : ℕ) → a < 2 → (1 - a == 1) ≡ not (a == 1)
-turned zero h = refl
-turned (suc zero) h = refl
-turned (suc (suc a)) h = absurd (omega (arith, h))
+turned a h = grind (arith, nat_tests)
 
 pub digit-and : (r a b : ℕ) → digit_at r (bit_and a b) ≡ (digit_at r a && digit_at r b)
 digit-and r a b = ap (λ n. n == 1) (bit_at_and a b r) ∙ least (bit_at a r) (bit_at b r) (bit_at-lt a r) (bit_at-lt b r)

@@ -1,5 +1,5 @@
 -- What is known of a condition at each row.
-use Rattle.std.specs.Prelude.{◌≡◌, ℕ, ◌+◌, ◌*◌, ◌<◌, ◌==◌, Bool, true, false, List, [], ◌∷◌, length, map, slice_index_or, IsTrue}
+use Rattle.std.specs.Prelude.{◌≡◌, ℕ, ◌+◌, ◌*◌, ◌≤◌, ◌<◌, ◌==◌, Bool, true, false, List, [], ◌∷◌, length, map, slice_index_or, IsTrue}
 use Rattle.std.specs.List.{list_any}
 use Rattle.daq_table.specs.Tables.{rows_of}
 use Rattle.query_model.specs.Queries.{Condition}
@@ -70,14 +70,26 @@ AreNested [] (n ∷ ns) = ⊥
 AreNested (m ∷ ms) [] = ⊥
 AreNested (m ∷ ms) (n ∷ ns) = (IsTrue m → IsTrue n) × AreNested ms ns
 
--- the bits of a block's rows are what a test says of the condition there, and those before are as they were
+-- the bits of a row are those of what is known of the condition there
+pub record HasBits (pred : Condition) (table : KnownTable) (row : ℕ) (must may : List Bool) : Type 0 where
+  pub certain : slice_index_or must row false ≡ is_certain (truth_at pred table row)
+  pub possible : slice_index_or may row false ≡ is_possible (truth_at pred table row)
+
+-- from the first row on, bits that are the same are right
+abbrev pub AreRightWhereSame : Condition → KnownTable → ℕ → List Bool → List Bool → Type 0
+AreRightWhereSame pred table first must may =
+    (row : ℕ) → first ≤ row → row < table.frame.rows → slice_index_or must row false ≡ slice_index_or may row false → HasBits pred table row must may
+
+-- the bits of a block's rows are what a test says of the condition there, and the others are as they were
 pub record IsJudged (test : Truth → Bool) (pred : Condition) (table : KnownTable) (block : ℕ) (old new : List Bool) : Type 0 where
   pub rows : length new ≡ length old
   pub before : (k : ℕ) → k < 64 * block → slice_index_or new k false ≡ slice_index_or old k false
+  pub behind : (k : ℕ) → 64 * block + 64 ≤ k → slice_index_or new k false ≡ slice_index_or old k false
   pub here : (r : ℕ) → r < count_in_block block table.frame.rows → slice_index_or new (64 * block + r) false ≡ test (truth_at pred table (64 * block + r))
 
--- the bits of a block's rows are those of the word, and those before are as they were
+-- the bits of a block's rows are those of the word, and the others are as they were
 pub record IsWritten (block word : ℕ) (old new : List Bool) : Type 0 where
   pub rows : length new ≡ length old
   pub before : (k : ℕ) → k < 64 * block → slice_index_or new k false ≡ slice_index_or old k false
+  pub behind : (k : ℕ) → 64 * block + 64 ≤ k → slice_index_or new k false ≡ slice_index_or old k false
   pub here : (r : ℕ) → r < count_in_block block (length old) → slice_index_or new (64 * block + r) false ≡ digit_at r word

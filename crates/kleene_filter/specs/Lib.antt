@@ -2,4 +2,5 @@ pub mod ByEnds
 pub mod Filters
 pub mod Words
 pub mod Parted
+pub mod Members
 pub mod Masks

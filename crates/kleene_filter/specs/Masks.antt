@@ -2,7 +2,8 @@
 use Rattle.std.specs.Prelude.{◌≡◌, ℕ, ◌+◌, ◌*◌, ◌≤◌, ◌<◌, Bool, List, [], ◌∷◌, ◌++◌, length, slice_get}
 use Rattle.std.specs.declared.option.Option.TheVariants.{Some}
 use Rattle.query_model.specs.declared.query.Atom.{Atom}
-use Rattle.query_model.specs.declared.query.Atom.TheVariants.{Compare, IsNull}
+use Rattle.query_model.specs.declared.query.Atom.TheVariants.{Between, Compare, IsNull, OneOf}
+use Rattle.query_model.specs.declared.query.Comparison.TheVariants.{Ge, Le}
 use Rattle.query_model.specs.Queries.{Condition, All, Single, Both, Either, Negation}
 use Rattle.query_model.specs.Knowledge.{CanTake, ranges_of}
 use Rattle.query_model.specs.Meaning.{AtomReadsBelow}
@@ -10,18 +11,35 @@ use Rattle.known_column.specs.Columns.{count_in_block}
 use Rattle.known_column.specs.KnownTables.{IsKnownTable, KnownTable, column_at, read_column}
 use Rattle.kleene_filter.specs.declared.masks.AtomMasks.{AtomMasks}
 use Rattle.kleene_filter.specs.declared.masks.AtomMasks.TheVariants as masks
-use Rattle.kleene_filter.specs.declared.masks.Compared.{Compared}
+use Rattle.kleene_filter.specs.declared.comparisons.Compared.{Compared}
+use Rattle.kleene_filter.specs.declared.comparisons.Ranged.{Ranged}
+use Rattle.kleene_filter.specs.declared.members.Membership.{Membership}
+use Rattle.kleene_filter.specs.Members.{HasLevels}
 use Rattle.kleene_filter.specs.Parted.{HasSides}
 
 -- the sides are those of its column's rows
 abbrev pub IsCompared : Compared → KnownTable → Type 0
 IsCompared compared table = HasSides (column_at table compared.column) compared.op compared.value compared.sides
 
+-- the comparisons are those of one column, with the least number and with the greatest
+pub record IsRanged (ranged : Ranged) (table : KnownTable) : Type 0 where
+  pub column : ranged.to.column ≡ ranged.from.column
+  pub least : ranged.from.op ≡ Ge
+  pub greatest : ranged.to.op ≡ Le
+  pub from : IsCompared ranged.from table
+  pub to : IsCompared ranged.to table
+
+-- the levels are those of its column's rows
+abbrev pub IsMembership : Membership → KnownTable → Type 0
+IsMembership membership table = HasLevels (column_at table membership.column) membership.values membership.levels.items
+
 -- the masks are those of the atom under what is known
 abbrev pub Follows : AtomMasks → Atom → KnownTable → Type 0
 Follows masks.ByRows atom table = Unit {0}
 Follows (masks.Null c) atom table = atom ≡ IsNull c
 Follows (masks.Compared compared) atom table = (atom ≡ Compare compared.column compared.op compared.value) × IsCompared compared table
+Follows (masks.Ranged ranged) atom table = (atom ≡ Between ranged.from.column ranged.from.value ranged.to.value) × IsRanged ranged table
+Follows (masks.Member membership) atom table = (atom ≡ OneOf membership.column membership.values) × IsMembership membership table
 
 -- the table is another, known in the same way, after these bits as the next plane of a column
 pub record ReadFrom (before : KnownTable) (table : KnownTable) (column : ℕ) (bits : List Bool) : Type 0 where
@@ -30,11 +48,12 @@ pub record ReadFrom (before : KnownTable) (table : KnownTable) (column : ℕ) (b
   pub taken : table ≡ read_column before column bits
 
 -- it was so before the plane of the column was read
-pub record WasCompared (compared : Compared) (table : KnownTable) (column : ℕ) (bits : List Bool) : Type 0 where
+pub record Was (Holds : KnownTable → Type 0) (table : KnownTable) (column : ℕ) (bits : List Bool) : Type 0 where
   pub before : KnownTable
   pub read : ReadFrom before table column bits
-  pub was : IsCompared compared before
+  pub was : Holds before
 
+-- they were the masks of an atom, whose columns there are
 pub record WasFollowed (masks : AtomMasks) (atom : Atom) (table : KnownTable) (column : ℕ) (bits : List Bool) : Type 0 where
   pub before : KnownTable
   pub within : AtomReadsBelow (length table.frame.columns) atom

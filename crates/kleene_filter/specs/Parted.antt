@@ -30,10 +30,9 @@ is_level value ends read prefix = prefix == prefix_of ends read (cell_with value
 abbrev pub is_greater : ℤ → Ends → ℕ → ℕ → Bool
 is_greater value ends read prefix = nat_lt (prefix_of ends read (cell_with value ends)) prefix
 
--- this is what is known of the comparison at each of these rows
-abbrev pub IsTruthAt : KnownColumn → Comparison → ℤ → List Bool → Truth → Type 0
-IsTruthAt column op value rows truth =
-    (row : ℕ) → row < rows_of_column column → slice_index_or rows row false ≡ true → truth_over (numbers_at column row) (λ x. compares op x value) ≡ truth
+-- this is what is known of the test at each of these rows
+abbrev pub IsTruthAt : KnownColumn → (ℤ → Bool) → List Bool → Truth → Type 0
+IsTruthAt column test rows truth = (row : ℕ) → row < rows_of_column column → slice_index_or rows row false ≡ true → truth_over (numbers_at column row) test ≡ truth
 
 -- the number lies between the column's ends
 pub record IsBetweenEnds (ends : Ends) (value : ℤ) : Type 0 where
@@ -47,7 +46,7 @@ pub record IsParted (column : KnownColumn) (op : Comparison) (value : ℤ) (part
   pub less : parted.less ≡ rows_where (is_less value) column
   pub equal : parted.equal ≡ rows_where (is_level value) column
   pub greater : parted.greater ≡ rows_where (is_greater value) column
-  pub at_equal : IsTruthAt column op value parted.equal parted.at_equal
+  pub at_equal : IsTruthAt column (λ x. compares op x value) parted.equal parted.at_equal
 
 -- all numbers of the column are less than the number, or greater, or its rows are parted
 abbrev pub HasSides : KnownColumn → Comparison → ℤ → Sides → Type 0
@@ -61,10 +60,10 @@ pub record ReadFurther (before : KnownColumn) (bits : List Bool) (column : Known
   pub rows : length bits ≡ rows_of_column before
   pub is : column ≡ read_further before bits
 
--- they were the sides before the column was read further
-pub record HadSides (column : KnownColumn) (bits : List Bool) (op : Comparison) (value : ℤ) (old : Sides) : Type 0 where
+-- it was so before the column was read further
+pub record Had (Holds : KnownColumn → Type 0) (column : KnownColumn) (bits : List Bool) : Type 0 where
   pub before : KnownColumn
-  pub sides : HasSides before op value old
+  pub had : Holds before
   pub further : ReadFurther before bits column
 
 -- ---- what the sides tell of a comparison

@@ -1,7 +1,9 @@
 -- Sets of truths of rows, kept as words.
-use Rattle.std.specs.Prelude.{◌≡◌, ℕ, ◌+◌, ◌^◌, ◌<◌, Bool}
+use Rattle.std.specs.Prelude.{◌≡◌, ℕ, ◌+◌, ◌*◌, ◌^◌, ◌<◌, ℤ, Bool, not, IsTrue}
 use Rattle.plane_kernels.specs.Rows.{digit_at}
 use Rattle.query_model.specs.declared.bounds.Truths.{Truths}
+use Rattle.query_model.specs.Truths.{is_false, is_true, may_be_number, truth_over}
+use Rattle.known_column.specs.Columns.{KnownColumn, count_in_block, missing_at, numbers_at, rows_of_column}
 use Rattle.kleene_filter.specs.declared.words.TruthWords.{TruthWords}
 
 -- for the first rows, so many, the bits of the words are their truths
@@ -9,6 +11,13 @@ pub record AreTruthsAt (count : ℕ) (at : ℕ → Truths) (words : TruthWords) 
   pub hold : (row : ℕ) → row < count → digit_at row words.may_hold ≡ (at row).may_hold
   pub fail : (row : ℕ) → row < count → digit_at row words.may_fail ≡ (at row).may_fail
   pub null : (row : ℕ) → row < count → digit_at row words.may_be_null ≡ (at row).may_be_null
+
+-- where a row of a block may have a number, the bits of two words tell whether the number may pass the test and may fail it
+pub record AreOnNumbers (column : KnownColumn) (block : ℕ) (test : ℤ → Bool) (passes fails : ℕ) : Type 0 where
+  pub pass : (r : ℕ) → r < count_in_block block (rows_of_column column) → IsTrue (may_be_number (missing_at column (64 * block + r))) →
+      digit_at r passes ≡ not (is_false (truth_over (numbers_at column (64 * block + r)) test))
+  pub fail : (r : ℕ) → r < count_in_block block (rows_of_column column) → IsTrue (may_be_number (missing_at column (64 * block + r))) →
+      digit_at r fails ≡ not (is_true (truth_over (numbers_at column (64 * block + r)) test))
 
 -- no word has a bit from that row on
 pub record HaveBelow (row : ℕ) (words : TruthWords) : Type 0 where

@@ -6,7 +6,7 @@ ghost use Rattle.query_model.specs.Meaning.{PredReadsBelow};
 ghost use Rattle.query_model.specs.Queries.{condition_of};
 ghost use Rattle.std.specs.Prelude.{List};
 ghost use Rattle.known_column.specs.KnownTables.{IsKnownTable};
-ghost use Rattle.kleene_filter.specs.Filters.{is_certain, is_possible, is_unknown, truths_under, IsJudged, IsWritten, StandsFor, StoodBefore};
+ghost use Rattle.kleene_filter.specs.Filters.{is_certain, is_possible, is_unknown, truths_under, AreRightWhereSame, IsJudged, IsWritten, StandsFor, StoodBefore};
 ghost use Rattle.kleene_filter.specs.Masks.{atoms_of, AddsMasks, AreMasksOf, AreRowsOf, WereMasksOf};
 
 use crate::judging::pred_truths;
@@ -19,7 +19,7 @@ use query_model::Pred;
 use std::alloc::{AllocError, Global};
 use std::marker::Model;
 
-// So many comparisons keep masks. Those behind them are judged row by row.
+// So many comparisons and listed numbers keep masks, where BETWEEN is two comparisons. What passes them is judged row by row.
 const LIMIT: usize = 64;
 
 // The rows at which a condition holds for certain, and those at which it may hold.
@@ -87,7 +87,8 @@ fn judge_rows<R: KnownRows>(
     write_word(&mut truths.may, number, words.may_hold);
 }
 
-// The same for a block of the columns, whose rows are read where an atom is judged row by row.
+// The same for a block of the columns, whose rows are read where an atom is judged row by row. Nothing is done where no row's
+// bits differ: what is decided at a row stays so.
 fn judge_block(
     pred: &Pred,
     masks: &[AtomMasks],
@@ -104,10 +105,15 @@ fn judge_block(
     requires block { block.old.frame.columns ≡ columns.now.frame.columns }
     requires must { length truths.old.must ≡ columns.now.frame.rows }
     requires may { length truths.old.may ≡ columns.now.frame.rows }
+    requires same { AreRightWhereSame (condition_of pred.now) columns.now (64 * number) truths.old.must truths.old.may }
     ensures block { block.new.frame.columns ≡ columns.now.frame.columns }
     ensures must { IsJudged is_certain (condition_of pred.now) columns.now number truths.old.must truths.new.must }
     ensures may { IsJudged is_possible (condition_of pred.now) columns.now number truths.old.may truths.new.may }
+    ensures same { AreRightWhereSame (condition_of pred.now) columns.now (64 * number + 64) truths.new.must truths.new.may }
 {
+    if truths.must.word(number) == truths.may.word(number) {
+        return;
+    }
     blocks_have_their_rows();
     if by_rows {
         block.read(columns, number);
@@ -117,7 +123,7 @@ fn judge_block(
     }
 }
 
-// Sets each row's bits by what is known of the condition there, block by block.
+// Sets each row's bits by what is known of the condition there, block by block. Before, bits that are the same are right.
 fn judge_all(
     pred: &Pred,
     masks: &[AtomMasks],
@@ -130,6 +136,7 @@ fn judge_all(
     requires block { block.old.frame.columns ≡ columns.now.frame.columns }
     requires must { length truths.old.must ≡ columns.now.frame.rows }
     requires may { length truths.old.may ≡ columns.now.frame.rows }
+    requires same { AreRightWhereSame (condition_of pred.now) columns.now 0 truths.old.must truths.old.may }
     ensures block { block.new.frame.columns ≡ columns.now.frame.columns }
     ensures must { truths.new.must ≡ map is_certain (truths_under (condition_of pred.now) columns.now) }
     ensures may { truths.new.may ≡ map is_possible (truths_under (condition_of pred.now) columns.now) }
@@ -140,9 +147,12 @@ fn judge_all(
     }
 }
 
-// How many of these keep masks.
-fn kept(masks: &[AtomMasks]) -> usize {
-    masks.iter().filter(|own| own.has_masks()).count()
+// How many comparisons and listed numbers more may keep masks.
+fn room_beside(masks: &[AtomMasks]) -> usize {
+    let kept = masks
+        .iter()
+        .fold(0, |kept: usize, own| kept.saturating_add(own.count()));
+    LIMIT.saturating_sub(kept)
 }
 
 // Adds the masks of each atom of the condition.
@@ -159,8 +169,8 @@ fn open_each(
     match pred {
         Pred::All => Ok(()),
         Pred::Atom(atom) => {
-            let has_room = kept(masks) < LIMIT;
-            masks.push(AtomMasks::open(alloc, atom, columns, has_room)?)?;
+            let room = room_beside(masks);
+            masks.push(AtomMasks::open(alloc, atom, columns, room)?)?;
             Ok(())
         }
         Pred::And(a, b) | Pred::Or(a, b) => {
@@ -172,13 +182,13 @@ fn open_each(
 }
 
 // Has the masks of each atom follow the columns after a plane of one of them.
-fn follow_each(masks: &mut [AtomMasks], columns: &KnownColumns, column: usize, plane: &Plane)
-    requires { (atoms : List Atom) × WereMasksOf masks.old atoms columns.now column plane.now }
-    ensures count { length masks.new ≡ length masks.old }
-    ensures follow { (atoms : List Atom) → WereMasksOf masks.old atoms columns.now column plane.now → AreMasksOf masks.new 0 atoms columns.now }
+fn follow_each(masks: &mut Vec<AtomMasks>, columns: &KnownColumns, column: usize, plane: &Plane)
+    requires { (atoms : List Atom) × WereMasksOf masks.old.items atoms columns.now column plane.now }
+    ensures count { length masks.new.items ≡ length masks.old.items }
+    ensures follow { (atoms : List Atom) → WereMasksOf masks.old.items atoms columns.now column plane.now → AreMasksOf masks.new.items 0 atoms columns.now }
 {
-    for i in 0..masks.len() {
-        masks[i].follow(columns, column, plane);
+    for own in masks.iter_mut() {
+        own.follow(columns, column, plane);
     }
 }
 
@@ -199,7 +209,7 @@ impl Filter {
         let rows = columns.rows();
         let mut truths = TruthMasks {
             must: Mask::none(alloc, rows)?,
-            may: Mask::none(alloc, rows)?,
+            may: Mask::all(alloc, rows)?,
         };
         let mut masks = Vec::new(alloc);
         open_each(alloc, pred, columns, &mut masks)?;

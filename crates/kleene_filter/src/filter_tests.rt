@@ -5,7 +5,7 @@ ghost use Rattle.query_model.specs.Queries.{condition_of};
 ghost use Rattle.kleene_filter.specs.Filters.{StandsFor};
 
 use crate::Filter;
-use crate::atoms::pred_at;
+use crate::atoms::atom_at;
 use crate::truth_tests::{F, FN, N, T, TF, TFN, TN};
 use daq_table::{ColumnHead, ColumnHeads, Dictionary, Head, Kind, Name};
 use known_column::{KnownColumns, RowBlock};
@@ -167,17 +167,75 @@ fn null_is_told_by_the_first_plane(rt: HostRuntime) -> Result<(), Fail> {
     Ok(())
 }
 
+// The numbers 5, 9, 12 and 3 between two others.
+#[test]
+fn numbers_between_two(rt: HostRuntime) -> Result<(), Fail> {
+    for (low, high, expected) in [
+        (5, 9, [(0, 3), (0, 3), (1, 2)]),
+        (6, 20, [(1, 4), (2, 4), (2, 3)]),
+        (3, 12, [(4, 4), (4, 4), (4, 4)]),
+        (9, 5, [(0, 0), (0, 0), (0, 0)]),
+    ] {
+        let pred = Pred::Atom(Atom::Between {
+            column: 0,
+            low,
+            high,
+        });
+        let counts = followed(rt.alloc(), &pred, false, &[2, 6, 9, 0], 4)?;
+        assert_eq!(rt; counts, Some(expected), "{low} to {high}");
+    }
+    Ok(())
+}
+
+// IN a list of the numbers 9, 10 and 3, and of numbers past the column's top.
+fn listed(alloc: Global, past: u8) -> Result<Pred, AllocError>
+    ensures { IfOk result (λ pred. PredReadsBelow 2 (condition_of pred)) }
+{
+    let mut values = vec![in alloc; 9, 10, 3]?;
+    for i in 0..past {
+        values.push(1000 + i128::from(i))?;
+    }
+    Ok(Pred::Atom(Atom::OneOf {
+        column: 0,
+        values: Values::new(values),
+    }))
+}
+
+// Lists that keep masks, and one with a number too many.
+#[test]
+fn numbers_in_a_list(rt: HostRuntime) -> Result<(), Fail> {
+    for past in [0, 61, 62] {
+        let pred = listed(rt.alloc(), past)?;
+        let counts = followed(rt.alloc(), &pred, false, &[2, 6, 9, 0], 4)?;
+        assert_eq!(rt; counts, Some([(0, 3), (0, 3), (1, 2)]), "{past}");
+    }
+    Ok(())
+}
+
+// Not in a list: 5, null, 12 and 3.
+#[test]
+fn null_is_in_no_list_and_out_of_none(rt: HostRuntime) -> Result<(), Fail> {
+    let alloc = rt.alloc();
+    let listed = Pred::Atom(Atom::OneOf {
+        column: 0,
+        values: Values::new(vec![in alloc; 11, 12]?),
+    });
+    let pred = Pred::Not(Box::new(alloc, listed)?);
+    let counts = followed(alloc, &pred, true, &[18, 0, 25, 16], 5)?;
+    assert_eq!(rt; counts, Some([(0, 3), (2, 2), (2, 2)]));
+    Ok(())
+}
+
 // The truths of an atom at the four rows.
 fn at_rows(atom: Atom, columns: &KnownColumns) -> [Truths; 4]
     requires reads { AtomReadsBelow (length columns.now.frame.columns) atom }
     requires rows { columns.now.frame.rows ≡ 4 }
 {
-    let pred = Pred::Atom(atom);
     [
-        pred_at(&pred, 0, columns),
-        pred_at(&pred, 1, columns),
-        pred_at(&pred, 2, columns),
-        pred_at(&pred, 3, columns),
+        atom_at(&atom, 0, columns),
+        atom_at(&atom, 1, columns),
+        atom_at(&atom, 2, columns),
+        atom_at(&atom, 3, columns),
     ]
 }
 

@@ -13,7 +13,8 @@ ghost use Rattle.kleene_filter.specs.Masks.{atoms_of, AreMasksOf, AreRowsOf, Fol
 ghost use Rattle.kleene_filter.specs.Words.{AddsBit, AddsTruths, AreTruthsAt, HaveBelow};
 
 use crate::atoms::atom_at;
-use crate::masks::{AtomMasks, null_truths};
+use crate::masks::AtomMasks;
+use crate::nulls::null_truths;
 use crate::words::{TruthWords, all, and, none, not, or};
 use known_column::{KnownColumns, KnownRows};
 use query_model::{Atom, Pred};
@@ -56,6 +57,8 @@ fn atom_truths<R: KnownRows>(
         }
         AtomMasks::Null { column } => null_truths(columns.column(*column), block),
         AtomMasks::Compared(compared) => compared.truths(columns, block),
+        AtomMasks::Ranged(ranged) => ranged.truths(columns, block),
+        AtomMasks::Member(membership) => membership.truths(columns, block),
     }
 }
 

@@ -2,9 +2,12 @@
 #![tactic(auto)]
 
 mod atoms;
+mod comparisons;
 mod filter;
 mod judging;
 mod masks;
+mod members;
+mod nulls;
 mod parted;
 mod ranges;
 mod reads;

@@ -1,18 +1,18 @@
 // Rows of a column parted by how their prefixes compare with the prefix of a number.
 
-ghost use Rattle.std.specs.Prelude.{◌≡◌, ◌<◌, ◌*◌, ◌+◌, ◌-◌, ◌≤◌, ◌&&◌, ◌≤ℤ◌, ℕ, ℤ, not, length, IfOk};
+ghost use Rattle.std.specs.Prelude.{◌≡◌, ◌<◌, ◌*◌, ◌+◌, ◌-◌, ◌≤◌, ◌≤ℤ◌, ℕ, ℤ, not, length, IfOk};
 ghost use Rattle.daq_table.specs.Tables.{code, planes};
 ghost use Rattle.plane_kernels.specs.Rows.{digit_at};
 ghost use Rattle.query_model.specs.Truths.{is_false, is_true, truths_over};
 ghost use Rattle.query_model.specs.Meaning.{compares};
-ghost use Rattle.known_column.specs.Columns.{count_in_block, is_possible as may_have_number, is_sure, range_at, rows_of_column, rows_where};
+ghost use Rattle.known_column.specs.Columns.{count_in_block, range_at, rows_of_column, rows_where};
 ghost use Rattle.known_column.specs.RowBlocks.{IsKnownColumn};
-ghost use Rattle.kleene_filter.specs.Parted.{cell_with, fails_on, greater_holds, holds_on, is_level, less_holds, on_chosen, AreSideWords, HadSides, HasRow, HasSides, IsBetweenEnds, IsParted, IsTruthAt};
-ghost use Rattle.kleene_filter.specs.declared.parted.Sides.TheVariants as sides;
+ghost use Rattle.kleene_filter.specs.Parted.{cell_with, fails_on, greater_holds, holds_on, is_level, less_holds, on_chosen, AreSideWords, Had, HasRow, HasSides, IsBetweenEnds, IsParted, IsTruthAt};
 ghost use Rattle.kleene_filter.specs.Words.{AreTruthsAt};
 
+use crate::nulls::number_truths;
 use crate::ranges::compared_with;
-use crate::words::TruthWords;
+use crate::words::{TruthWords, chosen};
 use known_column::Known;
 use plane_kernels::{Mask, Plane, step_compare};
 use query_model::{Comparison, Truth};
@@ -49,7 +49,7 @@ struct SideWords {
 // What is known of the comparison at the rows with the number's own prefix.
 fn truth_at_equal(op: Comparison, value: i128, equal: &Mask, column: &Known) -> Truth
     requires { equal.now ≡ rows_where (is_level value) column.now }
-    ensures { IsTruthAt column.now op value equal.now result }
+    ensures { IsTruthAt column.now (λ x. compares op x value) equal.now result }
 {
     match equal.first_one() {
         Some(row) => compared_with(op, column.range(row), value),
@@ -58,7 +58,7 @@ fn truth_at_equal(op: Comparison, value: i128, equal: &Mask, column: &Known) -> 
 }
 
 // The code of a number of the column.
-fn code_of(column: &Known, value: i128) -> u128
+pub(crate) fn code_of(column: &Known, value: i128) -> u128
     requires { IsBetweenEnds column.now.ends value }
     ensures { result ≡ code column.now.ends (cell_with value column.now.ends) }
 {
@@ -71,7 +71,7 @@ fn code_of(column: &Known, value: i128) -> u128
 }
 
 // The digit of a code in the plane that was read last.
-fn next_digit(code: u128, column: &Known) -> bool
+pub(crate) fn next_digit(code: u128, column: &Known) -> bool
     requires { 0 < column.now.known.read }
     ensures { result ≡ digit_at (planes column.now.ends - column.now.known.read) code }
 {
@@ -105,7 +105,7 @@ impl Parted {
 
     // Follows the column after one plane more.
     fn follow(&mut self, op: Comparison, value: i128, column: &Known, plane: &Plane)
-        requires { HadSides column.now plane.now op value (sides.Parted self.old) }
+        requires { Had (λ before. IsParted before op value self.old) column.now plane.now }
         ensures { IsParted column.now op value self.new }
     {
         let bit = next_digit(self.code, column);
@@ -143,7 +143,7 @@ impl Sides {
 
     // Follows the column after one plane more.
     pub(crate) fn follow(&mut self, op: Comparison, value: i128, column: &Known, plane: &Plane)
-        requires { HadSides column.now plane.now op value self.old }
+        requires { Had (λ before. HasSides before op value self.old) column.now plane.now }
         ensures { HasSides column.now op value self.new }
     {
         match self {
@@ -193,20 +193,8 @@ impl Sides {
         ensures { AreTruthsAt (count_in_block block (rows_of_column column.now)) (λ r. truths_over (range_at column.now (64 * block + r)) (λ x. compares op x value)) result }
     {
         let words = self.words(block);
-        let possible = column.possible().word(block);
-        TruthWords {
-            may_hold: possible & words.may_hold(op),
-            may_fail: possible & words.may_fail(op),
-            may_be_null: !column.sure().word(block),
-        }
+        number_truths(column, block, words.may_hold(op), words.may_fail(op))
     }
-}
-
-// The word, or nothing.
-fn chosen(is_chosen: bool, word: u64) -> u64
-    ensures { (row : ℕ) → digit_at row result ≡ (is_chosen && digit_at row word) }
-{
-    if is_chosen { word } else { 0 }
 }
 
 // Whether a lesser number compares so.

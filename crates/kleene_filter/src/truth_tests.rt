@@ -1,8 +1,9 @@
 // Tables of truths: of tests by ends, of values that may be null, and of the connectives.
-ghost use Rattle.std.specs.Prelude.{◌≤ℤ◌};
+ghost use Rattle.std.specs.Prelude.{◌≤◌, ◌≤ℤ◌, length};
 
 use crate::ranges::{compared, compared_with, is_one_of, lies_between};
-use crate::truths::{and, may_hold, must_hold, not, or, test_of_null, test_of_one, test_of_two};
+use crate::truths::{test_of_null, test_of_one, test_of_two};
+use crate::words::{TruthWords, and, must_hold, none, not, or};
 use interval_calc::{Interval, exactly};
 use query_model::Nullity::{Always, Never, Possibly};
 use query_model::Truth::{False, True, Unknown};
@@ -187,67 +188,47 @@ fn tests_of_two_values(rt: HostRuntime) {
     }
 }
 
+// The words of these truths, with a row for each.
+fn words_of(truths: &[Truths]) -> TruthWords
+    requires { length truths.now ≤ 64 }
+{
+    let mut words = none();
+    for row in 0..truths.len() {
+        words = words.with(row, truths[row]);
+    }
+    words
+}
+
+// The three words.
+fn bits(words: TruthWords) -> [u64; 3] {
+    [words.may_hold, words.may_fail, words.may_be_null]
+}
+
 #[test]
 fn negations(rt: HostRuntime) {
-    for (truths, negation) in [
-        (T, F),
-        (F, T),
-        (N, N),
-        (TF, TF),
-        (TN, FN),
-        (FN, TN),
-        (TFN, TFN),
-    ] {
-        assert_eq!(rt; not(truths), negation, "{truths:?}");
-    }
+    let negation = not(words_of(&[T, F, N, TF, TN, FN, TFN]));
+    let expected = words_of(&[F, T, N, TF, FN, TN, TFN]);
+    assert_eq!(rt; bits(negation), bits(expected));
 }
 
 #[test]
 fn connectives(rt: HostRuntime) {
-    for (left, right, both, either) in [
-        (T, T, T, T),
-        (T, F, F, T),
-        (T, N, N, T),
-        (F, F, F, F),
-        (F, N, F, N),
-        (N, N, N, N),
-        (TF, T, TF, T),
-        (TF, F, F, TF),
-        (TF, N, FN, TN),
-        (TF, TF, TF, TF),
-        (TN, F, F, TN),
-        (FN, T, FN, T),
-        (FN, TN, FN, TN),
-        (TFN, N, FN, TN),
-    ] {
-        assert_eq!(rt;
-            [and(left, right), and(right, left)],
-            [both, both],
-            "{left:?} {right:?}"
-        );
-        assert_eq!(rt;
-            [or(left, right), or(right, left)],
-            [either, either],
-            "{left:?} {right:?}"
-        );
-    }
+    let left = words_of(&[T, T, T, F, F, N, TF, TF, TF, TF, TN, FN, FN, TFN]);
+    let right = words_of(&[T, F, N, F, N, N, T, F, N, TF, F, T, TN, N]);
+    let both = bits(words_of(&[T, F, N, F, F, N, TF, F, FN, TF, F, FN, FN, FN]));
+    let either = bits(words_of(&[T, T, T, F, N, N, T, TF, TN, TF, TN, T, TN, TN]));
+    assert_eq!(rt;
+        [bits(and(left, right)), bits(and(right, left))],
+        [both, both]
+    );
+    assert_eq!(rt;
+        [bits(or(left, right)), bits(or(right, left))],
+        [either, either]
+    );
 }
 
 #[test]
 fn only_true_holds(rt: HostRuntime) {
-    for (truths, must, may) in [
-        (T, true, true),
-        (F, false, false),
-        (N, false, false),
-        (TF, false, true),
-        (TN, false, true),
-        (FN, false, false),
-        (TFN, false, true),
-    ] {
-        assert_eq!(rt;
-            (must_hold(truths), may_hold(truths)),
-            (must, may),
-            "{truths:?}"
-        );
-    }
+    let words = words_of(&[F, N, T, TF, TN, FN, TFN]);
+    assert_eq!(rt; must_hold(words), 4);
 }

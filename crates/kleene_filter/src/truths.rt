@@ -1,8 +1,7 @@
-// Sets of truths: what a test of values may be where some may be null, and the connectives over all choices.
+// Sets of truths: what a test of values may be where some may be null.
 
 ghost use Rattle.std.specs.Prelude.{◌≡◌, false};
-ghost use Rattle.query_model.specs.Truths.{and_over, may_be_null, may_be_number, not_over, one_null, or_over, truth_among, truth_from, truths_from};
-ghost use Rattle.kleene_filter.specs.Filters.{is_certain, is_possible};
+ghost use Rattle.query_model.specs.Truths.{may_be_null, may_be_number, one_null, truth_from, truths_from};
 
 use query_model::{Nullity, Truth, Truths};
 
@@ -74,52 +73,4 @@ pub(crate) fn test_of_null(null: Nullity) -> Truths
         may_fail: may_be_number(null),
         may_be_null: false,
     }
-}
-
-pub(crate) fn not(truths: Truths) -> Truths
-    ensures { result ≡ not_over truths }
-{
-    Truths {
-        may_hold: truths.may_fail,
-        may_fail: truths.may_hold,
-        may_be_null: truths.may_be_null,
-    }
-}
-
-pub(crate) fn and(left: Truths, right: Truths) -> Truths
-    ensures { result ≡ and_over left right }
-{
-    Truths {
-        may_hold: left.may_hold && right.may_hold,
-        may_fail: left.may_fail || right.may_fail,
-        may_be_null: (left.may_be_null && right.may_be_null)
-            || (left.may_be_null && right.may_hold)
-            || (left.may_hold && right.may_be_null),
-    }
-}
-
-pub(crate) fn or(left: Truths, right: Truths) -> Truths
-    ensures { result ≡ or_over left right }
-{
-    Truths {
-        may_hold: left.may_hold || right.may_hold,
-        may_fail: left.may_fail && right.may_fail,
-        may_be_null: (left.may_be_null && right.may_be_null)
-            || (left.may_be_null && right.may_fail)
-            || (left.may_fail && right.may_be_null),
-    }
-}
-
-// Whether true is the one truth.
-pub(crate) fn must_hold(truths: Truths) -> bool
-    ensures { result ≡ is_certain (truth_among truths) }
-{
-    truths.may_hold && !truths.may_fail && !truths.may_be_null
-}
-
-// Whether true is one of the truths.
-pub(crate) fn may_hold(truths: Truths) -> bool
-    ensures { result ≡ is_possible (truth_among truths) }
-{
-    truths.may_hold
 }

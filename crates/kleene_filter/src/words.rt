@@ -1,6 +1,6 @@
 // Sets of truths of up to 64 rows: a word for each truth, with a bit for each row at which it may be.
 
-ghost use Rattle.std.specs.Prelude.{◌≡◌, ◌≤◌, ◌<◌, ◌+◌, ◌^◌, ℕ, true, false};
+ghost use Rattle.std.specs.Prelude.{◌≡◌, ◌≤◌, ◌<◌, ◌+◌, ◌^◌, ◌&&◌, ℕ, true, false};
 ghost use Rattle.plane_kernels.specs.Rows.{digit_at};
 ghost use Rattle.query_model.specs.declared.bounds.Truths.{Truths};
 ghost use Rattle.query_model.specs.Truths.{and_over, not_over, or_over, truth_among};
@@ -70,6 +70,13 @@ pub(crate) fn must_hold(words: TruthWords) -> u64
         → (row : ℕ) → row < count → digit_at row result ≡ is_certain (truth_among (at row)) }
 {
     words.may_hold & !words.may_fail & !words.may_be_null
+}
+
+// The word, or nothing.
+pub(crate) fn chosen(is_chosen: bool, word: u64) -> u64
+    ensures { (row : ℕ) → digit_at row result ≡ (is_chosen && digit_at row word) }
+{
+    if is_chosen { word } else { 0 }
 }
 
 // The word with one bit more, where it has none from there on.

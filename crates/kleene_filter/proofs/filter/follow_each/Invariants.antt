@@ -4,9 +4,9 @@ use Rattle.kleene_filter.specs.declared.masks.AtomMasks.{AtomMasks}
 use Rattle.kleene_filter.specs.Masks.{Follows, WereMasksOf}
 use Rattle.kleene_filter.proofs.filter.follow_each.Given as goal
 
-abbrev pub invariant-loop-i : goal.invariant-loop-i
-invariant-loop-i l = record {
-  count : length l.masks ≡ length l.fn.masks;
-  left : (k : ℕ) → l.i ≤ k → slice_get l.masks k ≡ slice_get l.fn.masks k;
-  done : (atoms : List Atom) → WereMasksOf l.fn.masks atoms l.columns l.column l.plane → (k : ℕ) (own : AtomMasks) (atom : Atom) → k < l.i → slice_get l.masks k ≡ Some own → slice_get atoms k ≡ Some atom → Follows own atom l.columns;
+abbrev pub invariant-loop-own : goal.invariant-loop-own
+invariant-loop-own l = record {
+  count : length l.own-items ≡ length l.fn.masks.items;
+  left : (k : ℕ) → l.own-index ≤ k → slice_get l.own-items k ≡ slice_get l.fn.masks.items k;
+  done : (atoms : List Atom) → WereMasksOf l.fn.masks.items atoms l.columns l.column l.plane → (k : ℕ) (own : AtomMasks) (atom : Atom) → k < l.own-index → slice_get l.own-items k ≡ Some own → slice_get atoms k ≡ Some atom → Follows own atom l.columns;
 }

@@ -13,9 +13,10 @@ loop-number-preserved c =
     let pred = condition_of c.args.pred.now in
     let table = c.args.columns.now in
     record {
-      same = c.judge_block.ensures.block;
+      lent = c.judge_block.ensures.block;
       must_rows = c.judge_block.ensures.must.rows ∙ done.must_rows;
       may_rows = c.judge_block.ensures.may.rows ∙ done.may_rows;
+      same = λ row first. c.judge_block.ensures.same row (omega arith);
       must_done = judged_more is_certain pred table c.loop-number.number c.loop-number.truths.must c.judge_block.new.truths.must c.judge_block.ensures.must done.must_done;
       may_done = judged_more is_possible pred table c.loop-number.number c.loop-number.truths.may c.judge_block.new.truths.may c.judge_block.ensures.may done.may_done;
     }

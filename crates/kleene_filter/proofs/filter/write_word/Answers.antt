@@ -10,5 +10,6 @@ returns-then-word c =
     record {
       rows = refl;
       before = λ k below. refl;
+      behind = λ k above. refl;
       here = λ r few. sym (mask_bit mask c.word.result block r c.word.ensures (omega arith) (omega arith)) ∙ ap (digit_at r) c.if-word.true;
     }

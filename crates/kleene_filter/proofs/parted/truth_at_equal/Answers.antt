@@ -12,5 +12,5 @@ returns-in-Some c =
     let op = c.args.op in
     let v = c.args.value in
     let fits : to_z w128 (of_z w128 v) ≡ v = to_z-of_z w128 v (search rules) in
-    level_shared c.args.column.now op v c.args.equal.now c.in-Some.row c.compared_with.result c.requires (sym c.in-Some.ensures.first)
+    level_shared c.args.column.now (λ x. compares op x v) v c.args.equal.now c.in-Some.row c.compared_with.result c.requires (sym c.in-Some.ensures.first)
     (ap (λ i. truth_over i (λ x. compares op x v)) (sym c.range.ensures.range) ∙ ap (λ n. truth_over (interval_of c.range.result) (λ x. compares op x n)) (sym fits) ∙ sym c.compared_with.ensures)

@@ -2,6 +2,7 @@ use Rattle.std.proofs.Common.{◌≡◌, sym, ap, subst, ◌∙◌, rules, arith
 use Rattle.std.proofs.lemmas.Int.{to_z-of_z}
 use Rattle.std.specs.Int.{w128}
 use Rattle.daq_table.specs.Tables.{code}
+use Rattle.query_model.specs.Meaning.{compares}
 use Rattle.known_column.specs.Columns.{KnownColumn, rows_where}
 use Rattle.kleene_filter.specs.Parted.{cell_with, is_level, IsBetweenEnds, IsTruthAt}
 use Rattle.kleene_filter.proofs.Parting.{equal_next, greater_next, last_digit, less_next}
@@ -14,28 +15,30 @@ pub truth_at_equal-self-requires : goal.truth_at_equal-self-requires
 truth_at_equal-self-requires c =
     let v = c.args.value in
     let column = c.args.column.now in
+    let old = c.args.self.now in
+    let stood = c.requires.had in
     let fits : to_z w128 (of_z w128 v) ≡ v = to_z-of_z w128 v (search rules) in
-    let digit = last_digit c.requires.before column c.args.plane.now v c.args.self.now.code c.next_digit-bit.result c.requires.sides.code c.requires.further c.next_digit-bit.ensures in
+    let digit = last_digit c.requires.before column c.args.plane.now v old.code c.next_digit-bit.result stood.code c.requires.further c.next_digit-bit.ensures in
     subst (λ n. c.step_compare.new.eq ≡ rows_where (is_level n) column) (sym fits)
-    (c.step_compare.ensures.eq ∙ equal_next c.requires.before column c.args.plane.now c.args.op v c.args.self.now c.next_digit-bit.result c.requires.sides c.requires.further digit)
+    (c.step_compare.ensures.eq ∙ equal_next c.requires.before column c.args.plane.now v c.next_digit-bit.result c.requires.further digit old.equal stood.equal)
 
 pub returns : goal.returns
 returns c =
-    let op = c.args.op in
     let v = c.args.value in
     let column = c.args.column.now in
     let before = c.requires.before in
     let bits = c.args.plane.now in
     let old = c.args.self.now in
     let bit = c.next_digit-bit.result in
+    let stood = c.requires.had in
     let further = c.requires.further in
     let fits : to_z w128 (of_z w128 v) ≡ v = to_z-of_z w128 v (search rules) in
-    let digit = last_digit before column bits v old.code bit c.requires.sides.code further c.next_digit-bit.ensures in
+    let digit = last_digit before column bits v old.code bit stood.code further c.next_digit-bit.ensures in
     record {
-      between = subst (λ (k : KnownColumn). IsBetweenEnds k.ends v) (sym further.is) c.requires.sides.between;
-      code = c.requires.sides.code ∙ ap (λ (k : KnownColumn). code k.ends (cell_with v k.ends)) (sym further.is);
-      less = c.step_compare.ensures.lt ∙ less_next before column bits op v old bit c.requires.sides further digit;
-      equal = c.step_compare.ensures.eq ∙ equal_next before column bits op v old bit c.requires.sides further digit;
-      greater = c.step_compare.ensures.gt ∙ greater_next before column bits op v old bit c.requires.sides further digit;
-      at_equal = subst (λ n. IsTruthAt column op n c.step_compare.new.eq c.truth_at_equal-self.result) fits c.truth_at_equal-self.ensures;
+      between = subst (λ (k : KnownColumn). IsBetweenEnds k.ends v) (sym further.is) stood.between;
+      code = stood.code ∙ ap (λ (k : KnownColumn). code k.ends (cell_with v k.ends)) (sym further.is);
+      less = c.step_compare.ensures.lt ∙ less_next before column bits v bit further digit old.less old.equal stood.less stood.equal;
+      equal = c.step_compare.ensures.eq ∙ equal_next before column bits v bit further digit old.equal stood.equal;
+      greater = c.step_compare.ensures.gt ∙ greater_next before column bits v bit further digit old.greater old.equal stood.greater stood.equal;
+      at_equal = subst (λ n. IsTruthAt column (λ x. compares c.args.op x n) c.step_compare.new.eq c.truth_at_equal-self.result) fits c.truth_at_equal-self.ensures;
     }

@@ -2,6 +2,7 @@ use Rattle.std.proofs.Common.{◌≡◌, true, false, ◌==◌, nat_lt, replicat
 use Rattle.std.proofs.lemmas.Int.{to_z-of_z}
 use Rattle.std.specs.Int.{w128}
 use Rattle.daq_table.specs.Tables.{code}
+use Rattle.query_model.specs.Meaning.{compares}
 use Rattle.known_column.specs.Columns.{rows_where}
 use Rattle.kleene_filter.specs.Parted.{cell_with, is_greater, is_less, is_level, IsTruthAt}
 use Rattle.kleene_filter.proofs.Parting.{no_value_prefix, starts_where}
@@ -31,6 +32,6 @@ returns c =
           ∙ starts_where (is_level v) true column c.requires.unread c.requires.known (ap (λ m. 0 == m) own);
       greater = c.in_ok-none-2.ensures ∙ ap (λ n. replicate n false) c.rows-3.ensures.rows
           ∙ starts_where (is_greater v) false column c.requires.unread c.requires.known (ap (λ m. nat_lt m 0) own);
-      at_equal = subst (λ l. IsTruthAt column op v l c.truth_at_equal-at_equal.result) (sym c.equal.view_is)
-          (subst (λ n. IsTruthAt column op n c.in_ok-equal.equal c.truth_at_equal-at_equal.result) fits c.truth_at_equal-at_equal.ensures);
+      at_equal = subst (λ l. IsTruthAt column (λ x. compares op x v) l c.truth_at_equal-at_equal.result) (sym c.equal.view_is)
+          (subst (λ n. IsTruthAt column (λ x. compares op x n) c.in_ok-equal.equal c.truth_at_equal-at_equal.result) fits c.truth_at_equal-at_equal.ensures);
     }

@@ -6,7 +6,7 @@ use Rattle.query_model.specs.Truths.{truths_over}
 use Rattle.known_column.specs.Columns.{KnownColumn, count_in_block, range_at, rows_of_column}
 use Rattle.known_column.specs.KnownTables.{column_at}
 use Rattle.kleene_filter.specs.Words.{AreTruthsAt}
-use Rattle.kleene_filter.proofs.masks.Compared.truths.Goals as goal
+use Rattle.kleene_filter.proofs.comparisons.Compared.truths.Goals as goal
 
 pub returns : goal.returns
 returns c =

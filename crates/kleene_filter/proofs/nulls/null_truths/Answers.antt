@@ -3,7 +3,7 @@ use Rattle.query_model.specs.Truths.{may_be_null}
 use Rattle.known_column.specs.Columns.{is_possible, is_sure, range_at}
 use Rattle.kleene_filter.proofs.Parting.{not_sure, where_bit}
 use Rattle.kleene_filter.proofs.WordBits.{digit-zero, unset_bit}
-use Rattle.kleene_filter.proofs.masks.null_truths.Goals as goal
+use Rattle.kleene_filter.proofs.nulls.null_truths.Goals as goal
 
 pub returns : goal.returns
 returns c =

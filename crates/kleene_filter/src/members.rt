@@ -1,0 +1,207 @@
+// Numbers of a column that may be those of a list, by the prefixes of the listed numbers.
+
+ghost use Rattle.std.specs.Prelude.{◌≡◌, ◌<◌, ◌*◌, ◌+◌, ◌&&◌, ℕ, ℤ, not, false, length, slice_index_or, IfOk};
+ghost use Rattle.plane_kernels.specs.Rows.{digit_at};
+ghost use Rattle.query_model.specs.Meaning.{among, between};
+ghost use Rattle.query_model.specs.Truths.{is_false, is_true, truths_over};
+ghost use Rattle.known_column.specs.Columns.{count_in_block, range_at, rows_where};
+ghost use Rattle.known_column.specs.KnownTables.{column_at, IsKnownTable};
+ghost use Rattle.known_column.specs.RowBlocks.{IsKnownColumn};
+ghost use Rattle.kleene_filter.specs.Masks.{IsMembership, Was};
+ghost use Rattle.kleene_filter.specs.Members.{AreMemberWords, HasLevels, HaveRow, IsLevel, IsMemberWord};
+ghost use Rattle.kleene_filter.specs.Parted.{is_level, IsBetweenEnds, IsTruthAt, Had};
+ghost use Rattle.kleene_filter.specs.Words.{AreTruthsAt};
+
+use crate::nulls::number_truths;
+use crate::parted::{code_of, next_digit};
+use crate::ranges::is_one_of;
+use crate::words::{TruthWords, chosen};
+use known_column::{Known, KnownColumns};
+use plane_kernels::{Mask, Plane};
+use query_model::{Truth, Values};
+use std::alloc::{AllocError, Global};
+
+// The rows with the prefix of a listed number, and what is known there of whether a row's number is listed: they share one
+// range.
+#[derive(Drop)]
+pub(crate) struct Level {
+    number: i128,
+    rows: Mask,
+    truth: Truth,
+}
+
+// A list of numbers to which those of a column may belong, and the levels of the numbers that the column may have.
+#[derive(Drop)]
+pub(crate) struct Membership {
+    column: usize,
+    values: Values,
+    levels: Vec<Level>,
+}
+
+// The rows of a block at which a number may be listed, and those at which it surely is.
+#[derive(Clone, Copy)]
+struct MemberWords {
+    may: u64,
+    must: u64,
+}
+
+// What is known of whether a number is listed, at the rows with the prefix of one number.
+fn truth_at_level(values: &[i128], rows: &Mask, column: &Known) -> Truth
+    requires { (number : ℤ) × (rows.now ≡ rows_where (is_level number) column.now) }
+    ensures { IsTruthAt column.now (among values.now) rows.now result }
+{
+    match rows.first_one() {
+        Some(row) => is_one_of(column.range(row), values),
+        None => Truth::Unknown,
+    }
+}
+
+// Whether the column may have the number.
+fn lies_within(column: &Known, number: i128) -> bool
+    ensures { result ≡ between column.now.ends.base column.now.ends.top number }
+{
+    i128::from(column.base()) <= number && number <= i128::from(column.top())
+}
+
+impl Level {
+    // Nothing is read of the column: all rows have the number's prefix.
+    fn open(
+        alloc: Global,
+        number: i128,
+        values: &[i128],
+        column: &Known,
+    ) -> Result<Level, AllocError>
+        requires between { IsBetweenEnds column.now.ends number }
+        requires unread { column.now.known.read ≡ 0 }
+        requires known { IsKnownColumn column.now }
+        ensures level { IfOk result (IsLevel column.now values.now) }
+        ensures number { IfOk result (λ level. level.number ≡ number) }
+    {
+        let rows = Mask::all(alloc, column.rows())?;
+        let truth = truth_at_level(values, &rows, column);
+        Ok(Level {
+            number,
+            rows,
+            truth,
+        })
+    }
+
+    // Follows the column after one plane more.
+    fn follow(&mut self, values: &[i128], column: &Known, plane: &Plane)
+        requires { Had (λ before. IsLevel before values.now self.old) column.now plane.now }
+        ensures level { IsLevel column.now values.now self.new }
+        ensures number { self.new.number ≡ self.old.number }
+    {
+        let bit = next_digit(code_of(column, self.number), column);
+        self.rows.keep(plane, bit);
+        self.truth = truth_at_level(values, &self.rows, column);
+    }
+
+    // The rows of a block that have the number's prefix, where the truth lets them be listed.
+    fn words(&self, block: usize) -> MemberWords
+        requires { 64 * block < length self.now.rows }
+        ensures { (row : ℕ) → row < 64 → 64 * block + row < length self.now.rows → IsMemberWord self.now block row result }
+    {
+        let rows = self.rows.word(block);
+        MemberWords {
+            may: chosen(self.truth != Truth::False, rows),
+            must: chosen(self.truth == Truth::True, rows),
+        }
+    }
+}
+
+// The levels of the listed numbers that a column may have, of which nothing is read.
+fn open_levels(alloc: Global, values: &[i128], column: &Known) -> Result<Vec<Level>, AllocError>
+    requires unread { column.now.known.read ≡ 0 }
+    requires known { IsKnownColumn column.now }
+    ensures { IfOk result (λ levels. HasLevels column.now values.now levels.items) }
+{
+    let mut levels = Vec::new(alloc);
+    for number in values.iter() {
+        if lies_within(column, *number) {
+            levels.push(Level::open(alloc, *number, values, column)?)?;
+        }
+    }
+    Ok(levels)
+}
+
+// Has each level follow the column after one plane more.
+fn follow_levels(levels: &mut Vec<Level>, values: &[i128], column: &Known, plane: &Plane)
+    requires { Had (λ before. HasLevels before values.now levels.old.items) column.now plane.now }
+    ensures { HasLevels column.now values.now levels.new.items }
+{
+    for level in levels.iter_mut() {
+        level.follow(values, column, plane);
+    }
+}
+
+// The rows of a block at which a number may be listed or is, by all levels.
+fn member_words(levels: &[Level], block: usize) -> MemberWords
+    requires { HaveRow (64 * block) levels.now }
+    ensures { (row : ℕ) → row < 64 → HaveRow (64 * block + row) levels.now → AreMemberWords levels.now block row result }
+{
+    let mut may = 0;
+    let mut must = 0;
+    for level in levels.iter() {
+        let words = level.words(block);
+        may |= words.may;
+        must |= words.must;
+    }
+    MemberWords { may, must }
+}
+
+impl Membership {
+    // The list, for a column of which nothing is read.
+    pub(crate) fn open(
+        alloc: Global,
+        column: usize,
+        values: &[i128],
+        columns: &KnownColumns,
+    ) -> Result<Membership, AllocError>
+        requires column { column < length columns.now.frame.columns }
+        requires unread { (column_at columns.now column).known.read ≡ 0 }
+        requires known { IsKnownTable columns.now }
+        ensures test { IfOk result (λ membership. (membership.column ≡ column) × (membership.values ≡ values.now)) }
+        ensures levels { IfOk result (λ membership. IsMembership membership columns.now) }
+    {
+        let levels = open_levels(alloc, values, columns.column(column))?;
+        Ok(Membership {
+            column,
+            values: Values::new(values.to_vec(alloc)?),
+            levels,
+        })
+    }
+
+    // How many numbers are listed.
+    pub(crate) fn count(&self) -> usize {
+        self.values.as_slice().len()
+    }
+
+    // Follows the columns after a plane of one of them.
+    pub(crate) fn follow(&mut self, columns: &KnownColumns, column: usize, plane: &Plane)
+        requires within { self.old.column < length columns.now.frame.columns }
+        requires levels { Was (IsMembership self.old) columns.now column plane.now }
+        ensures column { self.new.column ≡ self.old.column }
+        ensures values { self.new.values ≡ self.old.values }
+        ensures levels { IsMembership self.new columns.now }
+    {
+        if self.column != column {
+            return;
+        }
+        let known = columns.column(column);
+        follow_levels(&mut self.levels, self.values.as_slice(), known, plane);
+    }
+
+    // The truths of whether the column's number is listed, at the rows of a block.
+    pub(crate) fn truths(&self, columns: &KnownColumns, block: usize) -> TruthWords
+        requires within { self.now.column < length columns.now.frame.columns }
+        requires levels { IsMembership self.now columns.now }
+        requires known { IsKnownTable columns.now }
+        requires block { 64 * block < columns.now.frame.rows }
+        ensures { AreTruthsAt (count_in_block block columns.now.frame.rows) (λ r. truths_over (range_at (column_at columns.now self.now.column) (64 * block + r)) (among self.now.values)) result }
+    {
+        let column = columns.column(self.column);
+        let words = member_words(&self.levels, block);
+        number_truths(column, block, words.may, !words.must)
+    }
+}
