@@ -13,3 +13,6 @@ pub mod Places
 pub mod Unmoved
 pub mod Walks
 pub mod Masked
+pub mod Rows
+pub mod SelectedPairs
+pub mod SelectedBounds

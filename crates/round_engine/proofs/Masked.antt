@@ -1,5 +1,5 @@
 -- Pairs that masks tell, and how many they are.
-use Rattle.std.proofs.Common.{◌≡◌, ◌≢◌, ℕ, zero, suc, ◌+◌, ◌<◌, ◌≤◌, ℤ, pos, Bool, true, false, ◌&&◌, ◌||◌, not, cond, List, [], ◌∷◌, length, map, filter, filter_map, get_or, slice_index, count_by, Some, None, refl, sym, ap, subst, ◌∙◌, arith, if◌then◌else◌}
+use Rattle.std.proofs.Common.{◌≡◌, ◌≢◌, ℕ, zero, suc, ◌+◌, ◌<◌, ◌≤◌, ℤ, pos, Bool, true, false, ◌&&◌, not, cond, List, [], ◌∷◌, length, map, filter, filter_map, get_or, slice_index, count_by, Some, None, refl, sym, ap, subst, ◌∙◌, arith, if◌then◌else◌}
 use Rattle.std.specs.declared.option.Option.{Option}
 use Rattle.std.specs.List.{cons_option, range_with_len}
 use Rattle.std.specs.Simd.Lanes.{zip2}
@@ -17,9 +17,7 @@ use Rattle.query_model.specs.declared.bounds.Bound.{Bound}
 use Rattle.query_model.specs.declared.query.ItemKind.{ItemKind}
 use Rattle.query_model.specs.declared.query.ItemKind.TheVariants.{Count, Sum, Min, Max, Avg}
 use Rattle.query_model.specs.declared.query.Shape.TheVariants.{Plain}
-use Rattle.query_model.specs.declared.query.Expr.{Expr}
-use Rattle.query_model.specs.declared.query.Expr.TheVariants as exprs
-use Rattle.query_model.specs.Queries.{Aggregate, Query, Column, term_of}
+use Rattle.query_model.specs.Queries.{Aggregate, Query, Column}
 use Rattle.query_model.specs.Bounds.{Pair, bound_of, certain_count, pair_unless_false, pairs}
 use Rattle.query_model.specs.Knowledge.{known_at, prefix_at, ranges_of}
 use Rattle.query_model.specs.Truths.{and_of, may_be_null, may_be_number, null_of, span_of, truth_of, truth_of_number}
@@ -29,7 +27,7 @@ use Rattle.known_column.specs.Columns as column
 use Rattle.known_column.specs.Columns.{KnownColumn, is_sure, rows_of_column, rows_where}
 use Rattle.known_column.specs.KnownTables.{KnownTable, column_at}
 use Rattle.kleene_filter.specs.Filters.{is_certain, is_possible, truth_at, truths_under}
-use Rattle.round_engine.specs.Counts.{is_column, is_count}
+use Rattle.round_engine.specs.Counts.{is_count}
 use Rattle.round_engine.proofs.RowPairs.{plain_pair}
 
 -- the pair of a row that may count and perhaps surely does
@@ -115,13 +113,6 @@ both_tested f g xs ys n is rows each =
 -- ---- the pairs of an item
 
 module _ (query : Query) (item : Aggregate) (columns : KnownTable) (plain : query.shape ≡ Plain) where
-  with_value : AreCounted (λ r. is_certain (truth_at query.pred columns r) && not (may_be_null (null_of item.arg (ranges_of columns.frame columns.known r))))
-      (λ r. is_possible (truth_at query.pred columns r) && may_be_number (null_of item.arg (ranges_of columns.frame columns.known r)))
-      (range_with_len 0 columns.frame.rows) (pairs query item [] columns.frame columns.known)
-  with_value = counted _ _ _ (λ r. span_of item.arg (ranges_of columns.frame columns.known r)) 0 columns.frame.rows (λ r above below.
-      let ranges = ranges_of columns.frame columns.known r in
-      (plain_pair query item ranges plain ∙ pair_by_masks (truth_of query.pred ranges) (null_of item.arg ranges) (span_of item.arg ranges), sure_may (truth_of query.pred ranges) (null_of item.arg ranges)))
-
   without_null : ((r : ℕ) → null_of item.arg (ranges_of columns.frame columns.known r) ≡ Never) →
       AreCounted (λ r. is_certain (truth_at query.pred columns r)) (λ r. is_possible (truth_at query.pred columns r)) (range_with_len 0 columns.frame.rows) (pairs query item [] columns.frame columns.known)
   without_null never = counted _ _ _ (λ r. span_of item.arg (ranges_of columns.frame columns.known r)) 0 columns.frame.rows (λ r above below.
@@ -153,20 +144,18 @@ module _ (query : Query) (item : Aggregate) (columns : KnownTable) (plain : quer
           ap (count_by (λ b. b)) (tested is_possible may truths may_is judged) ∙ count-tested _ 0 columns.frame.rows ∙ sym told.1,
         )
 
-    pub counted_by_column : (known : KnownColumn) (c : ℕ) (sure possible : List Bool) → item.arg ≡ Column c → known ≡ column_at columns c → rows_of_column known ≡ columns.frame.rows →
+    -- the rows that the filter and a column let through
+    pub rows_by_column : (known : KnownColumn) (c : ℕ) (sure possible : List Bool) → item.arg ≡ Column c → known ≡ column_at columns c → rows_of_column known ≡ columns.frame.rows →
         sure ≡ rows_where is_sure known → possible ≡ rows_where column.is_possible known →
-        (count_by (λ b. b) (zip2 (λ a b. a && b) must sure) ≡ certain_count (pairs query item [] columns.frame columns.known))
-        × (count_by (λ b. b) (zip2 (λ a b. a && b) may possible) ≡ length (pairs query item [] columns.frame columns.known))
-    counted_by_column known c sure possible arg there rows sure_is possible_is =
-        let told = with_value in
+        (zip2 (λ a b. a && b) must sure ≡ map (λ r. is_certain (truth_at query.pred columns r) && not (may_be_null (null_of item.arg (ranges_of columns.frame columns.known r)))) (range_with_len 0 columns.frame.rows))
+        × (zip2 (λ a b. a && b) may possible ≡ map (λ r. is_possible (truth_at query.pred columns r) && may_be_number (null_of item.arg (ranges_of columns.frame columns.known r))) (range_with_len 0 columns.frame.rows))
+    rows_by_column known c sure possible arg there rows sure_is possible_is =
         let n = columns.frame.rows in
         let sure_at = marked is_sure known c sure there sure_is rows in
-        let possible_at = marked column.is_possible known c possible there possible_is rows in
-        let certain : zip2 (λ a b. a && b) must sure ≡ map (λ r. is_certain (truth_at query.pred columns r) && not (may_be_null (null_of item.arg (ranges_of columns.frame columns.known r)))) (range_with_len 0 n) =
-        both_tested _ _ must sure n (tested is_certain must truths must_is judged) sure_at.0 (λ k below. sure_at.1 k below ∙ ap (λ e. not (may_be_null (null_of e (ranges_of columns.frame columns.known k)))) (sym arg)) in
-        let all : zip2 (λ a b. a && b) may possible ≡ map (λ r. is_possible (truth_at query.pred columns r) && may_be_number (null_of item.arg (ranges_of columns.frame columns.known r))) (range_with_len 0 n) =
-        both_tested _ _ may possible n (tested is_possible may truths may_is judged) possible_at.0 (λ k below. possible_at.1 k below ∙ ap (λ e. may_be_number (null_of e (ranges_of columns.frame columns.known k))) (sym arg)) in
-        (ap (count_by (λ b. b)) certain ∙ count-tested _ 0 n ∙ sym told.0, ap (count_by (λ b. b)) all ∙ count-tested _ 0 n ∙ sym told.1)
+        let possible_at = marked column.is_possible known c possible there possible_is rows in (
+          both_tested _ _ must sure n (tested is_certain must truths must_is judged) sure_at.0 (λ k below. sure_at.1 k below ∙ ap (λ e. not (may_be_null (null_of e (ranges_of columns.frame columns.known k)))) (sym arg)),
+          both_tested _ _ may possible n (tested is_possible may truths may_is judged) possible_at.0 (λ k below. possible_at.1 k below ∙ ap (λ e. may_be_number (null_of e (ranges_of columns.frame columns.known k))) (sym arg)),
+        )
 
 -- ---- the items that are counted
 
@@ -177,21 +166,8 @@ count_kind Min b h = absurd (false≢true h)
 count_kind Max b h = absurd (false≢true h)
 count_kind Avg b h = absurd (false≢true h)
 
--- what is counted and is no column may not be null
-pub counted_never : (column null : Bool) → (column || not null) ≡ true → column ≡ false → null ≡ false
-counted_never true null h e = absurd (false≢true (sym e))
-counted_never false true h e = absurd (false≢true h)
-counted_never false false h e = refl
-
 pub count_bound : (kind : ItemKind) (ps : List Pair) (low high : ℤ) → kind ≡ Count → low ≡ pos (certain_count ps) → high ≡ pos (length ps) → ◌≡◌ {A = Bound} (record { null = Never; lo = low; hi = high }) (bound_of kind ps)
 count_bound kind ps low high is lo hi = subst (λ k. ◌≡◌ {A = Bound} (record { null = Never; lo = low; hi = high }) (bound_of k ps)) (sym is) (same low (pos (certain_count ps)) high (pos (length ps)) lo hi)
   where
     same : (a b c d : ℤ) → a ≡ b → c ≡ d → ◌≡◌ {A = Bound} (record { null = Never; lo = a; hi = c }) (record { null = Never; lo = b; hi = d })
     same a b c d e f = cc
-
-pub no_column : (e : Expr) → ((c : ℕ) → e ≢ exprs.Column c) → is_column (term_of e) ≡ false
-no_column (exprs.Column c) other = absurd (other c refl)
-no_column (exprs.Literal n) other = refl
-no_column (exprs.Add' p a q b) other = refl
-no_column (exprs.Sub' p a q b) other = refl
-no_column (exprs.Mul' p a q b) other = refl

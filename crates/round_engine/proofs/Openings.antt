@@ -18,6 +18,7 @@ use Rattle.round_engine.specs.declared.answers.Answers.{Answers}
 use Rattle.round_engine.specs.declared.answers.Answers.TheVariants.{Totals}
 use Rattle.round_engine.specs.Engines.{stage_of, AreAnswers, AreAnswersBeside, HoldItems}
 use Rattle.round_engine.specs.Moves.{AreMoved, is_marked, is_moved}
+use Rattle.round_engine.specs.Selected.{HaveRows}
 use Rattle.round_engine.specs.Stages.{IsOpenItem, IsOpenQuery, IsOpenStage, Stage}
 use Rattle.round_engine.specs.Totals.{AreTotals, AreTotalsBeside, HaveRoom, IsBoundOf}
 use Rattle.round_engine.proofs.Unmoved.{pairs_unmoved}
@@ -91,11 +92,12 @@ beside_moved query before columns column bits marks bounds plain moved are taken
 -- what a plane does not move is told still
 pub still_told : (query : Query) (before columns : KnownTable) (column : ℕ) (bits marks : List Bool) (answers : Answers) → query.shape ≡ Plain → AreMoved query column marks → AreAnswers (stage_of query before) answers →
     columns ≡ read_column before column bits → AreAnswersBeside (stage_of query columns) marks answers
-still_told query before columns column bits marks (Totals totals) plain moved are taken = (beside_moved query before columns column bits marks totals.bounds.items plain moved are.0 taken, are.1)
+still_told query before columns column bits marks (Totals totals) plain moved are taken = (beside_moved query before columns column bits marks totals.bounds.items plain moved are.0 taken, are.1, subst (λ (t : KnownTable). HaveRows t.frame.rows totals.masks) (sym taken) are.2)
 
 -- where all are marked, room is enough
-pub all_marked : (stage : Stage) (marks : List Bool) (answers : Answers) → ((i : ℕ) → i < length stage.query.items → is_marked marks i ≡ true) → HoldItems stage.query.items answers → AreAnswersBeside stage marks answers
+pub all_marked : (stage : Stage) (marks : List Bool) (answers : Answers) → ((i : ℕ) → i < length stage.query.items → is_marked marks i ≡ true) → HoldItems stage.query.items stage.frame.rows answers → AreAnswersBeside stage marks answers
 all_marked stage marks (Totals totals) all hold = (
   record { count = hold.0; each = λ i item bound at_item at_bound unmarked. absurd (unmarked (all i (slice_get_within stage.query.items i item at_item))) },
   hold.1,
+  hold.2,
 )

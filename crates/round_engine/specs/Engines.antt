@@ -9,6 +9,7 @@ use Rattle.round_engine.specs.declared.answers.Answers.{Answers}
 use Rattle.round_engine.specs.declared.answers.Answers.TheVariants.{Totals}
 use Rattle.round_engine.specs.declared.state.State.{State}
 use Rattle.round_engine.specs.Progresses.{role_of}
+use Rattle.round_engine.specs.Selected.{HaveRows}
 use Rattle.round_engine.specs.Stages.{IsOpenStage, Stage}
 use Rattle.round_engine.specs.Totals.{AreSomeTotals, AreTotals, AreTotalsBeside, HaveRoom}
 
@@ -18,11 +19,13 @@ stage_of query columns = record { query = query; frame = columns.frame; known = 
 
 -- the answers are those of the stage, and there is room to compute them anew
 abbrev pub AreAnswers : Stage → Answers → Type 0
-AreAnswers stage (Totals totals) = AreTotals stage totals.bounds.items × HaveRoom stage.query.items totals.runnings.items
+AreAnswers stage (Totals totals) =
+    AreTotals stage totals.bounds.items × HaveRoom stage.query.items totals.runnings.items × HaveRows stage.frame.rows totals.masks
 
--- there is room for those of a query with these items
-abbrev pub HoldItems : List Aggregate → Answers → Type 0
-HoldItems items (Totals totals) = (length totals.bounds.items ≡ length items) × HaveRoom items totals.runnings.items
+-- there is room for those of a query with these items, over so many rows
+abbrev pub HoldItems : List Aggregate → ℕ → Answers → Type 0
+HoldItems items rows (Totals totals) =
+    (length totals.bounds.items ≡ length items) × HaveRoom items totals.runnings.items × HaveRows rows totals.masks
 
 -- they are those of an open stage
 abbrev pub AreSomeAnswers : Answers → Type 0
@@ -32,6 +35,7 @@ AreSomeAnswers (Totals totals) = AreSomeTotals totals.bounds.items
 abbrev pub AreAnswersBeside : Stage → List Bool → Answers → Type 0
 AreAnswersBeside stage marks (Totals totals) =
     AreTotalsBeside stage marks totals.bounds.items × HaveRoom stage.query.items totals.runnings.items
+    × HaveRows stage.frame.rows totals.masks
 
 -- each column is read for what its role says
 abbrev pub AreRoles : Query → List Role → Type 0

@@ -4,5 +4,6 @@ pub mod Promises
 pub mod Progresses
 pub mod Moves
 pub mod Counts
+pub mod Selected
 pub mod Totals
 pub mod Engines

@@ -1,5 +1,5 @@
 -- The answers of a query without groups and order: for each item the bound of its pairs.
-use Rattle.std.specs.Prelude.{◌≡◌, ◌≢◌, ℕ, Bool, true, not, ◌&&◌, List, [], length, slice_get}
+use Rattle.std.specs.Prelude.{◌≡◌, ◌≢◌, ℕ, Bool, true, false, not, ◌&&◌, List, [], length, slice_get}
 use Rattle.std.specs.declared.option.Option.{Option}
 use Rattle.std.specs.declared.option.Option.TheVariants.{Some}
 use Rattle.aggregates.specs.Runnings.{IsBlank, StandsFor, Tallies}
@@ -13,8 +13,8 @@ use Rattle.query_model.specs.Knowledge.{ranges_of}
 use Rattle.round_engine.specs.declared.item_bound.ItemBound.{ItemBound}
 use Rattle.round_engine.specs.declared.item_bound.ItemBound.TheVariants.{Numbers, Fractions}
 use Rattle.daq_table.specs.Tables.{Frame}
-use Rattle.round_engine.specs.Counts.{is_counted}
 use Rattle.round_engine.specs.Moves.{is_marked}
+use Rattle.round_engine.specs.Selected.{is_by_masks}
 use Rattle.round_engine.specs.Stages.{IsOpenStage, Stage}
 
 -- the pair of a row, if the row may give a value
@@ -77,7 +77,13 @@ AreFilledBelow stage marks rows runnings =
 -- of the marked items those are marked besides whose rows are added one by one
 abbrev pub AreAdded : Frame → List Aggregate → List Bool → List Bool → Type 0
 AreAdded frame items marks added =
-    (i : ℕ) (item : Aggregate) → slice_get items i ≡ Some item → is_marked added i ≡ (is_marked marks i && not (is_counted frame item))
+    (i : ℕ) (item : Aggregate) → slice_get items i ≡ Some item → is_marked added i ≡ (is_marked marks i && not (is_by_masks frame item))
+
+-- all rows of each marked item are added, but for the items that masks tell
+abbrev pub AreFilled : Stage → List Bool → List Tallies → Type 0
+AreFilled stage marks runnings =
+    AreEach (λ i item running. is_marked marks i ≡ true → is_by_masks stage.frame item ≡ false
+    → IsFilledBelow stage item stage.frame.rows running) stage.query.items runnings
 
 -- an item has a bound of this form
 pub record HasNumbers (bounds : List ItemBound) (item : ℕ) : Type 0 where

@@ -19,11 +19,16 @@ pub(crate) enum Answers {
 }
 
 impl Answers {
-    // Room for the answers.
-    pub(crate) fn open(alloc: Global, query: &TypedQuery) -> Result<Answers, AllocError>
-        ensures { IfOk result (HoldItems query.now.items) }
+    // Room for the answers over so many rows.
+    pub(crate) fn open(
+        alloc: Global,
+        query: &TypedQuery,
+        rows: usize,
+    ) -> Result<Answers, AllocError>
+        ensures { IfOk result (HoldItems query.now.items rows) }
     {
-        Ok(Answers::Totals(Totals::open(alloc, query.items.as_slice())?))
+        let items = query.items.as_slice();
+        Ok(Answers::Totals(Totals::open(alloc, items, rows)?))
     }
 
     // Computes the marked ones anew.

@@ -2,6 +2,7 @@
 #![tactic(auto)]
 
 mod answers;
+mod column_bounds;
 mod counts;
 mod engine;
 mod filling;
@@ -12,6 +13,8 @@ mod narrowness;
 mod progress;
 mod readers;
 mod roles;
+mod row_masks;
+mod selection;
 mod state;
 mod totals;
 
@@ -20,5 +23,7 @@ pub use laws::orders_agree;
 
 #[cfg(test)]
 mod null_tests;
+#[cfg(test)]
+mod signed_tests;
 #[cfg(test)]
 mod tests;

@@ -43,7 +43,7 @@ impl State {
         let columns = KnownColumns::open(alloc, query.columns.as_slice(), head)?;
         let mut block = RowBlock::open(alloc, &columns)?;
         let filter = Filter::open(alloc, &query.pred, &columns, &mut block)?;
-        let mut answers = Answers::open(alloc, query)?;
+        let mut answers = Answers::open(alloc, query, columns.rows())?;
         answers.fill(query, &columns, &filter, &mut block, &[true; 16]);
         Ok(State {
             columns,

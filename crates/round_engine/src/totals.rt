@@ -5,28 +5,31 @@ ghost use Rattle.aggregates.specs.Runnings.{StandsFor};
 ghost use Rattle.kleene_filter.specs.Filters.{truths_under};
 ghost use Rattle.known_column.specs.RowBlocks.{block_of};
 ghost use Rattle.query_model.specs.Bounds.{Pair};
+ghost use Rattle.query_model.specs.Queries.{term_of};
 ghost use Rattle.round_engine.specs.declared.item_bound.ItemBound.TheVariants.{Fractions, Numbers};
 ghost use Rattle.round_engine.specs.Engines.{stage_of};
 ghost use Rattle.round_engine.specs.Narrowness.{is_narrow};
-ghost use Rattle.round_engine.specs.Counts.{is_counted};
 ghost use Rattle.round_engine.specs.Moves.{is_marked};
+ghost use Rattle.round_engine.specs.Selected.{HaveRows, is_by_masks, is_column};
 ghost use Rattle.round_engine.specs.Stages.{IsOpenItem, IsOpenStage, Stage};
-ghost use Rattle.round_engine.specs.Totals.{AreBlank, AreFilledBelow, AreSomeTotals, AreTotals, AreTotalsBeside, HasFractions, HasNumbers, HaveRoom, IsBoundOf, IsFilledBelow, IsTotal, AreAdded};
+ghost use Rattle.round_engine.specs.Totals.{AreBlank, AreFilled, AreFilledBelow, AreSomeTotals, AreTotals, AreTotalsBeside, HasFractions, HasNumbers, HaveRoom, IsBoundOf, IsFilledBelow, IsTotal, AreAdded};
 
 use crate::counts::{bound_of_counts, is_counted};
 use crate::filling::fill_block;
 use crate::item_bound::ItemBound;
+use crate::row_masks::RowMasks;
 use aggregates::Running;
 use kleene_filter::Filter;
 use known_column::{KnownColumns, RowBlock};
-use query_model::{AverageBound, Bound, Item, ItemKind, Nullity, TypedQuery, pairs_are_few};
+use query_model::{AverageBound, Bound, Expr, Item, ItemKind, Nullity, TypedQuery, pairs_are_few};
 use std::alloc::{AllocError, Global};
 
-// The bound of each item, and room to add its rows one by one.
+// The bound of each item, and room to add its rows one by one, or to tell it by masks.
 #[derive(Drop)]
 pub(crate) struct Totals {
     bounds: Vec<ItemBound>,
     runnings: Vec<Running>,
+    masks: RowMasks,
 }
 
 // Leaves room for the rows of each item, of which none is added.
@@ -39,6 +42,24 @@ fn begin_each(query: &TypedQuery, runnings: &mut [Running])
     }
 }
 
+// Whether an expression is a bare column.
+fn is_column(expr: &Expr) -> bool
+    ensures { result ≡ is_column (term_of expr.now) }
+{
+    match expr {
+        Expr::Column(_) => true,
+        Expr::Literal(_) | Expr::Add(_, _) | Expr::Sub(_, _) | Expr::Mul(_, _) => false,
+    }
+}
+
+// Whether masks tell the bound of an item.
+fn is_by_masks(item: &Item, columns: &KnownColumns) -> bool
+    requires { IsOpenItem columns.now.frame item.now }
+    ensures { result ≡ is_by_masks columns.now.frame item.now }
+{
+    is_column(&item.arg) || is_counted(item, columns)
+}
+
 // The marked items whose rows are added one by one: those whose bound no masks tell.
 fn added_items(query: &TypedQuery, columns: &KnownColumns, marks: &[bool; 16]) -> [bool; 16]
     requires { IsOpenStage (stage_of query.now columns.now) }
@@ -48,7 +69,7 @@ fn added_items(query: &TypedQuery, columns: &KnownColumns, marks: &[bool; 16]) -
     let mut added = [false; 16];
     for i in 0..items.len() {
         let item = &items[i];
-        added[i] = marks[i] & !is_counted(item, columns);
+        added[i] = marks[i] & !is_by_masks(item, columns);
     }
     added
 }
@@ -142,18 +163,21 @@ fn bound_of_item(
     columns: &KnownColumns,
     filter: &Filter,
     running: &Running,
+    masks: &mut RowMasks,
 ) -> ItemBound
     requires open_stage { IsOpenStage (stage_of query.now columns.now) }
     requires open_item { IsOpenItem columns.now.frame item.now }
     requires judged { filter.now.truths ≡ truths_under query.now.pred columns.now }
-    requires filled { is_counted columns.now.frame item.now ≡ false
+    requires filled { is_by_masks columns.now.frame item.now ≡ false
         → IsFilledBelow (stage_of query.now columns.now) item.now columns.now.frame.rows running.now }
-    ensures { IsTotal (stage_of query.now columns.now) item.now result }
+    requires room { HaveRows columns.now.frame.rows masks.old }
+    ensures room { HaveRows columns.now.frame.rows masks.new }
+    ensures bound { IsTotal (stage_of query.now columns.now) item.now result }
 {
-    if is_counted(item, columns) {
-        bound_of_counts(query, item, columns, filter)
-    } else {
-        bound_of_rows(item, running)
+    match &item.arg {
+        Expr::Column(column) => masks.bound(query, item, *column, columns, filter),
+        _ if is_counted(item, columns) => bound_of_counts(query, item, columns, filter),
+        _ => bound_of_rows(item, running),
     }
 }
 
@@ -163,30 +187,32 @@ fn tell_each(
     columns: &KnownColumns,
     filter: &Filter,
     marks: &[bool; 16],
-    added: &[bool; 16],
     runnings: &[Running],
+    masks: &mut RowMasks,
     bounds: &mut [ItemBound],
 )
     requires open_stage { IsOpenStage (stage_of query.now columns.now) }
     requires judged { filter.now.truths ≡ truths_under query.now.pred columns.now }
-    requires added { AreAdded columns.now.frame query.now.items marks.now added.now }
-    requires filled { AreFilledBelow (stage_of query.now columns.now) added.now columns.now.frame.rows runnings.now }
+    requires filled { AreFilled (stage_of query.now columns.now) marks.now runnings.now }
+    requires room { HaveRows columns.now.frame.rows masks.old }
     requires beside { AreTotalsBeside (stage_of query.now columns.now) marks.now bounds.old }
-    ensures { AreTotals (stage_of query.now columns.now) bounds.new }
+    ensures room { HaveRows columns.now.frame.rows masks.new }
+    ensures totals { AreTotals (stage_of query.now columns.now) bounds.new }
 {
     for i in 0..bounds.len() {
         if marks[i] {
             let item = &query.items.as_slice()[i];
-            bounds[i] = bound_of_item(query, item, columns, filter, &runnings[i]);
+            bounds[i] = bound_of_item(query, item, columns, filter, &runnings[i], masks);
         }
     }
 }
 
 impl Totals {
-    // Room for a total of each item. So far they are those of no rows.
-    pub(crate) fn open(alloc: Global, items: &[Item]) -> Result<Totals, AllocError>
+    // Room for a total of each item over so many rows. So far they are those of no rows.
+    pub(crate) fn open(alloc: Global, items: &[Item], rows: usize) -> Result<Totals, AllocError>
         ensures count { IfOk result (λ totals. length totals.bounds.items ≡ length items.now) }
         ensures room { IfOk result (λ totals. HaveRoom items.now totals.runnings.items) }
+        ensures masks { IfOk result (λ totals. HaveRows rows totals.masks) }
     {
         let none = Bound {
             null: Nullity::Always,
@@ -198,7 +224,12 @@ impl Totals {
         for item in items {
             runnings.push(Running::open(alloc, item.kind, 1)?)?;
         }
-        Ok(Totals { bounds, runnings })
+        let masks = RowMasks::open(alloc, rows)?;
+        Ok(Totals {
+            bounds,
+            runnings,
+            masks,
+        })
     }
 
     // Computes the total of each marked item anew.
@@ -214,10 +245,12 @@ impl Totals {
         requires judged { filter.now.truths ≡ truths_under query.now.pred columns.now }
         requires beside { AreTotalsBeside (stage_of query.now columns.now) marks.now self.old.bounds.items }
         requires room { HaveRoom query.now.items self.old.runnings.items }
+        requires masks { HaveRows columns.now.frame.rows self.old.masks }
         requires same { block.old.frame.columns ≡ columns.now.frame.columns }
         ensures same { block.new.frame.columns ≡ columns.now.frame.columns }
         ensures totals { AreTotals (stage_of query.now columns.now) self.new.bounds.items }
         ensures room { HaveRoom query.now.items self.new.runnings.items }
+        ensures masks { HaveRows columns.now.frame.rows self.new.masks }
     {
         begin_each(query, &mut self.runnings);
         let added = added_items(query, columns, marks);
@@ -227,8 +260,8 @@ impl Totals {
             columns,
             filter,
             marks,
-            &added,
             &self.runnings,
+            &mut self.masks,
             &mut self.bounds,
         );
     }

@@ -1,0 +1,57 @@
+// Items over a bare column, told by masks.
+
+ghost use Rattle.std.specs.Prelude.{◌≡◌, IfOk};
+ghost use Rattle.kleene_filter.specs.Filters.{truths_under};
+ghost use Rattle.query_model.specs.Queries.{Column};
+ghost use Rattle.round_engine.specs.Engines.{stage_of};
+ghost use Rattle.round_engine.specs.Selected.{HaveRows};
+ghost use Rattle.round_engine.specs.Stages.{IsOpenItem, IsOpenStage};
+ghost use Rattle.round_engine.specs.Totals.{IsTotal};
+
+use crate::item_bound::ItemBound;
+use crate::selection::Selection;
+use kleene_filter::Filter;
+use known_column::KnownColumns;
+use plane_kernels::Mask;
+use query_model::{Item, TypedQuery};
+use std::alloc::{AllocError, Global};
+
+// Room for the rows that give a value, and for those whose ends are added up.
+#[derive(Drop)]
+pub(crate) struct RowMasks {
+    selection: Selection,
+    added: Mask,
+}
+
+impl RowMasks {
+    // Room for so many rows.
+    pub(crate) fn open(alloc: Global, rows: usize) -> Result<RowMasks, AllocError>
+        ensures { IfOk result (HaveRows rows) }
+    {
+        let selection = Selection::open(alloc, rows)?;
+        let added = Mask::none(alloc, rows)?;
+        Ok(RowMasks { selection, added })
+    }
+
+    // The bound of an item over a bare column.
+    pub(crate) fn bound(
+        &mut self,
+        query: &TypedQuery,
+        item: &Item,
+        column: u8,
+        columns: &KnownColumns,
+        filter: &Filter,
+    ) -> ItemBound
+        requires open_stage { IsOpenStage (stage_of query.now columns.now) }
+        requires open_item { IsOpenItem columns.now.frame item.now }
+        requires judged { filter.now.truths ≡ truths_under query.now.pred columns.now }
+        requires column { item.now.arg ≡ Column column }
+        requires room { HaveRows columns.now.frame.rows self.old }
+        ensures room { HaveRows columns.now.frame.rows self.new }
+        ensures bound { IsTotal (stage_of query.now columns.now) item.now result }
+    {
+        let known = columns.column(column as usize);
+        self.selection.select(filter, known);
+        self.selection.bound(item.kind, known, &mut self.added)
+    }
+}

@@ -1,0 +1,45 @@
+// The rows that give a column's values to an item, as masks.
+
+ghost use Rattle.std.specs.Prelude.{◌≡◌, ◌&&◌, length, map, IfOk};
+ghost use Rattle.std.specs.Simd.Lanes.{zip2};
+ghost use Rattle.kleene_filter.specs.Filters.{is_certain, is_possible};
+ghost use Rattle.known_column.specs.Columns as column;
+ghost use Rattle.known_column.specs.Columns.{is_sure, rows_of_column, rows_where};
+ghost use Rattle.round_engine.specs.Selected.{HasRows};
+
+use kleene_filter::Filter;
+use known_column::Known;
+use plane_kernels::Mask;
+use std::alloc::{AllocError, Global};
+
+// The rows that may give a value, and of them those that surely do.
+#[derive(Drop)]
+pub(crate) struct Selection {
+    pub(crate) may: Mask,
+    pub(crate) must: Mask,
+}
+
+impl Selection {
+    // Room for so many rows.
+    pub(crate) fn open(alloc: Global, rows: usize) -> Result<Selection, AllocError>
+        ensures { IfOk result (HasRows rows) }
+    {
+        Ok(Selection {
+            may: Mask::none(alloc, rows)?,
+            must: Mask::none(alloc, rows)?,
+        })
+    }
+
+    // Selects the rows at which a condition holds and a column has a value.
+    pub(crate) fn select(&mut self, filter: &Filter, known: &Known)
+        requires room { HasRows (rows_of_column known.now) self.old }
+        requires rows { length filter.now.truths ≡ rows_of_column known.now }
+        ensures may { self.new.may ≡ zip2 (λ a b. a && b) (map is_possible filter.now.truths) (rows_where column.is_possible known.now) }
+        ensures must { self.new.must ≡ zip2 (λ a b. a && b) (map is_certain filter.now.truths) (rows_where is_sure known.now) }
+    {
+        self.may.copy_from(filter.may());
+        self.may.and_into(known.possible());
+        self.must.copy_from(filter.must());
+        self.must.and_into(known.sure());
+    }
+}
