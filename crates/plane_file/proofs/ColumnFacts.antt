@@ -10,7 +10,8 @@ use Rattle.daq_table.specs.declared.head.Kind.{Kind}
 use Rattle.plane_file.proofs.DictionaryFacts.{length-names_at, names_ascend, names_front, names_short}
 use Rattle.plane_file.proofs.Faults.{passed-append}
 use Rattle.plane_file.proofs.FieldFacts.{HasFields, days_fit, has_fields, kind_spelled, name_is, names_fit, rows_fit, version_fits}
-use Rattle.plane_file.proofs.FrontBytes.{AreBytes, byte_front, length-part_at, number32_front, part_front, signed_front}
+use Rattle.plane_file.proofs.FrontBytes.{byte_front, length-part_at, number32_front, part_front, signed_fits, signed_front}
+use Rattle.plane_file.specs.Bytes.{AreBytes}
 use Rattle.plane_file.specs.Checks.{base_at, byte_at, column_end, count_at, dictionary_at, fields_checks, first_fault, kind_at, names_at, names_checks, nullable_at, rows_in, title_at, top_at, version_in, width_at}
 use Rattle.plane_file.specs.Format.{CanBeSpelledColumn, column_bytes, counted, kind_byte, kind_number, scale_byte, signed_bytes}
 use Rattle.plane_file.specs.Fronts.{IsColumnAt}
@@ -56,7 +57,7 @@ numbers_front bytes at fits le =
     a ∙ ap first b ∙ ap second c ∙ ap third d ∙ ap fourth f ∙ ap fifth g ∙ ap sixth h
 
 -- the first numbers, and what stands behind them
-regroup : (four base top count name names rest : List ℕ)
+pub regroup : (four base top count name names rest : List ℕ)
     → (four ++ (base ++ (top ++ count))) ++ (name ++ names) ++ rest ≡ four ++ (base ++ (top ++ (count ++ (name ++ (names ++ rest)))))
 regroup four base top count name names rest = simp append_assoc
 
@@ -100,6 +101,8 @@ is_good bytes titles at column end fits c =
       spelled = record {
         named = rw c.name h.title;
         scale = rw c.kind h.scale;
+        base = rw c.base (signed_fits bytes (at + 4) fits);
+        top = rw c.top (signed_fits bytes (at + 12) fits);
         days = rw (c.kind, c.base, c.top) (days_fit (kind_at bytes at) (base_at bytes at) (top_at bytes at) h.base h.top);
         few = rw (c.names, length-names_at count bytes place) h.few;
         texts = rw c.names (names_short count bytes None place fits checks.1);

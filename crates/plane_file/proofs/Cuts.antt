@@ -6,7 +6,7 @@ use Rattle.daq_table.proofs.TableCells.{ends_read}
 use Rattle.daq_table.specs.declared.head.ColumnHead.{ColumnHead}
 use Rattle.daq_table.specs.declared.head.Ends.{Ends}
 use Rattle.daq_table.specs.declared.table_head.Head.{Head}
-use Rattle.daq_table.specs.Tables.{Cell, Contents, IsCell, code, ends_at, ends_of, first_code, frame_of, is_null_cell, number_of, planes, spread, width}
+use Rattle.daq_table.specs.Tables.{Cell, IsCell, code, ends_at, ends_of, first_code, frame_of, is_null_cell, number_of, planes, spread, width}
 use Rattle.query_model.specs.Knowledge.{bit_at}
 use Rattle.query_model.proofs.Blocks.{below_digits, zero_quotient, nullable_column, plain_column}
 
@@ -79,5 +79,5 @@ pub digits_left : (ends : Ends) (j : ℕ) → IsTrue ends.nullable → j ≡ suc
 digits_left ends j n e lt = omega (arith, e, lt, (nullable_column ends n).0)
 
 -- what is declared of the column that was looked up
-pub declared : (table : Contents) (head : Head) (column : ℕ) (found : ColumnHead) → head ≡ table.head → column < length table.head.columns → found ≡ get_or head.columns column found → ends_at (frame_of table.head) column ≡ ends_of found
-declared table head column found e lt is = ends_read table.head.columns column found lt (subst (λ (h : Head). found ≡ get_or h.columns column found) e is)
+pub declared : (head read : Head) (column : ℕ) (found : ColumnHead) → read ≡ head → column < length head.columns → found ≡ get_or read.columns column found → ends_at (frame_of head) column ≡ ends_of found
+declared head read column found e lt is = ends_read head.columns column found lt (subst (λ (h : Head). found ≡ get_or h.columns column found) e is)

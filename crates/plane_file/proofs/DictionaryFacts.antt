@@ -7,7 +7,8 @@ use Rattle.std.specs.Ordering.{is_lt, nat_cmp}
 use Rattle.std.specs.Str.{is_utf8}
 use Rattle.daq_table.specs.ColumnFacts.{is_ascending}
 use Rattle.plane_file.proofs.Faults.{passed}
-use Rattle.plane_file.proofs.FrontBytes.{AreBytes, byte_front, length-part_at, part_front}
+use Rattle.plane_file.proofs.FrontBytes.{byte_front, length-part_at, part_front}
+use Rattle.plane_file.specs.Bytes.{AreBytes}
 use Rattle.plane_file.specs.Checks.{byte_at, first_fault, is_name, is_next, name_at, names_at, names_checks, names_end, reaches}
 use Rattle.plane_file.specs.Format.{counted, is_short_text}
 use Rattle.plane_file.specs.declared.file_fault.FileFault.TheVariants.{BadHead}

@@ -79,7 +79,7 @@ unfolding names_at
 empty_names zero bytes place h = refl
 empty_names (suc count) bytes place h = let e = eqb-true (suc count) 0 h in absurd (omega arith)
 
-some_names : (count : ℕ) → (suc count == 0) ≡ false
+pub some_names : (count : ℕ) → (suc count == 0) ≡ false
 some_names count = ne_eqb (suc count) 0 (λ e. absurd (omega arith))
 
 ranks_are : (count : ℕ) (bytes : List ℕ) (place : ℕ) (base top : ℤ) (empty : Bool) → are_ranks_below count base top empty ≡ true → int_le (pos 0) base ≡ true → are_ranks base top (names_at count bytes place) ≡ true

@@ -1,18 +1,17 @@
 -- What stands at the front of the bytes from a place on.
-use Rattle.std.proofs.Common.{◌≡◌, ℕ, ◌+◌, ◌^◌, ◌≤◌, ◌<◌, List, ◌∷◌, ◌++◌, length, get_or, take, drop, refl, sym, ap, ◌∙◌, arith, inl, inr}
+use Rattle.std.proofs.Common.{◌≡◌, ℕ, ◌+◌, ◌^◌, ◌≤◌, ◌<◌, List, ◌∷◌, ◌++◌, length, take, drop, refl, sym, ap, ◌∙◌, arith, inl, inr}
+use Rattle.std.specs.Prelude.{FitsSigned}
 use Rattle.std.specs.Int.{w32, w64, cast_signed, cast_unsigned, from_le_bytes, to_le_bytes}
+use Rattle.std.proofs.Math.Facts.{sfits_to_z}
 use Rattle.std.proofs.lemmas.Bool.{cases_lt}
 use Rattle.std.proofs.lemmas.Int.{of_z-to_z}
 use Rattle.std.proofs.lemmas.List.{drop-drop, drop_more, get_or-drop, get_or-take, get_or_past, length-drop, length-take, take-append-drop}
 use Rattle.std.proofs.lemmas.Nat.{le_bytes_4, le_bytes_8}
+use Rattle.plane_file.specs.Bytes.{AreBytes}
 use Rattle.plane_file.specs.Checks.{byte_at, number_at, part_at, signed_at}
 use Rattle.plane_file.specs.Format.{signed_bytes}
 
--- each is a byte
-abbrev pub AreBytes : List ℕ → Type 0
-AreBytes bytes = (i : ℕ) → get_or bytes i 0 < 256
-
-drop_bytes : (bytes : List ℕ) (at : ℕ) → AreBytes bytes → AreBytes (drop at bytes)
+pub drop_bytes : (bytes : List ℕ) (at : ℕ) → AreBytes bytes → AreBytes (drop at bytes)
 drop_bytes bytes at fits i = rw get_or-drop (fits (at + i))
 
 pub take_bytes : (bytes : List ℕ) (n : ℕ) → AreBytes bytes → AreBytes (take n bytes)
@@ -34,10 +33,10 @@ pub length-part_at : (bytes : List ℕ) (at count : ℕ) → at + count ≤ leng
 unfolding part_at
 length-part_at bytes at count le = omega (arith, length-take count (drop at bytes), length-drop at bytes)
 
-take_4 : (bs : List ℕ) → from_le_bytes w32 bs ≡ from_le_bytes w32 (take 4 bs)
+pub take_4 : (bs : List ℕ) → from_le_bytes w32 bs ≡ from_le_bytes w32 (take 4 bs)
 take_4 bs = rw (get_or-take 4 bs 0 0 (omega arith), get_or-take 4 bs 1 0 (omega arith), get_or-take 4 bs 2 0 (omega arith), get_or-take 4 bs 3 0 (omega arith)) refl
 
-take_8 : (bs : List ℕ) → from_le_bytes w64 bs ≡ from_le_bytes w64 (take 8 bs)
+pub take_8 : (bs : List ℕ) → from_le_bytes w64 bs ≡ from_le_bytes w64 (take 8 bs)
 take_8 bs = rw (
   get_or-take 8 bs 0 0 (omega arith),
   get_or-take 8 bs 1 0 (omega arith),
@@ -73,6 +72,10 @@ unfolding signed_at number_at
 signed_front bytes at next fits e le =
     let back = of_z-to_z w64 (from_le_bytes w64 (drop at bytes)) (below64 (drop at bytes) (drop_bytes bytes at fits)) in
     number64_front bytes at next fits e le ∙ ap (λ (n : ℕ). to_le_bytes w64 n ++ drop next bytes) (sym back)
+
+pub signed_fits : (bytes : List ℕ) (at : ℕ) → AreBytes bytes → FitsSigned w64 (signed_at bytes at)
+unfolding signed_at number_at
+signed_fits bytes at fits = sfits_to_z (record { fits = below64 (drop at bytes) (drop_bytes bytes at fits) })
 
 -- a number with its sign, as its bytes tell it
 pub signed_back : (bytes : List ℕ) (at : ℕ) → AreBytes bytes → cast_signed w64 (cast_unsigned w64 (signed_at bytes at)) ≡ signed_at bytes at

@@ -18,7 +18,7 @@ use Rattle.daq_table.specs.declared.head.ColumnHead.{ColumnHead}
 use Rattle.plane_file.proofs.ColumnFacts.{column_front, is_good}
 use Rattle.plane_file.proofs.Faults.{first_fault-append_none, first_fault-append_some, passed-append}
 use Rattle.plane_file.proofs.FieldFacts.{has_fields}
-use Rattle.plane_file.proofs.FrontBytes.{AreBytes}
+use Rattle.plane_file.specs.Bytes.{AreBytes}
 use Rattle.plane_file.specs.Checks.{column_checks, column_end, columns_checks, count_at, dictionary_at, fields_checks, first_fault, is_new, names_checks, nullable_at, planes_in, rows_in, title_at, titles_of, version_in, width_at}
 use Rattle.plane_file.specs.Format.{CanBeSpelledColumn, column_bytes, heads_bytes, plane_count}
 use Rattle.plane_file.specs.Fronts.{AreHeads, IsColumnAt, MayFail}

@@ -10,7 +10,8 @@ use Rattle.std.specs.Prelude.{codes}
 use Rattle.daq_table.specs.HeadFacts.{IsHead}
 use Rattle.daq_table.specs.declared.head.ColumnHead.{ColumnHead}
 use Rattle.daq_table.specs.declared.table_head.Head.{Head}
-use Rattle.plane_file.proofs.FrontBytes.{AreBytes, number32_front, number64_front, part_front}
+use Rattle.plane_file.proofs.FrontBytes.{number32_front, number64_front, part_front}
+use Rattle.plane_file.specs.Bytes.{AreBytes}
 use Rattle.plane_file.proofs.Faults.{first_fault-append_none, first_fault-append_some}
 use Rattle.plane_file.specs.Checks.{columns_checks, columns_in, first_fault, front_checks, header_checks, heads_in, part_at, rows_in, size_declared, version_in}
 use Rattle.plane_file.specs.Format.{head_bytes, heads_bytes, plane_count}
@@ -67,7 +68,7 @@ header_front bytes fits le =
     let fourth = λ (t : List ℕ). third (to_le_bytes w64 (rows_in bytes) ++ t) in
     a ∙ ap first b ∙ ap second c ∙ ap third d ∙ ap fourth f
 
-regroup : (a b c d e rest : List ℕ) → (a ++ (b ++ (c ++ (d ++ e)))) ++ rest ≡ a ++ (b ++ (c ++ (d ++ (e ++ rest))))
+pub regroup : (a b c d e rest : List ℕ) → (a ++ (b ++ (c ++ (d ++ e)))) ++ rest ≡ a ++ (b ++ (c ++ (d ++ (e ++ rest))))
 regroup a b c d e rest = simp append_assoc
 
 pub heads_behind : (front : List ℕ) (columns : List ColumnHead) → AreColumns (columns_in front) front columns → drop 32 front ≡ heads_bytes columns

@@ -1,4 +1,5 @@
 pub mod Appended
+pub mod Handed
 pub mod Bounds
 pub mod Cuts
 pub mod Lengths
@@ -19,4 +20,17 @@ pub mod Bytewise
 pub mod Refusals
 pub mod OpeningSteps
 pub mod SomeHead
+pub mod BackBytes
+pub mod SpelledNames
+pub mod SpelledColumn
+pub mod SpelledHead
+pub mod OneHead
+pub mod ColumnCells
+pub mod PlanePlaces
+pub mod ColumnSteps
+pub mod AllColumns
+pub mod TableSteps
+pub mod WholeTable
+pub mod FileFaults
+pub mod SomeTable
 pub mod SmallTable

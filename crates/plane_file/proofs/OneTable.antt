@@ -9,7 +9,7 @@ use Rattle.daq_table.specs.declared.table_head.Head.{Head}
 use Rattle.daq_table.specs.Tables.{Cell, Cells, IsCell, IsTable, code, ends_at, ends_of, frame_of, planes, width}
 use Rattle.plane_kernels.specs.Bytes.{bytes_of_rows}
 use Rattle.plane_kernels.proofs.BytesLaws.{of_one_list}
-use Rattle.query_model.specs.Knowledge.{bit_at, plane_of, prefix_of}
+use Rattle.query_model.specs.Knowledge.{bit_at, longer, plane_of, prefix_of}
 use Rattle.query_model.proofs.Blocks.{none_read, nullable_column}
 use Rattle.plane_file.specs.Format.{column_planes, head_bytes, header_bytes, heads_bytes, plane_size, planes_bytes}
 use Rattle.plane_file.specs.Laws.{FilesTellCells}
@@ -37,19 +37,18 @@ next_digit ends read cell h =
     let bit = bit_is (z / d) in
     omega arith
 
--- the same digits make the same prefixes
-same_prefix : (ends : Ends) (x y : Cell) → IsCell ends x → IsCell ends y → ((j : ℕ) → j < planes ends → bit_at ends j x ≡ bit_at ends j y) →
-    (read : ℕ) → read ≤ planes ends → prefix_of ends read x ≡ prefix_of ends read y
-same_prefix ends x y hx hy bits zero h = none_read ends x hx ∙ sym (none_read ends y hy)
-same_prefix ends x y hx hy bits (suc read) h =
+-- the same first digits make the same prefix
+same_prefix : (ends : Ends) (x y : Cell) → IsCell ends x → IsCell ends y → (read : ℕ) → read ≤ planes ends → ((j : ℕ) → j < read → bit_at ends j x ≡ bit_at ends j y) → prefix_of ends read x ≡ prefix_of ends read y
+same_prefix ends x y hx hy zero h bits = none_read ends x hx ∙ sym (none_read ends y hy)
+same_prefix ends x y hx hy (suc read) h bits =
     let lt : read < planes ends = omega (arith, h) in
     let more : read + 1 ≡ suc read = omega arith in
-    let before = same_prefix ends x y hx hy bits read (omega (arith, h)) in
+    let before = same_prefix ends x y hx hy read (omega (arith, h)) (λ j less. bits j (omega (arith, less))) in
     ap (λ n. prefix_of ends n x) (sym more) ∙ sym (next_digit ends read x lt) ∙ ap (λ p. 2 * p + cond (bit_at ends read x) 1 0) before
-    ∙ ap (λ b. 2 * prefix_of ends read y + cond b 1 0) (bits read lt) ∙ next_digit ends read y lt ∙ ap (λ n. prefix_of ends n y) more
+    ∙ ap (λ b. 2 * prefix_of ends read y + cond b 1 0) (bits read (omega arith)) ∙ next_digit ends read y lt ∙ ap (λ n. prefix_of ends n y) more
 
 -- all digits are the code
-whole_code : (ends : Ends) (cell : Cell) → prefix_of ends (planes ends) cell ≡ code ends cell
+pub whole_code : (ends : Ends) (cell : Cell) → prefix_of ends (planes ends) cell ≡ code ends cell
 whole_code ends cell =
     let none : planes ends - planes ends ≡ 0 = omega arith in
     ap (λ k. code ends cell / 2 ^ k) none ∙ omega arith
@@ -69,13 +68,30 @@ same_cell ends (Some u) (Some v) hx hy e = ap Some (omega (arith, e))
 
 cell_told : (ends : Ends) (x y : Cell) → IsCell ends x → IsCell ends y → ((j : ℕ) → j < planes ends → bit_at ends j x ≡ bit_at ends j y) → x ≡ y
 cell_told ends x y hx hy bits =
-    same_cell ends x y hx hy (sym (whole_code ends x) ∙ same_prefix ends x y hx hy bits (planes ends) (omega arith) ∙ whole_code ends y)
+    same_cell ends x y hx hy (sym (whole_code ends x) ∙ same_prefix ends x y hx hy (planes ends) (omega arith) bits ∙ whole_code ends y)
 
 cons_parts : {X : Type 0} (a b : X) (xs ys : List X) → a ∷ xs ≡ b ∷ ys → (a ≡ b) × (xs ≡ ys)
 cons_parts a b xs ys e =
     let first : a ≡ b = cc in
     let rest : xs ≡ ys = cc in
     (first, rest)
+
+-- the same first planes make the same prefixes
+pub same_prefixes : (ends : Ends) (xs ys : List Cell) (read : ℕ) → length xs ≡ length ys → ((r : ℕ) → r < length xs → IsCell ends (get_or xs r (Some 0))) →
+    ((r : ℕ) → r < length ys → IsCell ends (get_or ys r (Some 0))) → read ≤ planes ends → ((j : ℕ) → j < read → map (bit_at ends j) xs ≡ map (bit_at ends j) ys) → map (prefix_of ends read) xs ≡ map (prefix_of ends read) ys
+same_prefixes ends [] [] read long hx hy few bits = refl
+same_prefixes ends [] (y ∷ ys) read long hx hy few bits = absurd (omega (arith, long))
+same_prefixes ends (x ∷ xs) [] read long hx hy few bits = absurd (omega (arith, long))
+same_prefixes ends (x ∷ xs) (y ∷ ys) read long hx hy few bits =
+    let first = same_prefix ends x y (hx 0 (omega arith)) (hy 0 (omega arith)) read few (λ j lt. (cons_parts _ _ _ _ (bits j lt)).0) in
+    let rest = same_prefixes ends xs ys read (omega (arith, long)) (λ r lt. hx (suc r) (omega (arith, lt))) (λ r lt. hy (suc r) (omega (arith, lt))) few (λ j lt. (cons_parts _ _ _ _ (bits j lt)).1) in
+    ap (λ p. p ∷ map (prefix_of ends read) xs) first ∙ ap (λ l. prefix_of ends read y ∷ l) rest
+
+-- a plane is the next digit of each prefix
+pub longer-map : (ends : Ends) (read : ℕ) (cells : List Cell) → read < planes ends → longer (map (prefix_of ends read) cells) (map (bit_at ends read) cells) ≡ map (prefix_of ends (read + 1)) cells
+longer-map ends read [] h = refl
+longer-map ends read (cell ∷ cells) h =
+    ap (λ p. p ∷ longer (map (prefix_of ends read) cells) (map (bit_at ends read) cells)) (next_digit ends read cell h) ∙ ap (λ ps. prefix_of ends (read + 1) cell ∷ ps) (longer-map ends read cells h)
 
 column_told : (ends : Ends) (xs ys : List Cell) → length xs ≡ length ys → ((r : ℕ) → r < length xs → IsCell ends (get_or xs r (Some 0))) →
     ((r : ℕ) → r < length ys → IsCell ends (get_or ys r (Some 0))) → ((j : ℕ) → j < planes ends → map (bit_at ends j) xs ≡ map (bit_at ends j) ys) → xs ≡ ys

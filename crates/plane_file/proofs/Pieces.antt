@@ -1,43 +1,34 @@
 -- A plane is read piece by piece.
-use Rattle.std.proofs.Common.{◌≡◌, ℕ, zero, suc, ◌+◌, ◌-◌, ◌*◌, ◌^◌, ◌<◌, ◌≤◌, min, Bool, List, [], ◌∷◌, ◌++◌, length, take, drop, get_or, refl, sym, ap, ◌∙◌, subst, inl, inr, arith, IfSome, length-drop}
+use Rattle.std.proofs.Common.{◌≡◌, ℕ, zero, suc, ◌+◌, ◌-◌, ◌*◌, ◌^◌, ◌<◌, ◌≤◌, min, Bool, List, [], ◌∷◌, ◌++◌, length, take, drop, refl, sym, ap, ◌∙◌, subst, inl, inr, arith, IfSome, length-drop}
 use Rattle.std.specs.declared.option.Option.{Option}
 use Rattle.std.specs.Int.{w64, from_le_bytes}
 use Rattle.std.specs.List.{All}
 use Rattle.std.specs.Simd.Lanes.{put_chunk}
-use Rattle.std.proofs.KnownBytes.{Appends-trans}
 use Rattle.std.proofs.lemmas.Bool.{cases_lt}
 use Rattle.std.proofs.lemmas.List.{drop-drop, drop-take, length-take-le, take_all, take-take}
 use Rattle.std.proofs.lemmas.Simd.{take_more_put_chunk}
 use Rattle.outer_world.specs.Device.{StoreState}
 use Rattle.outer_world.specs.Whole.{Fills, HandsOver, HoldsSame, places_from}
-use Rattle.outer_world.proofs.Steps.{handed_none, places_from-add, take_both, told, told_always}
+use Rattle.outer_world.proofs.Steps.{handed_none, take_both, told, told_always}
 use Rattle.plane_kernels.specs.Bytes.{HasPadBits, bytes_of_rows, word_count, word_in, word_rows}
+use Rattle.plane_file.specs.Bytes.{AreBytes}
 use Rattle.plane_file.specs.Format.{plane_size}
 use Rattle.plane_file.specs.Reading.{ArePadded, HandsOverPart, PutsWords, ReadsWords, StopsAtWords}
 use Rattle.plane_file.specs.declared.words_fault.WordsFault.{WordsFault}
 use Rattle.plane_file.specs.declared.words_fault.WordsFault.TheVariants as words
+use Rattle.plane_file.proofs.FrontBytes.{drop_bytes, take_bytes}
+use Rattle.plane_file.proofs.Handed.{handed_on}
 use Rattle.plane_file.proofs.Lengths.{length-bytes_of_rows}
 
 -- ---- pad bits
 
-small-take : (n : ℕ) (bytes : List ℕ) → ((i : ℕ) → get_or bytes i 0 < 256) → (i : ℕ) → get_or (take n bytes) i 0 < 256
-small-take zero bytes small i = omega arith
-small-take (suc n) [] small i = small i
-small-take (suc n) (b ∷ bytes) small zero = small 0
-small-take (suc n) (b ∷ bytes) small (suc i) = small-take n bytes (λ j. small (suc j)) i
-
-small-drop : (n : ℕ) (bytes : List ℕ) → ((i : ℕ) → get_or bytes i 0 < 256) → (i : ℕ) → get_or (drop n bytes) i 0 < 256
-small-drop zero bytes small i = small i
-small-drop (suc n) [] small i = small i
-small-drop (suc n) (b ∷ bytes) small i = small-drop n bytes (λ j. small (suc j)) i
-
 -- bytes as they stand in memory, and none behind them
-pub small_from_all : (bytes : List ℕ) → All (λ byte. byte < 256) bytes → (i : ℕ) → get_or bytes i 0 < 256
+pub small_from_all : (bytes : List ℕ) → All (λ byte. byte < 256) bytes → AreBytes bytes
 small_from_all [] all i = omega arith
 small_from_all (b ∷ bytes) all zero = all 0 0 (omega arith)
 small_from_all (b ∷ bytes) all (suc i) = small_from_all bytes (λ k d h. all (suc k) d (omega (arith, h))) i
 
-number_below : (bytes : List ℕ) → ((i : ℕ) → get_or bytes i 0 < 256) → from_le_bytes w64 bytes < 2 ^ 64
+number_below : (bytes : List ℕ) → AreBytes bytes → from_le_bytes w64 bytes < 2 ^ 64
 number_below bytes small = omega (arith, small 0, small 1, small 2, small 3, small 4, small 5, small 6, small 7)
 
 -- what has so many bits has no more than a word
@@ -49,11 +40,11 @@ few_bits n word h lt =
     ]
 
 -- pad bits stand in the last word alone
-pub last_piece : (rows first : ℕ) (bytes : List ℕ) (word : ℕ) → ((i : ℕ) → get_or bytes i 0 < 256) → 8 * first + length bytes ≤ plane_size rows → HasPadBits rows first bytes word →
+pub last_piece : (rows first : ℕ) (bytes : List ℕ) (word : ℕ) → AreBytes bytes → 8 * first + length bytes ≤ plane_size rows → HasPadBits rows first bytes word →
     8 * first + length bytes ≡ plane_size rows
 last_piece rows first bytes word small within p =
     let k = word - first in
-    let below = number_below (take 8 (drop (8 * k) bytes)) (small-take 8 (drop (8 * k) bytes) (small-drop (8 * k) bytes small)) in
+    let below = number_below (take 8 (drop (8 * k) bytes)) (take_bytes (drop (8 * k) bytes) 8 (drop_bytes bytes (8 * k) small)) in
     let few = few_bits (rows - 64 * word) (word_in bytes k) p.past below in
     omega (arith, within, few, p.from, p.within)
 
@@ -100,11 +91,6 @@ words_more place first size count before after held words holds within done put 
     ∙ ap (λ l. l ++ next) done ∙ ap (λ l. take (8 * first) (drop place held) ++ take size l) (sym (drop-drop (8 * first) place held))
     ∙ sym (take_both (8 * first) size (drop place held) (omega (arith, length-drop place held, holds, within))) ∙ ap (λ n. take n (drop place held)) total
 
--- the places so far and the next ones are the places so far
-pub places_more : (place first size : ℕ) (old mid new : Option (List (ℕ × ℕ))) → HandsOver old mid (places_from place (8 * first)) → HandsOver mid new (places_from (place + 8 * first) size) →
-    HandsOver old new (places_from place (8 * first + size))
-places_more place first size old mid new done next = subst (HandsOver old new) (sym (places_from-add place (8 * first) size)) (Appends-trans _ _ _ _ _ done next)
-
 -- all words were read
 pub words_all : (place words : ℕ) (bits : List Bool) (held : List ℕ) → words ≡ word_count (length bits) → take (8 * words) (bytes_of_rows bits) ≡ take (8 * words) (drop place held) →
     bytes_of_rows bits ≡ take (plane_size (length bits)) (drop place held)
@@ -121,7 +107,7 @@ part_more place first size whole old mid new within done p =
     record {
       count = 8 * first + p.count;
       few = omega (arith, p.few, within);
-      handed = subst (λ n. HandsOver old.pieces new.pieces (places_from n (8 * first + p.count))) here (places_more place first p.count _ _ _ done p.handed);
+      handed = subst (λ n. HandsOver old.pieces new.pieces (places_from n (8 * first + p.count))) here (handed_on place (8 * first) p.count _ _ _ done p.handed);
     }
 
 -- what stops the reading of a piece stops that of the plane
@@ -139,7 +125,7 @@ stops_whole place first size rows old mid new words.PadBits p within holds same 
       last = omega arith;
       bits = told old.held _ _ _ (λ held fits padded. (padded.0, padded_whole rows place first size held padded.0 fits within padded.1)) holds bits;
       handed = subst (λ n. HandsOver old.pieces new.pieces (places_from n (plane_size rows))) here
-          (subst (λ n. HandsOver old.pieces new.pieces (places_from place n)) p.last (places_more place first size _ _ _ done p.handed));
+          (subst (λ n. HandsOver old.pieces new.pieces (places_from place n)) p.last (handed_on place (8 * first) size _ _ _ done p.handed));
     }
 stops_whole place first size rows old mid new words.WentShort p within holds same done = record {
   part = part_more place first size (plane_size rows) old mid new within done p.part;
@@ -150,7 +136,7 @@ stops_whole place first size rows old mid new words.WentShort p within holds sam
 -- ---- one piece
 
 -- the bytes that fill the buffer have a pad bit
-pub padded_piece : (place first size rows word : ℕ) (old new : StoreState) (buf : List ℕ) → ((i : ℕ) → get_or buf i 0 < 256) → length buf ≡ size → 8 * first + size ≤ plane_size rows →
+pub padded_piece : (place first size rows word : ℕ) (old new : StoreState) (buf : List ℕ) → AreBytes buf → length buf ≡ size → 8 * first + size ≤ plane_size rows →
     Fills old new (place + 8 * first) buf → HasPadBits rows first buf word → ArePadded place first size rows old new
 padded_piece place first size rows word old new buf small long within fills p = record {
   last = ap (λ n. 8 * first + n) (sym long) ∙ last_piece rows first buf word small (omega (arith, long, within)) p;
@@ -185,7 +171,7 @@ piece_read place first size count old mid new before after puts done same words 
       same = record { held = same.held ∙ done.same.held; faults = omega (arith, same.faults, done.same.faults); ends = omega (arith, same.ends, done.same.ends) };
       bytes = told old.held _ _ (λ held. take (8 * (first + count)) (bytes_of_rows after) ≡ take (8 * (first + count)) (drop place held))
           (λ held p q. words_more place first size count before after held words p.0 within p.1 q) both put;
-      handed = subst (λ n. HandsOver old.pieces new.pieces (places_from place n)) total (places_more place first size _ _ _ done.handed puts.handed);
+      handed = subst (λ n. HandsOver old.pieces new.pieces (places_from place n)) total (handed_on place (8 * first) size _ _ _ done.handed puts.handed);
     }
 
 pub all_read : (place words : ℕ) (old new : StoreState) (bits : List Bool) → words ≡ word_count (length bits) → ReadSoFar place words old new bits → ReadsWords place old new bits

@@ -1,12 +1,12 @@
 -- Why a file is refused, out of what its bytes show and what the store did.
-use Rattle.std.proofs.Common.{◌≡◌, ℕ, zero, suc, ◌+◌, ◌≤◌, ◌<◌, Bool, true, false, Option, Some, None, List, [], ◌∷◌, ◌++◌, length, refl, sym, ap, subst, ◌∙◌, arith, IfSome, option_map, zero-add}
-use Rattle.std.proofs.KnownBytes.{Appends-trans}
+use Rattle.std.proofs.Common.{◌≡◌, ℕ, zero, suc, ◌+◌, ◌≤◌, ◌<◌, Bool, true, false, Option, Some, None, List, [], ◌∷◌, ◌++◌, length, refl, sym, subst, arith, IfSome, zero-add}
 use Rattle.std.proofs.lemmas.Bool.{and_parts, and_from}
 use Rattle.std.proofs.lemmas.List.Folds.{list_all-append}
 use Rattle.std.specs.List.{list_all}
-use Rattle.outer_world.proofs.Steps.{handed_none, places_from-add, told, told_always}
+use Rattle.outer_world.proofs.Steps.{handed_none, told, told_always}
 use Rattle.outer_world.specs.Device.{Rose, StoreState}
-use Rattle.outer_world.specs.Whole.{HandsOver, laid, places_from}
+use Rattle.outer_world.specs.Whole.{HandsOver, places_from}
+use Rattle.plane_file.proofs.Handed.{handed_on}
 use Rattle.plane_file.specs.Checks.{Check, column_checks, column_end, columns_checks, columns_in, count_at, dictionary_at, fields_checks, file_fault, first_fault, front_checks, byte_at, names_checks, readable, title_at}
 use Rattle.plane_file.specs.Fronts.{StopCause, StopsAt}
 use Rattle.plane_file.specs.Opening.{HasFault, Refuses}
@@ -110,9 +110,7 @@ stop_cause old mid new end (WrongSize found wanted) same faults ends room c = ab
 stop_cause old mid new end NoMemory same faults ends room c = absurd c
 
 pub hands_both : (old mid new : StoreState) (at count : ℕ) → HandsOver old.pieces mid.pieces (places_from 0 at) → HandsOver mid.pieces new.pieces (places_from at count) → HandsOver old.pieces new.pieces (places_from 0 (at + count))
-hands_both old mid new at count p q =
-    let both = Appends-trans (option_map laid old.pieces) (option_map laid mid.pieces) (option_map laid new.pieces) (places_from 0 at) (places_from at count) p q in
-    subst (λ (places : List ℕ). HandsOver old.pieces new.pieces places) (sym (places_from-add 0 at count ∙ ap (λ (n : ℕ). places_from 0 at ++ places_from n count) (zero-add at))) both
+hands_both old mid new at count p q = handed_on 0 at count old.pieces mid.pieces new.pieces p (subst (λ n. HandsOver mid.pieces new.pieces (places_from n count)) (sym (zero-add at)) q)
 
 -- the bytes from a place on could not be read
 pub stops : (old mid new : StoreState) (at count : ℕ) (why : FileFault) → mid.held ≡ old.held → old.faults ≤ mid.faults → old.ends ≤ mid.ends → HandsOver old.pieces mid.pieces (places_from 0 at)

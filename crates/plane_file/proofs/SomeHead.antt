@@ -9,7 +9,8 @@ use Rattle.plane_file.proofs.ColumnFacts.{is_column}
 use Rattle.plane_file.proofs.DictionaryFacts.{names_end_within}
 use Rattle.plane_file.proofs.Faults.{passed, passed-append}
 use Rattle.plane_file.proofs.FieldFacts.{has_fields}
-use Rattle.plane_file.proofs.FrontBytes.{AreBytes, take_bytes}
+use Rattle.plane_file.proofs.FrontBytes.{take_bytes}
+use Rattle.plane_file.specs.Bytes.{AreBytes}
 use Rattle.plane_file.proofs.HeaderFacts.{is_front_of, is_head}
 use Rattle.plane_file.proofs.HeadSteps.{heads_start, heads_step, planes_step, titles_push}
 use Rattle.plane_file.specs.Checks.{Check, base_at, column_checks, column_end, columns_checks, columns_in, count_at, dictionary_at, fields_checks, file_fault, first_fault, front_checks, front_of, header_checks, heads_in, kind_at, names_at, names_checks, nullable_at, planes_in, rows_in, size_declared, title_at, titles_of, top_at, version_in}

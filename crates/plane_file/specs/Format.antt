@@ -1,10 +1,10 @@
 -- A file of planes, byte by byte: a header, the head of each column, and the planes of the columns. Numbers are little endian.
-use Rattle.std.specs.Prelude.{◌≡◌, ℕ, ◌+◌, ◌*◌, ◌≤◌, ◌==◌, nat_le, ℤ, pos, neg_ℤ, int_le, Bool, true, cond, not, ◌&&◌, ◌||◌, List, [], ◌∷◌, ◌++◌, length, codes, slice_get, Some, IsTrue}
+use Rattle.std.specs.Prelude.{◌≡◌, ℕ, ◌+◌, ◌*◌, ◌≤◌, ◌==◌, nat_le, ℤ, pos, neg_ℤ, int_le, Bool, true, cond, not, ◌&&◌, ◌||◌, List, [], ◌∷◌, ◌++◌, length, codes, slice_get, Some, FitsSigned, IsTrue}
 use Rattle.std.specs.Int.{w32, w64, cast_unsigned, to_le_bytes}
 use Rattle.std.specs.List.{flat_map, list_all, list_any, range_with_len, sum_by}
 use Rattle.std.specs.Str.{is_utf8}
 use Rattle.daq_table.specs.Schemas.{fits_scale, is_schema_name}
-use Rattle.daq_table.specs.Tables.{Cells, Contents, Frame, ends_at, ends_of, frame_of, planes, width}
+use Rattle.daq_table.specs.Tables.{Cells, Contents, Frame, IsTable, ends_at, ends_of, frame_of, planes, width}
 use Rattle.daq_table.specs.declared.head.ColumnHead.{ColumnHead}
 use Rattle.daq_table.specs.declared.head.Kind.{Kind}
 use Rattle.daq_table.specs.declared.head.Kind.TheVariants.{Int, Dec, Date, Text}
@@ -116,6 +116,8 @@ is_short_text text = nat_le (length text) 255 && is_utf8 text
 pub record CanBeSpelledColumn (column : ColumnHead) : Type 0 where
   pub named : IsTrue (is_schema_name column.name)
   pub scale : IsTrue (fits_scale column.kind)
+  pub base : FitsSigned w64 column.base
+  pub top : FitsSigned w64 column.top
   pub days : IsTrue (fits_days column.kind column.base column.top)
   pub few : length column.names ≤ 65536
   pub texts : IsTrue (list_all is_short_text column.names)
@@ -136,6 +138,7 @@ is_version version head = version == 2 || (version == 1 && not (list_any (λ col
 
 -- these bytes are the file of the table in this version
 pub record IsFileOf (bytes : List ℕ) (version : ℕ) (table : Contents) : Type 0 where
+  pub is_table : IsTable (frame_of table.head) table.cells
   pub spelled : CanBeSpelled table.head
   pub known : IsTrue (is_version version table.head)
   pub same : bytes ≡ file version table

@@ -1,8 +1,11 @@
+pub mod Bytes
 pub mod Format
-pub mod Laws
-pub mod Opening
 pub mod Places
-pub mod Reading
-pub mod Writing
 pub mod Checks
+pub mod Opening
 pub mod Fronts
+pub mod Writing
+pub mod Reading
+pub mod TableReading
+pub mod ColumnReading
+pub mod Laws

@@ -1,29 +1,16 @@
 //! From all that stands before the planes of a file to its head.
 
-ghost use Rattle.std.specs.Prelude.{◌≡◌, ◌+◌, ◌*◌, ◌<◌, ◌≤◌, length, IfErr, IfOk, None};
-ghost use Rattle.plane_file.specs.Checks.{first_fault, front_checks, header_checks, heads_in};
-ghost use Rattle.plane_file.specs.Format.{plane_count};
+ghost use Rattle.std.specs.Prelude.{IfErr, IfOk};
+ghost use Rattle.plane_file.specs.Checks.{first_fault, front_checks};
 ghost use Rattle.plane_file.specs.Fronts.{HasHeader, IsFrontOf, MayFail};
 
 use crate::columns::read_columns;
 use crate::file_fault::FileFault;
+use crate::heads::planes_in;
 use crate::places::{number32_at, number64_at};
 use crate::plane_file::PlaneFile;
-use daq_table::{ColumnHead, ColumnHeads, Head, planes};
+use daq_table::{ColumnHeads, Head};
 use std::alloc::Global;
-
-// How many planes these columns have together.
-fn count_planes(columns: &[ColumnHead]) -> u64
-    requires { length columns.now ≤ 64 }
-    ensures count { result ≡ plane_count columns.now }
-    ensures few { result ≤ 65 * length columns.now }
-{
-    let mut count = 0;
-    for column in columns {
-        count += planes(column) as u64;
-    }
-    count
-}
 
 /// The file of that size which begins with these bytes, all that stand before its planes.
 pub(crate) fn read_head(alloc: Global, front: &[u8], size: u64) -> Result<PlaneFile, FileFault>
@@ -34,7 +21,7 @@ pub(crate) fn read_head(alloc: Global, front: &[u8], size: u64) -> Result<PlaneF
     let columns = read_columns(alloc, front, number32_at(front, 12))?;
     let rows = number64_at(front, 16);
     let planes_at = front.len() as u64;
-    let wanted = planes_at + 8 * ((rows + 63) / 64) * count_planes(&columns);
+    let wanted = planes_at + 8 * ((rows + 63) / 64) * planes_in(&columns);
     if size != wanted {
         return Err(FileFault::WrongSize {
             found: size,

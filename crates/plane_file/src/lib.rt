@@ -2,6 +2,8 @@
 #![tactic(auto)]
 
 mod checks;
+mod column_cells;
+mod column_reading;
 mod columns;
 mod fields;
 mod file_fault;
@@ -15,19 +17,28 @@ mod plane_fault;
 mod plane_file;
 mod planes;
 mod reading;
+mod table_fault;
+mod table_reading;
 mod words_fault;
 mod write_fault;
 mod writing;
 
 pub use file_fault::FileFault;
 pub use heads::plane_count;
-pub use laws::{faultless_files_have_heads, files_tell_cells};
+pub use laws::{
+    faultless_files_have_heads, file_faults_are_exact, files_have_one_head, files_have_tables,
+    files_tell_cells, spelled_files_have_no_fault, tables_are_one,
+};
 pub use opening::open;
 pub use plane_fault::PlaneFault;
 pub use plane_file::PlaneFile;
+pub use table_fault::ReadTable;
+pub use table_reading::read_table;
 pub use write_fault::WriteFile;
 pub use writing::write;
 
+#[cfg(test)]
+mod table_tests;
 #[cfg(test)]
 mod tests;
 #[cfg(test)]

@@ -48,6 +48,14 @@ impl PlaneFile {
         &self.head
     }
 
+    // The same, of a file that is done with.
+    pub(crate) fn into_head(self) -> Head
+        ensures head { result ≡ self.head }
+        ensures opened { IsOpened self.head self.version }
+    {
+        self.head
+    }
+
     /// The version that the file is written in, 1 or 2.
     pub fn version(&self) -> u32
         ensures { result ≡ self.now.version }

@@ -8,7 +8,7 @@ use std::alloc::{AllocError, Global};
 use std::test::*;
 
 // The table of three columns, price, qty and city, and four rows, in version 1.
-const TABLE: [u8; 195] = [
+pub(crate) const TABLE: [u8; 195] = [
     0x44, 0x41, 0x51, 0x50, 0x4c, 0x41, 0x4e, 0x45, 1, 0, 0, 0, 3, 0, 0, 0, // 0
     4, 0, 0, 0, 0, 0, 0, 0, 0x63, 0, 0, 0, 0, 0, 0, 0, // 16
     0, 0, 4, 5, 3, 0, 0, 0, 0, 0, 0, 0, 12, 0, 0, 0, 0, 0, 0, 0, // 32
@@ -25,7 +25,12 @@ const TABLE: [u8; 195] = [
 ];
 
 // A store of these bytes, which gives at most `piece` of them at a time.
-fn store(alloc: Global, bytes: &[u8], piece: usize, fails: &[u64]) -> Result<MemStore, AllocError>
+pub(crate) fn store(
+    alloc: Global,
+    bytes: &[u8],
+    piece: usize,
+    fails: &[u64],
+) -> Result<MemStore, AllocError>
     requires { 1 ≤ piece }
 {
     MemStore::new(
@@ -165,7 +170,7 @@ fn each_failing_call_is_a_fault(rt: HostRuntime) -> Result<(), Fail> {
 }
 
 // The file of two nullable columns, v and w, and three rows.
-const NULLABLE: [u8; 130] = [
+pub(crate) const NULLABLE: [u8; 130] = [
     0x44, 0x41, 0x51, 0x50, 0x4c, 0x41, 0x4e, 0x45, 2, 0, 0, 0, 2, 0, 0, 0, // 0
     3, 0, 0, 0, 0, 0, 0, 0, 50, 0, 0, 0, 0, 0, 0, 0, // 16
     0x80, 0, 3, 1, 5, 0, 0, 0, 0, 0, 0, 0, 9, 0, 0, 0, 0, 0, 0, 0, // 32

@@ -1,6 +1,7 @@
 use Rattle.std.proofs.Common.{◌≡◌, ◌+◌, ℤ, sym, ap, ◌∙◌, arith}
 use Rattle.std.specs.Int.{w64, cast_signed, cast_unsigned}
-use Rattle.plane_file.proofs.FrontBytes.{AreBytes, signed_back}
+use Rattle.plane_file.proofs.FrontBytes.{signed_back}
+use Rattle.plane_file.specs.Bytes.{AreBytes}
 use Rattle.plane_file.proofs.ColumnFacts.{is_column}
 use Rattle.plane_file.proofs.FieldFacts.{has_fields, name_is}
 use Rattle.plane_file.specs.Checks.{count_at, dictionary_at, part_at, title_at, titles_of}

@@ -2,7 +2,7 @@ use Rattle.std.proofs.Common.{◌≡◌, ℕ, ◌-◌, Option, List, refl, sym, 
 use Rattle.std.proofs.lemmas.List.{length_push}
 use Rattle.std.proofs.lemmas.Result.{err_from_is_err_and}
 use Rattle.daq_table.specs.declared.head.ColumnHead.{ColumnHead}
-use Rattle.plane_file.proofs.FrontBytes.{AreBytes}
+use Rattle.plane_file.specs.Bytes.{AreBytes}
 use Rattle.plane_file.proofs.HeadSteps.{bytes_left, checks_step, heads_end, heads_start, heads_step, heads_stop, planes_end, planes_step}
 use Rattle.plane_file.specs.Checks.{column_checks, first_fault, titles_of}
 use Rattle.plane_file.specs.Fronts.{AreHeads, IsColumnAt, MayFail}

@@ -1,7 +1,7 @@
 use Rattle.std.proofs.Common.{◌+◌, ◌*◌, ◌/◌, ℕ, List, length, sym, ap, ◌∙◌, arith, subst, inr}
 use Rattle.std.proofs.lemmas.Result.{err_from_is_err_and}
 use Rattle.daq_table.specs.declared.head.ColumnHead.{ColumnHead}
-use Rattle.plane_file.proofs.FrontBytes.{AreBytes}
+use Rattle.plane_file.specs.Bytes.{AreBytes}
 use Rattle.plane_file.proofs.HeaderFacts.{declared, front_stop, has_numbers, is_front_of, is_opened, front_long, wrong_size}
 use Rattle.plane_file.specs.Checks.{columns_in}
 use Rattle.plane_file.specs.Format.{plane_count}
@@ -24,9 +24,9 @@ returns-then-size-wanted-clause-err c =
     let front = c.args.front.now in
     let columns = c.in_ok-columns.columns.items in
     let read : AreColumns (columns_in front) front columns = subst (λ (n : ℕ). AreColumns n front columns) c.number32_at.ensures c.in_ok-columns.ensures.ok in
-    let planes = c.count_planes.ensures.count ∙ ap plane_count c.deref.ensures.value in
-    let wanted = declared front columns c.number64_at-rows.result c.count_planes.result read c.number64_at-rows.ensures planes in
-    inr (wrong_size front c.args.size (length front + 8 * ((c.number64_at-rows.result + 63) / 64) * c.count_planes.result) read.passed wanted c.if-size-wanted.true)
+    let planes = c.planes_in.ensures.count ∙ ap plane_count c.deref.ensures.value in
+    let wanted = declared front columns c.number64_at-rows.result c.planes_in.result read c.number64_at-rows.ensures planes in
+    inr (wrong_size front c.args.size (length front + 8 * ((c.number64_at-rows.result + 63) / 64) * c.planes_in.result) read.passed wanted c.if-size-wanted.true)
 
 pub new-requires-2-clause-opened : goal.new-requires-2-clause-opened
 new-requires-2-clause-opened c =
@@ -54,6 +54,6 @@ returns-clause-ok c =
     let made = c.new-2.ensures in
     let here = ap (λ (f : Opened). f.head.columns) made ∙ c.new.ensures in
     let listed : AreColumns (columns_in front) front file.head.columns = subst (λ (cs : List ColumnHead). AreColumns (columns_in front) front cs) (sym here) read in
-    let planes = c.count_planes.ensures.count ∙ ap plane_count c.deref.ensures.value in
-    let wanted = declared front columns c.number64_at-rows.result c.count_planes.result read c.number64_at-rows.ensures planes in
+    let planes = c.planes_in.ensures.count ∙ ap plane_count c.deref.ensures.value in
+    let wanted = declared front columns c.number64_at-rows.result c.planes_in.result read c.number64_at-rows.ensures planes in
     is_front_of front c.args.size file fits c.requires listed (ap (λ (f : Opened). f.head.rows) made ∙ c.number64_at-rows.ensures) (ap (λ (f : Opened). f.version) made ∙ c.number32_at-2.ensures) (c.if-size-wanted.false ∙ wanted)

@@ -10,7 +10,7 @@ pub returns-then-not-head-clause-bits : goal.returns-then-not-head-clause-bits
 returns-then-not-head-clause-bits c =
     let table = c.args.table.now in
     let at = rw c.as_slice.ensures at c.index-as_slice-column.is in
-    let ends = declared table c.head.result.now c.args.column c.index-as_slice-column.result c.head.ensures.head c.requires.column at in
+    let ends = declared table.head c.head.result.now c.args.column c.index-as_slice-column.result c.head.ensures.head c.requires.column at in
     let cells = get_or table.cells c.args.column [] in
     c.transpose.ensures ∙ ap (λ d. map (digit d c.args.number) c.column.result.now) (c.width-digits.ensures.digits ∙ sym (ap width ends))
     ∙ ap (map (digit (width (ends_at (frame_of table.head) c.args.column)) c.args.number)) c.column.ensures
@@ -20,7 +20,7 @@ pub returns-then-number-eq0-clause-bits : goal.returns-then-number-eq0-clause-bi
 returns-then-number-eq0-clause-bits c =
     let table = c.args.table.now in
     let at = rw c.as_slice.ensures at c.index-as_slice-column.is in
-    let ends = declared table c.head.result.now c.args.column c.index-as_slice-column.result c.head.ensures.head c.requires.column at in
+    let ends = declared table.head c.head.result.now c.args.column c.index-as_slice-column.result c.head.ensures.head c.requires.column at in
     let cells = get_or table.cells c.args.column [] in
     let nullable = subst (λ e. IsTrue e.nullable) (sym ends) c.if-not-head.false in
     let declared_in : c.args.column < length (frame_of table.head).columns = omega (arith, c.requires.column, length-map table.head.columns ends_of) in
@@ -33,7 +33,7 @@ pub returns-else-number-eq0-clause-bits : goal.returns-else-number-eq0-clause-bi
 returns-else-number-eq0-clause-bits c =
     let table = c.args.table.now in
     let at = rw c.as_slice.ensures at c.index-as_slice-column.is in
-    let ends = declared table c.head.result.now c.args.column c.index-as_slice-column.result c.head.ensures.head c.requires.column at in
+    let ends = declared table.head c.head.result.now c.args.column c.index-as_slice-column.result c.head.ensures.head c.requires.column at in
     let cells = get_or table.cells c.args.column [] in
     let nullable = subst (λ e. IsTrue e.nullable) (sym ends) c.if-not-head.false in
     let number : c.args.number ≡ suc (c.args.number - 1) = omega (arith, c.if-number-eq0.false) in
