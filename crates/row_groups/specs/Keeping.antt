@@ -1,0 +1,28 @@
+-- What is kept of cells, and what is done to one of them.
+use Rattle.std.specs.Prelude.{ℕ, ◌+◌, ◌*◌, ◌/◌, ◌%◌, ◌^◌, ◌<◌, ◌≤◌, ◌==◌, Bool, cond, if◌then◌else◌}
+use Rattle.std.specs.Prelude.{List, [], ◌∷◌, length, sum}
+use Rattle.std.specs.List.{All}
+use Rattle.daq_table.specs.Tables.{planes}
+use Rattle.row_groups.specs.declared.part.GroupPart.{GroupPart}
+use Rattle.row_groups.specs.Partition.{digits_of, planes_of_parts}
+
+-- no column has more planes read than it has
+abbrev pub AreParts : List GroupPart → Type 0
+AreParts [] = Unit {0}
+AreParts (p ∷ ps) = (p.read ≤ planes p.ends) × AreParts ps
+
+-- there are few group columns, and they have few planes; each cell has as many digits as planes are read
+pub record AreKept (parts : List GroupPart) (cells : List ℕ) : Type 0 where
+  pub few : length parts ≤ 16
+  pub read : AreParts parts
+  pub planes : sum (planes_of_parts parts) ≤ 16
+  pub rows : All (λ cell. cell < 2 ^ digits_of parts) cells
+
+-- the digits of a cell that stand behind those of the column
+abbrev pub digits_behind : List GroupPart → ℕ → ℕ
+digits_behind [] c = 0
+digits_behind (p ∷ ps) c = if p.column == c then digits_of ps else digits_behind ps c
+
+-- a number with one more digit in front of so many of its digits
+abbrev pub inserted : ℕ → ℕ → Bool → ℕ
+inserted shift cell bit = (2 * (cell / 2 ^ shift) + cond bit 1 0) * 2 ^ shift + cell % 2 ^ shift

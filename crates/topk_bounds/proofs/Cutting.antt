@@ -1,0 +1,230 @@
+-- One digit more: the rows at a place are parted, and counted.
+use Rattle.std.proofs.Common.{◌≡◌, ℕ, ◌+◌, ◌-◌, ◌*◌, ◌<◌, ◌≤◌, Bool, true, false, cond, not, ◌&&◌, ◌||◌, nat_eq, nat_lt, List, length, count_by, refl, sym, ap, ◌∙◌, arith, IsTrue}
+use Rattle.std.proofs.lemmas.Bool.Decides.{nat_tests}
+use Rattle.plane_kernels.specs.Rows.{kept_rows}
+use Rattle.topk_bounds.specs.declared.cut.Cut.{Cut}
+use Rattle.topk_bounds.specs.declared.cut.Share.{Share}
+use Rattle.topk_bounds.specs.Standings.{count_rows, is_in}
+use Rattle.topk_bounds.specs.Cuts.{Begins, IsCut, MovesRows, is_later, next_place}
+use Rattle.topk_bounds.proofs.Counting.{count_mask, count_none, count_parts, count_same, one_if}
+use Rattle.topk_bounds.proofs.Marks.{in_kept, in_side, kept_length, kept_parts}
+
+-- ---- places by one digit more
+
+next_eq : (p t : ℕ) (l m : Bool) → nat_eq (2 * p + one_if l) (2 * t + one_if m) ≡ (nat_eq p t && cond m l (not l))
+next_eq p t true true = grind (arith, nat_tests)
+next_eq p t true false = grind (arith, nat_tests)
+next_eq p t false true = grind (arith, nat_tests)
+next_eq p t false false = grind (arith, nat_tests)
+
+next_lt : (p t : ℕ) (l m : Bool) → nat_lt (2 * p + one_if l) (2 * t + one_if m) ≡ (nat_lt p t || (nat_eq p t && (m && not l)))
+next_lt p t true true = grind (arith, nat_tests)
+next_lt p t true false = grind (arith, nat_tests)
+next_lt p t false true = grind (arith, nat_tests)
+next_lt p t false false = grind (arith, nat_tests)
+
+-- ---- digits
+
+same_digit : (first digit b : Bool) → cond (is_later first digit) (is_later first b) (not (is_later first b)) ≡ cond digit b (not b)
+same_digit true true true = refl
+same_digit true true false = refl
+same_digit true false true = refl
+same_digit true false false = refl
+same_digit false true true = refl
+same_digit false true false = refl
+same_digit false false true = refl
+same_digit false false false = refl
+
+moved_digit : (first digit b : Bool) → (is_later first digit && not (is_later first b)) ≡ cond first (not digit && b) (digit && not b)
+moved_digit true true true = refl
+moved_digit true true false = refl
+moved_digit true false true = refl
+moved_digit true false false = refl
+moved_digit false true true = refl
+moved_digit false true false = refl
+moved_digit false false true = refl
+moved_digit false false false = refl
+
+first_stays : (first b : Bool) → (is_later first first && not (is_later first b)) ≡ false
+first_stays true b = refl
+first_stays false b = refl
+
+later_moves : (first b : Bool) → (is_later first (not first) && not (is_later first b)) ≡ cond first b (not b)
+later_moves true true = refl
+later_moves true false = refl
+later_moves false true = refl
+later_moves false false = refl
+
+grouped : (a b c : Bool) → ((a && b) && c) ≡ (a && (b && c))
+grouped true b c = refl
+grouped false b c = refl
+
+shared : (a l e m : Bool) → ((a && l) || ((a && e) && m)) ≡ (a && (l || (e && m)))
+shared true l e m = refl
+shared false l e m = refl
+
+no_more : (l e : Bool) → (l || (e && false)) ≡ l
+no_more true e = refl
+no_more false true = refl
+no_more false false = refl
+
+-- rows before a place, and some of those at it
+ahead_more : (s v : Bool) (p t : ℕ) → one_if (s && nat_lt p t) + one_if ((s && nat_eq p t) && v) ≡ one_if (s && (nat_lt p t || (nat_eq p t && v)))
+ahead_more true true p t = grind (arith, nat_tests)
+ahead_more true false p t = grind (arith, nat_tests)
+ahead_more false v p t = refl
+
+both_digits : (first : Bool) (rows plane : List Bool) → length plane ≡ length rows → count_by (λ b. b) (kept_rows first rows plane) + count_by (λ b. b) (kept_rows (not first) rows plane) ≡ count_by (λ b. b) rows
+both_digits true rows plane e = kept_parts rows plane e
+both_digits false rows plane e = omega (arith, kept_parts rows plane e)
+
+-- ---- a cut
+
+-- where nothing is chosen all rows have one place
+pub begun : (counted among : List Bool) (limit there : ℕ) (place : ℕ → ℕ) (cut : Cut) → ((r : ℕ) → place r ≡ 0) → length counted ≡ length among → 1 ≤ limit → limit ≤ there → Begins counted among cut there →
+    IsCut counted among limit place cut (record { wanted = limit; there = there })
+begun counted among limit there place cut none same some enough begins = record {
+  at = 0;
+  rows = begins.rows;
+  before = λ r h. begins.before r h ∙ not_below (is_in among r) (place r);
+  level = λ r h. ap (λ l. is_in l r) begins.level ∙ level_of (is_in among r) (place r) (none r);
+  counts = λ r h. ap (λ l. is_in l r) begins.counts ∙ level_of (is_in counted r) (place r) (none r);
+  ahead = ap (λ n. n + limit) (count_none (λ r. is_in counted r && nat_lt (place r) 0) (length among) (λ r h. sym (not_below (is_in counted r) (place r)))) ∙ omega arith;
+  there = begins.total ∙ ap (count_by (λ b. b)) (sym begins.counts);
+  wanted = enough;
+  some = some;
+}
+  where
+    not_below : (b : Bool) (p : ℕ) → false ≡ (b && nat_lt p 0)
+    not_below true p = grind (arith, nat_tests)
+    not_below false p = refl
+
+    level_of : (b : Bool) (p : ℕ) → p ≡ 0 → b ≡ (b && nat_eq p 0)
+    level_of true p e = grind (arith, nat_tests)
+    level_of false p e = refl
+
+-- by places that are the same
+pub cut_same : (counted among : List Bool) (limit : ℕ) (place other : ℕ → ℕ) (cut : Cut) (share : Share) → ((r : ℕ) → r < length among → place r ≡ other r) →
+    IsCut counted among limit place cut share → IsCut counted among limit other cut share
+cut_same counted among limit place other cut share same is = record {
+  at = is.at;
+  rows = is.rows;
+  before = λ r h. is.before r h ∙ ap (λ p. is_in among r && nat_lt p is.at) (same r h);
+  level = λ r h. is.level r h ∙ ap (λ p. is_in among r && nat_eq p is.at) (same r h);
+  counts = λ r h. is.counts r h ∙ ap (λ p. is_in counted r && nat_eq p is.at) (same r h);
+  ahead = ap (λ n. n + share.wanted) (count_same (λ r. is_in counted r && nat_lt (other r) is.at) (λ r. is_in counted r && nat_lt (place r) is.at) (length among) (λ r h. ap (λ p. is_in counted r && nat_lt p is.at) (sym (same r h)))) ∙ is.ahead;
+  there = is.there;
+  wanted = is.wanted;
+  some = is.some;
+}
+
+module _ (counted among : List Bool) (limit : ℕ) (place : ℕ → ℕ) (plane : List Bool) (first : Bool) (old new : Cut) (share : Share) (rows : length among ≡ length plane) (is : IsCut counted among limit place old share) where
+  abbrev next : ℕ → ℕ
+  next = next_place place plane first
+
+  abbrev next_at : Bool → ℕ
+  next_at digit = 2 * is.at + one_if (is_later first digit)
+
+  long : (mask : List Bool) → length mask ≡ length among → length plane ≡ length mask
+  long mask e = sym rows ∙ sym e
+
+  -- rows at the place that have the digit are those at the next place
+  kept_at : (digit : Bool) (wide narrow : List Bool) (r : ℕ) → length narrow ≡ length among → r < length among → is_in narrow r ≡ (is_in wide r && nat_eq (place r) is.at) →
+      is_in (kept_rows digit narrow plane) r ≡ (is_in wide r && nat_eq (next r) (next_at digit))
+  kept_at digit wide narrow r e h at =
+      let b = is_in plane r in
+      in_kept narrow plane (long narrow e) digit r (omega arith)
+      ∙ ap (λ n. n && cond digit b (not b)) at
+      ∙ grouped (is_in wide r) (nat_eq (place r) is.at) (cond digit b (not b))
+      ∙ ap (λ d. is_in wide r && (nat_eq (place r) is.at && d)) (sym (same_digit first digit b))
+      ∙ ap (λ d. is_in wide r && d) (sym (next_eq (place r) is.at (is_later first b) (is_later first digit)))
+
+  before_at : (digit : Bool) → MovesRows plane first digit old new → (r : ℕ) → r < length among → is_in new.before r ≡ (is_in among r && nat_lt (next r) (next_at digit))
+  before_at digit moves r h =
+      let b = is_in plane r in
+      ap (λ l. is_in l r) moves.before
+      ∙ in_side old.before old.level plane (is.rows.level ∙ sym is.rows.before) (long old.before is.rows.before) first digit r (omega (arith, is.rows.before))
+      ∙ ap (λ n. n || (is_in old.level r && cond first (not digit && b) (digit && not b))) (is.before r h)
+      ∙ ap (λ n. (is_in among r && nat_lt (place r) is.at) || (n && cond first (not digit && b) (digit && not b))) (is.level r h)
+      ∙ shared (is_in among r) (nat_lt (place r) is.at) (nat_eq (place r) is.at) (cond first (not digit && b) (digit && not b))
+      ∙ ap (λ d. is_in among r && (nat_lt (place r) is.at || (nat_eq (place r) is.at && d))) (sym (moved_digit first digit b))
+      ∙ ap (λ d. is_in among r && d) (sym (next_lt (place r) is.at (is_later first b) (is_later first digit)))
+
+  -- how many counted rows have a digit
+  kept_count : (digit : Bool) → count_by (λ b. b) (kept_rows digit old.counted plane) ≡ count_rows (length among) (λ r. is_in old.counted r && cond digit (is_in plane r) (not (is_in plane r)))
+  kept_count digit =
+      let same = long old.counted is.rows.counted in
+      let all : length (kept_rows digit old.counted plane) ≡ length among = kept_length old.counted plane same digit ∙ is.rows.counted in
+      count_mask (kept_rows digit old.counted plane) ∙ ap (λ n. count_rows n (is_in (kept_rows digit old.counted plane))) all
+      ∙ count_same (is_in (kept_rows digit old.counted plane)) (λ r. is_in old.counted r && cond digit (is_in plane r) (not (is_in plane r))) (length among) (λ r h. in_kept old.counted plane same digit r (omega (arith, is.rows.counted)))
+
+  abbrev now_ahead : ℕ
+  now_ahead = count_rows (length among) (λ r. is_in counted r && nat_lt (place r) is.at)
+
+  -- by the digit that comes first no row more comes before the place
+  row_stays : (r : ℕ) → (is_in counted r && nat_lt (next r) (next_at first)) ≡ (is_in counted r && nat_lt (place r) is.at)
+  row_stays r =
+      ap (λ d. is_in counted r && d) (next_lt (place r) is.at (is_later first (is_in plane r)) (is_later first first))
+      ∙ ap (λ d. is_in counted r && (nat_lt (place r) is.at || (nat_eq (place r) is.at && d))) (first_stays first (is_in plane r))
+      ∙ ap (λ d. is_in counted r && d) (no_more (nat_lt (place r) is.at) (nat_eq (place r) is.at))
+
+  ahead_stays : count_rows (length among) (λ r. is_in counted r && nat_lt (next r) (next_at first)) ≡ now_ahead
+  ahead_stays = count_same (λ r. is_in counted r && nat_lt (next r) (next_at first)) (λ r. is_in counted r && nat_lt (place r) is.at) (length among) (λ r h. row_stays r)
+
+  -- by the other digit those that have the first do
+  row_moves : (r : ℕ) → r < length among →
+      one_if (is_in counted r && nat_lt (place r) is.at) + one_if (is_in old.counted r && cond first (is_in plane r) (not (is_in plane r))) ≡ one_if (is_in counted r && nat_lt (next r) (next_at (not first)))
+  row_moves r h =
+      let b = is_in plane r in
+      ap (λ c. one_if (is_in counted r && nat_lt (place r) is.at) + one_if (c && cond first b (not b))) (is.counts r h)
+      ∙ ahead_more (is_in counted r) (cond first b (not b)) (place r) is.at
+      ∙ ap (λ d. one_if (is_in counted r && (nat_lt (place r) is.at || (nat_eq (place r) is.at && d)))) (sym (later_moves first b))
+      ∙ ap (λ d. one_if (is_in counted r && d)) (sym (next_lt (place r) is.at (is_later first b) (is_later first (not first))))
+
+  ahead_moves : now_ahead + count_by (λ b. b) (kept_rows first old.counted plane) ≡ count_rows (length among) (λ r. is_in counted r && nat_lt (next r) (next_at (not first)))
+  ahead_moves =
+      ap (λ n. now_ahead + n) (kept_count first)
+      ∙ count_parts (λ r. is_in counted r && nat_lt (place r) is.at) (λ r. is_in old.counted r && cond first (is_in plane r) (not (is_in plane r))) (λ r. is_in counted r && nat_lt (next r) (next_at (not first))) (length among) row_moves
+
+  pub cut_stays : (firsts : ℕ) → firsts ≡ count_by (λ b. b) (kept_rows first old.counted plane) → share.wanted ≤ firsts → MovesRows plane first first old new →
+      IsCut counted among limit (next_place place plane first) new (record { wanted = share.wanted; there = firsts })
+  cut_stays firsts are enough moves = record {
+    at = next_at first;
+    rows = record {
+      before = moves.rows.before ∙ sym rows;
+      level = moves.rows.level ∙ sym rows;
+      after = moves.rows.after ∙ sym rows;
+      counted = moves.rows.counted ∙ sym rows;
+    };
+    before = before_at first moves;
+    level = λ r h. ap (λ l. is_in l r) moves.level ∙ kept_at first among old.level r is.rows.level h (is.level r h);
+    counts = λ r h. ap (λ l. is_in l r) moves.counted ∙ kept_at first counted old.counted r is.rows.counted h (is.counts r h);
+    ahead = ap (λ n. n + share.wanted) ahead_stays ∙ is.ahead;
+    there = are ∙ ap (count_by (λ b. b)) (sym moves.counted);
+    wanted = enough;
+    some = is.some;
+  }
+
+  pub cut_moves : (firsts : ℕ) → firsts ≡ count_by (λ b. b) (kept_rows first old.counted plane) → firsts < share.wanted → MovesRows plane first (not first) old new →
+      IsCut counted among limit (next_place place plane first) new (record { wanted = share.wanted - firsts; there = share.there - firsts })
+  cut_moves firsts are few moves =
+      let parts = both_digits first old.counted plane (long old.counted is.rows.counted) in
+      let moved : now_ahead + firsts ≡ count_rows (length among) (λ r. is_in counted r && nat_lt (next r) (next_at (not first))) = ap (λ n. now_ahead + n) are ∙ ahead_moves in
+      let total : now_ahead + share.wanted ≡ limit = is.ahead in
+      let left : share.there - firsts ≡ count_by (λ b. b) (kept_rows (not first) old.counted plane) = omega (arith, parts, are, is.there) in
+      record {
+        at = next_at (not first);
+        rows = record {
+          before = moves.rows.before ∙ sym rows;
+          level = moves.rows.level ∙ sym rows;
+          after = moves.rows.after ∙ sym rows;
+          counted = moves.rows.counted ∙ sym rows;
+        };
+        before = before_at (not first) moves;
+        level = λ r h. ap (λ l. is_in l r) moves.level ∙ kept_at (not first) among old.level r is.rows.level h (is.level r h);
+        counts = λ r h. ap (λ l. is_in l r) moves.counted ∙ kept_at (not first) counted old.counted r is.rows.counted h (is.counts r h);
+        ahead = ap (λ n. n + (share.wanted - firsts)) (sym moved) ∙ omega (arith, total, few);
+        there = left ∙ ap (count_by (λ b. b)) (sym moves.counted);
+        wanted = omega (arith, is.wanted);
+        some = omega (arith, few);
+      }

@@ -1,0 +1,3 @@
+pub mod Cuts
+pub mod Standings
+pub mod Stopping

@@ -1,0 +1,15 @@
+//! What is known of whether each row is among the first in the order of a column.
+#![tactic(auto)]
+
+mod cut;
+mod laws;
+mod order;
+mod rivals;
+mod stop;
+mod top;
+
+pub use laws::standings_stand;
+pub use top::TopK;
+
+#[cfg(test)]
+mod tests;
