@@ -219,7 +219,7 @@ module _ (plan : Plan) (query : TypedQuery) (frame : Frame) (bits : Planes) wher
           next_listed list reads e rounds able (subst (λ p. IsFalse (is_list_end p round)) e end)
 
   -- so the next plane is refused, or there is one round more
-  refused_or_further : TakenIsKnowledge → NamesColumns query frame → HaveRows frame bits → (reads : List ℕ) (c : ℕ) → AreFollowed plan query frame bits reads c →
+  pub refused_or_further : TakenIsKnowledge → NamesColumns query frame → HaveRows frame bits → (reads : List ℕ) (c : ℕ) → AreFollowed plan query frame bits reads c →
       ((column plane row : ℕ) × AreRefused plan query frame bits reads column plane row) ⊎ AreRounds plan query frame bits (reads ++ c ∷ [])
   refused_or_further taken_is named long reads c followed =
       by (first_failure (λ r. is_legal (ends_at (part_of query frame) c) ((known_at stage.known c).read + 1) (get_or (longer (known_at stage.known c).prefixes plane) r 0)) frame.rows)

@@ -14,3 +14,5 @@ pub mod Taking
 pub mod Steps
 pub mod Fewer
 pub mod HandedOver
+pub mod EachRead
+pub mod Outcomes

@@ -57,7 +57,7 @@ module _ (query : TypedQuery) (frame : Frame) (bits : Planes) where
   known_there counts c h =
       get_or-map-range_with_len (λ c. record { read = get_or counts c 0; prefixes = prefixes_by frame.rows (bits (get_or query.columns c 0)) (get_or counts c 0) }) 0 (length query.columns) c c _ h (omega arith)
 
-  length_of_known : (counts : List ℕ) → length (stage_by query frame bits counts).known ≡ length query.columns
+  pub length_of_known : (counts : List ℕ) → length (stage_by query frame bits counts).known ≡ length query.columns
   length_of_known counts = length-map-range_with_len _ 0 (length query.columns)
 
   -- the planes of a column that are read, and unread

@@ -19,7 +19,7 @@ use Rattle.query_model.specs.declared.query.TypedQuery.{TypedQuery}
 use Rattle.round_engine.specs.Stages.{HasPlane, IsFirstOver, Stage, stepped}
 use Rattle.table_rounds.specs.Headline.{RoundsBegin, RoundsHavePlanes}
 use Rattle.table_rounds.specs.Rounds.{AreFollowed, IsAfter, Planes, counts_after, ending_at, outlook_at, prefixes_by, stage_after}
-use Rattle.table_rounds.specs.Sources.{IsNextRound, IsOverTop, IsPlane, OnOverTop, Places, StepHandsOver, StopsAt, StopsNext, ToldPlanes, next_places}
+use Rattle.table_rounds.specs.Sources.{Causes, IsNextRound, IsOverTop, IsPlane, OnFailed, OnOverTop, Places, StepHandsOver, StopsAt, StopsNext, ToldPlanes, next_places}
 use Rattle.table_rounds.specs.declared.reading.StepFault.{StepFault}
 use Rattle.table_rounds.specs.declared.reading.StepFault.TheVariants.{Source, OverTop}
 use Rattle.table_rounds.proofs.Counts.{count_there}
@@ -72,12 +72,13 @@ module _ (have : RoundsHavePlanes) (choose : PoliciesChoose) (plan : Plan) (fram
       }
 
   -- where the source fails, or the plane is refused, the rounds stop there
-  pub stops : {E : Type 0} (head : Head) (places : Places) (fault : StepFault E) (c : ℕ) (plane : List Bool) (now end : Option (List ℕ)) → AreFollowed plan query frame bits reads c → HasPlane old c →
-      OnOverTop fault (IsOverTop (record { head = head; bits = Some bits }) old plane c) → StepHandsOver {T = Unit {0}} (Err fault) now end (next_places places old c) →
-      (handed : List ℕ) × StopsAt plan query frame bits places reads fault handed × Appends now end handed
-  stops head places (Source error) c plane now end followed has over (front, rest, split, grown) =
-      (front, (c, followed, (rest, ap (places (get_or query.columns c 0)) (sym (next_read c has)) ∙ split)), grown)
-  stops head places (OverTop column number row) c plane now end followed has over grown =
+  pub stops : {E : Type 0} (head : Head) (places : Places) (causes : Causes E) (fault : StepFault E) (c : ℕ) (plane : List Bool) (now end : Option (List ℕ)) → AreFollowed plan query frame bits reads c → HasPlane old c →
+      OnFailed fault (causes (get_or query.columns c 0) (known_at old.known c).read) → OnOverTop fault (IsOverTop (record { head = head; bits = Some bits }) old plane c) →
+      StepHandsOver {T = Unit {0}} (Err fault) now end (next_places places old c) →
+      (handed : List ℕ) × StopsAt plan query frame bits places causes reads fault handed × Appends now end handed
+  stops head places causes (Source error) c plane now end followed has failed over (front, rest, split, grown) =
+      (front, (c, followed, subst (λ n. causes (get_or query.columns c 0) n error) (next_read c has) failed, (rest, ap (places (get_or query.columns c 0)) (sym (next_read c has)) ∙ split)), grown)
+  stops head places causes (OverTop column number row) c plane now end followed has failed over grown =
       let place : places column number ≡ next_places places old c = ap (λ i. places i number) over.column_is ∙ ap (places (get_or query.columns c 0)) over.plane_is in (
         places column number,
         (
@@ -107,16 +108,20 @@ module _ (have : RoundsHavePlanes) (choose : PoliciesChoose) (plan : Plan) (told
           let followed = followed_by have choose plan (frame_of told.head) bits old same reads after c follows readable going in
           goes_on have choose plan (frame_of told.head) bits old same reads after taken_is new c plane followed has knowledge can is step
 
-  pub stops_next : {E : Type 0} (places : Places) (fault : StepFault E) (now end : Option (List ℕ)) → OnOverTop fault (IsOverTop told old plane c) →
-      StepHandsOver {T = Unit {0}} (Err fault) now end (next_places places old c) → StopsNext plan told places old now end fault
-  stops_next places fault now end over grown = by told.bits over
+  pub stops_next : {E : Type 0} (places : Places) (causes : Causes E) (fault : StepFault E) (now end : Option (List ℕ)) → OnFailed fault (causes (get_or old.query.columns c 0) (known_at old.known c).read) →
+      OnOverTop fault (IsOverTop told old plane c) → StepHandsOver {T = Unit {0}} (Err fault) now end (next_places places old c) → StopsNext plan told places causes old now end fault
+  stops_next places causes fault now end failed over grown = by told.bits over
     where
       by : (bits : Option Planes) → OnOverTop fault (IsOverTop (record { head = told.head; bits = bits }) old plane c) →
-          StopsNext plan (record { head = told.head; bits = bits }) places old now end fault
+          StopsNext plan (record { head = told.head; bits = bits }) places causes old now end fault
       by None over = tt
       by (Some bits) over = λ reads after.
           let followed = followed_by have choose plan (frame_of told.head) bits old same reads after c follows readable going in
-          stops have choose plan (frame_of told.head) bits old same reads after told.head places fault c plane now end followed has over grown
+          stops have choose plan (frame_of told.head) bits old same reads after told.head places causes fault c plane now end followed has failed over grown
+
+pub failed_of_some : {E : Type 0} (fault : StepFault E) (P : Causes E) (c j : ℕ) → OnFailed fault (P c j) → OnFailed fault (λ error. (column : ℕ) × (number : ℕ) × P column number error)
+failed_of_some (Source error) P c j failed = (c, j, failed)
+failed_of_some (OverTop column number row) P c j failed = tt
 
 pub over_of_some : {E : Type 0} (fault : StepFault E) (P : ℕ → ℕ → ℕ → ℕ → Type 0) (c : ℕ) → OnOverTop fault (P c) → OnOverTop fault (λ column number row. (d : ℕ) × P d column number row)
 over_of_some (Source error) P c over = tt

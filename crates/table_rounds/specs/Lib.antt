@@ -1,3 +1,4 @@
 pub mod Rounds
 pub mod Headline
 pub mod Sources
+pub mod Outcomes

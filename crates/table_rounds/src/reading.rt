@@ -12,7 +12,7 @@ ghost use Rattle.query_model.specs.Knowledge.{CanTake, known_at};
 ghost use Rattle.query_model.specs.Validity.{FitsHead};
 ghost use Rattle.round_engine.specs.Stages.{HasPlane, stepped};
 ghost use Rattle.table_rounds.specs.Rounds.{ending_at, outlook_at, unread_planes};
-ghost use Rattle.table_rounds.specs.Sources.{IsNextRound, IsOverTop, IsPlane, OnOverTop, StepHandsOver, StopsNext, next_places};
+ghost use Rattle.table_rounds.specs.Sources.{IsNextRound, IsOverTop, IsPlane, OfNext, OnFailed, OnOverTop, OnRefused, StepHandsOver, StopsNext, next_places};
 
 use crate::laws::rounds_have_planes;
 use crate::source::PlaneSource;
@@ -72,16 +72,23 @@ fn take_next<S: PlaneSource>(
     requires fits { FitsHead engine.old.query engine.old.frame (S.told source.old).head }
     requires plane { HasPlane engine.old number }
     requires rows { length plane.old ≡ engine.old.frame.rows }
+    requires ready { S.is_ready source.old }
     ensures rows { length plane.new ≡ length plane.old }
     ensures told { S.told source.new ≡ S.told source.old }
     ensures places { S.places source.new ≡ S.places source.old }
+    ensures ready { S.is_ready source.new }
+    ensures since { S.since source.old source.new }
     ensures handed { StepHandsOver result (S.handed source.old) (S.handed source.new)
         (next_places (S.places source.old) engine.old number) }
     ensures taken { OnOk result (engine.new ≡ stepped engine.old number plane.new) }
     ensures legal { OnOk result (CanTake engine.old.frame engine.old.known number plane.new) }
     ensures bits { OnOk result (IsPlane (S.told source.old)
         (slice_index engine.old.query.columns number) (known_at engine.old.known number).read plane.new) }
+    ensures shown { OnOk result (OfNext (S.shows source.old) engine.old number) }
     ensures unchanged { OnErr result (engine.new ≡ engine.old) }
+    ensures refused { IfErr result (λ fault. OnRefused fault (S.shows source.old)) }
+    ensures failed { IfErr result (λ fault. OnFailed fault
+        (S.fails source.old source.new (slice_index engine.old.query.columns number) (known_at engine.old.known number).read)) }
     ensures over { IfErr result (λ fault. OnOverTop fault (IsOverTop (S.told source.old) engine.old plane.new number)) }
 {
     let (column, next) = next_place(engine, source.head(), number);
@@ -109,11 +116,14 @@ pub fn read_next<S: PlaneSource, F: Fn(&Progress) -> usize>(
 ) -> Result<usize, StepFault<S::Error>>
     requires fits { FitsHead engine.old.query engine.old.frame (S.told source.old).head }
     requires rows { length plane.old ≡ engine.old.frame.rows }
+    requires ready { S.is_ready source.old }
     requires kept { Keeps F.Fn chooser.now.choose }
     requires unread { HasUnread (outlook_at engine.old) }
     ensures rows { length plane.new ≡ length plane.old }
     ensures told { S.told source.new ≡ S.told source.old }
     ensures places { S.places source.new ≡ S.places source.old }
+    ensures ready { S.is_ready source.new }
+    ensures since { S.since source.old source.new }
     ensures query { engine.new.query ≡ engine.old.query }
     ensures frame { engine.new.frame ≡ engine.old.frame }
     // The plane of the column that is chosen is taken.
@@ -123,6 +133,7 @@ pub fn read_next<S: PlaneSource, F: Fn(&Progress) -> usize>(
     ensures taken { IfOk result (λ column. engine.new ≡ stepped engine.old column plane.new) }
     ensures bits { IfOk result (λ column. IsPlane (S.told source.old)
         (slice_index engine.old.query.columns column) (known_at engine.old.known column).read plane.new) }
+    ensures shown { IfOk result (OfNext (S.shows source.old) engine.old) }
     ensures handed { IfOk result (λ column. Appends (S.handed source.old) (S.handed source.new)
         (next_places (S.places source.old) engine.old column)) }
     ensures fewer { OnOk result (unread_planes engine.new < unread_planes engine.old) }
@@ -131,11 +142,14 @@ pub fn read_next<S: PlaneSource, F: Fn(&Progress) -> usize>(
         → IsNextRound plan (S.told source.old) engine.old engine.new column) }
     // Or the rounds stop.
     ensures unchanged { OnErr result (engine.new ≡ engine.old) }
+    ensures refused { IfErr result (λ fault. OnRefused fault (S.shows source.old)) }
+    ensures failed { IfErr result (λ fault. OnFailed fault (λ error. (column : ℕ) × (number : ℕ)
+        × S.fails source.old source.new column number error)) }
     ensures over { IfErr result (λ fault. OnOverTop fault (λ column number row. (c : ℕ)
         × IsOverTop (S.told source.old) engine.old plane.new c column number row)) }
     ensures stops { IfErr result (λ fault. (plan : Plan) → Follows F.Fn chooser.now.choose plan.policy
         → IsReadable plan.policy engine.old.frame → IsNone (ending_at plan engine.old)
-        → StopsNext plan (S.told source.old) (S.places source.old) engine.old (S.handed source.old) (S.handed source.new) fault) }
+        → StopsNext plan (S.told source.old) (S.places source.old) (S.fails source.old source.new) engine.old (S.handed source.old) (S.handed source.new) fault) }
 {
     taken_is_knowledge();
     policies_choose();

@@ -1,6 +1,6 @@
 //! Rounds from a source that does not tell its planes.
 
-ghost use Rattle.std.specs.Prelude.{◌≡◌, pos, [], ◌∷◌, length, map, slice_get, IfOk, Some, None};
+ghost use Rattle.std.specs.Prelude.{◌≡◌, pos, [], ◌∷◌, length, map, slice_get, ⊤, IfOk, Some, None};
 ghost use Rattle.daq_table.specs.declared.head.Kind.TheVariants.{Int};
 ghost use Rattle.query_model.specs.Validity.{FitsHead};
 ghost use Rattle.query_model.specs.declared.query.Atom.TheVariants.{Compare};
@@ -37,6 +37,20 @@ impl PlaneSource for Numbers {
     ghost places = { λ s column number. [] };
 
     ghost handed = { λ s. None };
+
+    ghost is_ready = { λ s. ⊤ };
+
+    ghost since = { λ first second. ⊤ };
+
+    ghost fails = { λ first second column number error. ⊤ };
+
+    ghost shows = { λ s column number. ⊤ };
+
+    ghost since_itself = { λ source. tt };
+
+    ghost since_both = { λ first second third before after. tt };
+
+    ghost shows_before = { λ first second column number since shown. tt };
 
     fn head(&self) -> &Head {
         &self.head

@@ -1,0 +1,5 @@
+pub mod RowsBack
+pub mod Pads
+pub mod Placed
+pub mod StoreReads
+pub mod Files
