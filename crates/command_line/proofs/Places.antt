@@ -2,7 +2,7 @@
 use Rattle.std.proofs.Common.{◌≡◌, ℕ, zero, suc, ◌+◌, ◌≤◌, Option, Some, None, Ok, Err, List, [], ◌∷◌, ◌++◌, length, take, option_map, refl, sym, ap, ◌∙◌, codes, arith, rules}
 use Rattle.std.specs.Option.{option_map_or}
 use Rattle.command_line.specs.Commands.{IsNumber, Command, GoesWrong, widest, options_given}
-use Rattle.command_line.specs.Reading.{Next, name, word, number, policy, option, after, after_ask, answer, at_end}
+use Rattle.command_line.specs.Reading.{Next, name, word, number, policy, option, done, after, after_ask, answer, at_end}
 use Rattle.command_line.proofs.Numbers.{number_some}
 use Rattle.command_line.proofs.Steps.{answer-none, answer-step}
 use Rattle.command_line.proofs.Whole.{command_whole, policy_some, after_name_ask}
@@ -38,6 +38,7 @@ completes (number limit k) at = completes_more (number limit k) (k 0) at (codes 
 completes (policy k) at = completes_more (policy k) (k widest) at (codes "widest")
     (ap (option_map k) (policy_some (codes "widest") widest refl)) (completes (k widest) (at + 1))
 completes (option g k) at = record { rest = []; command = k (options_given g); whole = answer-none (option g k) at }
+completes (done c) at = record { rest = []; command = c; whole = answer-none (done c) at }
 
 -- the longest list of first words with which something goes on, where the place is one past it
 record Stuck (next : Next) (at : ℕ) (words : List (List ℕ)) (place : ℕ) : Type 0 where
@@ -94,6 +95,7 @@ missing (word k) at place e = cc
 missing (number limit k) at place e = cc
 missing (policy k) at place e = cc
 missing (option g k) at place e = cc
+missing (done c) at place e = cc
 
 stuck : (next : Next) (at : ℕ) (words : List (List ℕ)) (place : ℕ) → answer next at words ≡ Err place → Stuck next at words place
 unfolding answer

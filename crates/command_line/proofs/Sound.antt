@@ -1,12 +1,12 @@
 -- What is read whole is a command of the grammar.
 use Rattle.command_line.specs.declared.reader.Flag.{Flag}
 use Rattle.command_line.specs.declared.reader.Flag.TheVariants as f
-use Rattle.std.proofs.Common.{◌≡◌, ℕ, zero, suc, ◌+◌, ◌≤◌, Bool, true, false, not, if◌then◌else◌, Option, Some, None, is_none, Ok, Err, List, [], ◌∷◌, length, option_map, refl, sym, ap, subst, ◌∙◌, codes, arith}
+use Rattle.std.proofs.Common.{◌≡◌, ◌≢◌, ℕ, zero, suc, ◌+◌, ◌≤◌, Bool, true, false, not, if◌then◌else◌, Option, Some, None, is_none, Ok, Err, List, [], ◌∷◌, length, option_map, refl, sym, ap, subst, ◌∙◌, codes, arith}
 use Rattle.std.specs.Option.{option_map_or}
 use Rattle.std.specs.Str.{bytes_eq}
 use Rattle.std.proofs.lemmas.Slice.Eq.{bytes_eq-Decides}
-use Rattle.command_line.specs.Commands.{ReadOrder, widest, in_order, filter_first, IsPolicy, IsNumber, Given, Gives, no_more, more_width, more_rounds, more_policy, more_reads, more_list, Options, Command, ask, demo, IsCommand, AreOptions, nothing_given, options_given, most_seed, most_rows, most_width, most_rounds}
-use Rattle.command_line.specs.Reading.{Next, name, word, number, policy, option, after, after_ask, after_demo, after_name, after_flag, behind, is_free, flag_of, flag_text, at_end, answer, number_of, policy_of}
+use Rattle.command_line.specs.Commands.{ReadOrder, widest, in_order, filter_first, IsPolicy, IsNumber, Given, Gives, no_more, more_width, more_rounds, more_policy, more_reads, more_list, Options, Command, ask, query, load, info, upgrade, demo, IsCommand, AreOptions, nothing_given, options_given, most_seed, most_rows, most_width, most_rounds}
+use Rattle.command_line.specs.Reading.{Next, name, word, number, policy, option, done, after, after_ask, after_query, after_load, after_info, after_upgrade, after_demo, after_name, after_flag, behind, is_free, flag_of, flag_text, at_end, answer, number_of, policy_of}
 use Rattle.command_line.proofs.Numbers.{number_is}
 
 -- ---- cases on tests
@@ -213,6 +213,10 @@ read_options k (suc n) g at (w ∷ ws) c h e = read_option n k (read_options k n
 
 data IsName (w : List ℕ) : Option Next → Type 0 where
   is_ask : w ≡ codes "ask" → IsName w (Some after_ask)
+  is_query : w ≡ codes "query" → IsName w (Some after_query)
+  is_load : w ≡ codes "load" → IsName w (Some after_load)
+  is_info : w ≡ codes "info" → IsName w (Some after_info)
+  is_upgrade : w ≡ codes "upgrade" → IsName w (Some after_upgrade)
   is_demo : w ≡ codes "demo" → IsName w (Some after_demo)
   is_no_name : IsName w None
 
@@ -220,10 +224,21 @@ name_is : (w : List ℕ) → IsName w (after_name w)
 unfolding after_name
 name_is w =
     if_cases (IsName w) (bytes_eq w (codes "ask")) _ _ (λ t. is_ask (same_bytes w _ t))
-    (if_cases (IsName w) (bytes_eq w (codes "demo")) _ _ (λ t. is_demo (same_bytes w _ t)) is_no_name)
+    (if_cases (IsName w) (bytes_eq w (codes "query")) _ _ (λ t. is_query (same_bytes w _ t))
+    (if_cases (IsName w) (bytes_eq w (codes "load")) _ _ (λ t. is_load (same_bytes w _ t))
+    (if_cases (IsName w) (bytes_eq w (codes "info")) _ _ (λ t. is_info (same_bytes w _ t))
+    (if_cases (IsName w) (bytes_eq w (codes "upgrade")) _ _ (λ t. is_upgrade (same_bytes w _ t))
+    (if_cases (IsName w) (bytes_eq w (codes "demo")) _ _ (λ t. is_demo (same_bytes w _ t)) is_no_name)))))
 
 said : (words : List (List ℕ)) (given : Given) → Gives nothing_given words given → AreOptions words (options_given given)
 said words given gives = record { given = given; gives = gives; say = refl }
+
+-- a word stands where it was read
+word_there : {k : List ℕ → Next} {at : ℕ} {ws : List (List ℕ)} {c : Command} (r : Reads k (λ w v. w ≡ v) at ws c) → ws ≡ r.said ∷ r.tail
+word_there r = r.words ∙ ap (λ v. v ∷ r.tail) r.meant
+
+two_words : (a b : List ℕ) (ws behind_a behind_b : List (List ℕ)) → ws ≡ a ∷ behind_a → behind_a ≡ b ∷ behind_b → ws ≡ a ∷ b ∷ behind_b
+two_words a b ws behind_a behind_b first second = first ∙ ap (λ v. a ∷ v) second
 
 three_words : (a b c : List ℕ) (ws behind_a behind_b behind_c : List (List ℕ)) → ws ≡ a ∷ behind_a → behind_a ≡ b ∷ behind_b →
     behind_b ≡ c ∷ behind_c → ws ≡ a ∷ b ∷ c ∷ behind_c
@@ -249,6 +264,54 @@ ask_is ws c e =
       options = said sql.tail o.end o.gives;
     } in
     subst (IsCommand (codes "ask" ∷ ws)) (sym o.same) is
+
+-- where nothing may come, nothing is left
+read_done : (k : Command) (at : ℕ) (ws : List (List ℕ)) (c : Command) → answer (done k) at ws ≡ Ok c → (ws ≡ []) × (k ≡ c)
+unfolding answer
+read_done k at [] c e = (refl, cc)
+read_done k at (w ∷ ws) c e = cc
+
+query_is : (ws : List (List ℕ)) (c : Command) → answer after_query 1 ws ≡ Ok c → IsCommand (codes "query" ∷ ws) c
+query_is ws c e =
+    let file = read_word _ 1 ws c e in
+    let sql = read_word _ 2 file.tail c file.whole in
+    let o = read_options _ (length sql.tail) _ 3 sql.tail c (omega arith) sql.whole in
+    let is : IsCommand (codes "query" ∷ ws) (query (record { file = file.said; sql = sql.said; options = options_given o.end })) =
+    record {
+      tail = sql.tail;
+      spelled = ap (λ v. codes "query" ∷ v) (two_words file.said sql.said ws file.tail sql.tail (word_there file) (word_there sql));
+      options = said sql.tail o.end o.gives;
+    } in
+    subst (IsCommand (codes "query" ∷ ws)) (sym o.same) is
+
+load_is : (ws : List (List ℕ)) (c : Command) → answer after_load 1 ws ≡ Ok c → IsCommand (codes "load" ∷ ws) c
+load_is ws c e =
+    let csv = read_word _ 1 ws c e in
+    let file = read_word _ 2 csv.tail c csv.whole in
+    let schema = read_word _ 3 file.tail c file.whole in
+    let end = read_done _ 4 schema.tail c schema.whole in
+    let is : IsCommand (codes "load" ∷ ws) (load (record { csv = csv.said; file = file.said; schema = schema.said })) =
+    ap (λ v. codes "load" ∷ v) (three_words csv.said file.said schema.said ws csv.tail file.tail schema.tail (word_there csv) (word_there file) (word_there schema)
+    ∙ ap (λ v. csv.said ∷ file.said ∷ schema.said ∷ v) end.0) in
+    subst (IsCommand (codes "load" ∷ ws)) end.1 is
+
+info_is : (ws : List (List ℕ)) (c : Command) → answer after_info 1 ws ≡ Ok c → IsCommand (codes "info" ∷ ws) c
+info_is ws c e =
+    let file = read_word _ 1 ws c e in
+    let end = read_done _ 2 file.tail c file.whole in
+    let is : IsCommand (codes "info" ∷ ws) (info (record { file = file.said })) =
+    ap (λ v. codes "info" ∷ v) (word_there file ∙ ap (λ v. file.said ∷ v) end.0) in
+    subst (IsCommand (codes "info" ∷ ws)) end.1 is
+
+upgrade_is : (ws : List (List ℕ)) (c : Command) → answer after_upgrade 1 ws ≡ Ok c → IsCommand (codes "upgrade" ∷ ws) c
+upgrade_is ws c e =
+    let older = read_word _ 1 ws c e in
+    let newer = read_word _ 2 older.tail c older.whole in
+    let end = read_done _ 3 newer.tail c newer.whole in
+    let is : IsCommand (codes "upgrade" ∷ ws) (upgrade (record { older = older.said; newer = newer.said })) =
+    ap (λ v. codes "upgrade" ∷ v) (two_words older.said newer.said ws older.tail newer.tail (word_there older) (word_there newer)
+    ∙ ap (λ v. older.said ∷ newer.said ∷ v) end.0) in
+    subst (IsCommand (codes "upgrade" ∷ ws)) end.1 is
 
 demo_is : (ws : List (List ℕ)) (c : Command) → answer after_demo 1 ws ≡ Ok c → IsCommand (codes "demo" ∷ ws) c
 demo_is ws c e =
@@ -277,6 +340,10 @@ demo_is ws c e =
 named_is : (w : List ℕ) (ws : List (List ℕ)) (c : Command) (o : Option Next) → IsName w o →
     option_map_or (λ next. answer next 1 ws) o (Err 1) ≡ Ok c → IsCommand (w ∷ ws) c
 named_is w ws c (Some _) (is_ask same) e = subst (λ v. IsCommand (v ∷ ws) c) (sym same) (ask_is ws c e)
+named_is w ws c (Some _) (is_query same) e = subst (λ v. IsCommand (v ∷ ws) c) (sym same) (query_is ws c e)
+named_is w ws c (Some _) (is_load same) e = subst (λ v. IsCommand (v ∷ ws) c) (sym same) (load_is ws c e)
+named_is w ws c (Some _) (is_info same) e = subst (λ v. IsCommand (v ∷ ws) c) (sym same) (info_is ws c e)
+named_is w ws c (Some _) (is_upgrade same) e = subst (λ v. IsCommand (v ∷ ws) c) (sym same) (upgrade_is ws c e)
 named_is w ws c (Some _) (is_demo same) e = subst (λ v. IsCommand (v ∷ ws) c) (sym same) (demo_is ws c e)
 named_is w ws c None is_no_name e = cc
 
@@ -287,10 +354,22 @@ command_is [] c e = cc
 command_is (w ∷ ws) c e = named_is w ws c (after_name w) (name_is w) e
 
 -- a word that names no command
-no_next : (w : List ℕ) (o : Option Next) → IsName w o → (w ≡ codes "ask" → ⊥) → (w ≡ codes "demo" → ⊥) → o ≡ None
-no_next w (Some _) (is_ask same) no_ask no_demo = absurd (no_ask same)
-no_next w (Some _) (is_demo same) no_ask no_demo = absurd (no_demo same)
-no_next w None is_no_name no_ask no_demo = refl
+pub record IsNoName (w : List ℕ) : Type 0 where
+  pub ask : w ≢ codes "ask"
+  pub query : w ≢ codes "query"
+  pub load : w ≢ codes "load"
+  pub info : w ≢ codes "info"
+  pub upgrade : w ≢ codes "upgrade"
+  pub demo : w ≢ codes "demo"
 
-pub no_name : (w : List ℕ) → (w ≡ codes "ask" → ⊥) → (w ≡ codes "demo" → ⊥) → after_name w ≡ None
-no_name w no_ask no_demo = no_next w (after_name w) (name_is w) no_ask no_demo
+no_next : (w : List ℕ) (o : Option Next) → IsName w o → IsNoName w → o ≡ None
+no_next w (Some _) (is_ask same) none = absurd (none.ask same)
+no_next w (Some _) (is_query same) none = absurd (none.query same)
+no_next w (Some _) (is_load same) none = absurd (none.load same)
+no_next w (Some _) (is_info same) none = absurd (none.info same)
+no_next w (Some _) (is_upgrade same) none = absurd (none.upgrade same)
+no_next w (Some _) (is_demo same) none = absurd (none.demo same)
+no_next w None is_no_name none = refl
+
+pub no_name : (w : List ℕ) → IsNoName w → after_name w ≡ None
+no_name w none = no_next w (after_name w) (name_is w) none

@@ -2,9 +2,9 @@
 use Rattle.command_line.specs.declared.reader.Flag.{Flag}
 use Rattle.command_line.specs.declared.reader.Flag.TheVariants as f
 use Rattle.std.proofs.lemmas.Option.{slice_get_within, get_or_from_slice_get}
-use Rattle.std.proofs.Common.{length, ◌==◌, rules, drop, drop-cons, slice_get, suc, arith, Bool, true, false, is_none, not, if◌then◌else◌, ◌≡◌, ℕ, ◌+◌, Option, Some, None, true, false, Err, List, [], ◌∷◌, refl, sym, ap, ◌∙◌}
+use Rattle.std.proofs.Common.{length, ◌==◌, rules, drop, drop-cons, slice_get, suc, arith, Bool, true, false, is_none, not, if◌then◌else◌, ◌≡◌, ℕ, ◌+◌, Option, Some, None, true, false, Ok, Err, List, [], ◌∷◌, refl, sym, ap, ◌∙◌}
 use Rattle.command_line.specs.Commands.{Given, Options, Command}
-use Rattle.command_line.specs.Reading.{Next, option, Left, Takes, Lacks, after, after_flag, behind, is_free, flag_of, flag_text, at_end, answer, answers}
+use Rattle.command_line.specs.Reading.{Next, option, done, Left, Takes, Lacks, HasMore, after, after_flag, behind, is_free, flag_of, flag_text, at_end, answer, answers}
 
 pub answer-none : (next : Next) (at : ℕ) → answer next at [] ≡ at_end next at
 unfolding answer
@@ -34,6 +34,18 @@ stops next old new w place t e p =
 -- what comes next may not be missing
 pub lacks : (next : Next) (old : Left) (place : ℕ) → at_end next old.at ≡ Err (old.at + 1) → Lacks old place → answers next old ≡ Err place
 lacks next old place e l = ap (answer next old.at) l.words ∙ answer-none next old.at ∙ e ∙ ap Err (sym l.is_place)
+
+-- nothing more may come
+pub ends : (c : Command) (old : Left) → old.words ≡ [] → answers (done c) old ≡ Ok c
+ends c old e = ap (answer (done c) old.at) e ∙ answer-none (done c) old.at
+
+over : (c : Command) (at place : ℕ) (words : List (List ℕ)) → (words ≡ [] → ⊥) → place ≡ at + 1 → answer (done c) at words ≡ Err place
+unfolding answer
+over c at place [] some e = absurd (some refl)
+over c at place (w ∷ ws) some e = ap Err (sym e)
+
+pub goes_on : (c : Command) (old : Left) (place : ℕ) → HasMore old place → answers (done c) old ≡ Err place
+goes_on c old place more = over c old.at place old.words more.words more.is_place
 
 -- ---- options
 

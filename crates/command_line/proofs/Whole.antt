@@ -1,8 +1,8 @@
 -- Each command of the grammar is read whole.
 use Rattle.command_line.specs.declared.reader.Flag.TheVariants as f
 use Rattle.std.proofs.Common.{◌≡◌, ℕ, ◌+◌, Some, Ok, List, option_map, refl, sym, ap, ◌∙◌, codes}
-use Rattle.command_line.specs.Commands.{ReadOrder, widest, in_order, filter_first, reads, IsPolicy, Given, Gives, no_more, more_width, more_rounds, more_policy, more_reads, more_list, Options, Command, ask, demo, IsCommand, options_given, most_seed, most_rows, most_width, most_rounds}
-use Rattle.command_line.specs.Reading.{name, option, after_ask, after_demo, after_name, answer, policy_of}
+use Rattle.command_line.specs.Commands.{ReadOrder, widest, in_order, filter_first, reads, IsPolicy, Given, Gives, no_more, more_width, more_rounds, more_policy, more_reads, more_list, Options, Command, ask, query, load, info, upgrade, demo, IsCommand, options_given, most_seed, most_rows, most_width, most_rounds}
+use Rattle.command_line.specs.Reading.{name, option, done, after_ask, after_query, after_load, after_info, after_upgrade, after_demo, after_name, answer, policy_of}
 use Rattle.command_line.proofs.Numbers.{number_some}
 use Rattle.command_line.proofs.Steps.{answer-none, answer-step, after_free, is_none_at, not_at}
 
@@ -39,6 +39,22 @@ pub after_name_ask : after_name (codes "ask") ≡ Some after_ask
 unfolding after_name
 after_name_ask = refl
 
+pub after_name_query : after_name (codes "query") ≡ Some after_query
+unfolding after_name
+after_name_query = refl
+
+pub after_name_load : after_name (codes "load") ≡ Some after_load
+unfolding after_name
+after_name_load = refl
+
+pub after_name_info : after_name (codes "info") ≡ Some after_info
+unfolding after_name
+after_name_info = refl
+
+pub after_name_upgrade : after_name (codes "upgrade") ≡ Some after_upgrade
+unfolding after_name
+after_name_upgrade = refl
+
 pub after_name_demo : after_name (codes "demo") ≡ Some after_demo
 unfolding after_name
 after_name_demo = refl
@@ -53,6 +69,28 @@ command_whole words (ask a) is =
     ∙ answer-step _ _ 3 _ _ refl
     ∙ options_whole is.options.gives (λ o. ask (record { csv = a.csv; schema = a.schema; sql = a.sql; options = o })) 4
     ∙ ap (λ o. Ok (ask (record { csv = a.csv; schema = a.schema; sql = a.sql; options = o }))) (sym is.options.say)
+command_whole words (query q) is =
+    ap (answer name 0) is.spelled
+    ∙ answer-step name after_query 0 _ _ after_name_query
+    ∙ answer-step after_query _ 1 _ _ refl
+    ∙ answer-step _ _ 2 _ _ refl
+    ∙ options_whole is.options.gives (λ o. query (record { file = q.file; sql = q.sql; options = o })) 3
+    ∙ ap (λ o. Ok (query (record { file = q.file; sql = q.sql; options = o }))) (sym is.options.say)
+command_whole words (load l) is =
+    ap (answer name 0) is
+    ∙ answer-step name after_load 0 _ _ after_name_load
+    ∙ answer-step after_load _ 1 _ _ refl
+    ∙ answer-step _ _ 2 _ _ refl
+    ∙ answer-step _ _ 3 _ _ refl
+    ∙ answer-none (done (load l)) 4
+command_whole words (info i) is =
+    ap (answer name 0) is ∙ answer-step name after_info 0 _ _ after_name_info ∙ answer-step after_info _ 1 _ _ refl ∙ answer-none (done (info i)) 2
+command_whole words (upgrade u) is =
+    ap (answer name 0) is
+    ∙ answer-step name after_upgrade 0 _ _ after_name_upgrade
+    ∙ answer-step after_upgrade _ 1 _ _ refl
+    ∙ answer-step _ _ 2 _ _ refl
+    ∙ answer-none (done (upgrade u)) 3
 command_whole words (demo d) is =
     ap (answer name 0) is.spelled
     ∙ answer-step name after_demo 0 _ _ after_name_demo

@@ -31,8 +31,33 @@ pub record Demo : Type 0 where
   pub sql : List ℕ
   pub options : Options
 
+-- what follows the word `load`
+pub record Load : Type 0 where
+  pub csv : List ℕ
+  pub file : List ℕ
+  pub schema : List ℕ
+
+-- what follows the word `query`
+pub record Query : Type 0 where
+  pub file : List ℕ
+  pub sql : List ℕ
+  pub options : Options
+
+-- what follows the word `info`
+pub record Info : Type 0 where
+  pub file : List ℕ
+
+-- what follows the word `upgrade`
+pub record Upgrade : Type 0 where
+  pub older : List ℕ
+  pub newer : List ℕ
+
 pub data Command : Type 0 where
   ask : Ask → Command
+  query : Query → Command
+  load : Load → Command
+  info : Info → Command
+  upgrade : Upgrade → Command
   demo : Demo → Command
 
 -- ---- numbers
@@ -106,6 +131,24 @@ pub record IsAsk (words : List (List ℕ)) (a : Ask) : Type 0 where
   pub spelled : words ≡ codes "ask" ∷ a.csv ∷ a.schema ∷ a.sql ∷ tail
   pub options : AreOptions tail a.options
 
+-- "query" file sql {option}
+pub record IsQuery (words : List (List ℕ)) (q : Query) : Type 0 where
+  pub tail : List (List ℕ)
+  pub spelled : words ≡ codes "query" ∷ q.file ∷ q.sql ∷ tail
+  pub options : AreOptions tail q.options
+
+-- "load" csv file schema
+abbrev pub IsLoad : List (List ℕ) → Load → Type 0
+IsLoad words l = words ≡ codes "load" ∷ l.csv ∷ l.file ∷ l.schema ∷ []
+
+-- "info" file
+abbrev pub IsInfo : List (List ℕ) → Info → Type 0
+IsInfo words i = words ≡ codes "info" ∷ i.file ∷ []
+
+-- "upgrade" older newer
+abbrev pub IsUpgrade : List (List ℕ) → Upgrade → Type 0
+IsUpgrade words u = words ≡ codes "upgrade" ∷ u.older ∷ u.newer ∷ []
+
 -- "demo" number number sql {option}
 pub record IsDemo (words : List (List ℕ)) (d : Demo) : Type 0 where
   pub seed : List ℕ
@@ -119,6 +162,10 @@ pub record IsDemo (words : List (List ℕ)) (d : Demo) : Type 0 where
 -- the words ask for the command
 abbrev pub IsCommand : List (List ℕ) → Command → Type 0
 IsCommand words (ask a) = IsAsk words a
+IsCommand words (query q) = IsQuery words q
+IsCommand words (load l) = IsLoad words l
+IsCommand words (info i) = IsInfo words i
+IsCommand words (upgrade u) = IsUpgrade words u
 IsCommand words (demo d) = IsDemo words d
 
 -- ---- where words go wrong

@@ -1,5 +1,5 @@
 -- How words are read one by one: what may come next, and what a word leads to.
-use Rattle.std.specs.Prelude.{◌≡◌, ℕ, ◌+◌, nat_le, Bool, true, not, ◌&&◌, if◌then◌else◌, Option, Some, None, is_none, option_map, Result, Ok, Err, List, [], ◌∷◌, length, codes}
+use Rattle.std.specs.Prelude.{◌≡◌, ◌≢◌, ℕ, ◌+◌, nat_le, Bool, true, not, ◌&&◌, if◌then◌else◌, Option, Some, None, is_none, option_map, Result, Ok, Err, List, [], ◌∷◌, length, codes}
 use Rattle.std.specs.Option.{option_map_or}
 use Rattle.std.specs.Char.{is_ascii_digit}
 use Rattle.std.specs.List.{list_all}
@@ -7,7 +7,7 @@ use Rattle.std.specs.Str.{bytes_eq}
 use Rattle.std.specs.Str.Parse.{digits_value}
 use Rattle.command_line.specs.declared.reader.Flag.{Flag}
 use Rattle.command_line.specs.declared.reader.Flag.TheVariants as f
-use Rattle.command_line.specs.Commands.{ReadOrder, widest, in_order, filter_first, reads, Given, Options, Command, ask, demo, nothing_given, options_given, most_seed, most_rows, most_width, most_rounds}
+use Rattle.command_line.specs.Commands.{ReadOrder, widest, in_order, filter_first, reads, Given, Options, Command, ask, query, load, info, upgrade, demo, nothing_given, options_given, most_seed, most_rows, most_width, most_rounds}
 
 -- what comes next, and for each such word what comes behind it
 pub data Next : Type 0 where
@@ -16,6 +16,7 @@ pub data Next : Type 0 where
   number : ℕ → (ℕ → Next) → Next
   policy : (ReadOrder → Next) → Next
   option : Given → (Options → Command) → Next
+  done : Command → Next
 
 -- the number that the word writes, if it is one and at most the limit
 unfoldable pub number_of : ℕ → List ℕ → Option ℕ
@@ -35,13 +36,31 @@ abbrev pub after_ask : Next
 after_ask =
     word (λ csv. word (λ schema. word (λ sql. options (λ o. ask (record { csv = csv; schema = schema; sql = sql; options = o })))))
 
+abbrev pub after_query : Next
+after_query = word (λ file. word (λ sql. options (λ o. query (record { file = file; sql = sql; options = o }))))
+
+abbrev pub after_load : Next
+after_load = word (λ csv. word (λ file. word (λ schema. done (load (record { csv = csv; file = file; schema = schema })))))
+
+abbrev pub after_info : Next
+after_info = word (λ file. done (info (record { file = file })))
+
+abbrev pub after_upgrade : Next
+after_upgrade = word (λ older. word (λ newer. done (upgrade (record { older = older; newer = newer }))))
+
 abbrev pub after_demo : Next
 after_demo =
     number most_seed (λ seed. number most_rows (λ rows.
     word (λ sql. options (λ o. demo (record { seed = seed; rows = rows; sql = sql; options = o })))))
 
 unfoldable pub after_name : List ℕ → Option Next
-after_name w = if bytes_eq w (codes "ask") then Some after_ask else (if bytes_eq w (codes "demo") then Some after_demo else None)
+after_name w =
+    if bytes_eq w (codes "ask") then Some after_ask
+    else (if bytes_eq w (codes "query") then Some after_query
+    else (if bytes_eq w (codes "load") then Some after_load
+    else (if bytes_eq w (codes "info") then Some after_info
+    else (if bytes_eq w (codes "upgrade") then Some after_upgrade
+    else (if bytes_eq w (codes "demo") then Some after_demo else None)))))
 
 -- ---- options
 
@@ -88,6 +107,7 @@ after (word k) w = Some (k w)
 after (number limit k) w = option_map k (number_of limit w)
 after (policy k) w = option_map k (policy_of w)
 after (option g k) w = after_flag g k (flag_of w)
+after (done c) w = None
 
 -- what it is where no word is left: a command, or a word is missing at the next place
 abbrev pub at_end : Next → ℕ → Result Command ℕ
@@ -96,6 +116,7 @@ at_end (word k) at = Err (at + 1)
 at_end (number limit k) at = Err (at + 1)
 at_end (policy k) at = Err (at + 1)
 at_end (option g k) at = Ok (k (options_given g))
+at_end (done c) at = Ok c
 
 -- the command of the words, of which so many were read before, or the place of the first that may not come
 unfoldable pub answer : Next → ℕ → List (List ℕ) → Result Command ℕ
@@ -118,6 +139,11 @@ pub record Takes (old : Left) (taken : List ℕ) (new : Left) : Type 0 where
 -- no word is left, so the next one is missing at this place
 pub record Lacks (old : Left) (place : ℕ) : Type 0 where
   pub words : old.words ≡ []
+  pub is_place : place ≡ old.at + 1
+
+-- a word is left, at this place
+pub record HasMore (old : Left) (place : ℕ) : Type 0 where
+  pub words : old.words ≢ []
   pub is_place : place ≡ old.at + 1
 
 -- the words left begin with such a part, which says this, and these are left behind it

@@ -6,6 +6,10 @@ use Rattle.command_line.specs.declared.command.ReadOrder.TheVariants.{Widest, In
 use Rattle.command_line.specs.declared.command.Options.{Options}
 use Rattle.command_line.specs.declared.command.Ask.{Ask}
 use Rattle.command_line.specs.declared.command.Demo.{Demo}
+use Rattle.command_line.specs.declared.command.Info.{Info}
+use Rattle.command_line.specs.declared.command.Load.{Load}
+use Rattle.command_line.specs.declared.command.Query.{Query}
+use Rattle.command_line.specs.declared.command.Upgrade.{Upgrade}
 use Rattle.command_line.specs.declared.command.Command.{Command}
 use Rattle.command_line.specs.declared.command.Command.TheVariants as c
 use Rattle.command_line.specs.declared.reader.Given.{Given}
@@ -22,11 +26,27 @@ options_of o = record { width = o.width; rounds = o.rounds; order = order_of o.o
 abbrev pub ask_of : Ask → spec.Ask
 ask_of a = record { csv = a.csv.now; schema = a.schema.now; sql = a.sql.now; options = options_of a.options }
 
+abbrev pub query_of : Query → spec.Query
+query_of q = record { file = q.file.now; sql = q.sql.now; options = options_of q.options }
+
+abbrev pub load_of : Load → spec.Load
+load_of l = record { csv = l.csv.now; file = l.file.now; schema = l.schema.now }
+
+abbrev pub info_of : Info → spec.Info
+info_of i = record { file = i.file.now }
+
+abbrev pub upgrade_of : Upgrade → spec.Upgrade
+upgrade_of u = record { older = u.older.now; newer = u.newer.now }
+
 abbrev pub demo_of : Demo → spec.Demo
 demo_of d = record { seed = d.seed; rows = d.rows; sql = d.sql.now; options = options_of d.options }
 
 abbrev pub command_of : Command → spec.Command
 command_of (c.Ask a) = spec.ask (ask_of a)
+command_of (c.Query q) = spec.query (query_of q)
+command_of (c.Load l) = spec.load (load_of l)
+command_of (c.Info i) = spec.info (info_of i)
+command_of (c.Upgrade u) = spec.upgrade (upgrade_of u)
 command_of (c.Demo d) = spec.demo (demo_of d)
 
 abbrev pub given_of : Given → spec.Given

@@ -47,6 +47,44 @@ pub struct Ask<'a> {
     pub options: Options<'a>,
 }
 
+/// `query`: a query over a plane file.
+#[derive(Clone, Copy, Debug, PartialEq, Eq)]
+pub struct Query<'a> {
+    /// The path of the plane file.
+    pub file: &'a str,
+    /// The text of the query.
+    pub sql: &'a str,
+    /// How it is answered.
+    pub options: Options<'a>,
+}
+
+/// `load`: a CSV is written as a plane file.
+#[derive(Clone, Copy, Debug, PartialEq, Eq)]
+pub struct Load<'a> {
+    /// The path of the CSV.
+    pub csv: &'a str,
+    /// The path of the plane file.
+    pub file: &'a str,
+    /// The text of the CSV's schema.
+    pub schema: &'a str,
+}
+
+/// `info`: what is declared in a plane file.
+#[derive(Clone, Copy, Debug, PartialEq, Eq)]
+pub struct Info<'a> {
+    /// The path of the plane file.
+    pub file: &'a str,
+}
+
+/// `upgrade`: a plane file is written anew, in the newest version.
+#[derive(Clone, Copy, Debug, PartialEq, Eq)]
+pub struct Upgrade<'a> {
+    /// The path of the plane file that is read.
+    pub older: &'a str,
+    /// The path of the one that is written.
+    pub newer: &'a str,
+}
+
 /// `demo`: a query over a generated table.
 #[derive(Clone, Copy, Debug, PartialEq, Eq)]
 pub struct Demo<'a> {
@@ -65,6 +103,14 @@ pub struct Demo<'a> {
 pub enum Command<'a> {
     /// A query over a CSV.
     Ask(Ask<'a>),
+    /// A query over a plane file.
+    Query(Query<'a>),
+    /// A CSV is written as a plane file.
+    Load(Load<'a>),
+    /// What is declared in a plane file.
+    Info(Info<'a>),
+    /// A plane file is written anew.
+    Upgrade(Upgrade<'a>),
     /// A query over a generated table.
     Demo(Demo<'a>),
 }
@@ -85,6 +131,10 @@ impl<'a> Command<'a> {
         let mut reader = Reader::new(words);
         match reader.word()? {
             "ask" => Ok(Command::Ask(reader.ask()?)),
+            "query" => Ok(Command::Query(reader.query()?)),
+            "load" => Ok(Command::Load(reader.load()?)),
+            "info" => Ok(Command::Info(reader.info()?)),
+            "upgrade" => Ok(Command::Upgrade(reader.upgrade()?)),
             "demo" => Ok(Command::Demo(reader.demo()?)),
             _ => Err(Usage { place: 1 }),
         }

@@ -5,7 +5,9 @@ mod command;
 mod reader;
 mod words;
 
-pub use command::{Ask, Command, Demo, Options, ReadOrder, Usage, one_command};
+pub use command::{
+    Ask, Command, Demo, Info, Load, Options, Query, ReadOrder, Upgrade, Usage, one_command,
+};
 pub use words::Words;
 
 #[cfg(test)]

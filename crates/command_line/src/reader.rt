@@ -5,11 +5,11 @@ ghost use Rattle.std.specs.Char.{is_ascii_digit};
 ghost use Rattle.std.specs.List.{list_all};
 ghost use Rattle.std.specs.Option.{SomeIff};
 ghost use Rattle.std.specs.Str.Parse.{IsNumeral, digits_value};
-ghost use Rattle.command_line.specs.Commands.{ask, demo, nothing_given, options_given};
-ghost use Rattle.command_line.specs.Reading.{Adds, Fails, Lacks, LeadsTo, Names, Says, StopsAt, Takes, after_ask, after_demo, answers, flag_of, is_free, number, policy, policy_of};
-ghost use Rattle.command_line.specs.Values.{ask_of, demo_of, given_of, options_of, order_of};
+ghost use Rattle.command_line.specs.Commands.{ask, demo, info, load, nothing_given, options_given, query, upgrade};
+ghost use Rattle.command_line.specs.Reading.{Adds, Fails, HasMore, Lacks, LeadsTo, Names, Says, StopsAt, Takes, after_ask, after_demo, after_info, after_load, after_query, after_upgrade, answers, flag_of, is_free, number, policy, policy_of};
+ghost use Rattle.command_line.specs.Values.{ask_of, demo_of, given_of, info_of, load_of, options_of, order_of, query_of, upgrade_of};
 
-use crate::command::{Ask, Demo, Options, ReadOrder, Usage};
+use crate::command::{Ask, Demo, Info, Load, Options, Query, ReadOrder, Upgrade, Usage};
 use crate::words::Words;
 use std::marker::Model;
 
@@ -170,6 +170,18 @@ impl<'a> Reader<'a> {
         Ok(word)
     }
 
+    // No word.
+    fn end(&self) -> Result<(), Usage>
+        ensures ok { OnOk result (self.now.words ≡ []) }
+        ensures err { IfErr result (λ usage. HasMore self.now usage.place) }
+    {
+        if self.is_done() {
+            Ok(())
+        } else {
+            Err(self.refusal())
+        }
+    }
+
     // A number of at most the limit.
     fn number(&mut self, limit: u64) -> Result<u64, Usage>
         ensures ok { IfOk result (λ n. LeadsTo (number limit) self.old n self.new) }
@@ -251,6 +263,55 @@ impl<'a> Reader<'a> {
             sql: self.word()?,
             options: self.options()?,
         })
+    }
+
+    // What follows the word `query`.
+    pub(crate) fn query(&mut self) -> Result<Query<'a>, Usage>
+        ensures ok { IfOk result (λ q. answers after_query self.old ≡ Ok (query (query_of q))) }
+        ensures err { IfErr result (λ usage. answers after_query self.old ≡ Err usage.place) }
+    {
+        Ok(Query {
+            file: self.word()?,
+            sql: self.word()?,
+            options: self.options()?,
+        })
+    }
+
+    // What follows the word `load`.
+    pub(crate) fn load(&mut self) -> Result<Load<'a>, Usage>
+        ensures ok { IfOk result (λ l. answers after_load self.old ≡ Ok (load (load_of l))) }
+        ensures err { IfErr result (λ usage. answers after_load self.old ≡ Err usage.place) }
+    {
+        let load = Load {
+            csv: self.word()?,
+            file: self.word()?,
+            schema: self.word()?,
+        };
+        self.end()?;
+        Ok(load)
+    }
+
+    // What follows the word `info`.
+    pub(crate) fn info(&mut self) -> Result<Info<'a>, Usage>
+        ensures ok { IfOk result (λ i. answers after_info self.old ≡ Ok (info (info_of i))) }
+        ensures err { IfErr result (λ usage. answers after_info self.old ≡ Err usage.place) }
+    {
+        let info = Info { file: self.word()? };
+        self.end()?;
+        Ok(info)
+    }
+
+    // What follows the word `upgrade`.
+    pub(crate) fn upgrade(&mut self) -> Result<Upgrade<'a>, Usage>
+        ensures ok { IfOk result (λ u. answers after_upgrade self.old ≡ Ok (upgrade (upgrade_of u))) }
+        ensures err { IfErr result (λ usage. answers after_upgrade self.old ≡ Err usage.place) }
+    {
+        let upgrade = Upgrade {
+            older: self.word()?,
+            newer: self.word()?,
+        };
+        self.end()?;
+        Ok(upgrade)
     }
 
     // What follows the word `demo`.

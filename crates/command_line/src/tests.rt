@@ -14,7 +14,7 @@ fn words_of(alloc: Global, line: &str) -> Result<Words, AllocError> {
 }
 
 // Words that are no command, and the place where they go wrong.
-const WRONG: [(&str, usize); 22] = [
+const WRONG: [(&str, usize); 31] = [
     ("", 1),
     ("sum p.csv s q", 1),
     ("Ask p.csv s q", 1),
@@ -37,6 +37,15 @@ const WRONG: [(&str, usize); 22] = [
     ("demo 1 18446744073709551616 q", 3),
     ("demo 1 5", 4),
     ("demo 1 5 q --list p", 6),
+    ("query p.daq", 3),
+    ("query p.daq q more", 4),
+    ("query p.daq q --rounds 1 --rounds 2", 6),
+    ("load p.csv p.daq", 4),
+    ("load p.csv p.daq s --list", 5),
+    ("info", 2),
+    ("info p.daq --list", 3),
+    ("upgrade p.daq", 3),
+    ("upgrade p.daq q.daq r.daq", 4),
 ];
 
 #[test]
@@ -89,5 +98,46 @@ fn a_query_over_a_generated_table(rt: HostRuntime) -> Result<(), Fail> {
         options,
     };
     assert_eq!(rt; Command::parse(&words), Ok(Command::Demo(demo)));
+    Ok(())
+}
+
+#[test]
+fn commands_over_plane_files(rt: HostRuntime) -> Result<(), Fail> {
+    let options = Options {
+        width: 0,
+        rounds: Some(3),
+        order: ReadOrder::Widest,
+        list: false,
+    };
+    let commands = [
+        (
+            "query p.daq q --rounds 3",
+            Command::Query(Query {
+                file: "p.daq",
+                sql: "q",
+                options,
+            }),
+        ),
+        (
+            "load p.csv --list s",
+            Command::Load(Load {
+                csv: "p.csv",
+                file: "--list",
+                schema: "s",
+            }),
+        ),
+        ("info p.daq", Command::Info(Info { file: "p.daq" })),
+        (
+            "upgrade p.daq q.daq",
+            Command::Upgrade(Upgrade {
+                older: "p.daq",
+                newer: "q.daq",
+            }),
+        ),
+    ];
+    for (line, command) in commands {
+        let words = words_of(rt.alloc(), line)?;
+        assert_eq!(rt; Command::parse(&words), Ok(command));
+    }
     Ok(())
 }

@@ -4,10 +4,22 @@ ghost use Rattle.std.specs.Prelude.{None};
 
 use crate::faults::Faults;
 use outer_world::{Failed, Sink, Source, Store};
-use std::fs;
+use std::alloc::AllocError;
 use std::fs::File;
 use std::io::{Read, Write};
+use std::os::unix::fs::FileExt;
 use std::rt::{Stderr, Stdout};
+use std::{fs, io};
+
+/// Takes the places of those standard streams that are closed, as long as it is held: so no file that is opened later does,
+/// and a write to such a stream fails.
+pub fn hold_standard_places(rt: &HostRuntime) -> [io::Result<File>; 3] {
+    [
+        fs::open(rt, "/dev/null"),
+        fs::open(rt, "/dev/null"),
+        fs::open(rt, "/dev/null"),
+    ]
+}
 
 /// A file to read. Where it did not open, each call fails.
 #[derive(Drop)]
@@ -45,17 +57,28 @@ impl Source for FileSource {
     }
 }
 
-/// A file of planes. No command opens one yet, so each call fails.
+/// A file of planes. Where it did not open, each call fails.
 #[derive(Drop)]
 pub struct FileStore {
+    file: Option<File>,
     faults: Faults,
     ends: u64,
 }
 
 impl FileStore {
+    /// The file at a path.
+    pub fn open(rt: &HostRuntime, path: &str) -> FileStore {
+        FileStore {
+            file: fs::open(rt, path).ok(),
+            faults: Faults::none(),
+            ends: 0,
+        }
+    }
+
     /// No file.
     pub fn closed() -> FileStore {
         FileStore {
+            file: None,
             faults: Faults::none(),
             ends: 0,
         }
@@ -66,11 +89,23 @@ impl Store for FileStore {
     ghost state = { λ s. record { held = None; pieces = None; faults = s.faults.count; ends = s.ends } };
 
     fn size(&mut self) -> Result<u64, Failed> {
+        if let Some(file) = &self.file {
+            if let Ok(metadata) = file.metadata() {
+                return Ok(metadata.len());
+            }
+        }
         Err(self.faults.add())
     }
 
-    fn read_at(&mut self, _at: u64, _buf: &mut [u8]) -> Result<usize, Failed> {
-        Err(self.faults.add())
+    fn read_at(&mut self, at: u64, buf: &mut [u8]) -> Result<usize, Failed> {
+        let answer = match &self.file {
+            Some(file) => self.faults.after_read(file.read_at(buf, at)),
+            None => Err(self.faults.add()),
+        };
+        if answer == Ok(0) && !buf.is_empty() {
+            self.ends = self.ends.saturating_add(1);
+        }
+        answer
     }
 }
 
@@ -80,9 +115,23 @@ enum Target {
     Closed,
     Out(Stdout),
     Err(Stderr),
+    // The path of a file that is not made yet.
+    Named(HostRuntime, String),
+    File(File),
 }
 
-/// A stream to write. Where there is none, each call fails.
+impl Target {
+    // Makes the file, where it is not made yet.
+    fn open(&mut self) -> io::Result<()> {
+        if let Target::Named(rt, path) = self {
+            let file = fs::create(rt, path.as_str())?;
+            *self = Target::File(file);
+        }
+        Ok(())
+    }
+}
+
+/// A stream or a file to write. Where there is none, each call fails.
 #[derive(Drop)]
 pub struct FileSink {
     target: Target,
@@ -96,6 +145,14 @@ impl FileSink {
             target: Target::Closed,
             faults: Faults::none(),
         }
+    }
+
+    /// The file at a path, which is made or emptied at the first write.
+    pub fn named(rt: &HostRuntime, path: &str) -> Result<FileSink, AllocError> {
+        Ok(FileSink {
+            target: Target::Named(rt.clone()?, String::from_str(rt.alloc(), path)?),
+            faults: Faults::none(),
+        })
     }
 
     /// Standard output.
@@ -119,10 +176,14 @@ impl Sink for FileSink {
     ghost state = { λ s. record { written = None; faults = s.faults.count } };
 
     fn write(&mut self, piece: &[u8]) -> Result<usize, Failed> {
+        if self.target.open().is_err() {
+            return Err(self.faults.add());
+        }
         match &mut self.target {
             Target::Out(out) => self.faults.after_write(piece, out.write(piece)),
             Target::Err(err) => self.faults.after_write(piece, err.write(piece)),
-            Target::Closed => Err(self.faults.add()),
+            Target::File(file) => self.faults.after_write(piece, file.write(piece)),
+            Target::Closed | Target::Named(..) => Err(self.faults.add()),
         }
     }
 }
@@ -157,6 +218,16 @@ mod tests {
         assert_eq!(rt; store.size(), Err(Failed));
         assert_eq!(rt; store.read_at(0, &mut buf), Err(Failed));
         assert_eq!(rt; store.faults.count, 2);
+    }
+
+    #[test]
+    fn a_file_without_a_byte_has_none_at_its_end(rt: HostRuntime) {
+        let mut store = FileStore::open(&rt, "/dev/null");
+        let mut buf = [0u8; 4];
+        assert_eq!(rt; store.size(), Ok(0));
+        assert_eq!(rt; store.read_at(0, &mut buf), Ok(0));
+        assert_eq!(rt; store.faults.count, 0);
+        assert_eq!(rt; store.ends, 1);
     }
 
     #[test]

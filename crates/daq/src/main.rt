@@ -6,7 +6,7 @@ mod files;
 
 use command_line::{Command, Words};
 use daq_cli::{Status, World, code, run};
-use files::{FileSink, FileSource, FileStore};
+use files::{FileSink, FileSource, FileStore, hold_standard_places};
 use std::alloc::{AllocError, Global};
 use std::env;
 use std::process::ExitCode;
@@ -23,12 +23,34 @@ fn read_words(rt: &HostRuntime, alloc: Global) -> Result<Option<Words>, AllocErr
     Ok(Some(words))
 }
 
-// The file that the words name as input.
-fn open_input(rt: &HostRuntime, words: &Words) -> FileSource {
+// The devices that the words name, and the standard streams.
+fn world_of(
+    rt: &HostRuntime,
+    words: &Words,
+) -> Result<World<FileSource, FileStore, FileSink>, AllocError> {
+    let mut world = World {
+        input: FileSource::closed(),
+        side: FileSource::closed(),
+        planes: FileStore::closed(),
+        made: FileSink::closed(),
+        out: FileSink::out(rt),
+        err: FileSink::err(rt),
+    };
     match Command::parse(words) {
-        Ok(Command::Ask(ask)) => FileSource::open(rt, ask.csv),
-        Ok(Command::Demo(_)) | Err(_) => FileSource::closed(),
+        Ok(Command::Ask(ask)) => world.input = FileSource::open(rt, ask.csv),
+        Ok(Command::Load(load)) => {
+            world.input = FileSource::open(rt, load.csv);
+            world.made = FileSink::named(rt, load.file)?;
+        }
+        Ok(Command::Query(query)) => world.planes = FileStore::open(rt, query.file),
+        Ok(Command::Info(info)) => world.planes = FileStore::open(rt, info.file),
+        Ok(Command::Upgrade(upgrade)) => {
+            world.planes = FileStore::open(rt, upgrade.older);
+            world.made = FileSink::named(rt, upgrade.newer)?;
+        }
+        Ok(Command::Demo(_)) | Err(_) => {}
     }
+    Ok(world)
 }
 
 // Says why the program ends before its words are known.
@@ -45,13 +67,9 @@ fn main(rt: HostRuntime) -> ExitCode {
         Ok(None) => return give_up(&rt, "daq: usage: word 1", Status::Usage),
         Err(_) => return give_up(&rt, "daq: no memory", Status::NoMemory),
     };
-    let mut world = World {
-        input: open_input(&rt, &words),
-        side: FileSource::closed(),
-        planes: FileStore::closed(),
-        made: FileSink::closed(),
-        out: FileSink::out(&rt),
-        err: FileSink::err(&rt),
-    };
-    ExitCode::from(code(run(rt.alloc(), &words, &mut world)))
+    let _held = hold_standard_places(&rt);
+    match world_of(&rt, &words) {
+        Ok(mut world) => ExitCode::from(code(run(rt.alloc(), &words, &mut world))),
+        Err(_) => give_up(&rt, "daq: no memory", Status::NoMemory),
+    }
 }

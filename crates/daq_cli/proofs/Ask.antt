@@ -3,9 +3,10 @@ use Rattle.std.proofs.Common.{◌≡◌, ℕ, ◌≤◌, List, ◌++◌, length,
 use Rattle.std.specs.Io.KnownBytes.{Consumes, IsAtEnd}
 use Rattle.command_line.specs.Commands.{Ask}
 use Rattle.outer_world.specs.Device.{Rose, SourceState, SinkState}
+use Rattle.daq_cli.specs.Inputs.{StopsAtInput}
 use Rattle.daq_cli.specs.Questions.{Question, Reports}
 use Rattle.daq_cli.specs.Worlds.{Extent}
-use Rattle.daq_cli.specs.commands.Ask.{AskAccepts, AskCause, AskShows, Asks, StopsAtInput, ask_step, words_step, at_words, at_input, read_fault, write_fault, no_memory}
+use Rattle.daq_cli.specs.commands.Ask.{AskAccepts, AskCause, AskShows, Asks, ask_step, words_step, at_words, at_input, read_fault, write_fault, no_memory}
 use Rattle.daq_cli.specs.declared.refusal.Refusal.{Refusal}
 use Rattle.daq_cli.specs.declared.refusal.Refusal.TheVariants.{NoMemory, WriteFault}
 use Rattle.daq_cli.specs.Laws.{StepsAreExact}
@@ -19,7 +20,7 @@ all_bytes (Some xs) (Some ys) bytes read e c end =
     let told : xs ≡ bytes = cc in
     sym (sym told ∙ c ∙ ap (λ l. read ++ l) end ∙ append-nil read)
 
-few_bytes : (left left' : Option (List ℕ)) (bytes read : List ℕ) → left ≡ Some bytes → Consumes left left' read → length read ≤ length bytes
+pub few_bytes : (left left' : Option (List ℕ)) (bytes read : List ℕ) → left ≡ Some bytes → Consumes left left' read → length read ≤ length bytes
 few_bytes None left' bytes read e c = absurd cc
 few_bytes (Some xs) None bytes read e c = absurd c
 few_bytes (Some xs) (Some ys) bytes read e c =
@@ -38,7 +39,7 @@ words_anyway ask bytes why (inl p) = inl p
 words_anyway ask bytes why (inr (query, is, p)) = inr (query, is, inl p)
 
 -- what is shown by the part that was read is shown by all that the input told
-told_too : (ask : Ask) (input input' : SourceState) (bytes : List ℕ) (why : Refusal) → input.left ≡ Some bytes → StopsAtInput ask input input' why → (ask_step ask bytes).shows why
+told_too : (ask : Ask) (input input' : SourceState) (bytes : List ℕ) (why : Refusal) → input.left ≡ Some bytes → StopsAtInput (ask_step ask) input input' why → (ask_step ask bytes).shows why
 told_too ask input input' bytes why told stop = by stop.shown
   where
     by : (ask_step ask stop.bytes).shows why → (ask_step ask bytes).shows why

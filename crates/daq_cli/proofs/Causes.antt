@@ -16,8 +16,8 @@ use Rattle.daq_table.specs.Tables.{Contents}
 use Rattle.table_gen.specs.declared.fault.GenFault.{GenFault}
 use Rattle.table_gen.specs.declared.fault.GenFault.TheVariants as g
 use Rattle.daq_cli.specs.Faults as of
+use Rattle.daq_cli.specs.Inputs.{ShowsSchema, ShowsTable, limits, most_bytes}
 use Rattle.daq_cli.specs.Questions.{ShowsText}
-use Rattle.daq_cli.specs.commands.Ask.{ShowsSchema, ShowsTable, limits, most_bytes}
 use Rattle.daq_cli.specs.commands.Demo.{ShowsRows, most_rows}
 use Rattle.daq_cli.specs.declared.refusal.Refusal.{Refusal}
 use Rattle.daq_cli.specs.declared.refusal.Refusal.TheVariants.{NoMemory}

@@ -1,15 +1,19 @@
--- Each step of an `ask` and of a `demo` accepts something or shows a refusal.
-use Rattle.std.proofs.Common.{◌≡◌, ◌≢◌, ℕ, ◌≤◌, List, Ok, Err, Result, length, refl, inl, inr, ◌⊎◌, ◌∙◌, lit≤, sym}
+-- Each step of a command accepts something or shows a refusal.
+use Rattle.std.proofs.Common.{◌≡◌, ◌≢◌, ℕ, ◌≤◌, List, Ok, Err, Result, length, refl, inl, inr, ◌⊎◌, ◌∙◌, lit≤, subst, sym}
 use Rattle.std.proofs.lemmas.Bool.{cases_lt}
 use Rattle.command_line.specs.Commands.{Options, ReadOrder, widest, in_order, filter_first, reads}
+use Rattle.command_line.specs.Commands as line
 use Rattle.csv_load.specs.Laws as table_laws
 use Rattle.daq_table.specs.SchemaFaults as schemas
 use Rattle.daq_table.specs.SchemaLaws as schema_laws
 use Rattle.daq_table.specs.Schemas.{Declares}
 use Rattle.daq_table.specs.Tables.{Contents}
+use Rattle.daq_table.specs.declared.table_head.Head.{Head}
 use Rattle.daq_table.specs.declared.schema_column.SchemaColumn.{SchemaColumn}
 use Rattle.daq_table.specs.declared.schema_fault.SchemaFault.{SchemaFault}
 use Rattle.daq_table.specs.declared.schema_fault.SchemaFault.TheVariants as s
+use Rattle.plane_file.specs.Bytes.{AreBytes}
+use Rattle.plane_file.specs.Laws as file_laws
 use Rattle.plane_reads.specs.Reads as reads_laws
 use Rattle.plane_reads.specs.Reads.{IsAnswer}
 use Rattle.plane_reads.specs.declared.fault.ReadsFault.{ReadsFault}
@@ -31,12 +35,17 @@ use Rattle.sql_typing.specs.declared.fault.TypeFault.{TypeFault}
 use Rattle.sql_typing.specs.declared.fault.TypeFault.TheVariants as y
 use Rattle.table_gen.specs.Laws as seed_laws
 use Rattle.table_gen.specs.TableOf.{IsTableOfSeed}
+use Rattle.daq_cli.specs.Inputs.{input_step, limits, most_bytes, schema_step, table_step}
 use Rattle.daq_cli.specs.Laws.{StepsAreComplete}
-use Rattle.daq_cli.specs.Questions.{IsPolicyOf, RefusesOrder, question_of, question_step, sql_step}
+use Rattle.daq_cli.specs.Questions.{IsAnswerable, IsPolicyOf, RefusesOrder, ShowsQuestion, asked_with, question_of, question_step, sql_step}
 use Rattle.daq_cli.specs.Steps.{IsComplete, Step, then}
-use Rattle.daq_cli.specs.commands.Ask.{limits, most_bytes, schema_step, table_step}
 use Rattle.daq_cli.specs.commands.Demo.{generator_step, most_rows}
+use Rattle.daq_cli.specs.commands.Query.{head_step, query_step, report_step}
+use Rattle.daq_cli.specs.declared.refusal.Refusal.{Refusal}
 use Rattle.daq_cli.specs.declared.refusal.Refusal.TheVariants.{NotBuilt, Query, Reads, Schema, Table, TooLong, TooManyRows, Typing}
+use Rattle.daq_cli.proofs.FileRounds.{GoOn, rounds_complete}
+use Rattle.daq_cli.proofs.Files.{file_complete}
+use Rattle.daq_cli.proofs.Upgrade.{upgrade_complete}
 
 -- a step and the one that follows it
 then_complete : {A B : Type 0} (first : Step A) (second : A → Step B) → IsComplete first → ((a : A) → first.accepts a → IsComplete (second a)) → IsComplete (then first second)
@@ -56,6 +65,9 @@ pub record Laws : Type 0 where
   pub typings : typing_laws.HasTyping
   pub valid : typing_laws.IsTypedValid
   pub reads : reads_laws.WordsHaveAnswers
+  pub heads : file_laws.HasHead
+  pub files : file_laws.HaveTables
+  pub rounds : GoOn
 
 module _ (law : Laws) where
   sql_complete : (text : List ℕ) → IsComplete (sql_step text)
@@ -82,6 +94,9 @@ module _ (law : Laws) where
       by small (inl (table, is)) = inl (table, record { small = small; is_table = is })
       by small (inr (fault, shown, faulty)) = inr (Table fault, inr (record { small = small; fault = fault; shown = shown; is = refl; faulty = faulty }))
 
+  input_complete : (schema bytes : List ℕ) → IsComplete (input_step schema bytes)
+  input_complete schema bytes = then_complete _ _ (schema_complete schema) (λ columns declared. table_complete schema columns bytes declared)
+
   generator_complete : (seed rows : ℕ) → IsComplete (generator_step seed rows)
   generator_complete seed rows = elim (cases_lt most_rows rows) [
     | inl many ↦ inr (TooManyRows, record { many = many; is = refl })
@@ -91,51 +106,74 @@ module _ (law : Laws) where
       by : rows ≤ most_rows → ((table : Contents) × IsTableOfSeed seed rows table) → IsComplete (generator_step seed rows)
       by few (table, is) = inl (table, record { few = few; is_table = is })
 
-  module _ (query : sql.Query) (options : Options) (table : Contents) (typed : TypedQuery) (is_typed : IsTyped query table.head typed) where
+  module _ (query : sql.Query) (options : Options) (head : Head) (typed : TypedQuery) (is_typed : IsTyped query head typed) where
     -- the order is a policy, or a list that is refused
     abbrev Ordered : ReadOrder → Type 0
-    Ordered order = ((policy : Policy) × IsPolicyOf order typed table.head policy) ⊎ ((fault : ReadsFault) × (fault ≢ r.NoMemory) × RefusesOrder order typed table.head fault)
+    Ordered order = ((policy : Policy) × IsPolicyOf order typed head policy) ⊎ ((fault : ReadsFault) × (fault ≢ r.NoMemory) × RefusesOrder order typed head fault)
 
     ordered : (order : ReadOrder) → Ordered order
     ordered widest = inl (p.Widest, refl)
     ordered in_order = inl (p.InOrder, refl)
     ordered filter_first = inl (p.FilterFirst, refl)
-    ordered (reads names) = by (law.reads names typed table.head (law.valid query table.head typed is_typed))
+    ordered (reads names) = by (law.reads names typed head (law.valid query head typed is_typed))
       where
-        by : (answer : Result (List ℕ) ReadsFault) × IsAnswer names typed table.head answer → Ordered (reads names)
+        by : (answer : Result (List ℕ) ReadsFault) × IsAnswer names typed head answer → Ordered (reads names)
         by (Ok list, all) = inl (p.Listed list, (list, refl, all))
         by (Err (r.UnknownName place), faulty) = inr (r.UnknownName place, (λ e. cc), record { names = names; listed = refl; faulty = faulty })
         by (Err (r.PastEnd place), faulty) = inr (r.PastEnd place, (λ e. cc), record { names = names; listed = refl; faulty = faulty })
         by (Err r.NoMemory, faulty) = absurd faulty
 
-    planned : typed.shape ≡ Plain → IsComplete (question_step query options table)
+    -- the question may be answered, or is refused
+    abbrev Judged : Type 0
+    Judged = IsAnswerable (asked_with query options head) ⊎ ((why : Refusal) × ShowsQuestion (asked_with query options head) why)
+
+    planned : typed.shape ≡ Plain → Judged
     planned plain = by (ordered options.order)
       where
-        by : Ordered options.order → IsComplete (question_step query options table)
-        by (inl (policy, is)) = inl (
-          question_of query options table,
-          (
-            refl,
-            record {
-              typed = typed;
-              plan = record { policy = policy; width = options.width; most = options.rounds };
-              planned = record { is_typed = is_typed; plain = plain; planned = record { policy = is; width = refl; most = refl } };
-            },
-          ),
-        )
+        by : Ordered options.order → Judged
+        by (inl (policy, is)) = inl (record {
+          typed = typed;
+          plan = record { policy = policy; width = options.width; most = options.rounds };
+          planned = record { is_typed = is_typed; plain = plain; planned = record { policy = is; width = refl; most = refl } };
+        })
         by (inr (fault, shown, faulty)) = inr (Reads fault, inr (inr (record { typed = typed; is_typed = is_typed; plain = plain; fault = fault; shown = shown; is = refl; faulty = faulty })))
 
-    shaped : (shape : Shape) → typed.shape ≡ shape → IsComplete (question_step query options table)
+    shaped : (shape : Shape) → typed.shape ≡ shape → Judged
     shaped Plain e = planned e
     shaped (Grouped columns) e = inr (NotBuilt, inr (inl (record { typed = typed; is_typed = is_typed; other = λ plain. let both = sym e ∙ plain in cc; is = refl })))
     shaped (Top key down limit) e = inr (NotBuilt, inr (inl (record { typed = typed; is_typed = is_typed; other = λ plain. let both = sym e ∙ plain in cc; is = refl })))
 
-  question_complete : (query : sql.Query) (options : Options) (table : Contents) → IsComplete (question_step query options table)
-  question_complete query options table = by (law.typings query table.head)
+  judged : (query : sql.Query) (options : Options) (head : Head) → IsAnswerable (asked_with query options head) ⊎ ((why : Refusal) × ShowsQuestion (asked_with query options head) why)
+  judged query options head = by (law.typings query head)
     where
-      by : ((typed : TypedQuery) × IsTyped query table.head typed) ⊎ ((fault : TypeFault) × (fault ≢ y.NoMemory) × typing.Refuses query table.head fault) → IsComplete (question_step query options table)
-      by (inl (typed, is)) = shaped query options table typed is typed.shape refl
+      by : ((typed : TypedQuery) × IsTyped query head typed) ⊎ ((fault : TypeFault) × (fault ≢ y.NoMemory) × typing.Refuses query head fault) →
+          IsAnswerable (asked_with query options head) ⊎ ((why : Refusal) × ShowsQuestion (asked_with query options head) why)
+      by (inl (typed, is)) = shaped query options head typed is typed.shape refl
       by (inr (fault, shown, faulty)) = inr (Typing fault, inl (record { fault = fault; shown = shown; is = refl; faulty = faulty }))
+
+  question_complete : (query : sql.Query) (options : Options) (table : Contents) → IsComplete (question_step query options table)
+  question_complete query options table = by (judged query options table.head)
+    where
+      by : IsAnswerable (asked_with query options table.head) ⊎ ((why : Refusal) × ShowsQuestion (asked_with query options table.head) why) → IsComplete (question_step query options table)
+      by (inl answerable) = inl (question_of query options table, (refl, answerable))
+      by (inr shown) = inr shown
+
+  head_complete : (query : sql.Query) (options : Options) (head : Head) → IsComplete (head_step query options head)
+  head_complete query options head = by (judged query options head)
+    where
+      by : IsAnswerable (asked_with query options head) ⊎ ((why : Refusal) × ShowsQuestion (asked_with query options head) why) → IsComplete (head_step query options head)
+      by (inl answerable) = inl (asked_with query options head, (refl, answerable))
+      by (inr shown) = inr shown
+
+  query_complete : (query : line.Query) (bytes : List ℕ) → AreBytes bytes → IsComplete (query_step query bytes)
+  query_complete query bytes are =
+      then_complete _ _ (sql_complete query.sql) (λ tree _.
+      then_complete _ _ (file_complete law.heads bytes are) (λ file _. head_complete tree query.options file.head))
+
+  report_complete : (query : line.Query) (bytes : List ℕ) → AreBytes bytes → IsComplete (report_step query bytes)
+  report_complete query bytes are =
+      then_complete _ _ (query_complete query bytes are) (λ asked (tree, is_text, (file, is_head, (same, answerable))).
+      rounds_complete law.rounds asked bytes (subst IsAnswerable (sym same) answerable))
 
   pub steps_complete : StepsAreComplete
   steps_complete = record {
@@ -147,4 +185,11 @@ module _ (law : Laws) where
     demo = λ demo.
         then_complete _ _ (sql_complete demo.sql) (λ query _.
         then_complete _ _ (generator_complete demo.seed demo.rows) (λ table _. question_complete query demo.options table));
+    schema = λ load. schema_complete load.schema;
+    load = λ load bytes. input_complete load.schema bytes;
+    file = file_complete law.heads;
+    sql = sql_complete;
+    query = query_complete;
+    report = report_complete;
+    upgrade = upgrade_complete law.files;
   }

@@ -1,15 +1,18 @@
 -- Each step of a command is exact: it accepts one value at most or shows one refusal at most, and never does both.
 use Rattle.std.proofs.Common.{◌≡◌, ◌≢◌, ℕ, ◌<◌, List, length, Ok, Err, refl, sym, ap, ◌∙◌, subst, arith, inl, inr, ◌⊎◌}
-use Rattle.command_line.specs.Commands.{Ask, Demo, Options, reads}
+use Rattle.command_line.specs.Commands.{Ask, Demo, Load, Options, reads}
+use Rattle.command_line.specs.Commands as line
 use Rattle.csv_load.specs.Laws as table_laws
 use Rattle.daq_table.specs.SchemaLaws as schema_laws
 use Rattle.daq_table.specs.Tables.{Contents}
 use Rattle.daq_table.specs.declared.table_head.Head.{Head}
 use Rattle.daq_table.specs.declared.schema_column.SchemaColumn.{SchemaColumn}
+use Rattle.plane_file.specs.Laws as file_laws
 use Rattle.plane_reads.specs.Reads as reads_laws
 use Rattle.plane_reads.specs.Reads.{IsAnswer}
 use Rattle.plane_reads.specs.declared.fault.ReadsFault.{ReadsFault}
 use Rattle.plane_reads.specs.declared.fault.ReadsFault.TheVariants as r
+use Rattle.plane_schedule.specs.Laws.{ChoicesAreOne}
 use Rattle.plane_schedule.specs.declared.policy.Policy.{Policy}
 use Rattle.query_model.specs.declared.query.TypedQuery.{TypedQuery}
 use Rattle.sql_text.specs.Answer.{Breaks, IsFault, IsText, fault_of}
@@ -21,14 +24,20 @@ use Rattle.sql_text.specs.declared.fault.SqlFault.TheVariants as q
 use Rattle.sql_typing.specs.Laws as typing_laws
 use Rattle.sql_typing.specs.Refusals.{IsTyped}
 use Rattle.table_gen.specs.Laws as seed_laws
-use Rattle.daq_cli.specs.Questions.{IsAnswerable, IsPolicyOf, Question, RefusesOrder, ShowsQuestion, question_of, question_step, sql_step}
+use Rattle.daq_cli.specs.Inputs.{IsTableText, limits, schema_step, table_step}
+use Rattle.daq_cli.specs.Questions.{Asked, IsAnswerable, IsPolicyOf, RefusesOrder, ShowsQuestion, asked_with, question_step, sql_step}
 use Rattle.daq_cli.specs.Laws.{StepsAreExact}
 use Rattle.daq_cli.specs.Steps.{IsExact}
-use Rattle.daq_cli.specs.commands.Ask.{IsTableText, ask_step, limits, schema_step, table_step, words_step}
+use Rattle.daq_cli.specs.commands.Ask.{ask_step, words_step}
 use Rattle.daq_cli.specs.commands.Demo.{demo_step, generator_step}
+use Rattle.daq_cli.specs.commands.Load.{load_step}
+use Rattle.daq_cli.specs.commands.Query.{head_step, query_step, report_step}
 use Rattle.daq_cli.specs.declared.refusal.Refusal.{Refusal}
 use Rattle.daq_cli.specs.declared.refusal.Refusal.TheVariants.{Query, Schema, Table, Typing, Reads}
+use Rattle.daq_cli.proofs.FileRounds.{rounds_exact}
+use Rattle.daq_cli.proofs.Files.{file_exact}
 use Rattle.daq_cli.proofs.Steps.{then_exact}
+use Rattle.daq_cli.proofs.Upgrade.{upgrade_exact}
 
 -- what is known of each step from the crate that carries it out
 pub record Laws : Type 0 where
@@ -47,6 +56,12 @@ pub record Laws : Type 0 where
   pub good_typings : typing_laws.IsFaultless
   pub seeds : seed_laws.StandsOnce
   pub reads : reads_laws.AnswersAreOne
+  pub faultless : file_laws.AreFaultless
+  pub heads : file_laws.HaveOneHead
+  pub files : file_laws.TablesAreOne
+  pub file_faults : file_laws.ShowOneFault
+  pub good_files : file_laws.FilesShowNoFault
+  pub choices : ChoicesAreOne
 
 -- ---- the SQL
 
@@ -133,55 +148,55 @@ fault_answers word query head r.NoMemory shown faulty = absurd (shown refl)
 injected : {a b : List ℕ} → reads a ≡ reads b → a ≡ b
 injected e = cc
 
-module _ (law : Laws) (query : sql.Query) (options : Options) (table : Contents) where
-  abbrev asked : Question
-  asked = question_of query options table
+module _ (law : Laws) (query : sql.Query) (options : Options) (head : Head) where
+  abbrev asked : Asked
+  asked = asked_with query options head
 
   -- the list of its reads is refused once
-  same_reads : (typed : TypedQuery) (a b : ReadsFault) → IsTyped query table.head typed → a ≢ r.NoMemory → b ≢ r.NoMemory →
-      RefusesOrder options.order typed table.head a → RefusesOrder options.order typed table.head b → a ≡ b
+  same_reads : (typed : TypedQuery) (a b : ReadsFault) → IsTyped query head typed → a ≢ r.NoMemory → b ≢ r.NoMemory →
+      RefusesOrder options.order typed head a → RefusesOrder options.order typed head b → a ≡ b
   same_reads typed a b is a_shown b_shown f g =
       let names : g.names ≡ f.names = injected (sym g.listed ∙ f.listed) in
-      let second = subst (λ w. IsAnswer w typed table.head (Err b)) names (fault_answers g.names typed table.head b b_shown g.faulty) in
-      let both = law.reads f.names typed table.head (Err a) (Err b) (law.valid query table.head typed is) (fault_answers f.names typed table.head a a_shown f.faulty) second in
+      let second = subst (λ w. IsAnswer w typed head (Err b)) names (fault_answers g.names typed head b b_shown g.faulty) in
+      let both = law.reads f.names typed head (Err a) (Err b) (law.valid query head typed is) (fault_answers f.names typed head a a_shown f.faulty) second in
       cc
 
   -- and not where a policy is made of it
-  no_reads : (typed : TypedQuery) (a : ReadsFault) (policy : Policy) → IsTyped query table.head typed → a ≢ r.NoMemory →
-      RefusesOrder options.order typed table.head a → IsPolicyOf options.order typed table.head policy → ⊥
+  no_reads : (typed : TypedQuery) (a : ReadsFault) (policy : Policy) → IsTyped query head typed → a ≢ r.NoMemory →
+      RefusesOrder options.order typed head a → IsPolicyOf options.order typed head policy → ⊥
   no_reads typed a policy is shown f chosen =
-      let listed : IsPolicyOf (reads f.names) typed table.head policy = subst (λ o. IsPolicyOf o typed table.head policy) f.listed chosen in
+      let listed : IsPolicyOf (reads f.names) typed head policy = subst (λ o. IsPolicyOf o typed head policy) f.listed chosen in
       let (list, policy_is, all) = listed in
-      let both = law.reads f.names typed table.head (Err a) (Ok list) (law.valid query table.head typed is) (fault_answers f.names typed table.head a shown f.faulty) all in
+      let both = law.reads f.names typed head (Err a) (Ok list) (law.valid query head typed is) (fault_answers f.names typed head a shown f.faulty) all in
       absurd cc
 
-  same_shape : (one other : TypedQuery) → IsTyped query table.head one → IsTyped query table.head other → one.shape ≡ other.shape
-  same_shape one other p r = ap (λ (t : TypedQuery). t.shape) (law.typings query table.head one other p r)
+  same_shape : (one other : TypedQuery) → IsTyped query head one → IsTyped query head other → one.shape ≡ other.shape
+  same_shape one other p r = ap (λ (t : TypedQuery). t.shape) (law.typings query head one other p r)
 
-  question_same : (x y : Refusal) → ShowsQuestion asked x → ShowsQuestion asked y → x ≡ y
-  question_same x y (inl p) (inl r) = p.is ∙ ap Typing (law.type_faults query table.head p.fault r.fault p.shown r.shown p.faulty r.faulty) ∙ sym r.is
-  question_same x y (inl p) (inr (inl r)) = absurd (law.good_typings query table.head p.fault r.typed p.shown r.is_typed p.faulty)
-  question_same x y (inl p) (inr (inr r)) = absurd (law.good_typings query table.head p.fault r.typed p.shown r.is_typed p.faulty)
-  question_same x y (inr (inl p)) (inl r) = absurd (law.good_typings query table.head r.fault p.typed r.shown p.is_typed r.faulty)
+  pub question_same : (x y : Refusal) → ShowsQuestion asked x → ShowsQuestion asked y → x ≡ y
+  question_same x y (inl p) (inl r) = p.is ∙ ap Typing (law.type_faults query head p.fault r.fault p.shown r.shown p.faulty r.faulty) ∙ sym r.is
+  question_same x y (inl p) (inr (inl r)) = absurd (law.good_typings query head p.fault r.typed p.shown r.is_typed p.faulty)
+  question_same x y (inl p) (inr (inr r)) = absurd (law.good_typings query head p.fault r.typed p.shown r.is_typed p.faulty)
+  question_same x y (inr (inl p)) (inl r) = absurd (law.good_typings query head r.fault p.typed r.shown p.is_typed r.faulty)
   question_same x y (inr (inl p)) (inr (inl r)) = p.is ∙ sym r.is
   question_same x y (inr (inl p)) (inr (inr r)) = absurd (p.other (same_shape p.typed r.typed p.is_typed r.is_typed ∙ r.plain))
-  question_same x y (inr (inr p)) (inl r) = absurd (law.good_typings query table.head r.fault p.typed r.shown p.is_typed r.faulty)
+  question_same x y (inr (inr p)) (inl r) = absurd (law.good_typings query head r.fault p.typed r.shown p.is_typed r.faulty)
   question_same x y (inr (inr p)) (inr (inl r)) = absurd (r.other (same_shape r.typed p.typed r.is_typed p.is_typed ∙ p.plain))
   question_same x y (inr (inr p)) (inr (inr r)) = p.is ∙ ap Reads (same_reads p.typed p.fault r.fault p.is_typed p.shown r.shown p.faulty
-      (subst (λ (t : TypedQuery). RefusesOrder options.order t table.head r.fault) (law.typings query table.head r.typed p.typed r.is_typed p.is_typed) r.faulty)) ∙ sym r.is
+      (subst (λ (t : TypedQuery). RefusesOrder options.order t head r.fault) (law.typings query head r.typed p.typed r.is_typed p.is_typed) r.faulty)) ∙ sym r.is
 
-  question_apart : (y : Refusal) → IsAnswerable asked → ShowsQuestion asked y → ⊥
-  question_apart y a (inl r) = law.good_typings query table.head r.fault a.typed r.shown a.planned.is_typed r.faulty
+  pub question_apart : (y : Refusal) → IsAnswerable asked → ShowsQuestion asked y → ⊥
+  question_apart y a (inl r) = law.good_typings query head r.fault a.typed r.shown a.planned.is_typed r.faulty
   question_apart y a (inr (inl r)) = r.other (same_shape r.typed a.typed r.is_typed a.planned.is_typed ∙ a.planned.plain)
   question_apart y a (inr (inr r)) = no_reads a.typed r.fault a.plan.policy a.planned.is_typed r.shown
-      (subst (λ (t : TypedQuery). RefusesOrder options.order t table.head r.fault) (law.typings query table.head r.typed a.typed r.is_typed a.planned.is_typed) r.faulty) a.planned.planned.policy
+      (subst (λ (t : TypedQuery). RefusesOrder options.order t head r.fault) (law.typings query head r.typed a.typed r.is_typed a.planned.is_typed) r.faulty) a.planned.planned.policy
 
-  pub question_exact : IsExact (question_step query options table)
-  question_exact = record {
-    once = λ a b p r. p.0 ∙ sym r.0;
-    same = question_same;
-    apart = λ a y p r. question_apart y p.1 r;
-  }
+pub question_exact : (law : Laws) (query : sql.Query) (options : Options) (table : Contents) → IsExact (question_step query options table)
+question_exact law query options table = record {
+  once = λ a b p r. p.0 ∙ sym r.0;
+  same = question_same law query options table.head;
+  apart = λ a y p r. question_apart law query options table.head y p.1 r;
+}
 
 -- ---- the commands
 
@@ -199,5 +214,36 @@ demo_exact law demo =
     then_exact _ _ (sql_exact law demo.sql) (λ query.
     then_exact _ _ (generator_exact law demo.seed demo.rows) (λ table. question_exact law query demo.options table))
 
+load_exact : Laws → (load : Load) (bytes : List ℕ) → IsExact (load_step load bytes)
+load_exact law load bytes = then_exact _ _ (schema_exact law load.schema) (λ columns. table_exact law columns bytes)
+
+head_exact : Laws → (query : sql.Query) (options : Options) (head : Head) → IsExact (head_step query options head)
+head_exact law query options head = record {
+  once = λ a b p r. p.0 ∙ sym r.0;
+  same = question_same law query options head;
+  apart = λ a y p r. question_apart law query options head y p.1 r;
+}
+
+query_exact : Laws → (query : line.Query) (bytes : List ℕ) → IsExact (query_step query bytes)
+query_exact law query bytes =
+    then_exact _ _ (sql_exact law query.sql) (λ tree.
+    then_exact _ _ (file_exact law.faultless law.heads bytes) (λ file. head_exact law tree query.options file.head))
+
+report_exact : Laws → (query : line.Query) (bytes : List ℕ) → IsExact (report_step query bytes)
+report_exact law query bytes =
+    then_exact _ _ (query_exact law query bytes) (λ asked.
+    rounds_exact (record { typings = law.typings; valid = law.valid; lists = law.reads; choices = law.choices }) asked bytes)
+
 pub steps_exact : Laws → StepsAreExact
-steps_exact law = record { words = words_exact law; ask = ask_exact law; demo = demo_exact law }
+steps_exact law = record {
+  words = words_exact law;
+  ask = ask_exact law;
+  demo = demo_exact law;
+  schema = λ load. schema_exact law load.schema;
+  load = load_exact law;
+  file = file_exact law.faultless law.heads;
+  sql = sql_exact law;
+  query = query_exact law;
+  upgrade = upgrade_exact law.files law.file_faults law.good_files;
+  report = report_exact law;
+}

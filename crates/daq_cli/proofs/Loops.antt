@@ -1,16 +1,17 @@
 -- What is told of a source's planes, and what a line before the rounds adds.
-use Rattle.std.proofs.Common.{ℕ, List, [], ◌∷◌, length, refl, Option, Some, None, Ok, Err, Result, IfSome}
+use Rattle.std.proofs.Common.{ℕ, ◌≤◌, arith, List, [], ◌∷◌, length, refl, Option, Some, None, Ok, Err, Result, IfSome}
 use Rattle.std.proofs.KnownBytes.{Appends-nil}
 use Rattle.daq_table.specs.Tables.{frame_of}
 use Rattle.daq_table.specs.declared.table_head.Head.{Head}
 use Rattle.outer_world.proofs.Writes.{writes_both, writes_cut}
-use Rattle.outer_world.specs.Device.{SinkState}
+use Rattle.outer_world.specs.Device.{Rose, SinkState}
 use Rattle.outer_world.specs.Whole.{Writes}
 use Rattle.plane_schedule.specs.declared.policy.Plan.{Plan}
 use Rattle.query_model.specs.declared.query.TypedQuery.{TypedQuery}
+use Rattle.table_rounds.proofs.EachRead.{each_of_none}
 use Rattle.table_rounds.specs.Rounds.{AreRounds, Planes}
-use Rattle.table_rounds.specs.Sources.{Places}
-use Rattle.daq_cli.specs.Report.{EndsRounds, Fails, FailsInLast, blocks_below, rounds_text}
+use Rattle.table_rounds.specs.Sources.{OfPlanes, Places}
+use Rattle.daq_cli.specs.Report.{CausesAfter, EndsRounds, Fails, FailsInLast, HasStopCause, blocks_below, rounds_text}
 use Rattle.daq_cli.specs.Worlds.{partly, whole}
 use Rattle.daq_cli.specs.declared.stop.Stop.TheVariants.{Failed, Step}
 use Rattle.daq_cli.specs.declared.stop.Stop.{Stop}
@@ -37,22 +38,33 @@ as_whole x old new piece p = record { done = p.done; part = tt; cause = record {
 pub as_partly : {T E : Type 0} (e : E) (old new : SinkState) (piece : List ℕ) → Writes {T = T} (Err e) old new piece → Writes partly old new piece
 as_partly e old new piece p = record { done = tt; part = p.part; cause = record { later = p.cause.later; failed = p.cause.failed } }
 
+-- a count that rose later on rose
+pub rose_later : (first mid last : ℕ) → first ≤ mid → Rose mid last → Rose first last
+rose_later first mid last before rose = omega (arith, before, rose)
+
+-- so did that of a report that stopped, where something was written before
+pub cause_after : {E : Type 0} (causes : CausesAfter E) (result : Result (Unit {0}) (Stop E)) (old mid new : SinkState) → old.faults ≤ mid.faults → HasStopCause causes result mid new →
+    HasStopCause causes result old new
+cause_after causes (Ok done) old mid new before cause = tt
+cause_after causes (Err Failed) old mid new before cause = rose_later old.faults mid.faults new.faults before cause
+cause_after causes (Err (Step fault)) old mid new before cause = cause
+
 -- ---- a line before the rounds
 
-module _ (line : List ℕ) (head : Head) (plan : Plan) (query : TypedQuery) (bits : Planes) (places : Places) where
+module _ (line : List ℕ) (head : Head) (plan : Plan) (query : TypedQuery) (bits : Planes) (places : Places) (shows : OfPlanes) where
   fails_after : (reads : List ℕ) (old mid new : SinkState) → Writes whole old mid line → FailsInLast [] head plan query bits reads mid new → FailsInLast line head plan query bits reads old new
   fails_after [] old mid new first fails = writes_both tt partly old mid new line (rounds_text head plan query bits []) first fails
   fails_after (c ∷ reads) old mid new first (next, begun, last) = (next, writes_both tt whole old mid next line (blocks_below head query bits (c ∷ reads) (length (c ∷ reads))) first begun, last)
 
   -- a line that was written whole stands before what became of the rounds
-  pub after_line : {E : Type 0} (result : Result (Unit {0}) (Stop E)) (old mid new : SinkState) (from to : Option (List ℕ)) → Writes whole old mid line →
-      EndsRounds [] head plan query bits places result mid new from to → EndsRounds line head plan query bits places result old new from to
-  after_line (Ok done) old mid new from to first rest = record { reads = rest.reads; rounds = rest.rounds; written = writes_both tt whole old mid new line _ first rest.written; handed = rest.handed }
-  after_line (Err Failed) old mid new from to first rest = record { reads = rest.reads; rounds = rest.rounds; written = fails_after rest.reads old mid new first rest.written; handed = rest.handed }
-  after_line (Err (Step fault)) old mid new from to first rest =
-      record { reads = rest.reads; more = rest.more; stop = rest.stop; written = writes_both tt whole old mid new line _ first rest.written; handed = rest.handed }
+  pub after_line : {E : Type 0} (causes : CausesAfter E) (result : Result (Unit {0}) (Stop E)) (old mid new : SinkState) (from to : Option (List ℕ)) → Writes whole old mid line →
+      EndsRounds [] head plan query bits places shows causes result mid new from to → EndsRounds line head plan query bits places shows causes result old new from to
+  after_line causes (Ok done) old mid new from to first rest = record { reads = rest.reads; rounds = rest.rounds; shown = rest.shown; written = writes_both tt whole old mid new line _ first rest.written; handed = rest.handed }
+  after_line causes (Err Failed) old mid new from to first rest = record { reads = rest.reads; rounds = rest.rounds; shown = rest.shown; written = fails_after rest.reads old mid new first rest.written; handed = rest.handed }
+  after_line causes (Err (Step fault)) old mid new from to first rest =
+      record { reads = rest.reads; at = rest.at; more = rest.more; stop = rest.stop; shown = rest.shown; refused = rest.refused; written = writes_both tt whole old mid new line _ first rest.written; before = rest.before; handed = rest.handed }
 
   -- it was not written whole
-  pub in_line : (old new : SinkState) (from : Option (List ℕ)) → AreRounds plan query (frame_of head) bits [] → Writes partly old new line → Fails line head plan query bits places old new from from
+  pub in_line : (old new : SinkState) (from : Option (List ℕ)) → AreRounds plan query (frame_of head) bits [] → Writes partly old new line → Fails line head plan query bits places shows old new from from
   in_line old new from rounds written =
-      record { reads = []; rounds = rounds; written = writes_cut tt partly old new line (rounds_text head plan query bits []) refl written; handed = Appends-nil from }
+      record { reads = []; rounds = rounds; shown = each_of_none shows query; written = writes_cut tt partly old new line (rounds_text head plan query bits []) refl written; handed = Appends-nil from }

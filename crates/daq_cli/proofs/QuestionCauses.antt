@@ -16,20 +16,15 @@ use Rattle.sql_typing.specs.Refusals.{IsTyped}
 use Rattle.sql_typing.specs.declared.fault.TypeFault.{TypeFault}
 use Rattle.sql_typing.specs.declared.fault.TypeFault.TheVariants as y
 use Rattle.daq_cli.specs.Faults as of
-use Rattle.daq_cli.specs.Questions.{IsPolicyOf, Question, QuestionCause, RefusesOrder, step, no_memory}
+use Rattle.daq_cli.specs.Questions.{Asked, IsPolicyOf, Question, QuestionCause, RefusesOrder, StopsPlanning, asked_of, step, no_memory}
 use Rattle.daq_cli.specs.declared.refusal.Refusal.{Refusal}
-use Rattle.daq_cli.specs.declared.refusal.Refusal.TheVariants.{NoMemory, NotBuilt, Reads, Typing}
+use Rattle.daq_cli.specs.declared.refusal.Refusal.TheVariants.{NotBuilt, Reads, Typing}
 
-module _ (question : Question) (out : SinkState) where
-  -- memory ran out before anything was written
-  pub lacking : (why : Refusal) → why ≡ NoMemory → QuestionCause question out out why
-  lacking why e = subst (QuestionCause question out out) (sym e) (no_memory refl)
+module _ (asked : Asked) where
+  untyped : (fault : TypeFault) (why : Refusal) → fault ≢ y.NoMemory → typing.Refuses asked.query asked.head fault → why ≡ of.typing fault → of.typing fault ≡ Typing fault → StopsPlanning asked why
+  untyped fault why shown faulty is same = inl (inl (record { fault = fault; shown = shown; is = is ∙ same; faulty = faulty }))
 
-  untyped : (fault : TypeFault) (why : Refusal) → fault ≢ y.NoMemory → typing.Refuses question.query question.table.head fault → why ≡ of.typing fault → of.typing fault ≡ Typing fault →
-      QuestionCause question out out why
-  untyped fault why shown faulty is same = step (inl (record { fault = fault; shown = shown; is = is ∙ same; faulty = faulty })) refl
-
-  pub typing_cause : (fault : TypeFault) (why : Refusal) → typing.Refuses question.query question.table.head fault → why ≡ of.typing fault → QuestionCause question out out why
+  pub typing_cause : (fault : TypeFault) (why : Refusal) → typing.Refuses asked.query asked.head fault → why ≡ of.typing fault → StopsPlanning asked why
   typing_cause (y.UnknownTable at) why faulty is = untyped (y.UnknownTable at) why (λ n. cc) faulty is refl
   typing_cause (y.UnknownColumn at) why faulty is = untyped (y.UnknownColumn at) why (λ n. cc) faulty is refl
   typing_cause y.TooManyColumns why faulty is = untyped y.TooManyColumns why (λ n. cc) faulty is refl
@@ -41,23 +36,27 @@ module _ (question : Question) (out : SinkState) where
   typing_cause (y.LimitOutOfRange at) why faulty is = untyped (y.LimitOutOfRange at) why (λ n. cc) faulty is refl
   typing_cause (y.GroupTooWide bits) why faulty is = untyped (y.GroupTooWide bits) why (λ n. cc) faulty is refl
   typing_cause (y.TooWide item) why faulty is = untyped (y.TooWide item) why (λ n. cc) faulty is refl
-  typing_cause y.NoMemory why faulty is = lacking why is
+  typing_cause y.NoMemory why faulty is = inr is
 
-  module _ (typed : TypedQuery) (is_typed : IsTyped question.query question.table.head typed) where
+  module _ (typed : TypedQuery) (is_typed : IsTyped asked.query asked.head typed) where
     -- it has groups or an order
-    pub form_cause : typed.shape ≢ Plain → QuestionCause question out out NotBuilt
-    form_cause other = step (inr (inl (record { typed = typed; is_typed = is_typed; other = other; is = refl }))) refl
+    pub form_cause : typed.shape ≢ Plain → StopsPlanning asked NotBuilt
+    form_cause other = inl (inr (inl (record { typed = typed; is_typed = is_typed; other = other; is = refl })))
 
-    unread : (fault : ReadsFault) (why : Refusal) → typed.shape ≡ Plain → fault ≢ r.NoMemory → RefusesOrder question.options.order typed question.table.head fault →
-        why ≡ of.reads fault → of.reads fault ≡ Reads fault → QuestionCause question out out why
+    unread : (fault : ReadsFault) (why : Refusal) → typed.shape ≡ Plain → fault ≢ r.NoMemory → RefusesOrder asked.options.order typed asked.head fault → why ≡ of.reads fault →
+        of.reads fault ≡ Reads fault → StopsPlanning asked why
     unread fault why plain shown faulty is same =
-        step (inr (inr (record { typed = typed; is_typed = is_typed; plain = plain; fault = fault; shown = shown; is = is ∙ same; faulty = faulty }))) refl
+        inl (inr (inr (record { typed = typed; is_typed = is_typed; plain = plain; fault = fault; shown = shown; is = is ∙ same; faulty = faulty })))
 
-    pub reads_cause : (fault : ReadsFault) (why : Refusal) → typed.shape ≡ Plain → RefusesOrder question.options.order typed question.table.head fault → why ≡ of.reads fault →
-        QuestionCause question out out why
+    pub reads_cause : (fault : ReadsFault) (why : Refusal) → typed.shape ≡ Plain → RefusesOrder asked.options.order typed asked.head fault → why ≡ of.reads fault → StopsPlanning asked why
     reads_cause (r.UnknownName place) why plain faulty is = unread (r.UnknownName place) why plain (λ n. cc) faulty is refl
     reads_cause (r.PastEnd place) why plain faulty is = unread (r.PastEnd place) why plain (λ n. cc) faulty is refl
-    reads_cause r.NoMemory why plain faulty is = lacking why is
+    reads_cause r.NoMemory why plain faulty is = inr is
+
+-- so the question is not answered
+pub stops_question : (question : Question) (out : SinkState) (why : Refusal) → StopsPlanning (asked_of question) why → QuestionCause question out out why
+stops_question question out why (inl shown) = step shown refl
+stops_question question out why (inr e) = subst (QuestionCause question out out) (sym e) (no_memory refl)
 
 -- the policy of a plan can be followed to its end
 pub readable_of : (order : ReadOrder) (typed : TypedQuery) (head : Head) (policy : Policy) → IsPolicyOf order typed head policy → IsReadable policy (projected_frame typed (frame_of head))

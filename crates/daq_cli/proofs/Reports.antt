@@ -1,7 +1,8 @@
 -- A question has one report.
 use Rattle.std.proofs.Common.{◌≡◌, ℕ, List, Ok, Result, refl, sym, ap, ◌∙◌, subst}
-use Rattle.command_line.specs.Commands.{ReadOrder, widest, in_order, filter_first, reads}
+use Rattle.command_line.specs.Commands.{Options, ReadOrder, widest, in_order, filter_first, reads}
 use Rattle.daq_table.specs.Tables.{frame_of}
+use Rattle.daq_table.specs.declared.table_head.Head.{Head}
 use Rattle.outer_world.specs.Device.{SinkState}
 use Rattle.plane_reads.specs.Reads as reads_laws
 use Rattle.plane_reads.specs.declared.fault.ReadsFault.{ReadsFault}
@@ -14,7 +15,7 @@ use Rattle.sql_print.specs.Printed.{printed}
 use Rattle.sql_typing.specs.Laws as typing_laws
 use Rattle.table_rounds.specs.Headline.{RoundsAreOne}
 use Rattle.table_rounds.specs.Rounds.{AreAllRounds}
-use Rattle.daq_cli.specs.Questions.{IsPlanOf, IsPlanned, IsPolicyOf, IsReport, Question, Reports, ReportsRounds, planes_of}
+use Rattle.daq_cli.specs.Questions.{IsPlanOf, IsPlanned, IsPolicyOf, IsReport, Question, Reports, ReportsRounds, asked_of, planes_of}
 use Rattle.daq_cli.specs.Report.{report}
 use Rattle.daq_cli.specs.Worlds.{Extent}
 
@@ -28,17 +29,17 @@ pub record Laws : Type 0 where
 listed_once : {a b : List ℕ} → ◌≡◌ {A = Result (List ℕ) ReadsFault} (Ok a) (Ok b) → a ≡ b
 listed_once e = cc
 
-module _ (law : Laws) (question : Question) (typed : TypedQuery) (valid : IsValid question.table.head typed) where
-  one_policy : (order : ReadOrder) (a b : Policy) → IsPolicyOf order typed question.table.head a → IsPolicyOf order typed question.table.head b → a ≡ b
+module _ (lists : reads_laws.AnswersAreOne) (options : Options) (head : Head) (typed : TypedQuery) (valid : IsValid head typed) where
+  one_policy : (order : ReadOrder) (a b : Policy) → IsPolicyOf order typed head a → IsPolicyOf order typed head b → a ≡ b
   one_policy widest a b p r = p ∙ sym r
   one_policy in_order a b p r = p ∙ sym r
   one_policy filter_first a b p r = p ∙ sym r
   one_policy (reads names) a b (list, is, all) (other, is_too, all_too) =
-      is ∙ ap Listed (listed_once (law.lists names typed question.table.head (Ok list) (Ok other) valid all all_too)) ∙ sym is_too
+      is ∙ ap Listed (listed_once (lists names typed head (Ok list) (Ok other) valid all all_too)) ∙ sym is_too
 
-  one_plan : (a b : Plan) → IsPlanOf question.options typed question.table.head a → IsPlanOf question.options typed question.table.head b → a ≡ b
+  pub one_plan : (a b : Plan) → IsPlanOf options typed head a → IsPlanOf options typed head b → a ≡ b
   one_plan a b p r =
-      let policy = one_policy question.options.order a.policy b.policy p.policy r.policy in
+      let policy = one_policy options.order a.policy b.policy p.policy r.policy in
       let width = p.width ∙ sym r.width in
       let most = p.most ∙ sym r.most in
       λ i. record { policy = policy i; width = width i; most = most i }
@@ -50,7 +51,7 @@ module _ (law : Laws) (question : Question) where
       let bits = planes_of question.table in
       let same : r.typed ≡ p.typed = law.typings question.query head r.typed p.typed r.planned.is_typed p.planned.is_typed in
       let plan : r.plan ≡ p.plan =
-      one_plan law question p.typed (law.valid question.query head p.typed p.planned.is_typed) r.plan p.plan (subst (λ (t : TypedQuery). IsPlanOf question.options t head r.plan) same r.planned.planned) p.planned.planned in
+      one_plan law.lists question.options head p.typed (law.valid question.query head p.typed p.planned.is_typed) r.plan p.plan (subst (λ (t : TypedQuery). IsPlanOf question.options t head r.plan) same r.planned.planned) p.planned.planned in
       let rounds : AreAllRounds p.plan p.typed (frame_of head) bits r.reads =
       subst (λ (t : TypedQuery). AreAllRounds p.plan t (frame_of head) bits r.reads) same (subst (λ (n : Plan). AreAllRounds n r.typed (frame_of head) bits r.reads) plan r.rounds) in
       let reads : r.reads ≡ p.reads = law.rounds p.plan p.typed (frame_of head) bits r.reads p.reads rounds p.rounds in
@@ -60,7 +61,7 @@ module _ (law : Laws) (question : Question) where
       ∙ sym (ap (λ (n : List ℕ). report (printed question.query) head r.plan r.typed bits n) reads) ∙ sym r.is
 
   -- the report of the rounds is that of the question
-  pub reports_of : (typed other : TypedQuery) (plan : Plan) (extent : Extent) (old new : SinkState) → other ≡ typed → IsPlanned question typed plan →
+  pub reports_of : (typed other : TypedQuery) (plan : Plan) (extent : Extent) (old new : SinkState) → other ≡ typed → IsPlanned (asked_of question) typed plan →
       ReportsRounds question.query other plan question.table extent old new → Reports question extent old new
   reports_of typed other plan extent old new same planned done =
       let rounds = subst (λ (t : TypedQuery). ReportsRounds question.query t plan question.table extent old new) same done in

@@ -1,19 +1,28 @@
 -- What the words and a told input show or accept is what the run comes to.
-use Rattle.std.proofs.Common.{◌≡◌, ◌≢◌, ℕ, List, sym, ap, ◌∙◌, subst, inl, inr, ◌⊎◌}
-use Rattle.command_line.specs.Commands.{Ask, Command, Demo, GoesWrong, IsCommand, ask, demo}
-use Rattle.outer_world.specs.Device.{Rose, SinkState, SourceState}
-use Rattle.daq_cli.specs.Questions.{Question, Reports}
+use Rattle.std.proofs.Common.{◌≡◌, ◌≢◌, ℕ, Bool, List, IsFalse, IsTrue, refl, sym, ap, ◌∙◌, subst, inl, inr, ◌⊎◌}
+use Rattle.command_line.specs.Commands.{Ask, Command, Demo, GoesWrong, IsCommand, Load, ask, demo, info, load, query, upgrade}
+use Rattle.command_line.specs.Commands as line
+use Rattle.outer_world.specs.Device.{Rose, SinkState, SourceState, StoreState}
 use Rattle.daq_cli.specs.Refusals.{IsTold, status_of}
-use Rattle.daq_cli.specs.Runs.{Accepts, CommandAccepts, CommandShows, Completes, Does, EndsSo, IsCause, IsDone, IsRefused, Shows, StopsFor}
-use Rattle.daq_cli.specs.Worlds.{WorldState, whole}
+use Rattle.daq_cli.specs.Runs.{Accepts, BeginsRounds, CommandAccepts, CommandShows, Completes, Does, EndsSo, IsCause, IsDone, IsFulfilled, IsRefused, IsUnwritten, ReadFails, Shows, StopsFor, Task, Uses, of_ask, of_demo, of_info, of_load, of_query, of_upgrade, uses}
+use Rattle.daq_cli.specs.Worlds.{Device, IsSame, WorldState}
+use Rattle.daq_cli.specs.Worlds as device
 use Rattle.daq_cli.specs.commands.Ask.{AskCause}
 use Rattle.daq_cli.specs.commands.Demo.{DemoCause}
+use Rattle.daq_cli.specs.commands.Info.{InfoCause}
+use Rattle.daq_cli.specs.commands.Load.{LoadCause}
+use Rattle.daq_cli.specs.commands.Query.{Begins, QueryCause}
+use Rattle.daq_cli.specs.commands.Upgrade.{UpgradeCause}
 use Rattle.daq_cli.specs.declared.refusal.Refusal.{Refusal}
 use Rattle.daq_cli.specs.declared.refusal.Refusal.TheVariants.{NoMemory, Usage, WriteFault}
 use Rattle.daq_cli.specs.declared.status.Status.{Status}
 use Rattle.daq_cli.specs.declared.status.Status.TheVariants as s
 use Rattle.daq_cli.proofs.Ask.{ask_accepted, ask_shown, ask_unwritten, asks_apart, asks_question}
 use Rattle.daq_cli.proofs.Demo.{demo_accepted, demo_apart, demo_question, demo_shown, demo_unwritten}
+use Rattle.daq_cli.proofs.Info.{info_accepted, info_shown, info_unwritten, informs_apart, informs_file}
+use Rattle.daq_cli.proofs.Load.{load_accepted, load_shown, load_unwritten, loads_apart, loads_table}
+use Rattle.daq_cli.proofs.Query.{queries_apart, queries_text, query_accepted, query_shown, query_unwritten}
+use Rattle.daq_cli.proofs.Upgrade.{upgrade_accepted, upgrade_shown, upgrade_unwritten, upgrades_apart, upgrades_table}
 use Rattle.daq_cli.specs.Laws.{StepsAreExact}
 
 -- words ask for one command at most, and go wrong at one place at most
@@ -23,105 +32,246 @@ IsOneCommand = (words : List (List ℕ)) (c d : Command) → IsCommand words c �
 abbrev pub IsOnePlace : Type 0
 IsOnePlace = (words : List (List ℕ)) (p q : ℕ) → GoesWrong words p → GoesWrong words q → p ≡ q
 
+-- memory ran out, or a device failed
+abbrev pub Excused : WorldState → WorldState → Refusal → Type 0
+Excused before after why =
+    (why ≡ NoMemory) ⊎ ReadFails before after ⊎ Rose before.made.faults after.made.faults ⊎ Rose before.out.faults after.out.faults
+
+-- rounds of the command were begun: it is a `query`
+abbrev pub HasBegun : WorldState → Command → Type 0
+HasBegun before command = (q : line.Query) × (command ≡ query q) × ((opened : StoreState) × Begins q before.planes opened)
+
+-- its report was not written to its end
+abbrev pub FailsToReport : WorldState → WorldState → Command → Refusal → Type 0
+FailsToReport before after command why = HasBegun before command × Rose before.out.faults after.out.faults × (why ≡ WriteFault)
+
 -- ---- for a command
 
+-- a read of the input, or of the store, that failed is a failed read
+by_input : {A B C : Type 0} (before after : WorldState) → A ⊎ B ⊎ Rose before.input.faults after.input.faults → A ⊎ B ⊎ ReadFails before after ⊎ C
+by_input before after (inl a) = inl a
+by_input before after (inr (inl b)) = inr (inl b)
+by_input before after (inr (inr rose)) = inr (inr (inl (inl rose)))
+
+by_store : {A B C : Type 0} (before after : WorldState) → A ⊎ B ⊎ Rose before.planes.faults after.planes.faults → A ⊎ B ⊎ ReadFails before after ⊎ C
+by_store before after (inl a) = inl a
+by_store before after (inr (inl b)) = inr (inl b)
+by_store before after (inr (inr rose)) = inr (inr (inl (inr rose)))
+
 module _ (law : StepsAreExact) (before after : WorldState) where
-  command_apart : (command : Command) (other : Refusal) → Does command before after → CommandShows command before.input.left other → ⊥
+  command_apart : (command : Command) (other : Refusal) → Does command before after → CommandShows command before other → ⊥
   command_apart (ask a) other does shows = asks_apart law a before.input after.input before.out after.out _ other does shows
   command_apart (demo d) other does shows = demo_apart law d before.out after.out _ other does shows
+  command_apart (load l) other does shows = loads_apart law l before.input after.input before.made after.made before.out after.out other does shows
+  command_apart (query q) other does shows = queries_apart law q before.planes after.planes before.out after.out other does shows
+  command_apart (info i) other does shows = informs_apart law before.planes after.planes before.out after.out _ other does shows
+  command_apart (upgrade u) other does shows = upgrades_apart law before.planes after.planes before.made after.made before.out after.out other does shows
 
-  command_shown : (command : Command) (why other : Refusal) → StopsFor command before after why → CommandShows command before.input.left other →
-      (why ≡ other) ⊎ (why ≡ NoMemory) ⊎ Rose before.input.faults after.input.faults
-  command_shown (ask a) why other cause shows = ask_shown law a before.input after.input before.out after.out why other cause shows
+  command_shown : (command : Command) (why other : Refusal) → StopsFor command before after why → CommandShows command before other →
+      (why ≡ other) ⊎ (why ≡ NoMemory) ⊎ ReadFails before after ⊎ FailsToReport before after command why
+  command_shown (ask a) why other cause shows = by_input before after (ask_shown law a before.input after.input before.out after.out why other cause shows)
   command_shown (demo d) why other cause shows = more (demo_shown law d before.out after.out why other cause shows)
     where
-      more : (why ≡ other) ⊎ (why ≡ NoMemory) → (why ≡ other) ⊎ (why ≡ NoMemory) ⊎ Rose before.input.faults after.input.faults
+      more : (why ≡ other) ⊎ (why ≡ NoMemory) → (why ≡ other) ⊎ (why ≡ NoMemory) ⊎ ReadFails before after ⊎ FailsToReport before after (demo d) why
       more (inl e) = inl e
       more (inr e) = inr (inl e)
-
-  command_question : (command : Command) (question : Question) → Does command before after → CommandAccepts command before.input.left question → Reports question whole before.out after.out
-  command_question (ask a) question does accepted = asks_question law a before.input after.input before.out after.out _ question does accepted
-  command_question (demo d) question does accepted = demo_question law d before.out after.out _ question does accepted
-
-  command_accepted : (command : Command) (why : Refusal) (question : Question) → StopsFor command before after why → CommandAccepts command before.input.left question →
-      (why ≡ NoMemory) ⊎ Rose before.input.faults after.input.faults ⊎ Rose before.out.faults after.out.faults
-  command_accepted (ask a) why question cause accepted = ask_accepted law a before.input after.input before.out after.out why question cause accepted
-  command_accepted (demo d) why question cause accepted = more (demo_accepted law d before.out after.out why question cause accepted)
+  command_shown (load l) why other cause shows =
+      by_input before after (load_shown law l before.input after.input before.made after.made before.out after.out why other cause shows)
+  command_shown (query q) why other cause shows = more (query_shown law q before.planes after.planes before.out after.out why other cause shows)
     where
-      more : (why ≡ NoMemory) ⊎ Rose before.out.faults after.out.faults → (why ≡ NoMemory) ⊎ Rose before.input.faults after.input.faults ⊎ Rose before.out.faults after.out.faults
+      more : (why ≡ other) ⊎ (why ≡ NoMemory) ⊎ Rose before.planes.faults after.planes.faults ⊎ (((opened : StoreState) × Begins q before.planes opened) × Rose before.out.faults after.out.faults × (why ≡ WriteFault)) →
+          (why ≡ other) ⊎ (why ≡ NoMemory) ⊎ ReadFails before after ⊎ FailsToReport before after (query q) why
       more (inl e) = inl e
-      more (inr e) = inr (inr e)
+      more (inr (inl e)) = inr (inl e)
+      more (inr (inr (inl rose))) = inr (inr (inl (inr rose)))
+      more (inr (inr (inr (begun, rose, e)))) = inr (inr (inr ((q, refl, begun), rose, e)))
+  command_shown (info i) why other cause shows = by_store before after (info_shown law before.planes after.planes before.out after.out why other cause shows)
+  command_shown (upgrade u) why other cause shows =
+      by_store before after (upgrade_shown law before.planes after.planes before.made after.made before.out after.out why other cause shows)
 
-command_unwritten : (before after : WorldState) (command : Command) (why : Refusal) → StopsFor command before after why → (after.out ≡ before.out) ⊎ (why ≡ WriteFault)
-command_unwritten before after (ask a) why cause = ask_unwritten a _ _ _ _ why cause
-command_unwritten before after (demo d) why cause = demo_unwritten d _ _ why cause
+  command_fulfils : {command : Command} {task : Task} → CommandAccepts before command task → Does command before after → IsFulfilled task before after
+  command_fulfils (of_ask a question accepted) does = asks_question law a before.input after.input before.out after.out _ question does accepted
+  command_fulfils (of_demo d question accepted) does = demo_question law d before.out after.out _ question does accepted
+  command_fulfils (of_load l table accepted) does = loads_table law l before.input after.input before.made after.made before.out after.out table does accepted
+  command_fulfils (of_query q text accepted) does = queries_text law q before.planes after.planes before.out after.out text does accepted
+  command_fulfils (of_info i file accepted) does = informs_file law before.planes after.planes before.out after.out _ file does accepted
+  command_fulfils (of_upgrade u table accepted) does = upgrades_table law before.planes after.planes before.made after.made before.out after.out table does accepted
+
+  command_accepted : {command : Command} {task : Task} (why : Refusal) → CommandAccepts before command task → StopsFor command before after why → Excused before after why
+  command_accepted why (of_ask a question accepted) cause = more (ask_accepted law a before.input after.input before.out after.out why question cause accepted)
+    where
+      more : (why ≡ NoMemory) ⊎ Rose before.input.faults after.input.faults ⊎ Rose before.out.faults after.out.faults → Excused before after why
+      more (inl e) = inl e
+      more (inr (inl rose)) = inr (inl (inl rose))
+      more (inr (inr rose)) = inr (inr (inr rose))
+  command_accepted why (of_demo d question accepted) cause = more (demo_accepted law d before.out after.out why question cause accepted)
+    where
+      more : (why ≡ NoMemory) ⊎ Rose before.out.faults after.out.faults → Excused before after why
+      more (inl e) = inl e
+      more (inr rose) = inr (inr (inr rose))
+  command_accepted why (of_load l table accepted) cause =
+      more (load_accepted law l before.input after.input before.made after.made before.out after.out why table cause accepted)
+    where
+      more : (why ≡ NoMemory) ⊎ Rose before.input.faults after.input.faults ⊎ Rose before.made.faults after.made.faults ⊎ Rose before.out.faults after.out.faults
+          → Excused before after why
+      more (inl e) = inl e
+      more (inr (inl rose)) = inr (inl (inl rose))
+      more (inr (inr rose)) = inr (inr rose)
+  command_accepted why (of_query q text accepted) cause = more (query_accepted law q before.planes after.planes before.out after.out why text cause accepted)
+    where
+      more : (why ≡ NoMemory) ⊎ Rose before.planes.faults after.planes.faults ⊎ Rose before.out.faults after.out.faults → Excused before after why
+      more (inl e) = inl e
+      more (inr (inl rose)) = inr (inl (inr rose))
+      more (inr (inr rose)) = inr (inr (inr rose))
+  command_accepted why (of_info i file accepted) cause = more (info_accepted law before.planes after.planes before.out after.out why file cause accepted)
+    where
+      more : (why ≡ NoMemory) ⊎ Rose before.planes.faults after.planes.faults ⊎ Rose before.out.faults after.out.faults → Excused before after why
+      more (inl e) = inl e
+      more (inr (inl rose)) = inr (inl (inr rose))
+      more (inr (inr rose)) = inr (inr (inr rose))
+  command_accepted why (of_upgrade u table accepted) cause =
+      more (upgrade_accepted law before.planes after.planes before.made after.made before.out after.out why table cause accepted)
+    where
+      more : (why ≡ NoMemory) ⊎ Rose before.planes.faults after.planes.faults ⊎ Rose before.made.faults after.made.faults ⊎ Rose before.out.faults after.out.faults
+          → Excused before after why
+      more (inl e) = inl e
+      more (inr (inl rose)) = inr (inl (inr rose))
+      more (inr (inr rose)) = inr (inr rose)
+
+-- but for a failed write, and for rounds that were begun, nothing was written; a device that the command does not use tells what it told
+abbrev pub IsEarly : WorldState → WorldState → Command → Refusal → Type 0
+IsEarly before after command why = IsUnwritten before after ⊎ HasBegun before command ⊎ (why ≡ WriteFault)
+
+module _ (before after : WorldState) (why : Refusal) where
+  unmade : (command : Command) → after.made ≡ before.made → (after.out ≡ before.out) ⊎ (why ≡ WriteFault) → IsEarly before after command why
+  unmade command m (inl o) = inl (m, o)
+  unmade command m (inr e) = inr (inr e)
+
+  unstored : (command : Command) → ((after.made ≡ before.made) × (after.out ≡ before.out)) ⊎ (why ≡ WriteFault) → IsEarly before after command why
+  unstored command (inl o) = inl o
+  unstored command (inr e) = inr (inr e)
+
+  command_unwritten : (command : Command) → ((one : Device) → IsFalse (uses command one) → IsSame one before after) → StopsFor command before after why → IsEarly before after command why
+  command_unwritten (ask a) stays cause = unmade (ask a) (stays device.made refl) (ask_unwritten a _ _ _ _ why cause)
+  command_unwritten (demo d) stays cause = unmade (demo d) (stays device.made refl) (demo_unwritten d _ _ why cause)
+  command_unwritten (info i) stays cause = unmade (info i) (stays device.made refl) (info_unwritten _ _ _ _ why cause)
+  command_unwritten (load l) stays cause = unstored (load l) (load_unwritten l _ _ _ _ _ _ why cause)
+  command_unwritten (upgrade u) stays cause = unstored (upgrade u) (upgrade_unwritten _ _ _ _ _ _ why cause)
+  command_unwritten (query q) stays cause = by (query_unwritten q _ _ _ _ why cause)
+    where
+      by : (after.out ≡ before.out) ⊎ ((opened : StoreState) × Begins q before.planes opened) ⊎ (why ≡ WriteFault) → IsEarly before after (query q) why
+      by (inl o) = inl (stays device.made refl, o)
+      by (inr (inl begun)) = inr (inl (q, refl, begun))
+      by (inr (inr e)) = inr (inr e)
 
 -- ---- for the words
 
+-- the rounds of a `query` were begun, and their report was not written
+abbrev pub CutsReport : List (List ℕ) → WorldState → WorldState → Refusal → Type 0
+CutsReport words before after why = BeginsRounds words before × Rose before.out.faults after.out.faults × (why ≡ WriteFault)
+
 module _ (law : StepsAreExact) (one : IsOneCommand) (one_place : IsOnePlace) (words : List (List ℕ)) (before after : WorldState) where
-  pub done_apart : (other : Refusal) → IsDone words before after → Shows words before.input.left other → ⊥
+  pub done_apart : (other : Refusal) → IsDone words before after → Shows words before other → ⊥
   done_apart other done (Shows.usage place wrong) = wrong.no_command done.command done.is_command
   done_apart other done (Shows.of_command command is shows) =
       command_apart law before after command other (subst (λ c. Does c before after) (one words done.command command done.is_command is) done.does) shows
 
-  pub shown_is : (why other : Refusal) → IsCause words before after why → Shows words before.input.left other →
-      (why ≡ other) ⊎ (why ≡ NoMemory) ⊎ Rose before.input.faults after.input.faults
+  pub shown_is : (why other : Refusal) → IsCause words before after why → Shows words before other →
+      (why ≡ other) ⊎ (why ≡ NoMemory) ⊎ ReadFails before after ⊎ CutsReport words before after why
   shown_is why other (IsCause.usage place wrong) (Shows.usage where_else too) = inl (ap Usage (one_place words place where_else wrong too))
   shown_is why other (IsCause.usage place wrong) (Shows.of_command command is shows) = absurd (wrong.no_command command is)
   shown_is why other (IsCause.of_command command is cause) (Shows.usage place wrong) = absurd (wrong.no_command command is)
   shown_is why other (IsCause.of_command command is cause) (Shows.of_command second is_too shows) =
-      command_shown law before after second why other (subst (λ c. StopsFor c before after why) (one words command second is is_too) cause) shows
+      more (command_shown law before after second why other (subst (λ c. StopsFor c before after why) (one words command second is is_too) cause) shows)
+    where
+      more : (why ≡ other) ⊎ (why ≡ NoMemory) ⊎ ReadFails before after ⊎ FailsToReport before after second why →
+          (why ≡ other) ⊎ (why ≡ NoMemory) ⊎ ReadFails before after ⊎ CutsReport words before after why
+      more (inl e) = inl e
+      more (inr (inl e)) = inr (inl e)
+      more (inr (inr (inl fails))) = inr (inr (inl fails))
+      more (inr (inr (inr ((q, same, (opened, begun)), rose, e)))) =
+          inr (inr (inr (record { asked = q; is_command = subst (IsCommand words) same is_too; opened = opened; begun = begun }, rose, e)))
 
-  pub done_is : (question : Question) → IsDone words before after → Accepts words before.input.left question → Reports question whole before.out after.out
-  done_is question done accepts =
-      command_question law before after accepts.command question
-      (subst (λ c. Does c before after) (one words done.command accepts.command done.is_command accepts.is_command) done.does) accepts.accepted
+  pub done_is : (task : Task) → IsDone words before after → Accepts words before task → IsFulfilled task before after
+  done_is task done accepts =
+      command_fulfils law before after accepts.accepted
+      (subst (λ c. Does c before after) (one words done.command accepts.command done.is_command accepts.is_command) done.does)
 
-  pub accepted_is : (why : Refusal) (question : Question) → IsCause words before after why → Accepts words before.input.left question →
-      (why ≡ NoMemory) ⊎ Rose before.input.faults after.input.faults ⊎ Rose before.out.faults after.out.faults
-  accepted_is why question (IsCause.usage place wrong) accepts = absurd (wrong.no_command accepts.command accepts.is_command)
-  accepted_is why question (IsCause.of_command command is cause) accepts =
-      command_accepted law before after accepts.command why question
-      (subst (λ c. StopsFor c before after why) (one words command accepts.command is accepts.is_command) cause) accepts.accepted
+  pub accepted_is : (why : Refusal) (task : Task) → IsCause words before after why → Accepts words before task → Excused before after why
+  accepted_is why task (IsCause.usage place wrong) accepts = absurd (wrong.no_command accepts.command accepts.is_command)
+  accepted_is why task (IsCause.of_command command is cause) accepts =
+      command_accepted law before after why accepts.accepted
+      (subst (λ c. StopsFor c before after why) (one words command accepts.command is accepts.is_command) cause)
 
 -- ---- the status
 
 -- a cause that is told ends the run so
-pub ends_so : (why other : Refusal) (status : Status) (before after : WorldState) → IsTold why status before.err after.err →
-    (why ≡ other) ⊎ (why ≡ NoMemory) ⊎ Rose before.input.faults after.input.faults → EndsSo other status before after
-ends_so why other status before after told (inl e) = inl (subst (λ w. IsTold w status before.err after.err) e told)
-ends_so why other status before after told (inr (inl e)) = inr (inl (subst (λ w. IsTold w status before.err after.err) e told))
-ends_so why other status before after told (inr (inr rose)) = inr (inr rose)
+pub ends_so : (words : List (List ℕ)) (why other : Refusal) (status : Status) (before after : WorldState) → IsTold why status before.err after.err →
+    (why ≡ other) ⊎ (why ≡ NoMemory) ⊎ ReadFails before after ⊎ CutsReport words before after why → EndsSo words other status before after
+ends_so words why other status before after told (inl e) = inl (subst (λ w. IsTold w status before.err after.err) e told)
+ends_so words why other status before after told (inr (inl e)) = inr (inl (subst (λ w. IsTold w status before.err after.err) e told))
+ends_so words why other status before after told (inr (inr (inl fails))) = inr (inr (inl fails))
+ends_so words why other status before after told (inr (inr (inr (begun, rose, e)))) = inr (inr (inr (begun, rose, subst (λ w. IsTold w status before.err after.err) e told)))
 
 -- a run that is accepted is done, unless memory runs out or a device fails
-pub completes : (why : Refusal) (question : Question) (status : Status) (before after : WorldState) → IsTold why status before.err after.err →
-    (why ≡ NoMemory) ⊎ Rose before.input.faults after.input.faults ⊎ Rose before.out.faults after.out.faults → Completes question status before after
-completes why question status before after (inl t) (inl e) = inr (inl (t.0 ∙ ap status_of e))
-completes why question status before after (inr t) (inl e) = inr (inr (inr (inr t.1.cause.failed)))
-completes why question status before after told (inr (inl rose)) = inr (inr (inl rose))
-completes why question status before after told (inr (inr rose)) = inr (inr (inr (inl rose)))
+pub completes : (why : Refusal) (task : Task) (status : Status) (before after : WorldState) → IsTold why status before.err after.err →
+    Excused before after why → Completes task status before after
+completes why task status before after (inl t) (inl e) = inr (inl (t.0 ∙ ap status_of e))
+completes why task status before after (inr t) (inl e) = inr (inr (inr (inr (inr t.1.cause.failed))))
+completes why task status before after told (inr (inl fails)) = inr (inr (inl fails))
+completes why task status before after told (inr (inr (inl rose))) = inr (inr (inr (inl rose)))
+completes why task status before after told (inr (inr (inr rose))) = inr (inr (inr (inr (inl rose))))
 
 -- but for WriteFault nothing was written
-pub unwritten : (words : List (List ℕ)) (before after : WorldState) (why : Refusal) (status : Status) →
-    (IsRefused words → (after.input ≡ before.input) × (after.out ≡ before.out)) → IsCause words before after why → IsTold why status before.err after.err →
-    status ≢ s.WriteFault → after.out ≡ before.out
-unwritten words before after why status untouched (IsCause.usage place wrong) told other = (untouched (λ command is readable. wrong.no_command command is)).1
-unwritten words before after why status untouched (IsCause.of_command command is cause) told other = by (command_unwritten before after command why cause) told
+pub unwritten : IsOneCommand → (words : List (List ℕ)) (before after : WorldState) (why : Refusal) (status : Status) →
+    (IsRefused words → (device : Device) → IsSame device before after) → ((device : Device) → ¬ Uses words device → IsSame device before after) →
+    IsCause words before after why → IsTold why status before.err after.err → status ≢ s.WriteFault → IsUnwritten before after ⊎ BeginsRounds words before
+unwritten one words before after why status untouched stays (IsCause.usage place wrong) told other =
+    let same = untouched (λ command is readable. wrong.no_command command is) in
+    inl (same device.made, same device.out)
+unwritten one words before after why status untouched stays (IsCause.of_command command is cause) told other =
+    by (command_unwritten before after why command (λ one_device none. stays one_device (unused one_device none)) cause) told
   where
-    by : (after.out ≡ before.out) ⊎ (why ≡ WriteFault) → IsTold why status before.err after.err → after.out ≡ before.out
-    by (inl o) t = o
-    by (inr e) (inl t) = absurd (other (t.0 ∙ ap status_of e))
-    by (inr e) (inr t) = absurd (other t.0)
+    not_both : (b : Bool) → IsFalse b → IsTrue b → ⊥
+    not_both b none used = cc
+
+    unused : (one_device : Device) → IsFalse (uses command one_device) → ¬ Uses words one_device
+    unused one_device none = λ (second, is_too, used). not_both (uses command one_device) none (subst (λ c. IsTrue (uses c one_device)) (one words second command is_too is) used)
+
+    by : IsEarly before after command why → IsTold why status before.err after.err → IsUnwritten before after ⊎ BeginsRounds words before
+    by (inl o) t = inl o
+    by (inr (inl (q, same, (opened, begun)))) t = inr (record { asked = q; is_command = subst (IsCommand words) same is; opened = opened; begun = begun })
+    by (inr (inr e)) (inl t) = absurd (other (t.0 ∙ ap status_of e))
+    by (inr (inr e)) (inr t) = absurd (other t.0)
 
 -- the line of a refusal changes no cause
-pub same_cause : (words : List (List ℕ)) (before mid after : WorldState) (why : Refusal) → after.input ≡ mid.input → after.out ≡ mid.out →
-    IsCause words before mid why → IsCause words before after why
-same_cause words before mid after why i o (IsCause.usage place wrong) = IsCause.usage place wrong
-same_cause words before mid after why i o (IsCause.of_command command is cause) = IsCause.of_command command is (by command cause)
+pub same_cause : (words : List (List ℕ)) (before mid after : WorldState) (why : Refusal) → after.input ≡ mid.input → after.planes ≡ mid.planes → after.made ≡ mid.made →
+    after.out ≡ mid.out → IsCause words before mid why → IsCause words before after why
+same_cause words before mid after why i p m o (IsCause.usage place wrong) = IsCause.usage place wrong
+same_cause words before mid after why i p m o (IsCause.of_command command is cause) = IsCause.of_command command is (by command cause)
   where
     by : (c : Command) → StopsFor c before mid why → StopsFor c before after why
     by (ask a) cause = subst (λ x. AskCause a before.input x before.out after.out why) (sym i) (subst (λ x. AskCause a before.input mid.input before.out x why) (sym o) cause)
     by (demo d) cause = subst (λ x. DemoCause d before.out x why) (sym o) cause
+    by (load l) cause =
+        subst (λ x. LoadCause l before.input x before.made after.made before.out after.out why) (sym i)
+        (subst (λ x. LoadCause l before.input mid.input before.made x before.out after.out why) (sym m)
+        (subst (λ x. LoadCause l before.input mid.input before.made mid.made before.out x why) (sym o) cause))
+    by (query q) cause = subst (λ x. QueryCause q before.planes x before.out after.out why) (sym p) (subst (λ x. QueryCause q before.planes mid.planes before.out x why) (sym o) cause)
+    by (upgrade u) cause =
+        subst (λ x. UpgradeCause before.planes x before.made after.made before.out after.out why) (sym p)
+        (subst (λ x. UpgradeCause before.planes mid.planes before.made x before.out after.out why) (sym m)
+        (subst (λ x. UpgradeCause before.planes mid.planes before.made mid.made before.out x why) (sym o) cause))
+    by (info i) cause = subst (λ x. InfoCause before.planes x before.out after.out why) (sym p) (subst (λ x. InfoCause before.planes mid.planes before.out x why) (sym o) cause)
+
+-- devices that tell the same afterwards are the same
+pub same_after : (before mid after : WorldState) → after.input ≡ mid.input → after.side ≡ mid.side → after.planes ≡ mid.planes → after.made ≡ mid.made → after.out ≡ mid.out
+    → (one : Device) → IsSame one before mid → IsSame one before after
+same_after before mid after i s p m o device.input e = i ∙ e
+same_after before mid after i s p m o device.side e = s ∙ e
+same_after before mid after i s p m o device.planes e = p ∙ e
+same_after before mid after i s p m o device.made e = m ∙ e
+same_after before mid after i s p m o device.out e = o ∙ e
 
 -- the same said of devices that tell the same
 pub ask_stops : (a : Ask) (i i' j : SourceState) (o o' p : SinkState) (why : Refusal) → i ≡ i' → o ≡ o' → AskCause a i j o p why → AskCause a i' j o' p why
@@ -129,3 +279,17 @@ ask_stops a i i' j o o' p why e f cause = subst (λ x. AskCause a x j o' p why) 
 
 pub demo_stops : (d : Demo) (o o' p : SinkState) (why : Refusal) → o ≡ o' → DemoCause d o p why → DemoCause d o' p why
 demo_stops d o o' p why f cause = subst (λ x. DemoCause d x p why) f cause
+
+pub load_stops : (l : Load) (i i' j : SourceState) (m m' n o o' p : SinkState) (why : Refusal) → i ≡ i' → m ≡ m' → o ≡ o' → LoadCause l i j m n o p why → LoadCause l i' j m' n o' p why
+load_stops l i i' j m m' n o o' p why e f g cause =
+    subst (λ x. LoadCause l x j m' n o' p why) e (subst (λ x. LoadCause l i j x n o' p why) f (subst (λ x. LoadCause l i j m n x p why) g cause))
+
+pub info_stops : (s s' t : StoreState) (o o' p : SinkState) (why : Refusal) → s ≡ s' → o ≡ o' → InfoCause s t o p why → InfoCause s' t o' p why
+info_stops s s' t o o' p why e f cause = subst (λ x. InfoCause x t o' p why) e (subst (λ x. InfoCause s t x p why) f cause)
+
+pub query_stops : (q : line.Query) (s s' t : StoreState) (o o' p : SinkState) (why : Refusal) → s ≡ s' → o ≡ o' → QueryCause q s t o p why → QueryCause q s' t o' p why
+query_stops q s s' t o o' p why e f cause = subst (λ x. QueryCause q x t o' p why) e (subst (λ x. QueryCause q s t x p why) f cause)
+
+pub upgrade_stops : (s s' t : StoreState) (m m' n o o' p : SinkState) (why : Refusal) → s ≡ s' → m ≡ m' → o ≡ o' → UpgradeCause s t m n o p why → UpgradeCause s' t m' n o' p why
+upgrade_stops s s' t m m' n o o' p why e f g cause =
+    subst (λ x. UpgradeCause x t m' n o' p why) e (subst (λ x. UpgradeCause s t x n o' p why) f (subst (λ x. UpgradeCause s t m n x p why) g cause))

@@ -1,5 +1,5 @@
 -- What becomes of the rounds over the planes of a table: no plane is refused, so what is written is the report or a part of it.
-use Rattle.std.proofs.Common.{◌≡◌, ◌⊎◌, ℕ, ◌+◌, List, [], ◌∷◌, ◌++◌, length, refl, sym, ap, ◌∙◌, subst, arith, inl, inr, Option, IsNone, IsSome, append-nil, append_assoc, length-append}
+use Rattle.std.proofs.Common.{◌≡◌, ◌⊎◌, ℕ, ◌+◌, List, [], ◌∷◌, ◌++◌, length, refl, sym, ap, ◌∙◌, subst, arith, inl, inr, Option, Result, Err, IsNone, IsSome, append-nil, append_assoc, length-append}
 use Rattle.std.proofs.lemmas.Bool.{cases_Bool}
 use Rattle.std.proofs.lemmas.List.{length-map}
 use Rattle.std.specs.Option.{is_some}
@@ -16,10 +16,13 @@ use Rattle.query_model.specs.Worlds.{NamesColumns}
 use Rattle.query_model.specs.declared.query.TypedQuery.{TypedQuery}
 use Rattle.table_rounds.specs.Headline.{RoundsHaveAnEnd, TablesAreTaken}
 use Rattle.table_rounds.specs.Rounds.{AreAllRounds, AreRefused, HaveRows, Planes, ending_at, stage_after}
-use Rattle.table_rounds.specs.Sources.{Places}
+use Rattle.table_rounds.specs.Sources.{OfPlanes, Places}
+use Rattle.table_rounds.specs.declared.reading.StepFault.{StepFault}
 use Rattle.table_rounds.specs.declared.reading.StepFault.TheVariants.{OverTop}
-use Rattle.daq_cli.specs.Report.{Fails, Finishes, Stops, WritesRounds, block_of, blocks_below, end_line, last_text, rounds_text}
+use Rattle.daq_cli.specs.Report.{CausesAfter, EndsRounds, Fails, Finishes, Stops, WritesRounds, block_of, blocks_below, end_line, last_text, rounds_text}
 use Rattle.daq_cli.specs.Worlds.{partly, whole}
+use Rattle.daq_cli.specs.declared.stop.Stop.{Stop}
+use Rattle.daq_cli.specs.declared.stop.Stop.TheVariants.{Failed, Step}
 use Rattle.daq_cli.proofs.Blocks.{blocks_before, blocks_rest, next_block}
 use Rattle.daq_cli.proofs.Rounds.{no_line, part_of_text}
 
@@ -49,22 +52,22 @@ module _ (line : List ℕ) (head : Head) (plan : Plan) (query : TypedQuery) (bit
             ∙ sym (ap (λ l. (line ++ (before ++ l)) ++ (between ++ last)) end),
       )
 
-module _ (line : List ℕ) (head : Head) (plan : Plan) (query : TypedQuery) (cells : Cells) (places : Places) (named : NamesColumns query (frame_of head)) (table : IsTable (frame_of head) cells) (taken : TablesAreTaken) where
+module _ (line : List ℕ) (head : Head) (plan : Plan) (query : TypedQuery) (cells : Cells) (places : Places) (shows : OfPlanes) (named : NamesColumns query (frame_of head)) (table : IsTable (frame_of head) cells) (taken : TablesAreTaken) where
   abbrev bits : Planes
   bits = plane_of (frame_of head) cells
 
-  pub is_whole : (old new : SinkState) (from to : Option (List ℕ)) → Finishes line head plan query bits places old new from to →
+  pub is_whole : (old new : SinkState) (from to : Option (List ℕ)) → Finishes line head plan query bits places shows old new from to →
       WritesRounds (λ reads. line ++ rounds_text head plan query bits reads) head plan query bits whole old new
   is_whole old new from to all = record { reads = all.reads; rounds = all.rounds; written = all.written }
 
   -- a part of the text of some rounds is a part of that of all
   pub in_part : RoundsHaveAnEnd → IsReadable plan.policy (projected_frame query (frame_of head)) → (old new : SinkState) (from to : Option (List ℕ)) →
-      Fails line head plan query bits places old new from to → WritesRounds (λ reads. line ++ rounds_text head plan query bits reads) head plan query bits partly old new
+      Fails line head plan query bits places shows old new from to → WritesRounds (λ reads. line ++ rounds_text head plan query bits reads) head plan query bits partly old new
   in_part ends readable old new from to fails =
       by (cases_Bool (is_some (ending_at plan (stage_after query (frame_of head) bits fails.reads (length fails.reads)))))
     where
       written : Writes partly old new (line ++ rounds_text head plan query bits fails.reads)
-      written = part_of_text plan head query bits places line fails.reads old new fails.written
+      written = part_of_text plan head query bits places shows line fails.reads old new fails.written
 
       to_end : IsNone (ending_at plan (stage_after query (frame_of head) bits fails.reads (length fails.reads))) → (rest : List ℕ) →
           (AreAllRounds plan query (frame_of head) bits (fails.reads ++ rest) ⊎ ((column plane row : ℕ) × AreRefused plan query (frame_of head) bits (fails.reads ++ rest) column plane row)) →
@@ -82,6 +85,15 @@ module _ (line : List ℕ) (head : Head) (plan : Plan) (query : TypedQuery) (cel
           to_end going rest end
 
   -- no plane is refused
-  pub never_refused : {E : Type 0} (column plane row : ℕ) (old new : SinkState) (from to : Option (List ℕ)) →
-      Stops {E = E} line head plan query bits places (OverTop column plane row) old new from to → ⊥
-  never_refused column plane row old new from to stops = taken plan query (frame_of head) cells stops.reads column plane row named table stops.stop.0
+  pub never_refused : {E : Type 0} (causes : CausesAfter E) (column plane row : ℕ) (old new : SinkState) (from to : Option (List ℕ)) →
+      Stops {E = E} line head plan query bits places shows causes (OverTop column plane row) old new from to → ⊥
+  never_refused causes column plane row old new from to stops = taken plan query (frame_of head) cells stops.reads column plane row named table stops.stop.0
+
+-- what is said of a result that is this one
+module _ {E : Type 0} (line : List ℕ) (head : Head) (plan : Plan) (query : TypedQuery) (bits : Planes) (places : Places) (shows : OfPlanes) (causes : CausesAfter E) (result : Result (Unit {0}) (Stop E))
+    (old new : SinkState) (from to : Option (List ℕ)) (ends : EndsRounds line head plan query bits places shows causes result old new from to) where
+  pub fails_of : result ≡ Err Failed → Fails line head plan query bits places shows old new from to
+  fails_of is = subst (λ r. EndsRounds line head plan query bits places shows causes r old new from to) is ends
+
+  pub stops_of : (fault : StepFault E) → result ≡ Err (Step fault) → Stops line head plan query bits places shows causes fault old new from to
+  stops_of fault is = subst (λ r. EndsRounds line head plan query bits places shows causes r old new from to) is ends

@@ -1,10 +1,6 @@
 -- The width of a command's options is below 2 ^ 63.
 use Rattle.std.proofs.Common.{ℕ, ◌≤◌, List, Option, Some, None, IfSome, unwrap_or, zero-le}
-use Rattle.command_line.specs.Commands.{Command, Given, Gives, IsCommand, Options, ask, demo, most_width, no_more, more_width, more_rounds, more_policy, more_reads, more_list}
-
-abbrev pub options_of_command : Command → Options
-options_of_command (ask a) = a.options
-options_of_command (demo d) = d.options
+use Rattle.command_line.specs.Commands.{Ask, Demo, Given, Gives, IsCommand, Query, ask, demo, query, most_width, no_more, more_width, more_rounds, more_policy, more_reads, more_list}
 
 abbrev IsSmall : Given → Type 0
 IsSmall g = IfSome g.width (λ n. n ≤ most_width)
@@ -21,6 +17,11 @@ small_width : (width : Option ℕ) → IfSome width (λ n. n ≤ most_width) →
 small_width None s = zero-le
 small_width (Some n) s = s
 
-pub width_is_small : (words : List (List ℕ)) (command : Command) → IsCommand words command → (options_of_command command).width ≤ most_width
-width_is_small words (ask a) is = rw is.options.say (small_width is.options.given.width (small_given is.options.gives tt))
-width_is_small words (demo d) is = rw is.options.say (small_width is.options.given.width (small_given is.options.gives tt))
+pub ask_width : (words : List (List ℕ)) (a : Ask) → IsCommand words (ask a) → a.options.width ≤ most_width
+ask_width words a is = rw is.options.say (small_width is.options.given.width (small_given is.options.gives tt))
+
+pub demo_width : (words : List (List ℕ)) (d : Demo) → IsCommand words (demo d) → d.options.width ≤ most_width
+demo_width words d is = rw is.options.say (small_width is.options.given.width (small_given is.options.gives tt))
+
+pub query_width : (words : List (List ℕ)) (q : Query) → IsCommand words (query q) → q.options.width ≤ most_width
+query_width words q is = rw is.options.say (small_width is.options.given.width (small_given is.options.gives tt))

@@ -5,6 +5,14 @@ use Rattle.csv_load.specs.declared.fault.TableFault.{TableFault}
 use Rattle.csv_load.specs.declared.fault.TableFault.TheVariants as t
 use Rattle.outer_world.specs.declared.whole.ReadAll.{ReadAll}
 use Rattle.outer_world.specs.declared.whole.ReadAll.TheVariants as all
+use Rattle.plane_file.specs.declared.file_fault.FileFault.{FileFault}
+use Rattle.plane_file.specs.declared.file_fault.FileFault.TheVariants as f
+use Rattle.plane_file.specs.declared.write_fault.WriteFile.{WriteFile}
+use Rattle.plane_file.specs.declared.write_fault.WriteFile.TheVariants as w
+use Rattle.plane_file.specs.declared.plane_fault.PlaneFault.{PlaneFault}
+use Rattle.plane_file.specs.declared.plane_fault.PlaneFault.TheVariants as d
+use Rattle.plane_file.specs.declared.table_fault.ReadTable.{ReadTable}
+use Rattle.plane_file.specs.declared.table_fault.ReadTable.TheVariants as files
 use Rattle.plane_reads.specs.declared.fault.ReadsFault.{ReadsFault}
 use Rattle.plane_reads.specs.declared.fault.ReadsFault.TheVariants as r
 use Rattle.sql_text.specs.declared.fault.SqlFault.{SqlFault}
@@ -12,9 +20,14 @@ use Rattle.sql_text.specs.declared.fault.SqlFault.TheVariants as q
 use Rattle.sql_typing.specs.declared.fault.TypeFault.{TypeFault}
 use Rattle.sql_typing.specs.declared.fault.TypeFault.TheVariants as y
 use Rattle.table_gen.specs.declared.fault.GenFault.{GenFault}
+use Rattle.table_rounds.specs.declared.reading.StepFault.{StepFault}
+use Rattle.table_rounds.specs.declared.reading.StepFault.TheVariants as steps
+use Rattle.table_rounds.specs.declared.reading.StepFault.TheVariants.{Source}
+use Rattle.daq_cli.specs.declared.stop.Stop.{Stop}
+use Rattle.daq_cli.specs.declared.stop.Stop.TheVariants.{Failed, Step}
 use Rattle.table_gen.specs.declared.fault.GenFault.TheVariants as g
 use Rattle.daq_cli.specs.declared.refusal.Refusal.{Refusal}
-use Rattle.daq_cli.specs.declared.refusal.Refusal.TheVariants.{Query, Schema, TooLong, Table, TooManyRows, Typing, Reads, ReadFault, NoMemory}
+use Rattle.daq_cli.specs.declared.refusal.Refusal.TheVariants.{Query, Schema, TooLong, Table, TooManyRows, Typing, Reads, File, PadBits, OverTop, ReadFault, WriteFault, NoMemory}
 
 -- want of memory is the run's, and any other fault is shown as it stands
 abbrev pub text : SqlFault → Refusal
@@ -45,3 +58,31 @@ abbrev pub input : ReadAll → Refusal
 input all.Fault = ReadFault
 input (all.TooLong limit) = TooLong limit
 input all.NoMemory = NoMemory
+
+abbrev pub opening : FileFault → Refusal
+opening f.Fault = ReadFault
+opening f.NoMemory = NoMemory
+opening fault = File fault
+
+abbrev pub writing : WriteFile → Refusal
+writing w.Fault = WriteFault
+writing w.NoMemory = NoMemory
+
+abbrev pub plane : PlaneFault → Refusal
+plane d.Fault = ReadFault
+plane (d.PadBits column number) = PadBits column number
+plane d.WentShort = File f.WentShort
+
+abbrev pub reading : ReadTable → Refusal
+reading (files.File fault) = opening fault
+reading (files.Plane fault) = plane fault
+reading (files.OverTop column number row) = OverTop column number row
+reading files.NoMemory = NoMemory
+
+abbrev pub step : StepFault PlaneFault → Refusal
+step (Source fault) = plane fault
+step (steps.OverTop column number row) = OverTop column number row
+
+abbrev pub stop : Stop PlaneFault → Refusal
+stop Failed = WriteFault
+stop (Step fault) = step fault

@@ -2,6 +2,9 @@ pub mod Worlds
 pub mod Faults
 pub mod Refusals
 pub mod Steps
+pub mod Inputs
+pub mod Files
+pub mod Stores
 pub mod Report
 pub mod Questions
 pub mod commands

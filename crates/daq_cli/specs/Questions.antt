@@ -40,6 +40,18 @@ pub record Question : Type 0 where
 abbrev pub question_of : sql.Query → Options → Contents → Question
 question_of query options table = record { query = query; options = options; table = table }
 
+-- what is asked of a table, of which the head alone is known
+pub record Asked : Type 0 where
+  pub query : sql.Query
+  pub options : Options
+  pub head : Head
+
+abbrev pub asked_with : sql.Query → Options → Head → Asked
+asked_with query options head = record { query = query; options = options; head = head }
+
+abbrev pub asked_of : Question → Asked
+asked_of question = asked_with question.query question.options question.table.head
+
 -- ---- the SQL
 
 -- the text is no query
@@ -74,49 +86,53 @@ pub record IsPlanOf (options : Options) (typed : TypedQuery) (head : Head) (plan
   pub most : plan.most ≡ options.rounds
 
 -- the query is typed as one of aggregates over all rows that meet its condition, and there is a plan of the options
-pub record IsPlanned (question : Question) (typed : TypedQuery) (plan : Plan) : Type 0 where
-  pub is_typed : IsTyped question.query question.table.head typed
+pub record IsPlanned (asked : Asked) (typed : TypedQuery) (plan : Plan) : Type 0 where
+  pub is_typed : IsTyped asked.query asked.head typed
   pub plain : typed.shape ≡ Plain
-  pub planned : IsPlanOf question.options typed question.table.head plan
+  pub planned : IsPlanOf asked.options typed asked.head plan
 
 -- it cannot be typed
-pub record ShowsTyping (question : Question) (why : Refusal) : Type 0 where
+pub record ShowsTyping (asked : Asked) (why : Refusal) : Type 0 where
   pub fault : TypeFault
   pub shown : fault ≢ y.NoMemory
   pub is : why ≡ Typing fault
-  pub faulty : typing.Refuses question.query question.table.head fault
+  pub faulty : typing.Refuses asked.query asked.head fault
 
 -- it has groups or an order
-pub record ShowsForm (question : Question) (why : Refusal) : Type 0 where
+pub record ShowsForm (asked : Asked) (why : Refusal) : Type 0 where
   pub typed : TypedQuery
-  pub is_typed : IsTyped question.query question.table.head typed
+  pub is_typed : IsTyped asked.query asked.head typed
   pub other : typed.shape ≢ Plain
   pub is : why ≡ NotBuilt
 
 -- the columns to be read are none, or not so often
-pub record ShowsReads (question : Question) (why : Refusal) : Type 0 where
+pub record ShowsReads (asked : Asked) (why : Refusal) : Type 0 where
   pub typed : TypedQuery
-  pub is_typed : IsTyped question.query question.table.head typed
+  pub is_typed : IsTyped asked.query asked.head typed
   pub plain : typed.shape ≡ Plain
   pub fault : ReadsFault
   pub shown : fault ≢ r.NoMemory
   pub is : why ≡ Reads fault
-  pub faulty : RefusesOrder question.options.order typed question.table.head fault
+  pub faulty : RefusesOrder asked.options.order typed asked.head fault
 
--- the typing of the question comes first, then its form, then its reads
-abbrev pub ShowsQuestion : Question → Refusal → Type 0
-ShowsQuestion question why = ShowsTyping question why ⊎ ShowsForm question why ⊎ ShowsReads question why
+-- its typing comes first, then its form, then its reads
+abbrev pub ShowsQuestion : Asked → Refusal → Type 0
+ShowsQuestion asked why = ShowsTyping asked why ⊎ ShowsForm asked why ⊎ ShowsReads asked why
+
+-- it is refused so, or memory ran out
+abbrev pub StopsPlanning : Asked → Refusal → Type 0
+StopsPlanning asked why = ShowsQuestion asked why ⊎ (why ≡ NoMemory)
 
 -- it has a typing, and a plan
-pub record IsAnswerable (question : Question) : Type 0 where
+pub record IsAnswerable (asked : Asked) : Type 0 where
   pub typed : TypedQuery
   pub plan : Plan
-  pub planned : IsPlanned question typed plan
+  pub planned : IsPlanned asked typed plan
 
 abbrev pub question_step : sql.Query → Options → Contents → Step Question
 question_step query options table =
     let asked = question_of query options table in
-    record { accepts = λ question. (question ≡ asked) × IsAnswerable asked; shows = ShowsQuestion asked }
+    record { accepts = λ question. (question ≡ asked) × IsAnswerable (asked_of asked); shows = ShowsQuestion (asked_of asked) }
 
 -- ---- the answer
 
@@ -135,7 +151,7 @@ pub record ReportsRounds (query : sql.Query) (typed : TypedQuery) (plan : Plan) 
 pub record IsReport (question : Question) (text : List ℕ) : Type 0 where
   pub typed : TypedQuery
   pub plan : Plan
-  pub planned : IsPlanned question typed plan
+  pub planned : IsPlanned (asked_of question) typed plan
   pub reads : List ℕ
   pub rounds : AreAllRounds plan typed (frame_of question.table.head) (planes_of question.table) reads
   pub headline : AreCertain typed (frame_of question.table.head) question.table.cells reads
@@ -150,6 +166,6 @@ pub record Reports (question : Question) (extent : Extent) (out out' : SinkState
 
 -- why the report of a question is not written whole; but for a failed write nothing was written
 pub data QuestionCause (question : Question) (out out' : SinkState) : Refusal → Type 0 where
-  step : {why : Refusal} → ShowsQuestion question why → out' ≡ out → QuestionCause question out out' why
+  step : {why : Refusal} → ShowsQuestion (asked_of question) why → out' ≡ out → QuestionCause question out out' why
   write_fault : Reports question partly out out' → QuestionCause question out out' WriteFault
   no_memory : out' ≡ out → QuestionCause question out out' NoMemory

@@ -7,6 +7,8 @@ use Rattle.csv_load.specs.declared.fault.TableFault.{TableFault}
 use Rattle.csv_load.specs.declared.fault.TableFault.TheVariants as table
 use Rattle.outer_world.specs.Device.{SinkState}
 use Rattle.outer_world.specs.Whole.{Writes}
+use Rattle.plane_file.specs.declared.file_fault.FileFault.{FileFault}
+use Rattle.plane_file.specs.declared.file_fault.FileFault.TheVariants as file
 use Rattle.plane_reads.specs.declared.fault.ReadsFault.{ReadsFault}
 use Rattle.plane_reads.specs.declared.fault.ReadsFault.TheVariants as reads
 use Rattle.sql_text.specs.declared.fault.SqlFault.{SqlFault}
@@ -15,7 +17,7 @@ use Rattle.sql_typing.specs.declared.fault.TypeFault.{TypeFault}
 use Rattle.sql_typing.specs.declared.fault.TypeFault.TheVariants as typing
 use Rattle.daq_cli.specs.Worlds.{partly, whole}
 use Rattle.daq_cli.specs.declared.refusal.Refusal.{Refusal}
-use Rattle.daq_cli.specs.declared.refusal.Refusal.TheVariants.{Usage, Query, Schema, TooLong, Table, TooManyRows, Typing, NotBuilt, Reads, ReadFault, WriteFault, NoMemory}
+use Rattle.daq_cli.specs.declared.refusal.Refusal.TheVariants.{Usage, Query, Schema, TooLong, Table, TooManyRows, Typing, NotBuilt, Reads, File, PadBits, OverTop, ReadFault, WriteFault, NoMemory}
 use Rattle.daq_cli.specs.declared.status.Status.{Status}
 use Rattle.daq_cli.specs.declared.status.Status.TheVariants as s
 
@@ -65,6 +67,24 @@ reads_fault_text (reads.UnknownName place) = codes "query refused: read " ++ sig
 reads_fault_text (reads.PastEnd place) = codes "query refused: read " ++ signed_decimal (pos (place + 1)) ++ codes " is past its column's last plane"
 reads_fault_text reads.NoMemory = codes "no memory"
 
+-- places count from 0, from the file's first byte
+abbrev pub file_fault_text : FileFault → List ℕ
+file_fault_text file.BadMagic = codes "file refused: not a plane file"
+file_fault_text (file.UnknownVersion found) = codes "file refused: version " ++ signed_decimal (pos found)
+file_fault_text (file.BadHead at) = codes "file refused: bad head at " ++ signed_decimal (pos at)
+file_fault_text (file.LimitPassed at) = codes "file refused: limit passed at " ++ signed_decimal (pos at)
+file_fault_text (file.WrongSize found wanted) = codes "file refused: size " ++ signed_decimal (pos found) ++ codes ", not " ++ signed_decimal (pos wanted)
+file_fault_text file.WentShort = codes "file refused: the store ended early"
+file_fault_text file.Fault = codes "read fault"
+file_fault_text file.NoMemory = codes "no memory"
+
+-- the plane of a column, each counted from 1
+abbrev pub plane_text : ℕ → ℕ → List ℕ
+plane_text column plane = codes "file refused: column " ++ signed_decimal (pos (column + 1)) ++ codes " plane " ++ signed_decimal (pos (plane + 1))
+
+abbrev pub over_top_text : ℕ → ℕ → ℕ → List ℕ
+over_top_text column plane row = plane_text column plane ++ codes " row " ++ signed_decimal (pos (row + 1)) ++ codes " passes its top"
+
 abbrev pub fault_text : Refusal → List ℕ
 fault_text (Usage place) = codes "usage: word " ++ signed_decimal (pos place)
 fault_text (Query fault) = text_fault_text fault
@@ -75,6 +95,9 @@ fault_text TooManyRows = codes "table refused: more than 16777216 rows"
 fault_text (Typing fault) = type_fault_text fault
 fault_text NotBuilt = codes "query refused: not built"
 fault_text (Reads fault) = reads_fault_text fault
+fault_text (File fault) = file_fault_text fault
+fault_text (PadBits column plane) = plane_text column plane ++ codes " has pad bits"
+fault_text (OverTop column plane row) = over_top_text column plane row
 fault_text ReadFault = codes "read fault"
 fault_text WriteFault = codes "write fault"
 fault_text NoMemory = codes "no memory"
@@ -92,6 +115,9 @@ status_of TooManyRows = s.TableRefused
 status_of (Typing fault) = s.QueryRefused
 status_of NotBuilt = s.QueryRefused
 status_of (Reads fault) = s.QueryRefused
+status_of (File _) = s.FileRefused
+status_of (PadBits column plane) = s.FileRefused
+status_of (OverTop column plane row) = s.FileRefused
 status_of ReadFault = s.ReadFault
 status_of WriteFault = s.WriteFault
 status_of NoMemory = s.NoMemory

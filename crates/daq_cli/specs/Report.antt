@@ -1,5 +1,5 @@
 -- The text of a report: the query, a block for each round, and why the rounds ended.
-use Rattle.std.specs.Prelude.{ℕ, zero, suc, Ok, Err, IfSome, List, [], ◌∷◌, ◌++◌, length, codes}
+use Rattle.std.specs.Prelude.{◌≡◌, ℕ, zero, suc, Ok, Err, IfSome, List, [], ◌∷◌, ◌++◌, length, codes}
 use Rattle.std.specs.Io.KnownBytes.{Appends}
 use Rattle.std.specs.declared.option.Option.{Option}
 use Rattle.std.specs.declared.option.Option.TheVariants.{Some, None}
@@ -7,14 +7,14 @@ use Rattle.std.specs.declared.result.Result.{Result}
 use Rattle.daq_report.specs.Blocks.{block_text}
 use Rattle.daq_table.specs.Tables.{frame_of}
 use Rattle.daq_table.specs.declared.table_head.Head.{Head}
-use Rattle.outer_world.specs.Device.{SinkState}
+use Rattle.outer_world.specs.Device.{Rose, SinkState}
 use Rattle.outer_world.specs.Whole.{Writes}
 use Rattle.plane_schedule.specs.declared.policy.Ending.{Ending}
 use Rattle.plane_schedule.specs.declared.policy.Ending.TheVariants.{Narrow, Rounds, Reads}
 use Rattle.plane_schedule.specs.declared.policy.Plan.{Plan}
 use Rattle.query_model.specs.declared.query.TypedQuery.{TypedQuery}
 use Rattle.table_rounds.specs.Rounds.{AreAllRounds, AreRounds, Planes, column_read, ending_at, stage_after}
-use Rattle.table_rounds.specs.Sources.{Places, StopsAt, ToldPlanes, places_of}
+use Rattle.table_rounds.specs.Sources.{Causes, OfEach, OfPlanes, OnFailed, OnRefused, Places, StopsAt, ToldPlanes, places_of}
 use Rattle.table_rounds.specs.declared.reading.StepFault.{StepFault}
 use Rattle.daq_cli.specs.Worlds.{Extent, partly, whole}
 use Rattle.daq_cli.specs.declared.stop.Stop.{Stop}
@@ -74,42 +74,68 @@ FailsInLast line head plan query bits (c ∷ reads) old new =
     (mid : SinkState) × Writes whole old mid (line ++ blocks_below head query bits (c ∷ reads) (length (c ∷ reads)))
     × Writes partly mid new (last_text head plan query bits (c ∷ reads))
 
--- all rounds were written, and the places of their planes handed over
-pub record Finishes (line : List ℕ) (head : Head) (plan : Plan) (query : TypedQuery) (bits : Planes) (places : Places)
+-- all rounds were written, and the places of their planes handed over, each of which shows what is said of a plane that was read
+pub record Finishes (line : List ℕ) (head : Head) (plan : Plan) (query : TypedQuery) (bits : Planes) (places : Places) (shows : OfPlanes)
     (old new : SinkState) (from to : Option (List ℕ)) : Type 0 where
   pub reads : List ℕ
   pub rounds : AreAllRounds plan query (frame_of head) bits reads
+  pub shown : OfEach shows query reads
   pub written : Writes whole old new (line ++ rounds_text head plan query bits reads)
   pub handed : Appends from to (places_of places query reads (length reads))
 
 -- a write failed in the last of the rounds so far, and the places of their planes were handed over
-pub record Fails (line : List ℕ) (head : Head) (plan : Plan) (query : TypedQuery) (bits : Planes) (places : Places)
+pub record Fails (line : List ℕ) (head : Head) (plan : Plan) (query : TypedQuery) (bits : Planes) (places : Places) (shows : OfPlanes)
     (old new : SinkState) (from to : Option (List ℕ)) : Type 0 where
   pub reads : List ℕ
   pub rounds : AreRounds plan query (frame_of head) bits reads
+  pub shown : OfEach shows query reads
   pub written : FailsInLast line head plan query bits reads old new
   pub handed : Appends from to (places_of places query reads (length reads))
 
+-- why a source does not give a plane, with these places handed over before
+abbrev pub CausesAfter : Type 0 → Type 1
+CausesAfter E = Option (List ℕ) → Causes E
+
 -- the source failed at the plane after the rounds so far, or this plane was refused: they were written, and the places of their planes
--- handed over, and of this plane's what the stop says
+-- handed over, and then of this plane's what the stop says
 pub record Stops {E : Type 0} (line : List ℕ) (head : Head) (plan : Plan) (query : TypedQuery) (bits : Planes) (places : Places)
-    (fault : StepFault E) (old new : SinkState) (from to : Option (List ℕ)) : Type 0 where
+    (shows : OfPlanes) (causes : CausesAfter E) (fault : StepFault E) (old new : SinkState) (from to : Option (List ℕ)) : Type 0 where
   pub reads : List ℕ
+  pub at : Option (List ℕ)
   pub more : List ℕ
-  pub stop : StopsAt plan query (frame_of head) bits places reads fault more
+  pub stop : StopsAt plan query (frame_of head) bits places (causes at) reads fault more
+  pub shown : OfEach shows query reads
+  pub refused : OnRefused fault shows
   pub written : Writes whole old new (line ++ rounds_text head plan query bits reads)
-  pub handed : Appends from to (places_of places query reads (length reads) ++ more)
+  pub before : Appends from at (places_of places query reads (length reads))
+  pub handed : Appends at to more
 
 -- what becomes of the rounds
-abbrev pub EndsRounds : {E : Type 0} → List ℕ → Head → Plan → TypedQuery → Planes → Places → Result (Unit {0}) (Stop E)
+abbrev pub EndsRounds : {E : Type 0} → List ℕ → Head → Plan → TypedQuery → Planes → Places → OfPlanes → CausesAfter E → Result (Unit {0}) (Stop E)
     → SinkState → SinkState → Option (List ℕ) → Option (List ℕ) → Type 0
-EndsRounds line head plan query bits places (Ok done) old new from to = Finishes line head plan query bits places old new from to
-EndsRounds line head plan query bits places (Err Failed) old new from to = Fails line head plan query bits places old new from to
-EndsRounds line head plan query bits places (Err (Step fault)) old new from to =
-    Stops line head plan query bits places fault old new from to
+EndsRounds line head plan query bits places shows causes (Ok done) old new from to =
+    Finishes line head plan query bits places shows old new from to
+EndsRounds line head plan query bits places shows causes (Err Failed) old new from to =
+    Fails line head plan query bits places shows old new from to
+EndsRounds line head plan query bits places shows causes (Err (Step fault)) old new from to =
+    Stops line head plan query bits places shows causes fault old new from to
 
 -- the same of a source that may tell its planes, where it does
-abbrev pub EndsTold : {E : Type 0} → List ℕ → Plan → TypedQuery → ToldPlanes → Places → Result (Unit {0}) (Stop E) → SinkState → SinkState
-    → Option (List ℕ) → Option (List ℕ) → Type 0
-EndsTold line plan query told places result old new from to =
-    IfSome told.bits (λ bits. EndsRounds line told.head plan query bits places result old new from to)
+abbrev pub EndsTold : {E : Type 0} → List ℕ → Plan → TypedQuery → ToldPlanes → Places → OfPlanes → CausesAfter E → Result (Unit {0}) (Stop E)
+    → SinkState → SinkState → Option (List ℕ) → Option (List ℕ) → Type 0
+EndsTold line plan query told places shows causes result old new from to =
+    IfSome told.bits (λ bits. EndsRounds line told.head plan query bits places shows causes result old new from to)
+
+-- ---- what holds of each source, told or not
+
+-- the causes of a source that was the first one, and is the last: it fails after it handed over these places
+abbrev pub FailsSince : {S E : Type 0} → (S → Option (List ℕ)) → (S → S → Type 0) → (S → S → Causes E) → S → S → CausesAfter E
+FailsSince handed since fails first last at column number error =
+    (mid : _) × since first mid × (handed mid ≡ at) × fails mid last column number error
+
+-- a report stops with its cause: a write failed, or the source
+abbrev pub HasStopCause : {E : Type 0} → CausesAfter E → Result (Unit {0}) (Stop E) → SinkState → SinkState → Type 0
+HasStopCause causes (Ok done) old new = Unit {0}
+HasStopCause causes (Err Failed) old new = Rose old.faults new.faults
+HasStopCause causes (Err (Step fault)) old new =
+    OnFailed fault (λ error. (at : Option (List ℕ)) × (column : ℕ) × (number : ℕ) × causes at column number error)

@@ -1,18 +1,27 @@
 -- What a run comes to, by the words of the command line and what the devices tell before and after.
-use Rattle.std.specs.Prelude.{◌≡◌, ◌⊎◌, ℕ, Bool, true, false, IsTrue, List}
-use Rattle.std.specs.declared.option.Option.{Option}
-use Rattle.command_line.specs.Commands.{Command, GoesWrong, IsCommand, ask, demo}
-use Rattle.outer_world.specs.Device.{Rose}
+use Rattle.std.specs.Prelude.{◌≡◌, ◌⊎◌, ℕ, Bool, true, false, ⊤, IsTrue, List}
+use Rattle.command_line.specs.Commands.{Ask, Command, Demo, GoesWrong, Info, IsCommand, Load, Upgrade, ask, demo, info, load, query, upgrade}
+use Rattle.command_line.specs.Commands as line
+use Rattle.daq_table.specs.Tables.{Contents}
+use Rattle.outer_world.specs.Device.{Rose, StoreState}
+use Rattle.outer_world.specs.Whole.{Writes}
+use Rattle.plane_file.specs.Opening.{Opened}
 use Rattle.sql_text.specs.Answer.{IsText}
 use Rattle.sql_text.specs.Tree.{Query}
+use Rattle.daq_cli.specs.Inputs.{IsSchema}
 use Rattle.daq_cli.specs.Questions.{Question, Reports}
 use Rattle.daq_cli.specs.Refusals.{IsTold}
+use Rattle.daq_cli.specs.Stores.{WritesTable}
 use Rattle.daq_cli.specs.Worlds.{Device, WorldState, IsSame, whole}
 use Rattle.daq_cli.specs.Worlds as device
 use Rattle.daq_cli.specs.commands.Ask.{AcceptsWords, AskAccepts, AskCause, AskShows, Asks}
 use Rattle.daq_cli.specs.commands.Demo.{DemoCause, Demonstrates, demo_step}
+use Rattle.daq_cli.specs.commands.Info.{InfoAccepts, InfoCause, InfoShows, Informs, info_text}
+use Rattle.daq_cli.specs.commands.Load.{LoadAccepts, LoadCause, LoadShows, Loads, loaded}
+use Rattle.daq_cli.specs.commands.Query.{Begins, Queries, QueryAccepts, QueryCause, QueryShows}
+use Rattle.daq_cli.specs.commands.Upgrade.{UpgradeAccepts, UpgradeCause, UpgradeShows, Upgrades, upgraded}
 use Rattle.daq_cli.specs.declared.refusal.Refusal.{Refusal}
-use Rattle.daq_cli.specs.declared.refusal.Refusal.TheVariants.{NoMemory, Usage}
+use Rattle.daq_cli.specs.declared.refusal.Refusal.TheVariants.{NoMemory, Usage, WriteFault}
 use Rattle.daq_cli.specs.declared.status.Status.{Status}
 use Rattle.daq_cli.specs.declared.status.Status.TheVariants as s
 
@@ -22,32 +31,77 @@ use Rattle.daq_cli.specs.declared.status.Status.TheVariants as s
 abbrev pub Does : Command → WorldState → WorldState → Type 0
 Does (ask a) before after = Asks a whole before.input after.input before.out after.out
 Does (demo d) before after = Demonstrates d whole before.out after.out
+Does (load l) before after = Loads l before.input after.input before.made after.made before.out after.out
+Does (query q) before after = Queries q before.planes after.planes before.out after.out
+Does (info i) before after = Informs whole before.planes after.planes before.out after.out
+Does (upgrade u) before after = Upgrades before.planes after.planes before.made after.made before.out after.out
 
 -- why it stops
 abbrev pub StopsFor : Command → WorldState → WorldState → Refusal → Type 0
 StopsFor (ask a) before after why = AskCause a before.input after.input before.out after.out why
 StopsFor (demo d) before after why = DemoCause d before.out after.out why
+StopsFor (load l) before after why = LoadCause l before.input after.input before.made after.made before.out after.out why
+StopsFor (query q) before after why = QueryCause q before.planes after.planes before.out after.out why
+StopsFor (info i) before after why = InfoCause before.planes after.planes before.out after.out why
+StopsFor (upgrade u) before after why = UpgradeCause before.planes after.planes before.made after.made before.out after.out why
 
--- the refusal that it shows, where the input tells this
-abbrev pub CommandShows : Command → Option (List ℕ) → Refusal → Type 0
-CommandShows (ask a) told why = AskShows a told why
-CommandShows (demo d) told why = (demo_step d).shows why
+-- the refusal that it shows, by itself or with what its input or its store tells
+abbrev pub CommandShows : Command → WorldState → Refusal → Type 0
+CommandShows (ask a) before why = AskShows a before.input.left why
+CommandShows (demo d) before why = (demo_step d).shows why
+CommandShows (load l) before why = LoadShows l before.input.left why
+CommandShows (query q) before why = QueryShows q before.planes.held why
+CommandShows (info i) before why = InfoShows before.planes.held why
+CommandShows (upgrade u) before why = UpgradeShows before.planes.held why
 
--- the question that it asks
-abbrev pub CommandAccepts : Command → Option (List ℕ) → Question → Type 0
-CommandAccepts (ask a) told question = AskAccepts a told question
-CommandAccepts (demo d) told question = (demo_step d).accepts question
+-- what is asked for: the report of a question, a report of a file's table by its text, the file of a table with a line of that word, or the
+-- lines of a file
+pub data Task : Type 0 where
+  report : Question → Task
+  inquire : List ℕ → Task
+  store : List ℕ → Contents → Task
+  describe : Opened → Task
+
+-- a command is accepted, and asks for this
+pub data CommandAccepts (before : WorldState) : Command → Task → Type 0 where
+  of_ask : (a : Ask) (question : Question) → AskAccepts a before.input.left question → CommandAccepts before (ask a) (report question)
+  of_demo : (d : Demo) (question : Question) → (demo_step d).accepts question → CommandAccepts before (demo d) (report question)
+  of_load : (l : Load) (table : Contents) → LoadAccepts l before.input.left table → CommandAccepts before (load l) (store loaded table)
+  of_query : (q : line.Query) (text : List ℕ) → QueryAccepts q before.planes.held text → CommandAccepts before (query q) (inquire text)
+  of_info : (i : Info) (file : Opened) → InfoAccepts before.planes.held file → CommandAccepts before (info i) (describe file)
+  of_upgrade : (u : Upgrade) (table : Contents) → UpgradeAccepts before.planes.held table → CommandAccepts before (upgrade u) (store upgraded table)
+
+-- it was done to its end
+abbrev pub IsFulfilled : Task → WorldState → WorldState → Type 0
+IsFulfilled (report question) before after = Reports question whole before.out after.out
+IsFulfilled (inquire text) before after = Writes whole before.out after.out text
+IsFulfilled (store word table) before after = WritesTable word table whole before.made after.made before.out after.out
+IsFulfilled (describe file) before after = Writes whole before.out after.out (info_text file)
 
 -- its words alone are not refused
 abbrev pub IsReadable : Command → Type 0
 IsReadable (ask a) = AcceptsWords a
 IsReadable (demo d) = (query : Query) × IsText d.sql query
+IsReadable (load l) = IsSchema l.schema
+IsReadable (query q) = (query : Query) × IsText q.sql query
+IsReadable (info i) = ⊤
+IsReadable (upgrade u) = ⊤
 
 -- the devices that it uses
 abbrev pub uses : Command → Device → Bool
 uses (ask a) device.input = true
 uses (ask a) device.out = true
 uses (demo d) device.out = true
+uses (load l) device.input = true
+uses (load l) device.made = true
+uses (load l) device.out = true
+uses (query q) device.planes = true
+uses (query q) device.out = true
+uses (info i) device.planes = true
+uses (info i) device.out = true
+uses (upgrade u) device.planes = true
+uses (upgrade u) device.made = true
+uses (upgrade u) device.out = true
 uses command other = false
 
 -- ---- for the words
@@ -63,16 +117,16 @@ pub data IsCause (words : List (List ℕ)) (before after : WorldState) : Refusal
   usage : (place : ℕ) → GoesWrong words place → IsCause words before after (Usage place)
   of_command : {why : Refusal} (command : Command) → IsCommand words command → StopsFor command before after why → IsCause words before after why
 
--- the words show the refusal, or they do with what the input tells
-pub data Shows (words : List (List ℕ)) (told : Option (List ℕ)) : Refusal → Type 0 where
-  usage : (place : ℕ) → GoesWrong words place → Shows words told (Usage place)
-  of_command : {why : Refusal} (command : Command) → IsCommand words command → CommandShows command told why → Shows words told why
+-- the words show the refusal, or they do with what the input or the store tells
+pub data Shows (words : List (List ℕ)) (before : WorldState) : Refusal → Type 0 where
+  usage : (place : ℕ) → GoesWrong words place → Shows words before (Usage place)
+  of_command : {why : Refusal} (command : Command) → IsCommand words command → CommandShows command before why → Shows words before why
 
--- all is accepted, and asks this question
-pub record Accepts (words : List (List ℕ)) (told : Option (List ℕ)) (question : Question) : Type 0 where
+-- all is accepted, and asks for this
+pub record Accepts (words : List (List ℕ)) (before : WorldState) (task : Task) : Type 0 where
   pub command : Command
   pub is_command : IsCommand words command
-  pub accepted : CommandAccepts command told question
+  pub accepted : CommandAccepts before command task
 
 -- the words alone are refused
 abbrev pub IsRefused : List (List ℕ) → Type 0
@@ -82,13 +136,36 @@ IsRefused words = (command : Command) → IsCommand words command → IsReadable
 abbrev pub Uses : List (List ℕ) → Device → Type 0
 Uses words one = (command : Command) × IsCommand words command × IsTrue (uses command one)
 
--- the run tells of the refusal, or that memory ran out; or a read of the input failed
-abbrev pub EndsSo : Refusal → Status → WorldState → WorldState → Type 0
-EndsSo why status before after =
-    IsTold why status before.err after.err ⊎ IsTold NoMemory status before.err after.err ⊎ Rose before.input.faults after.input.faults
+-- nothing was written, to a file or as a report
+abbrev pub IsUnwritten : WorldState → WorldState → Type 0
+IsUnwritten before after = (after.made ≡ before.made) × (after.out ≡ before.out)
 
--- the run writes the report of the question, unless memory runs out or a device fails
-abbrev pub Completes : Question → Status → WorldState → WorldState → Type 0
-Completes question status before after =
-    ((status ≡ s.Done) × Reports question whole before.out after.out) ⊎ (status ≡ s.NoMemory)
-    ⊎ Rose before.input.faults after.input.faults ⊎ Rose before.out.faults after.out.faults ⊎ Rose before.err.faults after.err.faults
+-- the words are a `query` whose rounds were begun
+pub record BeginsRounds (words : List (List ℕ)) (before : WorldState) : Type 0 where
+  pub asked : line.Query
+  pub is_command : IsCommand words (query asked)
+  pub opened : StoreState
+  pub begun : Begins asked before.planes opened
+
+-- a read failed
+abbrev pub ReadFails : WorldState → WorldState → Type 0
+ReadFails before after = Rose before.input.faults after.input.faults ⊎ Rose before.planes.faults after.planes.faults
+
+-- the words are a `query` whose rounds were begun, and the run tells that their report was not written
+abbrev pub FailsInRounds : List (List ℕ) → Status → WorldState → WorldState → Type 0
+FailsInRounds words status before after =
+    BeginsRounds words before × Rose before.out.faults after.out.faults × IsTold WriteFault status before.err after.err
+
+-- the run tells of the refusal, or that memory ran out; or a read failed, or the write of a report before the plane that is refused
+abbrev pub EndsSo : List (List ℕ) → Refusal → Status → WorldState → WorldState → Type 0
+EndsSo words why status before after =
+    IsTold why status before.err after.err ⊎ IsTold NoMemory status before.err after.err ⊎ ReadFails before after ⊎ FailsInRounds words status before after
+
+-- a write failed
+abbrev pub WriteFails : WorldState → WorldState → Type 0
+WriteFails before after = Rose before.made.faults after.made.faults ⊎ Rose before.out.faults after.out.faults ⊎ Rose before.err.faults after.err.faults
+
+-- the run does what is asked for, unless memory runs out or a device fails
+abbrev pub Completes : Task → Status → WorldState → WorldState → Type 0
+Completes task status before after =
+    ((status ≡ s.Done) × IsFulfilled task before after) ⊎ (status ≡ s.NoMemory) ⊎ ReadFails before after ⊎ WriteFails before after

@@ -1,2 +1,6 @@
 pub mod Ask
 pub mod Demo
+pub mod Info
+pub mod Load
+pub mod Query
+pub mod Upgrade

@@ -2,3 +2,7 @@
 
 pub(crate) mod ask;
 pub(crate) mod demo;
+pub(crate) mod info;
+pub(crate) mod load;
+pub(crate) mod query;
+pub(crate) mod upgrade;

@@ -1,11 +1,12 @@
-//! What the line of each fault of a query, a schema, a table and a list of reads says.
+//! What the line of each fault of a query, a schema, a table, a list of reads and a plane file says.
 
 ghost use Rattle.std.specs.Prelude.{◌≡◌, ◌≤◌, ◌+◌, ◌++◌, length, pos};
 ghost use Rattle.std.specs.Fmt.{signed_decimal};
-ghost use Rattle.daq_cli.specs.Refusals.{reads_fault_text, schema_fault_text, table_fault_text, text_fault_text, type_fault_text};
+ghost use Rattle.daq_cli.specs.Refusals.{file_fault_text, over_top_text, plane_text, reads_fault_text, schema_fault_text, table_fault_text, text_fault_text, type_fault_text};
 
 use csv_load::TableFault;
 use daq_table::{SchemaFault, TextBuf, written_number};
+use plane_file::FileFault;
 use plane_reads::ReadsFault;
 use sql_text::SqlFault;
 use sql_typing::TypeFault;
@@ -119,6 +120,51 @@ pub(crate) fn written_type_fault(fault: &TypeFault) -> TextBuf
         }
         TypeFault::NoMemory => plain(b"no memory"),
     }
+}
+
+// What is said of a plane file.
+pub(crate) fn written_file_fault(fault: &FileFault) -> TextBuf
+    ensures text { result ≡ file_fault_text fault.now }
+    ensures short { length result ≤ 500 }
+{
+    match fault {
+        FileFault::BadMagic => plain(b"file refused: not a plane file"),
+        FileFault::UnknownVersion { found } => {
+            with_number(b"file refused: version ", u128::from(*found), b"")
+        }
+        FileFault::BadHead { at } => {
+            with_number(b"file refused: bad head at ", u128::from(*at), b"")
+        }
+        FileFault::LimitPassed { at } => {
+            with_number(b"file refused: limit passed at ", u128::from(*at), b"")
+        }
+        FileFault::WrongSize { found, wanted } => {
+            let front = with_number(b"file refused: size ", u128::from(*found), b", not ");
+            with_number(front.bytes(), u128::from(*wanted), b"")
+        }
+        FileFault::WentShort => plain(b"file refused: the store ended early"),
+        FileFault::Fault => plain(b"read fault"),
+        FileFault::NoMemory => plain(b"no memory"),
+    }
+}
+
+// The plane of a column, and what is said of it.
+pub(crate) fn written_plane(column: usize, plane: u8, words: &[u8]) -> TextBuf
+    requires { length words.now ≤ 40 }
+    ensures text { result ≡ plane_text column plane ++ words.now }
+    ensures short { length result ≤ 300 }
+{
+    let front = with_number(b"file refused: column ", after(column), b" plane ");
+    with_number(front.bytes(), after(usize::from(plane)), words)
+}
+
+// That with a plane the digits of a row would pass those of its column's top.
+pub(crate) fn written_over_top(column: usize, plane: u8, row: usize) -> TextBuf
+    ensures text { result ≡ over_top_text column plane row }
+    ensures short { length result ≤ 500 }
+{
+    let front = written_plane(column, plane, b" row ");
+    with_number(front.bytes(), after(row), b" passes its top")
 }
 
 // Words and a place of the text.

@@ -4,11 +4,19 @@ ghost use Rattle.daq_cli.specs.Laws.{StepsAreComplete, StepsAreExact};
 
 use csv_load::{faults_are_exact, tables_are_one, texts_have_answers};
 use daq_table::{schemas_are_exact, schemas_have_meanings};
+use plane_file::{
+    faultless_files_have_heads, file_faults_are_exact, files_have_one_head, files_have_tables,
+    spelled_files_have_no_fault,
+};
 use plane_reads::{answers_are_one, words_have_answers};
+use plane_schedule::{choices_are_one, policies_choose};
+use query_model::{taken_is_knowledge, valid_queries_name_columns};
 use sql_text::{one_answer, some_answer};
 use sql_typing::{trees_have_typings, typed_queries_are_valid, typing_is_exact};
+use table_rounds::{rounds_begin, rounds_have_planes};
 
-/// The steps of each command accept one question at most or show one refusal at most, and never both: so a run has one answer.
+/// The steps of each command accept one question, report, table or file at most or show one refusal at most, and never both: so a
+/// run has one answer.
 pub fn steps_are_exact()
     ensures { StepsAreExact }
 {
@@ -20,9 +28,15 @@ pub fn steps_are_exact()
     typed_queries_are_valid();
     answers_are_one();
     table_gen::tables_are_one();
+    spelled_files_have_no_fault();
+    files_have_one_head();
+    plane_file::tables_are_one();
+    file_faults_are_exact();
+    choices_are_one();
 }
 
-/// The words of an `ask`, they with the bytes of an input, and the words of a `demo` are accepted or show a refusal: nothing falls between.
+/// The words of an `ask`, of a `load`, they with the bytes of an input, the words of a `demo` and the bytes of a store are
+/// accepted or show a refusal: nothing falls between.
 pub fn steps_are_complete()
     ensures { StepsAreComplete }
 {
@@ -33,4 +47,12 @@ pub fn steps_are_complete()
     typed_queries_are_valid();
     words_have_answers();
     table_gen::seeds_have_tables();
+    faultless_files_have_heads();
+    files_have_tables();
+    valid_queries_name_columns();
+    choices_are_one();
+    policies_choose();
+    rounds_have_planes();
+    taken_is_knowledge();
+    rounds_begin();
 }

@@ -2,7 +2,9 @@
 #![tactic(auto)]
 
 mod commands;
+mod counts;
 mod fault_lines;
+mod inputs;
 mod laws;
 mod lines;
 mod question;
@@ -10,6 +12,7 @@ mod refusal;
 mod report;
 mod status;
 mod stop;
+mod stores;
 mod top;
 mod world;
 

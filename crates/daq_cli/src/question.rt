@@ -1,9 +1,11 @@
 //! A question: a query over a table, with its options. It is typed and planned, and its report is written.
 
-ghost use Rattle.std.specs.Prelude.{◌≡◌, ◌↔◌, ◌<◌, ◌^◌, Err, IfOk, IfErr, IsTrue, IsUtf8, OnOk, length};
+ghost use Rattle.std.specs.Prelude.{◌≡◌, ◌↔◌, ◌<◌, ◌^◌, Err, IfOk, IfErr, IsTrue, IsUtf8, OnOk, length, string_bytes};
+ghost use Rattle.plane_schedule.specs.Plans.{IsReadable};
+ghost use Rattle.round_engine.specs.Stages.{opened};
 ghost use Rattle.command_line.specs.Values.{options_of, order_of};
 ghost use Rattle.daq_table.specs.ValueTexts.{HeadHasTexts};
-ghost use Rattle.daq_cli.specs.Questions.{IsPlanOf, IsPolicyOf, QuestionCause, RefusesOrder, Reports, question_of};
+ghost use Rattle.daq_cli.specs.Questions.{IsPlanOf, IsPlanned, IsPolicyOf, QuestionCause, RefusesOrder, Reports, StopsPlanning, asked_with, question_of};
 ghost use Rattle.daq_cli.specs.Worlds.{whole};
 ghost use Rattle.query_model.specs.Validity.{IsValid};
 ghost use Rattle.query_model.specs.declared.query.Shape.TheVariants.{Plain};
@@ -89,7 +91,51 @@ fn is_plain(typed: &TypedQuery) -> bool
     matches!(typed.shape, Shape::Plain)
 }
 
-// Writes the report of the query over the table, by the plan of the options. All memory is taken before the first byte.
+// A question that may be answered: the printed form of its query, its plan, the query in progress, and room for a plane.
+#[derive(Drop)]
+pub(crate) struct Prepared {
+    pub(crate) sql: String,
+    pub(crate) plan: Plan,
+    pub(crate) engine: Engine,
+    pub(crate) plane: Plane,
+}
+
+// What the report of the query takes, over a table with that head. No memory is taken after this.
+pub(crate) fn prepare(
+    alloc: Global,
+    query: &Tree,
+    options: &Options,
+    head: &Head,
+) -> Result<Prepared, Refusal>
+    requires printable { IsUtf8 (printed (query_of query.now)) }
+    requires width { options.now.width < 2 ^ 63 }
+    ensures planned { IfOk result (λ p. IsPlanned (asked_with (query_of query.now) (options_of options.now) head.now) p.engine.query p.plan) }
+    ensures valid { IfOk result (λ p. IsValid head.now p.engine.query) }
+    ensures opened { IfOk result (λ p. p.engine ≡ opened p.engine.query head.now) }
+    ensures text { IfOk result (λ p. string_bytes p.sql ≡ printed (query_of query.now)) }
+    ensures rows { IfOk result (λ p. length p.plane ≡ head.now.rows) }
+    ensures width { IfOk result (λ p. p.plan.width < 2 ^ 63) }
+    ensures readable { IfOk result (λ p. IsReadable p.plan.policy p.engine.frame) }
+    ensures refused { IfErr result (StopsPlanning (asked_with (query_of query.now) (options_of options.now) head.now)) }
+{
+    typed_queries_are_valid();
+    let typed = type_query(alloc, query, head)?;
+    if !is_plain(&typed) {
+        return Err(Refusal::NotBuilt);
+    }
+    let plan = plan_of(alloc, options, &typed, head)?;
+    let sql = print(alloc, query)?;
+    let plane = Plane::blank(alloc, head.rows as usize)?;
+    let engine = Engine::open(alloc, typed, head)?;
+    Ok(Prepared {
+        sql,
+        plan,
+        engine,
+        plane,
+    })
+}
+
+// Writes the report of the query over the table, by the plan of the options.
 pub(crate) fn answer<K: Sink>(
     alloc: Global,
     query: &Tree,
@@ -109,14 +155,13 @@ pub(crate) fn answer<K: Sink>(
     typed_queries_are_valid();
     answers_are_one();
     rounds_are_one();
-    let typed = type_query(alloc, query, table.head())?;
-    if !is_plain(&typed) {
-        return Err(Refusal::NotBuilt);
-    }
-    let plan = plan_of(alloc, options, &typed, table.head())?;
-    let sql = print(alloc, query)?;
-    let mut plane = Plane::blank(alloc, table.head().rows as usize)?;
-    let mut engine = Engine::open(alloc, typed, table.head())?;
+    let prepared = prepare(alloc, query, options, table.head())?;
+    let Prepared {
+        sql,
+        plan,
+        mut engine,
+        mut plane,
+    } = prepared;
     report_table(sql.as_bytes(), &plan, &mut engine, table, &mut plane, out)?;
     Ok(())
 }

@@ -6,26 +6,33 @@ ghost use Rattle.daq_cli.specs.Faults as of;
 ghost use Rattle.daq_cli.specs.declared.refusal.Refusal.TheVariants as refusals;
 
 use crate::status::Status;
+use crate::stop::Stop;
 use command_line::Usage;
 use csv_load::TableFault;
 use daq_table::SchemaFault;
 use outer_world::{Failed, ReadAll};
+use plane_file::{FileFault, PlaneFault, ReadTable, WriteFile};
 use plane_reads::ReadsFault;
 use sql_text::SqlFault;
 use sql_typing::TypeFault;
 use std::alloc::AllocError;
 use table_gen::GenFault;
+use table_rounds::StepFault;
 
 /// Why a run stops. Want of memory in a step is `NoMemory`, and never that step's own fault.
 #[derive(Debug, PartialEq, Eq, Drop)]
 pub enum Refusal {
     /// The words are no command from this word on, counted from 1.
-    Usage { place: usize },
+    Usage {
+        place: usize,
+    },
     /// The SQL is no query.
     Query(SqlFault),
     Schema(SchemaFault),
     /// The input has more bytes than so many.
-    TooLong { limit: usize },
+    TooLong {
+        limit: usize,
+    },
     Table(TableFault),
     /// More rows are asked of the generator than a table may have.
     TooManyRows,
@@ -33,6 +40,19 @@ pub enum Refusal {
     /// The query is of a form that is not answered yet.
     NotBuilt,
     Reads(ReadsFault),
+    /// The plane file is none.
+    File(FileFault),
+    /// A plane of a column of the file has a bit past its last row. Both numbers count from 0.
+    PadBits {
+        column: usize,
+        plane: u8,
+    },
+    /// With this plane the digits of a row would pass those of the column's top. All numbers count from 0.
+    OverTop {
+        column: usize,
+        plane: u8,
+        row: usize,
+    },
     ReadFault,
     WriteFault,
     NoMemory,
@@ -124,6 +144,68 @@ impl From<ReadsFault> for Refusal {
     }
 }
 
+impl From<FileFault> for Refusal {
+    ghost from_gives = { λ fault why. why ≡ of.opening fault };
+
+    fn from(fault: FileFault) -> Self {
+        match fault {
+            FileFault::Fault => Refusal::ReadFault,
+            FileFault::NoMemory => Refusal::NoMemory,
+            fault => Refusal::File(fault),
+        }
+    }
+}
+
+impl From<PlaneFault> for Refusal {
+    ghost from_gives = { λ fault why. why ≡ of.plane fault };
+
+    fn from(fault: PlaneFault) -> Self {
+        match fault {
+            PlaneFault::Fault => Refusal::ReadFault,
+            PlaneFault::PadBits { column, plane } => Refusal::PadBits { column, plane },
+            PlaneFault::WentShort => Refusal::File(FileFault::WentShort),
+        }
+    }
+}
+
+impl From<ReadTable> for Refusal {
+    ghost from_gives = { λ fault why. why ≡ of.reading fault };
+
+    fn from(fault: ReadTable) -> Self {
+        match fault {
+            ReadTable::File(fault) => Refusal::from(fault),
+            ReadTable::Plane(fault) => Refusal::from(fault),
+            ReadTable::OverTop { column, plane, row } => Refusal::OverTop { column, plane, row },
+            ReadTable::NoMemory => Refusal::NoMemory,
+        }
+    }
+}
+
+impl From<Stop<PlaneFault>> for Refusal {
+    ghost from_gives = { λ stop why. why ≡ of.stop stop };
+
+    fn from(stop: Stop<PlaneFault>) -> Self {
+        match stop {
+            Stop::Failed => Refusal::WriteFault,
+            Stop::Step(StepFault::Source(fault)) => Refusal::from(fault),
+            Stop::Step(StepFault::OverTop { column, plane, row }) => {
+                Refusal::OverTop { column, plane, row }
+            }
+        }
+    }
+}
+
+impl From<WriteFile> for Refusal {
+    ghost from_gives = { λ fault why. why ≡ of.writing fault };
+
+    fn from(fault: WriteFile) -> Self {
+        match fault {
+            WriteFile::Fault => Refusal::WriteFault,
+            WriteFile::NoMemory => Refusal::NoMemory,
+        }
+    }
+}
+
 impl From<AllocError> for Refusal {
     ghost from_gives = { λ _ why. why ≡ refusals.NoMemory };
 
@@ -151,6 +233,7 @@ pub(crate) fn status_of(why: &Refusal) -> Status
         }
         Refusal::Schema(_) | Refusal::TooLong { .. } | Refusal::Table(_) | Refusal::TooManyRows =>
             Status::TableRefused,
+        Refusal::File(_) | Refusal::PadBits { .. } | Refusal::OverTop { .. } => Status::FileRefused,
         Refusal::ReadFault => Status::ReadFault,
         Refusal::WriteFault => Status::WriteFault,
         Refusal::NoMemory => Status::NoMemory,

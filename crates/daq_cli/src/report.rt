@@ -8,7 +8,7 @@ ghost use Rattle.plane_schedule.specs.Plans.{IsReadable};
 ghost use Rattle.query_model.specs.Validity.{IsValid};
 ghost use Rattle.round_engine.specs.Stages.{opened};
 ghost use Rattle.daq_cli.specs.Questions.{ReportsRounds};
-ghost use Rattle.daq_cli.specs.Report.{EndsTold, ending_line, query_line};
+ghost use Rattle.daq_cli.specs.Report.{EndsTold, FailsSince, HasStopCause, ending_line, query_line};
 ghost use Rattle.daq_cli.specs.Worlds.{partly, whole};
 ghost use Rattle.sql_print.specs.Printed.{printed};
 ghost use Rattle.sql_text.specs.Tree.{Query};
@@ -62,9 +62,13 @@ fn write_rounds<S: PlaneSource, F: Fn(&Progress) -> usize, K: Sink>(
     requires rows { length plane.old ≡ engine.old.frame.rows }
     requires width { plan.now.width < 2 ^ 63 }
     requires readable { IsReadable plan.now.policy engine.old.frame }
+    requires ready { S.is_ready source.old }
     requires kept { Keeps F.Fn chooser.now.choose }
     requires follows { Follows F.Fn chooser.now.choose plan.now.policy }
-    ensures { EndsTold [] plan.now engine.old.query (S.told source.old) (S.places source.old) result
+    ensures since { S.since source.old source.new }
+    ensures cause { HasStopCause (FailsSince S.handed S.since S.fails source.old source.new) result (K.state out.old) (K.state out.new) }
+    ensures ends { EndsTold [] plan.now engine.old.query (S.told source.old) (S.places source.old) (S.shows source.old)
+        (FailsSince S.handed S.since S.fails source.old source.new) result
         (K.state out.old) (K.state out.new) (S.handed source.old) (S.handed source.new) }
 {
     rounds_begin();
@@ -97,7 +101,11 @@ fn write_planned<S: PlaneSource, K: Sink>(
     requires rows { length plane.old ≡ engine.old.frame.rows }
     requires width { plan.now.width < 2 ^ 63 }
     requires readable { IsReadable plan.now.policy engine.old.frame }
-    ensures { EndsTold [] plan.now engine.old.query (S.told source.old) (S.places source.old) result
+    requires ready { S.is_ready source.old }
+    ensures since { S.since source.old source.new }
+    ensures cause { HasStopCause (FailsSince S.handed S.since S.fails source.old source.new) result (K.state out.old) (K.state out.new) }
+    ensures ends { EndsTold [] plan.now engine.old.query (S.told source.old) (S.places source.old) (S.shows source.old)
+        (FailsSince S.handed S.since S.fails source.old source.new) result
         (K.state out.old) (K.state out.new) (S.handed source.old) (S.handed source.new) }
 {
     match &plan.policy {
@@ -151,7 +159,11 @@ pub(crate) fn write_report<S: PlaneSource, K: Sink>(
     requires rows { length plane.old ≡ engine.old.frame.rows }
     requires width { plan.now.width < 2 ^ 63 }
     requires readable { IsReadable plan.now.policy engine.old.frame }
-    ensures { EndsTold (query_line sql.now) plan.now engine.old.query (S.told source.old) (S.places source.old) result
+    requires ready { S.is_ready source.old }
+    ensures since { S.since source.old source.new }
+    ensures cause { HasStopCause (FailsSince S.handed S.since S.fails source.old source.new) result (K.state out.old) (K.state out.new) }
+    ensures ends { EndsTold (query_line sql.now) plan.now engine.old.query (S.told source.old) (S.places source.old) (S.shows source.old)
+        (FailsSince S.handed S.since S.fails source.old source.new) result
         (K.state out.old) (K.state out.new) (S.handed source.old) (S.handed source.new) }
 {
     rounds_begin();

@@ -1,14 +1,13 @@
 //! The one call of the program: does what the words ask for, over the devices of a world.
 
-ghost use Rattle.std.specs.Prelude.{◌≡◌, ◌≢◌, OnOk, IfErr};
+ghost use Rattle.std.specs.Prelude.{◌≡◌, ◌≢◌, ◌⊎◌, OnOk, IfErr};
 ghost use Rattle.command_line.specs.Commands.{Command, IsCommand};
-ghost use Rattle.daq_cli.specs.Questions.{Question};
 ghost use Rattle.daq_cli.specs.Refusals.{IsTold};
-ghost use Rattle.daq_cli.specs.Runs.{Accepts, Completes, Does, EndsSo, IsCause, IsDone, IsRefused, Shows, Uses};
+ghost use Rattle.daq_cli.specs.Runs.{Accepts, BeginsRounds, Completes, Does, EndsSo, IsCause, IsDone, IsRefused, IsUnwritten, Shows, Task, Uses};
 ghost use Rattle.daq_cli.specs.Worlds.{Device, IsSame};
 ghost use Rattle.daq_cli.specs.declared.refusal.Refusal.{Refusal};
 
-use crate::commands::{ask, demo};
+use crate::commands::{ask, demo, info, load, query, upgrade};
 use crate::laws::steps_are_exact;
 use crate::lines::refuse;
 use crate::refusal::Refusal;
@@ -27,18 +26,34 @@ fn perform<S: Source, P: Store, K: Sink>(
     ensures done { OnOk result (IsDone words.now world.old world.new) }
     ensures refused { IfErr result (IsCause words.now world.old world.new) }
     ensures stays { (device : Device) → ¬ Uses words.now device → IsSame device world.old world.new }
-    ensures untouched { IsRefused words.now → (world.new.input ≡ world.old.input) × (world.new.out ≡ world.old.out) }
+    ensures untouched { IsRefused words.now → (device : Device) → IsSame device world.old world.new }
     ensures quiet { world.new.err ≡ world.old.err }
 {
     match Command::parse(words) {
         Ok(Command::Ask(asked)) => ask::carry_out(alloc, &asked, &mut world.input, &mut world.out),
         Ok(Command::Demo(asked)) => demo::carry_out(alloc, &asked, &mut world.out),
+        Ok(Command::Load(asked)) => {
+            load::carry_out(
+                alloc,
+                &asked,
+                &mut world.input,
+                &mut world.made,
+                &mut world.out,
+            )
+        }
+        Ok(Command::Query(asked)) => {
+            query::carry_out(alloc, &asked, &mut world.planes, &mut world.out)
+        }
+        Ok(Command::Info(_)) => info::carry_out(alloc, &mut world.planes, &mut world.out),
+        Ok(Command::Upgrade(_)) => {
+            upgrade::carry_out(alloc, &mut world.planes, &mut world.made, &mut world.out)
+        }
         Err(usage) => Err(Refusal::from(usage)),
     }
 }
 
-/// Does what the words ask for, and says how it ended: the report on `out`, each of whose intervals is certain, or the line
-/// of a refusal on `err`.
+/// Does what the words ask for, and says how it ended: the report on `out`, each of whose intervals is certain, or the file
+/// of a table on `made`, or the lines of a file on `out`, or the line of a refusal on `err`.
 pub fn run<S: Source, P: Store, K: Sink>(
     alloc: Global,
     words: &Words,
@@ -47,14 +62,15 @@ pub fn run<S: Source, P: Store, K: Sink>(
     ensures done { result ≡ Status.Done → IsDone words.now world.old world.new }
     ensures refused { result ≢ Status.Done → (why : Refusal)
         × IsCause words.now world.old world.new why × IsTold why result world.old.err world.new.err }
-    // What the words and a told input show is told, and what they accept is answered.
-    ensures exact { (why : Refusal) → Shows words.now world.old.input.left why → EndsSo why result world.old world.new }
-    ensures complete { (question : Question) → Accepts words.now world.old.input.left question
-        → Completes question result world.old world.new }
+    // What the words and a told input or store show is told, and what they accept is answered.
+    ensures exact { (why : Refusal) → Shows words.now world.old why → EndsSo words.now why result world.old world.new }
+    ensures complete { (task : Task) → Accepts words.now world.old task → Completes task result world.old world.new }
     // What stays as it was.
     ensures stays { (device : Device) → ¬ Uses words.now device → IsSame device world.old world.new }
-    ensures untouched { IsRefused words.now → (world.new.input ≡ world.old.input) × (world.new.out ≡ world.old.out) }
-    ensures early { result ≢ Status.Done → result ≢ Status.WriteFault → world.new.out ≡ world.old.out }
+    ensures untouched { IsRefused words.now → (device : Device) → IsSame device world.old world.new }
+    // But for a failed write, and for rounds that were begun, nothing was written.
+    ensures early { result ≢ Status.Done → result ≢ Status.WriteFault
+        → IsUnwritten world.old world.new ⊎ BeginsRounds words.now world.old }
     ensures quiet { result ≡ Status.Done → world.new.err ≡ world.old.err }
 {
     steps_are_exact();

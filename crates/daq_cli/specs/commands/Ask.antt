@@ -1,67 +1,18 @@
 -- `ask`: a question to the table that the bytes of the input stand for.
-use Rattle.std.specs.Prelude.{◌≡◌, ◌≢◌, ◌⊎◌, ℕ, ◌+◌, ◌<◌, ◌≤◌, List, length, Some}
+use Rattle.std.specs.Prelude.{◌≡◌, ◌⊎◌, ℕ, ◌≤◌, List, length, Some}
 use Rattle.std.specs.declared.option.Option.{Option}
-use Rattle.std.specs.Io.KnownBytes.{Consumes, IsAtEnd}
 use Rattle.command_line.specs.Commands.{Ask}
-use Rattle.csv_load.specs.Faults as tables
-use Rattle.csv_load.specs.TableOf.{IsTableOf}
-use Rattle.csv_load.specs.declared.fault.TableFault.{TableFault}
-use Rattle.csv_load.specs.declared.fault.TableFault.TheVariants as t
-use Rattle.csv_load.specs.declared.limits.Limits.{Limits}
-use Rattle.daq_table.specs.SchemaFaults as schemas
-use Rattle.daq_table.specs.Schemas.{Declares}
-use Rattle.daq_table.specs.Tables.{Contents}
 use Rattle.daq_table.specs.declared.schema_column.SchemaColumn.{SchemaColumn}
-use Rattle.daq_table.specs.declared.schema_fault.SchemaFault.{SchemaFault}
-use Rattle.daq_table.specs.declared.schema_fault.SchemaFault.TheVariants as s
 use Rattle.outer_world.specs.Device.{Rose, SourceState, SinkState}
 use Rattle.outer_world.specs.Whole.{ReadsToEnd, Takes}
+use Rattle.daq_cli.specs.Inputs.{StopsAtInput, most_bytes, schema_step, table_step}
 use Rattle.daq_cli.specs.Questions.{Question, Reports, question_step, sql_step}
 use Rattle.daq_cli.specs.Steps.{Step, then}
 use Rattle.daq_cli.specs.Worlds.{Extent, partly}
 use Rattle.daq_cli.specs.declared.refusal.Refusal.{Refusal}
-use Rattle.daq_cli.specs.declared.refusal.Refusal.TheVariants.{Schema, TooLong, Table, ReadFault, WriteFault, NoMemory}
-
--- the most bytes of an input
-abbrev pub most_bytes : ℕ
-most_bytes = 1073741824
-
--- the most rows, cells and names of a table
-abbrev pub limits : Limits
-limits = record { rows = 16777216; cells = 134217728; names = 65536 }
+use Rattle.daq_cli.specs.declared.refusal.Refusal.TheVariants.{ReadFault, WriteFault, NoMemory}
 
 -- ---- the steps
-
--- the text declares no columns
-pub record ShowsSchema (text : List ℕ) (why : Refusal) : Type 0 where
-  pub fault : SchemaFault
-  pub shown : fault ≢ s.NoMemory
-  pub is : why ≡ Schema fault
-  pub faulty : schemas.Refuses text fault
-
-abbrev pub schema_step : List ℕ → Step (List SchemaColumn)
-schema_step text = record { accepts = Declares text; shows = ShowsSchema text }
-
--- the bytes are few enough, and stand for the table
-pub record IsTableText (columns : List SchemaColumn) (bytes : List ℕ) (table : Contents) : Type 0 where
-  pub small : length bytes ≤ most_bytes
-  pub is_table : IsTableOf bytes columns limits table
-
--- they are too many
-pub record ShowsLength (bytes : List ℕ) (why : Refusal) : Type 0 where
-  pub longer : most_bytes < length bytes
-  pub is : why ≡ TooLong most_bytes
-
--- they stand for no table
-pub record ShowsTable (columns : List SchemaColumn) (bytes : List ℕ) (why : Refusal) : Type 0 where
-  pub small : length bytes ≤ most_bytes
-  pub fault : TableFault
-  pub shown : fault ≢ t.NoMemory
-  pub is : why ≡ Table fault
-  pub faulty : tables.Refuses bytes columns limits fault
-
-abbrev pub table_step : List SchemaColumn → List ℕ → Step Contents
-table_step columns bytes = record { accepts = IsTableText columns bytes; shows = λ why. ShowsLength bytes why ⊎ ShowsTable columns bytes why }
 
 -- the words alone: the SQL is judged before the schema
 abbrev pub words_step : Ask → Step (List SchemaColumn)
@@ -93,18 +44,10 @@ pub record Asks (ask : Ask) (extent : Extent) (input input' : SourceState) (out 
   pub accepted : (ask_step ask bytes).accepts question
   pub reported : Reports question extent out out'
 
--- a step behind the words shows the refusal: the input was read to its end, or less than 4,097 bytes past the limit
-pub record StopsAtInput (ask : Ask) (input input' : SourceState) (why : Refusal) : Type 0 where
-  pub bytes : List ℕ
-  pub came : Consumes input.left input'.left bytes
-  pub within : length bytes ≤ most_bytes + 4096
-  pub ended : length bytes ≤ most_bytes → IsAtEnd input'.left
-  pub shown : (ask_step ask bytes).shows why
-
 -- why an `ask` stops; but for a failed write nothing was written
 pub data AskCause (ask : Ask) (input input' : SourceState) (out out' : SinkState) : Refusal → Type 0 where
   at_words : {why : Refusal} → (words_step ask).shows why → input' ≡ input → out' ≡ out → AskCause ask input input' out out' why
-  at_input : {why : Refusal} → StopsAtInput ask input input' why → out' ≡ out → AskCause ask input input' out out' why
+  at_input : {why : Refusal} → StopsAtInput (ask_step ask) input input' why → out' ≡ out → AskCause ask input input' out out' why
   read_fault : AcceptsWords ask → Rose input.faults input'.faults → Takes input input' 0 most_bytes → out' ≡ out → AskCause ask input input' out out' ReadFault
   write_fault : Asks ask partly input input' out out' → AskCause ask input input' out out' WriteFault
   no_memory : length ask.sql ≤ 4096 → Takes input input' 0 most_bytes → out' ≡ out → AskCause ask input input' out out' NoMemory

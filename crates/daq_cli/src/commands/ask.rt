@@ -5,16 +5,13 @@ ghost use Rattle.command_line.specs.Values.{ask_of};
 ghost use Rattle.daq_cli.specs.Worlds.{whole};
 ghost use Rattle.daq_cli.specs.commands.Ask.{AcceptsWords, AskCause, Asks};
 
+use crate::inputs::read_table;
 use crate::question::{answer, read_query};
 use crate::refusal::Refusal;
 use command_line::Ask;
-use csv_load::{Limits, heads_have_texts, load};
-use daq_table::Schema;
-use outer_world::{Sink, Source, read_all};
+use csv_load::heads_have_texts;
+use outer_world::{Sink, Source};
 use std::alloc::Global;
-
-// The most bytes of an input.
-const MOST_BYTES: usize = 1_073_741_824;
 
 // Reads the input to its end, and answers the question to its table.
 pub(crate) fn carry_out<S: Source, K: Sink>(
@@ -33,8 +30,6 @@ pub(crate) fn carry_out<S: Source, K: Sink>(
 {
     heads_have_texts();
     let query = read_query(alloc, asked.sql)?;
-    let schema = Schema::parse(alloc, asked.schema)?;
-    let bytes = read_all(alloc, input, MOST_BYTES)?;
-    let table = load(alloc, &bytes, &schema, &Limits::PROFILE)?;
+    let table = read_table(alloc, asked.schema, input)?;
     answer(alloc, &query, &asked.options, &table, out)
 }

@@ -5,8 +5,12 @@ use outer_world::{MemSink, MemSource, MemStore};
 use std::alloc::AllocError;
 use std::test::Fail;
 
+mod loaded;
+mod queried;
 mod refused;
 mod reported;
+mod told;
+mod upgraded;
 
 type MemWorld = World<MemSource, MemStore, MemSink>;
 

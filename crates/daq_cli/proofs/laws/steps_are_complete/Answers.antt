@@ -10,4 +10,15 @@ returns c = steps_complete (record {
   typings = c.trees_have_typings.ensures;
   valid = c.typed_queries_are_valid.ensures;
   reads = c.words_have_answers.ensures;
+  heads = c.faultless_files_have_heads.ensures;
+  files = c.files_have_tables.ensures;
+  rounds = record {
+    valid = c.typed_queries_are_valid.ensures;
+    columns = c.valid_queries_name_columns.ensures;
+    choices = c.choices_are_one.ensures;
+    choose = c.policies_choose.ensures;
+    have = c.rounds_have_planes.ensures;
+    taken = c.taken_is_knowledge.ensures;
+    begin = c.rounds_begin.ensures;
+  };
 })

@@ -18,4 +18,10 @@ returns c = steps_exact (record {
   good_typings = c.typing_is_exact.ensures.none;
   seeds = c.tables_are_one-2.ensures;
   reads = c.answers_are_one.ensures;
+  faultless = c.spelled_files_have_no_fault.ensures;
+  heads = c.files_have_one_head.ensures;
+  files = c.tables_are_one-3.ensures;
+  file_faults = c.file_faults_are_exact.ensures.one;
+  good_files = c.file_faults_are_exact.ensures.none;
+  choices = c.choices_are_one.ensures;
 })

@@ -1,5 +1,5 @@
 -- Round by round, the blocks are those of the rounds of the plan, and the places those of their planes.
-use Rattle.std.proofs.Common.{◌<◌, ◌∙◌, ◌++◌, ◌∷◌, List, ℕ, [], length, refl, sym, ap, subst, IsNone}
+use Rattle.std.proofs.Common.{arith, ◌<◌, ◌∙◌, ◌++◌, ◌∷◌, List, ℕ, [], length, refl, sym, ap, subst, IsNone}
 use Rattle.std.specs.Io.KnownBytes.{Appends}
 use Rattle.std.proofs.lemmas.Result.{err_from_is_err_and}
 use Rattle.daq_report.specs.Blocks.{block_text}
@@ -10,20 +10,25 @@ use Rattle.table_rounds.proofs.Reached.{columns_of_part}
 use Rattle.table_rounds.specs.Rounds.{IsAfter, ending_at}
 use Rattle.table_rounds.specs.Sources.{IsNextRound, StopsAt, StopsNext, next_places}
 use Rattle.daq_cli.specs.Worlds.{partly, whole}
-use Rattle.daq_cli.proofs.Loops.{all_some, as_partly, as_whole, if_both, if_some}
-use Rattle.daq_cli.proofs.Rounds.{Reached, all_written, block_in_part, block_is, first_reached, line_in_part, read_further, stopped}
+use Rattle.daq_cli.proofs.Loops.{all_some, as_partly, as_whole, if_both, if_some, rose_later}
+use Rattle.daq_cli.specs.Report.{FailsSince}
+use Rattle.daq_cli.proofs.Rounds.{Reached, all_written, block_in_part, block_is, cause_since, first_reached, line_in_part, read_further, refused_before, stopped, stops_since}
 use Rattle.daq_cli.proofs.report.write_rounds.Goals as goal
 
 pub rounds-init : goal.rounds-init
 rounds-init g c =
     let told = g.S.PlaneSource.told c.args.source.now in
     let places = g.S.PlaneSource.places c.args.source.now in
+    let shows = g.S.PlaneSource.shows c.args.source.now in
     let query = c.args.engine.now.query in
     let plan = c.args.plan.now in
     record {
-      reached = all_some told.bits _ (λ bits. first_reached plan told.head query bits places c.args.engine.now (g.K.Sink.state c.args.out.now) (g.S.PlaneSource.handed c.args.source.now)
+      reached = all_some told.bits _ (λ bits. first_reached plan told.head query bits places shows c.args.engine.now (g.K.Sink.state c.args.out.now) (g.S.PlaneSource.handed c.args.source.now)
           (subst (λ s. IsAfter plan query (frame_of told.head) bits [] s) (sym c.requires.opened) (c.rounds_begin.ensures plan query told.head bits)));
       told = refl;
+      ready = c.requires.ready;
+      since = g.met.S.PlaneSource.since_itself c.args.source.now;
+      later = omega arith;
       places = refl;
       query = refl;
       frame = refl;
@@ -31,39 +36,42 @@ rounds-init g c =
       last = tt;
     }
 
-pub returns-in_err-write_block : goal.returns-in_err-write_block
-returns-in_err-write_block g c =
+pub returns-in_err-write_block-clause-ends : goal.returns-in_err-write_block-clause-ends
+returns-in_err-write_block-clause-ends g c =
     let told = g.S.PlaneSource.told c.args.source.now in
     let places = g.S.PlaneSource.places c.args.source.now in
+    let shows = g.S.PlaneSource.shows c.args.source.now in
     let query = c.args.engine.now.query in
     let plan = c.args.plan.now in
     let p = err_from_is_err_and c.from_residual.result c.from_residual.ensures.1 in
     let head_is = c.head.ensures.head ∙ ap (λ t. t.head) c.rounds.invariant.told in
     rw (p.1, p.2) (if_some told.bits _ _
-    (λ bits reached. block_in_part plan told.head query bits places c.rounds.engine c.rounds.last _ _ _ _ _ reached
+    (λ bits reached. block_in_part plan told.head query bits places shows c.rounds.engine c.rounds.last _ _ _ _ _ reached
     (subst (Writes partly _ _) (ap (λ h. block_text h c.rounds.engine c.progress.result.done c.rounds.last) head_is
-    ∙ block_is plan told.head query bits places c.rounds_are_counted.ensures c.rounds.engine c.rounds.last _ _ _ _ c.progress.result.done reached c.progress.ensures.done) (as_partly _ _ _ _ c.in_err-write_block.ensures)))
+    ∙ block_is plan told.head query bits places shows c.rounds_are_counted.ensures c.rounds.engine c.rounds.last _ _ _ _ c.progress.result.done reached c.progress.ensures.done) (as_partly _ _ _ _ c.in_err-write_block.ensures)))
     c.rounds.invariant.reached)
 
-pub returns-in_err-write_ending-in-Some : goal.returns-in_err-write_ending-in-Some
-returns-in_err-write_ending-in-Some g c =
+pub returns-in_err-write_ending-in-Some-clause-ends : goal.returns-in_err-write_ending-in-Some-clause-ends
+returns-in_err-write_ending-in-Some-clause-ends g c =
     let told = g.S.PlaneSource.told c.args.source.now in
     let places = g.S.PlaneSource.places c.args.source.now in
+    let shows = g.S.PlaneSource.shows c.args.source.now in
     let query = c.args.engine.now.query in
     let plan = c.args.plan.now in
     let p = err_from_is_err_and c.from_residual-in_err-write_ending-in-Some.result c.from_residual-in_err-write_ending-in-Some.ensures.1 in
     let head_is = c.head.ensures.head ∙ ap (λ t. t.head) c.rounds.invariant.told in
     rw (p.1, p.2) (if_some told.bits _ _
-    (λ bits reached. line_in_part plan told.head query bits places c.rounds.engine c.rounds.last c.in-Some.why _ _ _ _ _ _ reached
+    (λ bits reached. line_in_part plan told.head query bits places shows c.rounds.engine c.rounds.last c.in-Some.why _ _ _ _ _ _ reached
     (subst (Writes whole _ _) (ap (λ h. block_text h c.rounds.engine c.progress.result.done c.rounds.last) head_is
-    ∙ block_is plan told.head query bits places c.rounds_are_counted.ensures c.rounds.engine c.rounds.last _ _ _ _ c.progress.result.done reached c.progress.ensures.done) (as_whole _ _ _ _ c.in_ok-write_block.ensures))
+    ∙ block_is plan told.head query bits places shows c.rounds_are_counted.ensures c.rounds.engine c.rounds.last _ _ _ _ c.progress.result.done reached c.progress.ensures.done) (as_whole _ _ _ _ c.in_ok-write_block.ensures))
     (sym c.in-Some.ensures.ending) (as_partly _ _ _ _ c.in_err-write_ending-in-Some.ensures))
     c.rounds.invariant.reached)
 
-pub returns-in_err-read_next-in-None : goal.returns-in_err-read_next-in-None
-returns-in_err-read_next-in-None g c =
+pub returns-in_err-read_next-in-None-clause-ends : goal.returns-in_err-read_next-in-None-clause-ends
+returns-in_err-read_next-in-None-clause-ends g c =
     let told = g.S.PlaneSource.told c.args.source.now in
     let places = g.S.PlaneSource.places c.args.source.now in
+    let shows = g.S.PlaneSource.shows c.args.source.now in
     let query = c.args.engine.now.query in
     let plan = c.args.plan.now in
     let engine = c.rounds.engine in
@@ -74,28 +82,35 @@ returns-in_err-read_next-in-None g c =
     let head_is = c.head.ensures.head ∙ ap (λ t. t.head) c.rounds.invariant.told in
     let readable = subst (IsReadable plan.policy) (sym c.rounds.invariant.frame) c.requires.readable in
     let going : IsNone (ending_at plan engine) = subst IsNone c.in-None.ensures.ending refl in
-    let stop : StopsNext plan told places engine at to fault =
-    subst (λ t. StopsNext plan t places engine at to fault) c.rounds.invariant.told
-    (subst (λ ps. StopsNext plan (g.S.PlaneSource.told c.rounds.source) ps engine at to fault) c.rounds.invariant.places (c.in_err-read_next-in-None.ensures.stops plan c.requires.follows readable going)) in
-    rw (p.1, p.2) (if_both told.bits (λ bits. Reached plan told.head query bits places engine c.rounds.last (g.K.Sink.state c.args.out.now) (g.K.Sink.state c.rounds.out) (g.S.PlaneSource.handed c.args.source.now) at)
-    (λ bits. (reads : List ℕ) → IsAfter plan engine.query (frame_of told.head) bits reads engine → (handed : List ℕ) × StopsAt plan engine.query (frame_of told.head) bits places reads fault handed × Appends at to handed) _
-    (λ bits reached step. stopped plan told.head query bits places engine.query c.rounds.invariant.query engine c.rounds.last fault _ _ _ _ _ _ reached
+    let fails = g.S.PlaneSource.fails c.rounds.source c.read_next.new.source in
+    let causes = FailsSince g.S.PlaneSource.handed g.S.PlaneSource.since g.S.PlaneSource.fails c.args.source.now c.read_next.new.source in
+    let stop : StopsNext plan told places fails engine at to fault =
+    subst (λ t. StopsNext plan t places fails engine at to fault) c.rounds.invariant.told
+    (subst (λ ps. StopsNext plan (g.S.PlaneSource.told c.rounds.source) ps fails engine at to fault) c.rounds.invariant.places (c.in_err-read_next-in-None.ensures.stops plan c.requires.follows readable going)) in
+    rw (p.1, p.2) (if_both told.bits (λ bits. Reached plan told.head query bits places shows engine c.rounds.last (g.K.Sink.state c.args.out.now) (g.K.Sink.state c.rounds.out) (g.S.PlaneSource.handed c.args.source.now) at)
+    (λ bits. (reads : List ℕ) → IsAfter plan engine.query (frame_of told.head) bits reads engine → (handed : List ℕ) × StopsAt plan engine.query (frame_of told.head) bits places fails reads fault handed × Appends at to handed) _
+    (λ bits reached step. stopped plan told.head query bits places shows causes engine.query c.rounds.invariant.query engine c.rounds.last fault _ _ _ _ _ _ reached
     (subst (Writes whole _ _) (ap (λ h. block_text h engine c.progress.result.done c.rounds.last) head_is
-    ∙ block_is plan told.head query bits places c.rounds_are_counted.ensures engine c.rounds.last _ _ _ _ c.progress.result.done reached c.progress.ensures.done) (as_whole _ _ _ _ c.in_ok-write_block.ensures))
-    going step)
+    ∙ block_is plan told.head query bits places shows c.rounds_are_counted.ensures engine c.rounds.last _ _ _ _ c.progress.result.done reached c.progress.ensures.done) (as_whole _ _ _ _ c.in_ok-write_block.ensures))
+    going (λ reads after.
+    let (handed, stops, grown) = step reads after in
+    (handed, stops_since plan engine.query (frame_of told.head) bits places fails (causes at) fault (λ column number error failed. (c.rounds.source, c.rounds.invariant.since, refl, failed)) reads handed stops, grown))
+    (refused_before fault (g.S.PlaneSource.shows c.rounds.source) shows (λ i number. g.met.S.PlaneSource.shows_before c.args.source.now c.rounds.source i number c.rounds.invariant.since)
+    c.in_err-read_next-in-None.ensures.refused))
     c.rounds.invariant.reached stop)
 
-pub returns-in-Some : goal.returns-in-Some
-returns-in-Some g c =
+pub returns-in-Some-clause-ends : goal.returns-in-Some-clause-ends
+returns-in-Some-clause-ends g c =
     let told = g.S.PlaneSource.told c.args.source.now in
     let places = g.S.PlaneSource.places c.args.source.now in
+    let shows = g.S.PlaneSource.shows c.args.source.now in
     let query = c.args.engine.now.query in
     let plan = c.args.plan.now in
     let head_is = c.head.ensures.head ∙ ap (λ t. t.head) c.rounds.invariant.told in
     if_some told.bits _ _
-    (λ bits reached. all_written plan told.head query bits places c.rounds.engine c.rounds.last c.in-Some.why _ _ _ _ _ _ reached
+    (λ bits reached. all_written plan told.head query bits places shows c.rounds.engine c.rounds.last c.in-Some.why _ _ _ _ _ _ reached
     (subst (Writes whole _ _) (ap (λ h. block_text h c.rounds.engine c.progress.result.done c.rounds.last) head_is
-    ∙ block_is plan told.head query bits places c.rounds_are_counted.ensures c.rounds.engine c.rounds.last _ _ _ _ c.progress.result.done reached c.progress.ensures.done) (as_whole _ _ _ _ c.in_ok-write_block.ensures))
+    ∙ block_is plan told.head query bits places shows c.rounds_are_counted.ensures c.rounds.engine c.rounds.last _ _ _ _ c.progress.result.done reached c.progress.ensures.done) (as_whole _ _ _ _ c.in_ok-write_block.ensures))
     (sym c.in-Some.ensures.ending) (as_whole _ _ _ _ c.in_ok-write_ending-in-Some.ensures))
     c.rounds.invariant.reached
 
@@ -103,6 +118,7 @@ pub rounds-preserved : goal.rounds-preserved
 rounds-preserved g c =
     let told = g.S.PlaneSource.told c.args.source.now in
     let places = g.S.PlaneSource.places c.args.source.now in
+    let shows = g.S.PlaneSource.shows c.args.source.now in
     let query = c.args.engine.now.query in
     let plan = c.args.plan.now in
     let engine = c.rounds.engine in
@@ -116,18 +132,46 @@ rounds-preserved g c =
     subst (λ t. IsNextRound plan t engine new column) c.rounds.invariant.told (c.in_ok-read_next-in-None.ensures.next plan c.requires.follows readable going) in
     let inside = subst (λ f. column < length f.columns) frame_is c.in_ok-read_next-in-None.ensures.unread.column in
     record {
-      reached = if_both told.bits (λ bits. Reached plan told.head query bits places engine c.rounds.last (g.K.Sink.state c.args.out.now) (g.K.Sink.state c.rounds.out) (g.S.PlaneSource.handed c.args.source.now) (g.S.PlaneSource.handed c.rounds.source))
+      reached = if_both told.bits (λ bits. Reached plan told.head query bits places shows engine c.rounds.last (g.K.Sink.state c.args.out.now) (g.K.Sink.state c.rounds.out) (g.S.PlaneSource.handed c.args.source.now) (g.S.PlaneSource.handed c.rounds.source))
           (λ bits. (reads : List ℕ) → IsAfter plan engine.query (frame_of told.head) bits reads engine → IsAfter plan engine.query (frame_of told.head) bits (reads ++ column ∷ []) new) _
-          (λ bits reached step. read_further plan told.head query bits places engine.query c.rounds.invariant.query engine new c.rounds.last column _ _ _ _ _ _ reached
+          (λ bits reached step. read_further plan told.head query bits places shows engine.query c.rounds.invariant.query engine new c.rounds.last column _ _ _ _ _ _ reached
           (subst (Writes whole _ _) (ap (λ h. block_text h engine c.progress.result.done c.rounds.last) head_is
-          ∙ block_is plan told.head query bits places c.rounds_are_counted.ensures engine c.rounds.last _ _ _ _ c.progress.result.done reached c.progress.ensures.done) (as_whole _ _ _ _ c.in_ok-write_block.ensures))
+          ∙ block_is plan told.head query bits places shows c.rounds_are_counted.ensures engine c.rounds.last _ _ _ _ c.progress.result.done reached c.progress.ensures.done) (as_whole _ _ _ _ c.in_ok-write_block.ensures))
           step inside
-          (subst (λ ps. Appends (g.S.PlaneSource.handed c.rounds.source) (g.S.PlaneSource.handed c.read_next.new.source) (next_places ps engine column)) c.rounds.invariant.places c.in_ok-read_next-in-None.ensures.handed))
+          (subst (λ ps. Appends (g.S.PlaneSource.handed c.rounds.source) (g.S.PlaneSource.handed c.read_next.new.source) (next_places ps engine column)) c.rounds.invariant.places c.in_ok-read_next-in-None.ensures.handed)
+          (g.met.S.PlaneSource.shows_before c.args.source.now c.rounds.source _ _ c.rounds.invariant.since c.in_ok-read_next-in-None.ensures.shown))
           c.rounds.invariant.reached next;
       told = c.read_next.ensures.told ∙ c.rounds.invariant.told;
+      ready = c.read_next.ensures.ready;
+      since = g.met.S.PlaneSource.since_both c.args.source.now c.rounds.source c.read_next.new.source c.rounds.invariant.since c.read_next.ensures.since;
+      later = (let before = c.rounds.invariant.later in let after = c.in_ok-write_block.ensures.cause.later in omega (arith, before, after));
       places = c.read_next.ensures.places ∙ c.rounds.invariant.places;
       query = c.read_next.ensures.query ∙ c.rounds.invariant.query;
       frame = c.read_next.ensures.frame ∙ c.rounds.invariant.frame;
       rows = c.read_next.ensures.rows ∙ c.rounds.invariant.rows;
       last = subst (λ n. column < n) (columns_of_part query (frame_of told.head)) inside;
     }
+
+-- ---- whatever is told
+
+pub returns-in_err-write_block-clause-cause : goal.returns-in_err-write_block-clause-cause
+returns-in_err-write_block-clause-cause g c =
+    let p = err_from_is_err_and c.from_residual.result c.from_residual.ensures.1 in
+    rw (p.1, p.2) (rose_later _ _ _ c.rounds.invariant.later c.in_err-write_block.ensures.cause.failed)
+
+pub returns-in_err-write_ending-in-Some-clause-cause : goal.returns-in_err-write_ending-in-Some-clause-cause
+returns-in_err-write_ending-in-Some-clause-cause g c =
+    let p = err_from_is_err_and c.from_residual-in_err-write_ending-in-Some.result c.from_residual-in_err-write_ending-in-Some.ensures.1 in
+    let before = c.rounds.invariant.later in
+    let block = c.in_ok-write_block.ensures.cause.later in
+    rw (p.1, p.2) (rose_later _ _ _ (omega (arith, before, block)) c.in_err-write_ending-in-Some.ensures.cause.failed)
+
+pub returns-in_err-read_next-in-None-clause-cause : goal.returns-in_err-read_next-in-None-clause-cause
+returns-in_err-read_next-in-None-clause-cause g c =
+    let p = err_from_is_err_and c.from_residual-in_err-read_next-in-None.result c.from_residual-in_err-read_next-in-None.ensures.1 in
+    rw (p.1, p.2) (cause_since g.S.PlaneSource.handed g.S.PlaneSource.since g.S.PlaneSource.fails c.args.source.now c.rounds.source c.read_next.new.source c.in_err-read_next-in-None.field-0.0
+    c.rounds.invariant.since c.in_err-read_next-in-None.ensures.failed)
+
+pub returns-in_err-read_next-in-None-clause-since : goal.returns-in_err-read_next-in-None-clause-since
+returns-in_err-read_next-in-None-clause-since g c =
+    g.met.S.PlaneSource.since_both c.args.source.now c.rounds.source c.read_next.new.source c.rounds.invariant.since c.read_next.ensures.since

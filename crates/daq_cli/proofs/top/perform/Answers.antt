@@ -1,22 +1,36 @@
 -- Each command does what it says, or stops with its cause.
 use Rattle.std.proofs.Common.{sym, ap, subst, arith}
-use Rattle.command_line.specs.Commands.{IsCommand, ask, demo}
-use Rattle.command_line.specs.Values.{ask_of, command_of, demo_of}
+use Rattle.command_line.specs.Commands.{IsCommand, ask, demo, info, load, query, upgrade}
+use Rattle.command_line.specs.Values.{ask_of, command_of, demo_of, info_of, load_of, query_of, upgrade_of}
 use Rattle.daq_cli.specs.Runs.{IsCause}
 use Rattle.daq_cli.proofs.Results.{if_err}
-use Rattle.daq_cli.proofs.Runs.{ask_stops, demo_stops}
-use Rattle.daq_cli.proofs.Widths.{width_is_small}
+use Rattle.daq_cli.proofs.Runs.{ask_stops, demo_stops, info_stops, load_stops, query_stops, upgrade_stops}
+use Rattle.daq_cli.proofs.Widths.{ask_width, demo_width, query_width}
 use Rattle.daq_cli.proofs.top.perform.Goals as goal
 
 pub carry_out-requires : goal.carry_out-requires
 carry_out-requires g c =
-    let small = width_is_small c.args.words.now (ask (ask_of c.in-Ok-Ask.asked)) (subst (λ f. IsCommand c.args.words.now (command_of f)) c.in-Ok-Ask.field-0-is c.in-Ok-Ask.ensures.ok) in
+    let small = ask_width c.args.words.now (ask_of c.in-Ok-Ask.asked) (subst (λ f. IsCommand c.args.words.now (command_of f)) c.in-Ok-Ask.field-0-is c.in-Ok-Ask.ensures.ok) in
     record { width = omega (arith, small) }
 
 pub carry_out-requires-in-Ok-Demo : goal.carry_out-requires-in-Ok-Demo
 carry_out-requires-in-Ok-Demo g c =
-    let small = width_is_small c.args.words.now (demo (demo_of c.in-Ok-Demo.asked)) (subst (λ f. IsCommand c.args.words.now (command_of f)) c.in-Ok-Demo.field-0-is c.in-Ok-Demo.ensures.ok) in
+    let small = demo_width c.args.words.now (demo_of c.in-Ok-Demo.asked) (subst (λ f. IsCommand c.args.words.now (command_of f)) c.in-Ok-Demo.field-0-is c.in-Ok-Demo.ensures.ok) in
     record { width = omega (arith, small) }
+
+pub carry_out-requires-in-Ok-Query : goal.carry_out-requires-in-Ok-Query
+carry_out-requires-in-Ok-Query g c =
+    let small = query_width c.args.words.now (query_of c.in-Ok-Query.asked) (subst (λ f. IsCommand c.args.words.now (command_of f)) c.in-Ok-Query.field-0-is c.in-Ok-Query.ensures.ok) in
+    record { width = omega (arith, small) }
+
+pub returns-in-Ok-Query-clause-refused : goal.returns-in-Ok-Query-clause-refused
+returns-in-Ok-Query-clause-refused g c =
+    let is : IsCommand c.args.words.now (query (query_of c.in-Ok-Query.asked)) = subst (λ f. IsCommand c.args.words.now (command_of f)) c.in-Ok-Query.field-0-is c.in-Ok-Query.ensures.ok in
+    if_err _ _ c.carry_out-in-Ok-Query.result _ _
+    (λ why cause. IsCause.of_command (query (query_of c.in-Ok-Query.asked)) is
+    (query_stops (query_of c.in-Ok-Query.asked) (g.P.Store.state c.world.inside.planes) c.args.world.now.planes (g.P.Store.state c.carry_out-in-Ok-Query.new.planes)
+    (g.K.Sink.state c.world.inside.out) c.args.world.now.out (g.K.Sink.state c.carry_out-in-Ok-Query.new.out) why
+    (ap (λ w. w.planes) c.world.view_is) (ap (λ w. w.out) c.world.view_is) cause)) c.carry_out-in-Ok-Query.ensures.refused
 
 pub returns-in-Ok-Ask-clause-refused : goal.returns-in-Ok-Ask-clause-refused
 returns-in-Ok-Ask-clause-refused g c =
@@ -32,6 +46,35 @@ returns-in-Ok-Demo-clause-refused g c =
     if_err _ _ c.carry_out-in-Ok-Demo.result _ _
     (λ why cause. IsCause.of_command (demo (demo_of c.in-Ok-Demo.asked)) is
     (demo_stops (demo_of c.in-Ok-Demo.asked) (g.K.Sink.state c.world.inside.out) c.args.world.now.out (g.K.Sink.state c.carry_out-in-Ok-Demo.new.out) why (ap (λ w. w.out) c.world.view_is) cause)) c.carry_out-in-Ok-Demo.ensures.refused
+
+pub returns-in-Ok-Load-clause-refused : goal.returns-in-Ok-Load-clause-refused
+returns-in-Ok-Load-clause-refused g c =
+    let is : IsCommand c.args.words.now (load (load_of c.in-Ok-Load.asked)) = subst (λ f. IsCommand c.args.words.now (command_of f)) c.in-Ok-Load.field-0-is c.in-Ok-Load.ensures.ok in
+    if_err _ _ c.carry_out-in-Ok-Load.result _ _
+    (λ why cause. IsCause.of_command (load (load_of c.in-Ok-Load.asked)) is
+    (load_stops (load_of c.in-Ok-Load.asked) (g.S.Source.state c.world.inside.input) c.args.world.now.input (g.S.Source.state c.carry_out-in-Ok-Load.new.input)
+    (g.K.Sink.state c.world.inside.made) c.args.world.now.made (g.K.Sink.state c.carry_out-in-Ok-Load.new.made)
+    (g.K.Sink.state c.world.inside.out) c.args.world.now.out (g.K.Sink.state c.carry_out-in-Ok-Load.new.out) why
+    (ap (λ w. w.input) c.world.view_is) (ap (λ w. w.made) c.world.view_is) (ap (λ w. w.out) c.world.view_is) cause)) c.carry_out-in-Ok-Load.ensures.refused
+
+pub returns-in-Ok-Info-clause-refused : goal.returns-in-Ok-Info-clause-refused
+returns-in-Ok-Info-clause-refused g c =
+    let is : IsCommand c.args.words.now (info (info_of c.in-Ok-Info.field-0-0)) = subst (λ f. IsCommand c.args.words.now (command_of f)) c.in-Ok-Info.field-0-is c.in-Ok-Info.ensures.ok in
+    if_err _ _ c.carry_out-in-Ok-Info.result _ _
+    (λ why cause. IsCause.of_command (info (info_of c.in-Ok-Info.field-0-0)) is
+    (info_stops (g.P.Store.state c.world.inside.planes) c.args.world.now.planes (g.P.Store.state c.carry_out-in-Ok-Info.new.planes)
+    (g.K.Sink.state c.world.inside.out) c.args.world.now.out (g.K.Sink.state c.carry_out-in-Ok-Info.new.out) why
+    (ap (λ w. w.planes) c.world.view_is) (ap (λ w. w.out) c.world.view_is) cause)) c.carry_out-in-Ok-Info.ensures.refused
+
+pub returns-in-Ok-Upgrade-clause-refused : goal.returns-in-Ok-Upgrade-clause-refused
+returns-in-Ok-Upgrade-clause-refused g c =
+    let is : IsCommand c.args.words.now (upgrade (upgrade_of c.in-Ok-Upgrade.field-0-0)) = subst (λ f. IsCommand c.args.words.now (command_of f)) c.in-Ok-Upgrade.field-0-is c.in-Ok-Upgrade.ensures.ok in
+    if_err _ _ c.carry_out-in-Ok-Upgrade.result _ _
+    (λ why cause. IsCause.of_command (upgrade (upgrade_of c.in-Ok-Upgrade.field-0-0)) is
+    (upgrade_stops (g.P.Store.state c.world.inside.planes) c.args.world.now.planes (g.P.Store.state c.carry_out-in-Ok-Upgrade.new.planes)
+    (g.K.Sink.state c.world.inside.made) c.args.world.now.made (g.K.Sink.state c.carry_out-in-Ok-Upgrade.new.made)
+    (g.K.Sink.state c.world.inside.out) c.args.world.now.out (g.K.Sink.state c.carry_out-in-Ok-Upgrade.new.out) why
+    (ap (λ w. w.planes) c.world.view_is) (ap (λ w. w.made) c.world.view_is) (ap (λ w. w.out) c.world.view_is) cause)) c.carry_out-in-Ok-Upgrade.ensures.refused
 
 pub returns-in-Err-clause-refused : goal.returns-in-Err-clause-refused
 returns-in-Err-clause-refused g c = subst (IsCause c.args.words.now c.args.world.now c.args.world.now) (sym c.from.ensures) (IsCause.usage c.in-Err.usage.place c.in-Err.ensures.usage)
