@@ -78,6 +78,55 @@ refused 'no schema' 4 'daq: table refused: schema item at 0' ask "$prices" price
 refused 'no value of the kind' 4 'daq: table refused: record 3 column 1 is no value of its kind' ask "$work/bad.csv" price:int "$sum"
 refused 'another header' 4 'daq: table refused: header differs at column 1' ask "$prices" cost:int "$sum"
 
+# ---- plane files
+
+shop=$here/examples/shop.csv
+schema=price:int,qty:int,city:text
+planes=$work/shop.daq
+run load "$shop" "$planes" "$schema"
+holds 'a file is made' 0 'loaded 4 rows, 3 columns, 8 planes, 195 bytes
+' ''
+run query "$planes" "$sum"
+holds 'a report of a file' 0 "$report" ''
+run info "$planes"
+holds 'the head of a file' 0 "version 2 rows 4 columns 3
+column 1 price int width 4 from 3 to 12
+column 2 qty int width 2 from 1 to 4
+column 3 city text width 2 from 'Bern' to 'Rome'
+" ''
+run upgrade "$planes" "$work/again.daq"
+holds 'a file is made anew' 0 'upgraded 4 rows, 3 columns, 8 planes, 195 bytes
+' ''
+cmp -s "$planes" "$work/again.daq" || { echo 'FAILED: the file that is made anew differs'; failed=1; }
+
+refused 'a missing plane file' 6 'daq: read fault' query "$work/missing.daq" "$sum"
+refused 'a CSV as a plane file' 5 'daq: file refused: not a plane file' info "$shop"
+head -c 194 "$planes" >"$work/short.daq"
+refused 'a shorter file' 5 'daq: file refused: size 194, not 195' query "$work/short.daq" "$sum"
+
+# The second plane of the price gives its third row a value past the top.
+{ head -c 139 "$planes"; printf '\006'; tail -c 55 "$planes"; } >"$work/damaged.daq"
+run query "$work/damaged.daq" "$sum"
+holds 'a damaged plane' 5 "query $sum
+round 0
+1 [12, 48]
+round 1 price 1/4
+1 [20, 42]
+" 'daq: file refused: column 1 plane 2 row 3 passes its top'
+
+# A refused table leaves an old file as it was.
+cp "$planes" "$work/kept.daq"
+refused 'a table that is not written' 4 'daq: table refused: record 3 column 1 is no value of its kind' load "$work/bad.csv" "$work/kept.daq" price:int
+cmp -s "$planes" "$work/kept.daq" || { echo 'FAILED: a refused table wrote a file'; failed=1; }
+refused 'a file in no folder' 7 'daq: write fault' load "$shop" "$work/missing/shop.daq" "$schema"
+
+# With standard output closed the file that is opened must not take its place.
+"$program" load "$shop" "$work/closed.daq" "$schema" >&- 2>"$work/err" </dev/null
+ended=$?
+: >"$work/out"
+holds 'a file with standard output closed' 7 '' 'daq: write fault'
+cmp -s "$planes" "$work/closed.daq" || { echo 'FAILED: the file made with standard output closed differs'; failed=1; }
+
 # ---- devices
 
 refused 'a missing file' 6 'daq: read fault' ask "$work/missing.csv" price:int "$sum"
