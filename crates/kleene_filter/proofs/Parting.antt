@@ -114,7 +114,7 @@ level_shared column test value equal row truth is first told = λ r below on.
 
 -- ---- nothing is read
 
-no_prefix : (ends : Ends) (p : ℕ) → IsLegal ends 0 p → p ≡ 0
+pub no_prefix : (ends : Ends) (p : ℕ) → IsLegal ends 0 p → p ≡ 0
 no_prefix ends p legal =
     let k = 2 ^ (planes ends - 0) in
     let most : p ≤ prefix_of ends 0 (Some (spread ends)) = le-div p (first_code ends + spread ends) k (pow_pos (planes ends - 0)) (legal_code ends 0 p legal) in

@@ -1,13 +1,14 @@
 -- What is known of a condition at each row.
 use Rattle.std.specs.Prelude.{◌≡◌, ℕ, ◌+◌, ◌*◌, ◌≤◌, ◌<◌, ◌==◌, Bool, true, false, List, [], ◌∷◌, length, map, slice_index_or, IsTrue}
-use Rattle.std.specs.List.{list_any}
+use Rattle.std.specs.List.{count_by, list_any}
+use Rattle.std.specs.Simd.Lanes.{zip2}
 use Rattle.daq_table.specs.Tables.{rows_of}
 use Rattle.query_model.specs.Queries.{Condition}
 use Rattle.query_model.specs.declared.bounds.Truth.{Truth}
 use Rattle.query_model.specs.declared.bounds.Truth.TheVariants.{False, Unknown, True}
 use Rattle.query_model.specs.declared.bounds.Truths.{Truths}
-use Rattle.query_model.specs.Knowledge.{CanTake, ranges_of}
-use Rattle.query_model.specs.Truths.{truth_of, truths_of}
+use Rattle.query_model.specs.Knowledge.{CanTake, known_at, ranges_of}
+use Rattle.query_model.specs.Truths.{truth_from, truth_of, truths_of}
 use Rattle.plane_kernels.specs.Rows.{digit_at}
 use Rattle.known_column.specs.Columns.{count_in_block}
 use Rattle.known_column.specs.KnownTables.{IsKnownTable, KnownTable, read_column}
@@ -44,6 +45,10 @@ truth_at pred table row = truth_of pred (ranges_of table.frame table.known row)
 abbrev pub truths_under : Condition → KnownTable → List Truth
 truths_under pred table = map (truth_at pred table) (rows_of table.frame)
 
+-- nothing is read of any column
+abbrev pub AreUnread : KnownTable → Type 0
+AreUnread table = (c : ℕ) → c < length table.frame.columns → (known_at table.known c).read ≡ 0
+
 -- what a filter keeps: the truth of its condition at each row, and masks of its atoms
 pub record Judgement : Type 0 where
   pub truths : List Truth
@@ -69,6 +74,11 @@ AreNested [] [] = Unit {0}
 AreNested [] (n ∷ ns) = ⊥
 AreNested (m ∷ ms) [] = ⊥
 AreNested (m ∷ ms) (n ∷ ns) = (IsTrue m → IsTrue n) × AreNested ms ns
+
+-- the masks are nested, and so many rows of the second are not in the first
+pub record AreCounted (must may : List Bool) (unknown : ℕ) : Type 0 where
+  pub nested : AreNested must may
+  pub count : unknown ≡ count_by is_unknown (zip2 truth_from must may)
 
 -- the bits of a row are those of what is known of the condition there
 pub record HasBits (pred : Condition) (table : KnownTable) (row : ℕ) (must may : List Bool) : Type 0 where

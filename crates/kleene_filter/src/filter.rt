@@ -1,16 +1,17 @@
 //! The rows of a condition.
 
-ghost use Rattle.std.specs.Prelude.{◌≡◌, ◌≤◌, ◌<◌, ◌+◌, ◌*◌, length, map, count_by, IfOk, OnOk};
+ghost use Rattle.std.specs.Prelude.{◌≡◌, ◌≤◌, ◌<◌, ◌+◌, ◌*◌, length, map, count_by, replicate, IfOk, IsTrue, OnOk};
+ghost use Rattle.plane_kernels.specs.Rows.{digit_at};
 ghost use Rattle.query_model.specs.declared.query.Atom.{Atom};
 ghost use Rattle.query_model.specs.Meaning.{PredReadsBelow};
 ghost use Rattle.query_model.specs.Queries.{condition_of};
 ghost use Rattle.std.specs.Prelude.{List};
 ghost use Rattle.known_column.specs.KnownTables.{IsKnownTable};
-ghost use Rattle.kleene_filter.specs.Filters.{is_certain, is_possible, is_unknown, truths_under, AreRightWhereSame, IsJudged, IsWritten, StandsFor, StoodBefore};
+ghost use Rattle.kleene_filter.specs.Filters.{is_certain, is_possible, is_unknown, truths_under, AreCounted, AreNested, AreRightWhereSame, AreUnread, IsJudged, IsWritten, StandsFor, StoodBefore};
 ghost use Rattle.kleene_filter.specs.Masks.{atoms_of, AddsMasks, AreMasksOf, AreRowsOf, WereMasksOf};
 
 use crate::judging::pred_truths;
-use crate::masks::AtomMasks;
+use crate::masks::{AtomMasks, is_untouched};
 use crate::reads::pred_reads;
 use crate::words::must_hold;
 use known_column::{KnownColumns, KnownRows, RowBlock, blocks_have_their_rows};
@@ -34,18 +35,30 @@ pub(crate) struct TruthMasks {
 pub struct Filter {
     truths: TruthMasks,
     masks: Vec<AtomMasks>,
+    // The rows at which it is not known whether the condition holds, counted.
+    unknown: u64,
 }
 
 impl Model for Filter {
     ghost use Rattle.std.specs.Simd.Lanes.{zip2};
     ghost use Rattle.query_model.specs.Truths.{truth_from};
-    ghost use Rattle.kleene_filter.specs.Filters.{AreNested, Judgement};
+    ghost use Rattle.kleene_filter.specs.Filters.{AreCounted, Judgement};
 
     ghost Value = { Judgement };
 
     ghost view = { λ f. record { truths = zip2 truth_from f.truths.must f.truths.may; masks = f.masks.items } };
 
-    ghost invariant = { λ f. AreNested f.truths.must f.truths.may };
+    ghost invariant = { λ f. AreCounted f.truths.must f.truths.may f.unknown };
+}
+
+impl TruthMasks {
+    // How many rows may pass and not surely.
+    fn unknown(&self) -> u64
+        requires { AreNested self.now.must self.now.may }
+        ensures { AreCounted self.now.must self.now.may result }
+    {
+        self.may.count() - self.must.count()
+    }
 }
 
 // Makes the bits of a block's rows those of the word.
@@ -56,10 +69,7 @@ fn write_word(mask: &mut Mask, block: usize, word: u64)
     if mask.word(block) == word {
         return;
     }
-    let count = (mask.rows() - 64 * block).min(64);
-    for row in 0..count {
-        mask.set(64 * block + row, (word >> row) & 1 == 1);
-    }
+    mask.set_word(block, word);
 }
 
 // Sets the bits of a block's rows, which stand in others from the first on, by what is known of the condition there.
@@ -147,6 +157,84 @@ fn judge_all(
     }
 }
 
+// Whether nothing is read of any column.
+fn is_unread(columns: &KnownColumns) -> bool
+    ensures { IsTrue result → AreUnread columns.now }
+{
+    for column in 0..columns.len() {
+        if !is_untouched(columns.column(column)) {
+            return false;
+        }
+    }
+    true
+}
+
+// Whether the word has the bit of its first row.
+fn has_first(word: u64) -> bool
+    ensures { result ≡ digit_at 0 word }
+{
+    word % 2 == 1
+}
+
+// The mask with each row or with none.
+fn even_mask(alloc: Global, rows: usize, bit: bool) -> Result<Mask, AllocError>
+    ensures { IfOk result (λ mask. mask ≡ replicate rows bit) }
+{
+    if bit {
+        Mask::all(alloc, rows)
+    } else {
+        Mask::none(alloc, rows)
+    }
+}
+
+// What is known of the condition at each row where nothing is read: what is known at the first.
+fn truths_of_unread(
+    alloc: Global,
+    pred: &Pred,
+    masks: &[AtomMasks],
+    columns: &KnownColumns,
+) -> Result<TruthMasks, AllocError>
+    requires columns { PredReadsBelow (length columns.now.frame.columns) (condition_of pred.now) }
+    requires masks { AreMasksOf masks.now 0 (atoms_of (condition_of pred.now)) columns.now }
+    requires some { 0 < columns.now.frame.rows }
+    requires unread { AreUnread columns.now }
+    ensures must { IfOk result (λ truths. truths.must ≡ map is_certain (truths_under (condition_of pred.now) columns.now)) }
+    ensures may { IfOk result (λ truths. truths.may ≡ map is_possible (truths_under (condition_of pred.now) columns.now)) }
+{
+    let rows = columns.rows();
+    let words = pred_truths(pred, masks, 0, columns, 0, columns, 0).words;
+    let must = even_mask(alloc, rows, has_first(must_hold(words)))?;
+    let may = even_mask(alloc, rows, has_first(words.may_hold))?;
+    Ok(TruthMasks { must, may })
+}
+
+// What is known of the condition at each row.
+fn open_truths(
+    alloc: Global,
+    pred: &Pred,
+    masks: &[AtomMasks],
+    columns: &KnownColumns,
+    block: &mut RowBlock,
+) -> Result<TruthMasks, AllocError>
+    requires columns { PredReadsBelow (length columns.now.frame.columns) (condition_of pred.now) }
+    requires masks { AreMasksOf masks.now 0 (atoms_of (condition_of pred.now)) columns.now }
+    requires block { block.old.frame.columns ≡ columns.now.frame.columns }
+    ensures block { block.new.frame.columns ≡ columns.now.frame.columns }
+    ensures must { IfOk result (λ truths. truths.must ≡ map is_certain (truths_under (condition_of pred.now) columns.now)) }
+    ensures may { IfOk result (λ truths. truths.may ≡ map is_possible (truths_under (condition_of pred.now) columns.now)) }
+{
+    let rows = columns.rows();
+    if rows > 0 && is_unread(columns) {
+        return truths_of_unread(alloc, pred, masks, columns);
+    }
+    let mut truths = TruthMasks {
+        must: Mask::none(alloc, rows)?,
+        may: Mask::all(alloc, rows)?,
+    };
+    judge_all(pred, masks, columns, block, &mut truths);
+    Ok(truths)
+}
+
 // How many comparisons and listed numbers more may keep masks.
 fn room_beside(masks: &[AtomMasks]) -> usize {
     let kept = masks
@@ -206,15 +294,16 @@ impl Filter {
         ensures block { block.new.frame.columns ≡ columns.now.frame.columns }
         ensures stands { IfOk result (λ filter. StandsFor filter (condition_of pred.now) columns.now) }
     {
-        let rows = columns.rows();
-        let mut truths = TruthMasks {
-            must: Mask::none(alloc, rows)?,
-            may: Mask::all(alloc, rows)?,
-        };
+        let _rows = columns.rows();
         let mut masks = Vec::new(alloc);
         open_each(alloc, pred, columns, &mut masks)?;
-        judge_all(pred, &masks, columns, block, &mut truths);
-        Ok(Filter { truths, masks })
+        let truths = open_truths(alloc, pred, &masks, columns, block)?;
+        let unknown = truths.unknown();
+        Ok(Filter {
+            truths,
+            masks,
+            unknown,
+        })
     }
 
     /// Follows the columns after a plane of one of them was taken. Before, the filter was that of the condition then. Nothing
@@ -239,6 +328,7 @@ impl Filter {
             return;
         }
         judge_all(pred, &self.masks, columns, block, &mut self.truths);
+        self.unknown = self.truths.unknown();
     }
 
     /// The rows at which the condition holds for certain.
@@ -259,6 +349,6 @@ impl Filter {
     pub fn unknown(&self) -> u64
         ensures { result ≡ count_by is_unknown self.now.truths }
     {
-        self.truths.may.count() - self.truths.must.count()
+        self.unknown
     }
 }

@@ -26,7 +26,7 @@ pub(crate) enum AtomMasks {
 }
 
 // Whether nothing is read of the column.
-fn is_untouched(column: &Known) -> bool
+pub(crate) fn is_untouched(column: &Known) -> bool
     ensures { result ≡ (column.now.known.read == 0) }
 {
     column.unread() == column.width() + u8::from(column.nullable())

@@ -163,8 +163,8 @@ impl Known {
         self.width
     }
 
-    // What is declared of the column.
-    pub(crate) fn declared(&self) -> Ends
+    /// What is declared of the column.
+    pub fn declared(&self) -> Ends
         ensures ends { result ≡ self.now.ends }
         ensures known { IsKnownColumn self.now }
     {

@@ -14,7 +14,7 @@ use Rattle.plane_kernels.proofs.Puts.{ArePut, none_left, rows_of-none}
 
 -- ---- parts of words
 
-rows_of-append : (n : ℕ) (ws vs : List ℕ) → rows_of n (ws ++ vs) ≡ rows_of n ws ++ rows_of (n - 64 * length ws) vs
+pub rows_of-append : (n : ℕ) (ws vs : List ℕ) → rows_of n (ws ++ vs) ≡ rows_of n ws ++ rows_of (n - 64 * length ws) vs
 rows_of-append n [] vs = (let all : n ≡ n - 64 * 0 = omega arith in ap (λ m. rows_of m vs) all)
 rows_of-append n (w ∷ ws) vs =
     let first = bits_of (min n 64) w in
@@ -92,11 +92,11 @@ padded-drop k n [] p = subst (IsPadded (n - 64 * k)) (sym (drop_all k [] (omega 
 padded-drop zero n (w ∷ ws) p = (let all : n ≡ n - 64 * 0 = omega arith in subst (λ m. IsPadded m (w ∷ ws)) all p)
 padded-drop (suc k) n (w ∷ ws) p = (let left : n - 64 - 64 * k ≡ n - 64 * suc k = omega arith in subst (λ m. IsPadded m (drop k ws)) left (padded-drop k (n - 64) ws p.1))
 
-padded-zeros : (m n : ℕ) → IsPadded n (replicate m 0)
+pub padded-zeros : (m n : ℕ) → IsPadded n (replicate m 0)
 padded-zeros zero n = tt
 padded-zeros (suc m) n = (pow_pos (min n 64), padded-zeros m (n - 64))
 
-padded-filled : (m n : ℕ) (ws : List ℕ) → IsPadded n ws → IsPadded n (ws ++ replicate m 0)
+pub padded-filled : (m n : ℕ) (ws : List ℕ) → IsPadded n ws → IsPadded n (ws ++ replicate m 0)
 padded-filled m n [] p = padded-zeros m n
 padded-filled m n (w ∷ ws) p = (p.0, padded-filled m (n - 64) ws p.1)
 
@@ -168,9 +168,15 @@ rows_of-trimmed n [] = refl
 rows_of-trimmed n (w ∷ ws) =
     ap (λ l. l ++ rows_of (n - 64) (trimmed (n - 64) ws)) (bits_of-trimmed (min n 64) w) ∙ ap (λ l. bits_of (min n 64) w ++ l) (rows_of-trimmed (n - 64) ws)
 
-padded-trimmed : (n : ℕ) (ws : List ℕ) → IsPadded n (trimmed n ws)
+pub padded-trimmed : (n : ℕ) (ws : List ℕ) → IsPadded n (trimmed n ws)
 padded-trimmed n [] = tt
 padded-trimmed n (w ∷ ws) = (mask_lt w (min n 64), padded-trimmed (n - 64) ws)
+
+-- the rows of one word
+pub word_rows_of : (n w : ℕ) → rows_of n (trimmed n (w ∷ [])) ≡ bits_of (min 64 n) w
+word_rows_of n w =
+    let size : min n 64 ≡ min 64 n = omega arith in
+    append-nil (bits_of (min n 64) (bit_and w (2 ^ min n 64 - 1))) ∙ bits_of-trimmed (min n 64) w ∙ ap (λ k. bits_of k w) size
 
 pub padded_block : (n block : ℕ) (eight : List ℕ) → IsPadded (n - 64 * (8 * block)) (trimmed (n - 512 * block) eight)
 padded_block n block eight =

@@ -63,7 +63,7 @@ padded_words rows first bytes none =
 
 -- ---- bytes of words
 
-length-bytes : (ws : List ℕ) → length (bytes_of_words ws) ≡ 8 * length ws
+pub length-bytes : (ws : List ℕ) → length (bytes_of_words ws) ≡ 8 * length ws
 length-bytes [] = refl
 length-bytes (w ∷ ws) = omega (arith, length-append (to_le_bytes w64 w) (bytes_of_words ws), length-bytes ws)
 

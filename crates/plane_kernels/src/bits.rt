@@ -1,19 +1,19 @@
 // A truth value for each row, as words of 64 bits: row r is bit r % 64 of word r / 64, and the bits past the last row are 0.
-ghost use Rattle.std.specs.Prelude.{◌≡◌, ◌≤◌, ◌<◌, ◌+◌, ◌-◌, ◌*◌, ◌%◌, ◌&&◌, ◌||◌, ◌↔◌, min, not, false, length, map, replicate, take, drop, count_by, position, slice_get, slice_set, Some, IfOk, IsNone, IfErr, OnErr, OnOk};
+ghost use Rattle.std.specs.Prelude.{◌≡◌, ◌≤◌, ◌<◌, ◌+◌, ◌-◌, ◌*◌, ◌%◌, ◌&&◌, ◌||◌, ◌↔◌, min, not, false, length, map, replicate, take, drop, count_by, position, slice_get, slice_set, Some, IsNone, IfErr, OnErr, OnOk, [], vec_capacity};
 ghost use Rattle.std.specs.Simd.Lanes.{put_chunk, zip2};
 ghost use Rattle.plane_kernels.specs.Bytes.{HasNoPadBits, HasPadBits, bytes_of_rows, word_count};
 ghost use Rattle.plane_kernels.specs.Rows.{IsPadded, bits_of, block_rows, digit_at, rows_of};
 
-use crate::blocks::{block_of, set_block};
+use crate::blocks::{block_of, set_block, set_word};
 use crate::bytes::{load_words, refuse_pad_bits, store_words};
 use crate::lanes::{and_not_words, and_words, count_both_words, count_words, or_words};
 use crate::pad_bits::PadBits;
-use crate::triples::{first_past, first_rest, or_rest_words, or_shared_words};
+use crate::triples::{first_both, first_past, first_rest, or_rest_words, or_shared_words};
 use crate::words::{first_one, flip_words, gather_unset_words, gather_words, with_bit};
-use std::alloc::{AllocError, Global};
 use std::marker::Model;
+use std::mem::replace;
 
-// What masks and planes are made of.
+// Rows whose words are written.
 #[derive(Drop)]
 pub struct Bits {
     rows: usize,
@@ -32,12 +32,51 @@ impl Model for Bits {
 }
 
 impl Bits {
-    // No row's bit is 1.
-    pub fn none(alloc: Global, rows: usize) -> Result<Bits, AllocError>
-        ensures { IfOk result (λ b. b ≡ replicate rows false) }
+    // So many rows with this bit, in room for their words.
+    pub fn filled(rows: usize, bit: bool, room: Vec<u64>) -> Bits
+        requires empty { room.items ≡ [] }
+        requires room { rows ≤ 64 * vec_capacity room }
+        ensures { result ≡ replicate rows bit }
     {
-        let words = vec![in alloc; 0; rows.div_ceil(64)]?;
-        Ok(Bits { rows, words })
+        let mut words = room;
+        match words.resize(rows.div_ceil(64), 0) {
+            Ok(()) => {}
+            Err(_) => unreachable!(),
+        }
+        let mut bits = Bits { rows, words };
+        if bit {
+            bits.not_into();
+        }
+        bits
+    }
+
+    // The bits of others, in room for their words.
+    pub fn copied(other: &Bits, room: Vec<u64>) -> Bits
+        requires empty { room.items ≡ [] }
+        requires room { length other.now ≤ 64 * vec_capacity room }
+        ensures { result ≡ other.now }
+    {
+        let mut words = room;
+        match words.extend_from_slice(&other.words) {
+            Ok(()) => {}
+            Err(_) => unreachable!(),
+        }
+        Bits {
+            rows: other.rows,
+            words,
+        }
+    }
+
+    // Takes the room of its words, and leaves no row.
+    pub fn take_room(&mut self) -> Vec<u64>
+        ensures empty { result.items ≡ [] }
+        ensures room { length self.old ≤ 64 * vec_capacity result }
+    {
+        self.rows = 0;
+        let none = Vec::new(*self.words.allocator());
+        let mut room = replace(&mut self.words, none);
+        room.clear();
+        room
     }
 
     pub fn rows(&self) -> usize
@@ -146,6 +185,15 @@ impl Bits {
         first_rest(&self.words, &other.words)
     }
 
+    // The first row that `other` has too.
+    pub fn first_both(&self, other: &Bits) -> Option<usize>
+        requires { length other.now ≡ length self.now }
+        ensures { result ≡ position (λ b. b) (zip2 (λ a b. a && b) self.now other.now) }
+    {
+        let _rows = self.rows;
+        first_both(&self.words, &other.words)
+    }
+
     // The first row that is not in `within`, or is in `without`.
     pub fn first_past(&self, within: &Bits, without: &Bits) -> Option<usize>
         requires within { length within.now ≡ length self.now }
@@ -162,6 +210,14 @@ impl Bits {
         ensures { bits_of (min 64 (length self.now - 64 * block)) result ≡ take 64 (drop (64 * block) self.now) }
     {
         self.words[block]
+    }
+
+    // Makes the rows of a block of 64 these bits, and leaves the others.
+    pub fn set_word(&mut self, block: usize, word: u64)
+        requires { 64 * block < length self.old }
+        ensures { self.new ≡ put_chunk (64 * block) self.old (bits_of (min 64 (length self.old - 64 * block)) word) }
+    {
+        set_word(&mut self.words, self.rows, block, word);
     }
 
     // The words with the bits of a block of 512 rows.

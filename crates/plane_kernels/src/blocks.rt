@@ -1,9 +1,11 @@
 // Blocks of eight words, which have 512 rows.
-ghost use Rattle.std.specs.Prelude.{◌≡◌, ◌≤◌, ◌<◌, ◌+◌, ◌-◌, ◌*◌, ◌++◌, length, take, drop, replicate};
+ghost use Rattle.std.specs.Prelude.{◌≡◌, ◌≤◌, ◌<◌, ◌+◌, ◌-◌, ◌*◌, ◌++◌, [], ◌∷◌, length, take, drop, replicate};
 ghost use Rattle.std.specs.Simd.Lanes.{put_chunk};
+ghost use Rattle.plane_kernels.specs.Rows.{IsPadded, rows_of};
 ghost use Rattle.plane_kernels.specs.Words.{trimmed};
 
-use crate::words::low_ones;
+use crate::words::{flip_words, low_ones};
+use std::simd::prelude::*;
 
 // The words of a block, 0 where there are none.
 pub fn block_of(words: &[u64], block: usize) -> [u64; 8]
@@ -11,9 +13,11 @@ pub fn block_of(words: &[u64], block: usize) -> [u64; 8]
     ensures { result ≡ take 8 (drop (8 * block) words.now ++ replicate 8 0) }
 {
     let rest = &words[8 * block..];
-    let count = rest.len().min(8);
+    if rest.len() >= 8 {
+        return u64x8::from_slice(rest).to_array();
+    }
     let mut eight = [0; 8];
-    eight[..count].copy_from_slice(&rest[..count]);
+    eight[..rest.len()].copy_from_slice(rest);
     eight
 }
 
@@ -28,4 +32,26 @@ pub fn set_block(words: &mut [u64], rows: usize, block: usize, eight: &[u64; 8])
     for i in 0..count {
         words[first + i] = eight[i] & low_ones(rows - 64 * (first + i));
     }
+}
+
+// Writes one word, without bits past the last of so many rows.
+pub fn set_word(words: &mut [u64], rows: usize, block: usize, word: u64)
+    requires within { block < length words.old }
+    requires row { 64 * block < rows }
+    ensures { words.new ≡ put_chunk block words.old (trimmed (rows - 64 * block) (word ∷ [])) }
+{
+    words[block] = word & low_ones(rows - 64 * block);
+}
+
+// The words of so many rows which all have this bit.
+pub fn even_block(rows: usize, bit: bool) -> [u64; 8]
+    requires { rows ≤ 512 }
+    ensures rows { rows_of rows result ≡ replicate rows bit }
+    ensures padded { IsPadded rows result }
+{
+    let mut words = [0; 8];
+    if bit {
+        flip_words(&mut words[..rows.div_ceil(64)], rows);
+    }
+    words
 }

@@ -1,7 +1,7 @@
 // Words as bytes: 8 for each word, the lowest first.
-ghost use Rattle.std.specs.Prelude.{◌≡◌, ◌≤◌, ◌+◌, ◌*◌, ◌/◌, length, IfErr, OnOk};
+ghost use Rattle.std.specs.Prelude.{◌≡◌, ◌≤◌, ◌<◌, ◌+◌, ◌-◌, ◌*◌, ◌/◌, ◌^◌, min, length, replicate, IfErr, OnOk, if◌then◌else◌};
 ghost use Rattle.std.specs.Simd.Lanes.{put_chunk};
-ghost use Rattle.plane_kernels.specs.Bytes.{HasNoPadBits, HasPadBits, bytes_of_words, word_count, word_in};
+ghost use Rattle.plane_kernels.specs.Bytes.{HasNoPadBits, HasPadBits, bytes_of_rows, bytes_of_words, word_count, word_in};
 ghost use Rattle.plane_kernels.specs.Words.{unpacked};
 
 use crate::pad_bits::PadBits;
@@ -14,6 +14,24 @@ pub fn store_words(words: &[u64], out: &mut [u8])
 {
     for (i, word) in words.iter().enumerate() {
         out[8 * i..8 * i + 8].copy_from_slice(&word.to_le_bytes());
+    }
+}
+
+// The word at a place, of so many rows which all have this bit.
+fn even_word(rows: usize, bit: bool, at: usize) -> u64
+    requires { 64 * at < rows }
+    ensures { result ≡ (if bit then 2 ^ min (rows - 64 * at) 64 - 1 else 0) }
+{
+    if bit { low_ones(rows - 64 * at) } else { 0 }
+}
+
+// Writes the words of so many rows which all have this bit.
+pub fn store_even(rows: usize, bit: bool, out: &mut [u8])
+    requires { length out.old ≡ 8 * word_count rows }
+    ensures { out.new ≡ bytes_of_rows (replicate rows bit) }
+{
+    for at in 0..out.len() / 8 {
+        out[8 * at..8 * at + 8].copy_from_slice(&even_word(rows, bit, at).to_le_bytes());
     }
 }
 

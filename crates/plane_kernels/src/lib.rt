@@ -9,6 +9,7 @@ mod laws;
 mod mask;
 mod pad_bits;
 mod plane;
+mod row_bits;
 mod triples;
 mod words;
 

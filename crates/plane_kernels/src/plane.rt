@@ -4,16 +4,16 @@ ghost use Rattle.std.specs.Simd.Lanes.{put_chunk, zip2};
 ghost use Rattle.plane_kernels.specs.Bytes.{HasNoPadBits, HasPadBits, bytes_of_rows, word_count};
 ghost use Rattle.plane_kernels.specs.Rows.{IsPadded, bits_of, block_rows, rows_of};
 
-use crate::bits::Bits;
 use crate::mask::Mask;
 use crate::pad_bits::PadBits;
+use crate::row_bits::RowBits;
 use std::alloc::{AllocError, Global};
 use std::marker::Model;
 
 /// A bit for each row.
 #[derive(Drop)]
 pub struct Plane {
-    pub(crate) bits: Bits,
+    pub(crate) bits: RowBits,
 }
 
 impl Model for Plane {
@@ -30,7 +30,7 @@ impl Plane {
         ensures { IfOk result (λ p. p ≡ replicate rows false) }
     {
         Ok(Plane {
-            bits: Bits::none(alloc, rows)?,
+            bits: RowBits::even(alloc, rows, false)?,
         })
     }
 

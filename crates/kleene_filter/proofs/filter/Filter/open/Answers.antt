@@ -5,8 +5,8 @@ use Rattle.kleene_filter.specs.Masks.{atoms_of, AreMasksOf}
 use Rattle.kleene_filter.proofs.TruthBits.{masks_nest, masks_tell}
 use Rattle.kleene_filter.proofs.filter.Filter.open.Goals as goal
 
-pub invariant_of-result : goal.invariant_of-result
-invariant_of-result c = rw (c.judge_all.ensures.must, c.judge_all.ensures.may) (masks_nest (truths_under (condition_of c.args.pred.now) c.args.columns.now))
+pub unknown-unknown-requires : goal.unknown-unknown-requires
+unknown-unknown-requires c = rw (c.in_ok-truths.ensures.must, c.in_ok-truths.ensures.may) (masks_nest (truths_under (condition_of c.args.pred.now) c.args.columns.now))
 
 pub returns-clause-stands : goal.returns-clause-stands
 returns-clause-stands c =
@@ -14,7 +14,7 @@ returns-clause-stands c =
     let adds = c.in_ok-open_each.ensures in
     let none : length c.new-masks.result.items ≡ 0 = ap length c.new-masks.ensures.items in
     record {
-      truths = rw (c.judge_all.ensures.must, c.judge_all.ensures.may) (masks_tell (truths_under pred c.args.columns.now));
+      truths = rw (c.in_ok-truths.ensures.must, c.in_ok-truths.ensures.may) (masks_tell (truths_under pred c.args.columns.now));
       count = (let all = adds.count in omega arith);
       masks = subst (λ n. AreMasksOf c.open_each.new.masks.items n (atoms_of pred) c.args.columns.now) none adds.added;
       known = c.rows-rows.ensures.known;

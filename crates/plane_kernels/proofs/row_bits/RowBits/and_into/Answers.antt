@@ -1,0 +1,14 @@
+use Rattle.std.proofs.Common.{◌&&◌, true, false, length, replicate, sym, ap, ◌∙◌}
+use Rattle.plane_kernels.specs.RowBits.{rows_held}
+use Rattle.plane_kernels.proofs.Evens.{and_false, and_true, even_now, kept_beside, told_beside}
+use Rattle.plane_kernels.proofs.row_bits.RowBits.and_into.Goals as goal
+
+pub returns-then-not-bit : goal.returns-then-not-bit
+returns-then-not-bit c =
+    let even = even_now (rows_held c.other.inside.state) c.args.other.now c.in-Even.rows c.in-Even.bit false c.other.view_is (ap rows_held c.in-Even.is) c.if-not-bit.true in
+    c.fill.ensures.rows ∙ ap (λ l. replicate (length l) false) c.self.view_is ∙ sym (told_beside (λ a b. a && b) false false and_false c.args.self.now c.args.other.now c.in-Even.rows even c.requires)
+
+pub returns-else-not-bit : goal.returns-else-not-bit
+returns-else-not-bit c =
+    let even = even_now (rows_held c.other.inside.state) c.args.other.now c.in-Even.rows c.in-Even.bit true c.other.view_is (ap rows_held c.in-Even.is) c.if-not-bit.false in
+    sym (kept_beside (λ a b. a && b) true and_true c.args.self.now c.args.other.now c.in-Even.rows even c.requires)

@@ -1,0 +1,25 @@
+use Rattle.std.proofs.Common.{◌&&◌, ◌||◌, true, false, refl, sym, ap, ◌∙◌}
+use Rattle.std.specs.Simd.Lanes.{zip2}
+use Rattle.plane_kernels.specs.RowBits.{rows_held}
+use Rattle.plane_kernels.proofs.Evens.{and_false, and_true, even_now, kept_behind, kept_beside, none_added, told_behind, told_beside}
+use Rattle.plane_kernels.proofs.row_bits.RowBits.or_shared.Goals as goal
+
+pub returns-then-bit : goal.returns-then-bit
+returns-then-bit c =
+    let even = even_now (rows_held c.right.inside.state) c.args.right.now c.in-Written-Even.rows-1 c.in-Written-Even.bit true c.right.view_is (ap rows_held c.in-Written-Even.is-1) c.if-bit.true in
+    c.or_into.ensures ∙ ap (zip2 (λ a b. a || b) c.args.self.now) (sym (kept_beside (λ a b. a && b) true and_true c.args.left.now c.args.right.now c.in-Written-Even.rows-1 even (c.requires.right ∙ sym c.requires.left)))
+
+pub returns-else-bit : goal.returns-else-bit
+returns-else-bit c =
+    let even = even_now (rows_held c.right.inside.state) c.args.right.now c.in-Written-Even.rows-1 c.in-Written-Even.bit false c.right.view_is (ap rows_held c.in-Written-Even.is-1) c.if-bit.false in
+    none_added c.args.self.now c.args.left.now (zip2 (λ a b. a && b) c.args.left.now c.args.right.now) c.requires.left (told_beside (λ a b. a && b) false false and_false c.args.left.now c.args.right.now c.in-Written-Even.rows-1 even (c.requires.right ∙ sym c.requires.left))
+
+pub returns-then-bit-2 : goal.returns-then-bit-2
+returns-then-bit-2 c =
+    let even = even_now (rows_held c.left.inside.state) c.args.left.now c.in-Even-default.rows-0 c.in-Even-default.bit true c.left.view_is (ap rows_held c.in-Even-default.is-0) c.if-bit-2.true in
+    c.or_into-then-bit-2.ensures ∙ ap (zip2 (λ a b. a || b) c.args.self.now) (sym (kept_behind (λ a b. a && b) true (λ _. refl) c.args.left.now c.args.right.now c.in-Even-default.rows-0 even (c.requires.right ∙ sym c.requires.left)))
+
+pub returns-else-bit-2 : goal.returns-else-bit-2
+returns-else-bit-2 c =
+    let even = even_now (rows_held c.left.inside.state) c.args.left.now c.in-Even-default.rows-0 c.in-Even-default.bit false c.left.view_is (ap rows_held c.in-Even-default.is-0) c.if-bit-2.false in
+    none_added c.args.self.now c.args.left.now (zip2 (λ a b. a && b) c.args.left.now c.args.right.now) c.requires.left (told_behind (λ a b. a && b) false false (λ _. refl) c.args.left.now c.args.right.now c.in-Even-default.rows-0 even (c.requires.right ∙ sym c.requires.left))
