@@ -9,7 +9,10 @@ pub mod EndFacts
 pub mod NullFacts
 pub mod TableFacts
 pub mod LoadFacts
+pub mod LineFacts
 pub mod NumberFacts
+pub mod RaisedFacts
+pub mod PlainFacts
 pub mod OneFault
 pub mod HeadTexts
 pub mod OneTable

@@ -7,18 +7,18 @@ use crate::column::Column;
 use daq_table::{ColumnHeads, Head, Name, Schema, Table};
 use std::alloc::{AllocError, Global};
 
-/// The table of the columns, under the schema's names.
+/// The table of the columns, under the schema's names. The columns are left without their cells.
 pub(crate) fn table_of(
     alloc: Global,
     schema: &Schema,
     rows: usize,
-    columns: &[Column],
+    columns: &mut [Column],
 ) -> Result<Table, AllocError>
-    requires wide { length columns.now ≡ length schema.now.columns }
+    requires wide { length columns.old ≡ length schema.now.columns }
     requires few { rows ≤ 16777216 }
-    requires complete { AreComplete rows columns.now }
+    requires complete { AreComplete rows columns.old }
     ensures rows { IfOk result (λ table. table.head.rows ≡ rows) }
-    ensures columns { IfOk result (λ table. AreStored schema.now.columns columns.now table.head.columns table.cells) }
+    ensures columns { IfOk result (λ table. AreStored schema.now.columns columns.old table.head.columns table.cells) }
 {
     let mut heads = Vec::new(alloc);
     let mut lists = Vec::new(alloc);

@@ -11,6 +11,7 @@ use crate::values::Values;
 use daq_table::{ColumnHead, Kind, Name};
 use std::alloc::{AllocError, Global};
 use std::marker::Model;
+use std::mem;
 
 /// The values of a column, and for a nullable one which of its cells are null.
 #[derive(Drop)]
@@ -70,18 +71,19 @@ impl Column {
         Ok(())
     }
 
-    /// The column's head under that name, and the numbers and marks of its cells.
+    /// The column's head under that name, and the numbers and marks of its cells. The column is left without them.
     pub(crate) fn finish(
-        &self,
+        &mut self,
         alloc: Global,
         name: Name,
     ) -> Result<(ColumnHead, Vec<u64>, Vec<bool>), AllocError>
-        requires { IsWhole self.now }
-        ensures { IfOk result (λ column. IsFinished self.now name column.0 column.1.items column.2.items) }
+        requires { IsWhole self.old }
+        ensures { IfOk result (λ column. IsFinished self.old name column.0 column.1.items column.2.items) }
     {
-        let (head, numbers) = self.values.finish(alloc, name, self.nullable)?;
-        let cells = cells_of(alloc, self.nullable, numbers, &self.nulls)?;
-        let nulls = Vec::from_slice(alloc, &self.nulls)?;
+        let values = mem::replace(&mut self.values, Values::new(alloc, Kind::Int));
+        let nulls = mem::replace(&mut self.nulls, Vec::new(alloc));
+        let (head, numbers) = values.finish(alloc, name, self.nullable)?;
+        let cells = cells_of(alloc, self.nullable, numbers, &nulls)?;
         Ok((head, cells, nulls))
     }
 }

@@ -1,39 +1,46 @@
-//! The least and the greatest number of a column, and how far its numbers lie above the least.
+//! The least and the greatest number of a column, and how far its numbers lie above the least. The numbers are raised.
 
-ghost use Rattle.std.specs.Prelude.{◌≡◌, ◌-ℤ◌, unsigned_abs, map, IfOk};
+ghost use Rattle.std.specs.Prelude.{◌≡◌, ◌-ℤ◌, unsigned_abs, map};
 ghost use Rattle.csv_load.specs.Columns.{greatest, least};
+ghost use Rattle.csv_load.specs.Raised.{lowered};
 
-use std::alloc::{AllocError, Global};
+use crate::raised::lower;
 
 /// The least number, and 0 where there is none.
-pub(crate) fn least_number(numbers: &[i64]) -> i64
-    ensures { result ≡ least numbers.now }
+pub(crate) fn least_number(numbers: &[u64]) -> i64
+    ensures { result ≡ least (map lowered numbers.now) }
 {
-    let mut best = if numbers.is_empty() { 0 } else { numbers[0] };
+    let mut best = if numbers.is_empty() {
+        0
+    } else {
+        lower(numbers[0])
+    };
     for number in numbers {
-        best = best.min(*number);
+        best = best.min(lower(*number));
     }
     best
 }
 
 /// The greatest number, and 0 where there is none.
-pub(crate) fn greatest_number(numbers: &[i64]) -> i64
-    ensures { result ≡ greatest numbers.now }
+pub(crate) fn greatest_number(numbers: &[u64]) -> i64
+    ensures { result ≡ greatest (map lowered numbers.now) }
 {
-    let mut best = if numbers.is_empty() { 0 } else { numbers[0] };
+    let mut best = if numbers.is_empty() {
+        0
+    } else {
+        lower(numbers[0])
+    };
     for number in numbers {
-        best = best.max(*number);
+        best = best.max(lower(*number));
     }
     best
 }
 
-/// How far each number lies from the base.
-pub(crate) fn distances(alloc: Global, numbers: &[i64], base: i64) -> Result<Vec<u64>, AllocError>
-    ensures { IfOk result (λ cells. cells.items ≡ map (λ z. unsigned_abs (z -ℤ base)) numbers.now) }
+/// Puts in the place of each number how far it lies from the base.
+pub(crate) fn become_distances(numbers: &mut [u64], base: i64)
+    ensures { numbers.new ≡ map (λ n. unsigned_abs (lowered n -ℤ base)) numbers.old }
 {
-    let mut cells = Vec::with_capacity(alloc, numbers.len())?;
-    for number in numbers {
-        cells.push(number.abs_diff(base))?;
+    for number in numbers.iter_mut() {
+        *number = lower(*number).abs_diff(base);
     }
-    Ok(cells)
 }

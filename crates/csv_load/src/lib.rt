@@ -8,11 +8,14 @@ mod extremes;
 mod fault;
 mod filling;
 mod limits;
+mod lines;
 mod loading;
 mod marks;
 #[cfg(test)]
 mod null_tests;
 mod place;
+mod plain_cells;
+mod raised;
 mod ranks;
 mod reading;
 mod record;

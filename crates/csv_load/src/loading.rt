@@ -25,7 +25,7 @@ pub fn load(
     ensures table { IfOk result (IsTableOf bytes.now schema.now.columns limits.now) }
     ensures refused { IfErr result (Refuses bytes.now schema.now.columns limits.now) }
 {
-    let (rows, columns) = read_columns(alloc, bytes, schema, limits)?;
-    let table = table_of(alloc, schema, rows, &columns)?;
+    let (rows, mut columns) = read_columns(alloc, bytes, schema, limits)?;
+    let table = table_of(alloc, schema, rows, &mut columns)?;
     Ok(table)
 }

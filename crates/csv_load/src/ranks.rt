@@ -7,7 +7,9 @@ ghost use Rattle.std.specs.List.Sorted.{IsStrictlySortedBy};
 ghost use Rattle.std.specs.Ordering.{nat_cmp};
 ghost use Rattle.std.specs.Str.{bytes_eq};
 ghost use Rattle.csv_load.specs.Columns.{rank_of};
+ghost use Rattle.csv_load.specs.Raised.{lowered};
 
+use crate::raised::raise;
 use daq_table::{Dictionary, Text};
 use std::alloc::{AllocError, Global};
 use std::collections::BTreeSet;
@@ -40,19 +42,19 @@ fn rank(names: &[Text], text: &[u8]) -> usize
     }
 }
 
-/// The ranks of texts that are all among the names.
+/// The ranks of texts that are all among the names, raised.
 pub(crate) fn ranks_of(
     alloc: Global,
     texts: &[Vec<u8>],
     names: &[Text],
-) -> Result<Vec<i64>, AllocError>
+) -> Result<Vec<u64>, AllocError>
     requires sorted { IsStrictlySortedBy (slice_cmp nat_cmp) names.now }
     requires known { All (λ text. IsTrue (list_any (bytes_eq text) names.now)) (map vec_items texts.now) }
-    ensures { IfOk result (λ ranks. ranks.items ≡ map (λ text. pos (rank_of names.now text)) (map vec_items texts.now)) }
+    ensures { IfOk result (λ ranks. map lowered ranks.items ≡ map (λ text. pos (rank_of names.now text)) (map vec_items texts.now)) }
 {
     let mut ranks = Vec::with_capacity(alloc, texts.len())?;
     for text in texts {
-        ranks.push(rank(names, text) as i64)?;
+        ranks.push(raise(rank(names, text) as i64))?;
     }
     Ok(ranks)
 }

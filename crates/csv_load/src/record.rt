@@ -1,44 +1,40 @@
 //! One record of a CSV: the header, or a row.
 
 ghost use Rattle.std.specs.Prelude.{◌≡◌, ◌≢◌, ◌↔◌, ℕ, suc, ◌+◌, ◌*◌, ◌<◌, ◌≤◌, ◌^◌, length, slice_get, slice_index_or, MatchOption, OnOk, IfErr, IsTrue, Some, []};
-ghost use Rattle.csv.specs.Records.{fields_of};
 ghost use Rattle.daq_table.specs.Schemas.{names_of};
 ghost use Rattle.csv_load.specs.Faults.{IsFirstDifference};
+ghost use Rattle.csv_load.specs.Records.{held};
 ghost use Rattle.csv_load.specs.States.{RefusesAt, RefusesHeader, RefusesRecord, RefusesRow, TakesRecord, TakesRow, TookBelow};
 
 use crate::column::Column;
 use crate::fault::TableFault;
 use crate::limits::Limits;
 use crate::place::Place;
-use csv::ByteRecord;
 use daq_table::SchemaColumn;
 use std::alloc::Global;
 
-// Whether that field of the record is the text.
-fn has_field(fields: &ByteRecord, place: usize, text: &[u8]) -> bool
-    ensures { IsTrue result ↔ (slice_get (fields_of fields.now) place ≡ Some text.now) }
+// A field of the record.
+fn field_at<'f>(fields: &'f [&[u8]], place: usize) -> &'f [u8]
+    requires { place < length (held fields.now) }
+    ensures { result.now ≡ slice_index_or (held fields.now) place [] }
 {
-    match fields.get(place) {
-        Some(field) => field == text,
-        None => false,
-    }
+    fields[place]
 }
 
-// A field of the record.
-pub(crate) fn field_at(fields: &ByteRecord, place: usize) -> &[u8]
-    requires { place < length (fields_of fields.now) }
-    ensures { result.now ≡ slice_index_or (fields_of fields.now) place [] }
+// Whether that field of the record is the text.
+fn has_field(fields: &[&[u8]], place: usize, text: &[u8]) -> bool
+    ensures { IsTrue result ↔ (slice_get (held fields.now) place ≡ Some text.now) }
 {
-    match fields.get(place) {
-        Some(field) => field,
-        None => unreachable!(),
+    if place >= fields.len() {
+        return false;
     }
+    field_at(fields, place) == text
 }
 
 // The first column where the header and the schema's names differ.
-fn first_difference(header: &ByteRecord, columns: &[SchemaColumn]) -> Option<usize>
-    ensures { MatchOption result (fields_of header.now ≡ names_of columns.now)
-        (IsFirstDifference (fields_of header.now) (names_of columns.now)) }
+fn first_difference(header: &[&[u8]], columns: &[SchemaColumn]) -> Option<usize>
+    ensures { MatchOption result (held header.now ≡ names_of columns.now)
+        (IsFirstDifference (held header.now) (names_of columns.now)) }
 {
     for (place, column) in columns.iter().enumerate() {
         if !has_field(header, place, column.name.as_slice()) {
@@ -53,9 +49,9 @@ fn first_difference(header: &ByteRecord, columns: &[SchemaColumn]) -> Option<usi
 }
 
 // Takes the header, if it is the schema's names.
-fn take_header(header: &ByteRecord, columns: &[SchemaColumn]) -> Result<(), TableFault>
-    ensures ok { OnOk result (fields_of header.now ≡ names_of columns.now) }
-    ensures err { IfErr result (RefusesHeader columns.now (fields_of header.now)) }
+fn take_header(header: &[&[u8]], columns: &[SchemaColumn]) -> Result<(), TableFault>
+    ensures ok { OnOk result (held header.now ≡ names_of columns.now) }
+    ensures err { IfErr result (RefusesHeader columns.now (held header.now)) }
 {
     match first_difference(header, columns) {
         Some(column) => Err(TableFault::HeaderDiffers { column }),
@@ -67,13 +63,13 @@ fn take_header(header: &ByteRecord, columns: &[SchemaColumn]) -> Result<(), Tabl
 fn take_fields(
     alloc: Global,
     columns: &mut [Column],
-    fields: &ByteRecord,
+    fields: &[&[u8]],
     limit: u64,
     entry: usize,
 ) -> Result<(), TableFault>
-    requires { length (fields_of fields.now) ≡ length columns.old }
-    ensures ok { OnOk result (TookBelow limit columns.old (fields_of fields.now) columns.new (length columns.old)) }
-    ensures err { IfErr result (RefusesAt limit entry columns.old (fields_of fields.now)) }
+    requires { length (held fields.now) ≡ length columns.old }
+    ensures ok { OnOk result (TookBelow limit columns.old (held fields.now) columns.new (length columns.old)) }
+    ensures err { IfErr result (RefusesAt limit entry columns.old (held fields.now)) }
 {
     for (place, column) in columns.iter_mut().enumerate() {
         let text = field_at(fields, place);
@@ -94,14 +90,14 @@ fn take_fields(
 fn take_row(
     alloc: Global,
     columns: &mut [Column],
-    fields: &ByteRecord,
+    fields: &[&[u8]],
     limits: &Limits,
     rows: usize,
 ) -> Result<(), TableFault>
     requires small { rows + 1 < 2 ^ 32 }
     requires few { length columns.old ≤ 64 }
-    ensures ok { OnOk result (TakesRow limits.now rows columns.old (fields_of fields.now) columns.new) }
-    ensures err { IfErr result (RefusesRow limits.now rows columns.old (fields_of fields.now)) }
+    ensures ok { OnOk result (TakesRow limits.now rows columns.old (held fields.now) columns.new) }
+    ensures err { IfErr result (RefusesRow limits.now rows columns.old (held fields.now)) }
 {
     let entry = rows + 1;
     if entry as u64 > limits.rows {
@@ -125,15 +121,15 @@ fn take_row(
 pub(crate) fn take_record(
     alloc: Global,
     columns: &mut [Column],
-    fields: &ByteRecord,
+    fields: &[&[u8]],
     schema: &[SchemaColumn],
     limits: &Limits,
     records: usize,
 ) -> Result<(), TableFault>
     requires small { records < 2 ^ 32 }
     requires few { length columns.old ≤ 64 }
-    ensures ok { OnOk result (TakesRecord schema.now limits.now records columns.old (fields_of fields.now) columns.new) }
-    ensures err { IfErr result (RefusesRecord schema.now limits.now records columns.old (fields_of fields.now)) }
+    ensures ok { OnOk result (TakesRecord schema.now limits.now records columns.old (held fields.now) columns.new) }
+    ensures err { IfErr result (RefusesRecord schema.now limits.now records columns.old (held fields.now)) }
 {
     if records == 0 {
         take_header(fields, schema)

@@ -1,11 +1,12 @@
 //! A list of texts of which each is kept once.
 
-ghost use Rattle.std.specs.Prelude.{◌≡◌, ◌++◌, ◌∷◌, [], length, map, pos, vec_items, IfOk, OnOk, OnErr};
+ghost use Rattle.std.specs.Prelude.{◌≡◌, ◌<◌, ◌++◌, ◌∷◌, [], All, length, map, pos, slice_index_or, vec_items, IfOk, OnOk, OnErr};
 ghost use Rattle.std.specs.Cmp.Lexicographic.{slice_cmp};
 ghost use Rattle.std.specs.List.Sorted.{IsStrictlySortedBy};
 ghost use Rattle.std.specs.Ordering.{nat_cmp};
 ghost use Rattle.csv_load.specs.Columns.{distinct, rank_of};
 ghost use Rattle.csv_load.specs.Numbered.{HasNumber};
+ghost use Rattle.csv_load.specs.Raised.{lowered};
 
 use crate::ranks::{ranks_of, sorted_names};
 use daq_table::{Dictionary, Text};
@@ -19,7 +20,7 @@ use std::marker::Model;
 #[derive(Drop)]
 pub(crate) struct Texts {
     kept: IndexSet<Vec<u8>>,
-    numbers: Vec<usize>,
+    numbers: Vec<u64>,
 }
 
 impl Model for Texts {
@@ -45,6 +46,16 @@ fn number_of(alloc: Global, kept: &mut IndexSet<Vec<u8>>, text: &[u8]) -> Result
     Ok(number)
 }
 
+// Puts in the place of each number what stands there in the list.
+fn become_ranks(numbers: &mut [u64], ranks: &[u64])
+    requires { All (λ n. n < length ranks.now) numbers.old }
+    ensures { numbers.new ≡ map (λ n. slice_index_or ranks.now n 0) numbers.old }
+{
+    for number in numbers.iter_mut() {
+        *number = ranks[*number as usize];
+    }
+}
+
 impl Texts {
     /// No texts.
     pub(crate) fn new(alloc: Global) -> Texts
@@ -62,7 +73,7 @@ impl Texts {
     {
         self.numbers.reserve(1)?;
         let number = number_of(alloc, &mut self.kept, text)?;
-        self.numbers.push_reserved(number);
+        self.numbers.push_reserved(number as u64);
         Ok(())
     }
 
@@ -85,17 +96,15 @@ impl Texts {
         sorted_names(alloc, &sorted)
     }
 
-    /// The ranks of the texts in their dictionary.
-    pub(crate) fn ranks(&self, alloc: Global, names: &[Text]) -> Result<Vec<i64>, AllocError>
-        requires names { names.now ≡ distinct self.now }
+    /// The ranks of the texts in their dictionary, raised.
+    pub(crate) fn into_ranks(self, alloc: Global, names: &[Text]) -> Result<Vec<u64>, AllocError>
+        requires names { names.now ≡ distinct self }
         requires sorted { IsStrictlySortedBy (slice_cmp nat_cmp) names.now }
-        ensures { IfOk result (λ ranks. ranks.items ≡ map (λ text. pos (rank_of names.now text)) self.now) }
+        ensures { IfOk result (λ ranks. map lowered ranks.items ≡ map (λ text. pos (rank_of names.now text)) self) }
     {
-        let kept = ranks_of(alloc, self.kept.as_slice(), names)?;
-        let mut ranks = Vec::with_capacity(alloc, self.numbers.len())?;
-        for number in &self.numbers {
-            ranks.push(kept[*number])?;
-        }
-        Ok(ranks)
+        let Texts { kept, mut numbers } = self;
+        let ranks = ranks_of(alloc, kept.as_slice(), names)?;
+        become_ranks(&mut numbers, &ranks);
+        Ok(numbers)
     }
 }

@@ -1,45 +1,62 @@
 //! The values of a column while its CSV is read: its cells that are not null.
 
-ghost use Rattle.std.specs.Prelude.{◌≡◌, ◌↔◌, ◌≢◌, pos, map, IfOk, OnOk, IfErr, IsTrue, [], true, false};
+ghost use Rattle.std.specs.Prelude.{◌≡◌, ◌↔◌, ◌≢◌, if◌then◌else◌, IfOk, IfSome, OnOk, IfErr, IsTrue, [], true, false};
 ghost use Rattle.std.specs.Option.{SomeIff};
 ghost use Rattle.daq_table.specs.CellTexts.{IsCellText, cell_number};
 ghost use Rattle.daq_table.specs.declared.head.Kind.TheVariants.{Text};
 ghost use Rattle.csv_load.specs.Columns.{IsShortText, is_text, rank_of};
 ghost use Rattle.csv_load.specs.States.{HasValues, IsComplete, RefusesValue, TakesValue, kept_of, kept_with, numbers_in};
 
-use crate::extremes::{distances, greatest_number, least_number};
+use crate::extremes::{become_distances, greatest_number, least_number};
 use crate::fault::TableFault;
 use crate::place::Place;
+use crate::plain_cells::{plain_dec, plain_int};
+use crate::raised::raise;
 use crate::texts::Texts;
 use daq_table::{ColumnHead, Kind, Name, cell_value};
 use std::alloc::{AllocError, Global};
 use std::marker::Model;
 use std::str::from_utf8;
 
-/// The values that were read of a column. Texts wait for their ranks until the whole dictionary is known.
+/// The values that were read of a column, numbers raised. Texts wait for their ranks until the whole dictionary is known.
 #[derive(Drop)]
 pub(crate) struct Values {
     kind: Kind,
-    numbers: Vec<i64>,
+    numbers: Vec<u64>,
     texts: Texts,
 }
 
 impl Model for Values {
+    ghost use Rattle.std.specs.Prelude.{map};
     ghost use Rattle.csv_load.specs.Columns.{distinct};
+    ghost use Rattle.csv_load.specs.Raised.{lowered};
     ghost use Rattle.csv_load.specs.States.{Kept};
 
     ghost Value = { Kept };
 
     ghost view = { λ c. record {
       kind = c.kind;
-      numbers = c.numbers.items;
+      numbers = map lowered c.numbers.items;
       texts = c.texts;
       names = distinct c.texts;
     } };
 }
 
-// The number of a cell that is no text.
+// The number of a cell of the kind in its plainest form. None where it may have another form, and for a text.
 fn plain_value(kind: &Kind, text: &[u8]) -> Option<i64>
+    ensures cell { IfSome result (λ _. IsCellText kind.now text.now) }
+    ensures value { IfSome result (λ z. z ≡ cell_number kind.now text.now) }
+{
+    match kind {
+        Kind::Int => plain_int(text),
+        Kind::Dec(scale) => plain_dec(*scale, text),
+        Kind::Date => None,
+        Kind::Text => None,
+    }
+}
+
+// The same in any form.
+fn any_value(kind: &Kind, text: &[u8]) -> Option<i64>
     ensures { SomeIff result (IsCellText kind.now text.now) (cell_number kind.now text.now) }
 {
     match kind {
@@ -47,6 +64,28 @@ fn plain_value(kind: &Kind, text: &[u8]) -> Option<i64>
         Kind::Dec(_) => cell_value(kind, text),
         Kind::Date => cell_value(kind, text),
         Kind::Text => None,
+    }
+}
+
+// The number of a cell that is no text.
+fn number_of(kind: &Kind, text: &[u8]) -> Option<i64>
+    ensures { SomeIff result (IsCellText kind.now text.now) (cell_number kind.now text.now) }
+{
+    match plain_value(kind, text) {
+        Some(number) => Some(number),
+        None => any_value(kind, text),
+    }
+}
+
+// The numbers of a column's values, raised: those that were read, and for texts their ranks.
+fn values_of(kind: Kind, numbers: Vec<u64>, ranks: Vec<u64>) -> Vec<u64>
+    ensures { result.items ≡ (if is_text kind then ranks.items else numbers.items) }
+{
+    match kind {
+        Kind::Int => numbers,
+        Kind::Dec(_) => numbers,
+        Kind::Date => numbers,
+        Kind::Text => ranks,
     }
 }
 
@@ -96,9 +135,9 @@ impl Values {
         ensures taken { OnOk result (self.new ≡ kept_with self.old text.now) }
         ensures err { IfErr result (RefusesValue 0 place.entry place.column self.old text.now) }
     {
-        match plain_value(&self.kind, text) {
+        match number_of(&self.kind, text) {
             Some(number) => {
-                self.numbers.push(number)?;
+                self.numbers.push(raise(number))?;
                 Ok(())
             }
             None => Err(TableFault::BadCell {
@@ -136,40 +175,33 @@ impl Values {
         Ok(())
     }
 
-    // The numbers of the values: those that were read, and for texts their ranks.
-    fn numbers<'v>(&'v self, ranks: &'v [i64]) -> &'v [i64]
-        requires { ranks.now ≡ map (λ text. pos (rank_of self.now.names text)) self.now.texts }
-        ensures { result.now ≡ numbers_in self.now }
-    {
-        match self.kind {
-            Kind::Int => &self.numbers,
-            Kind::Dec(_) => &self.numbers,
-            Kind::Date => &self.numbers,
-            Kind::Text => ranks,
-        }
-    }
-
     /// The column's head under that name, and how far each value's number lies above its base.
     pub(crate) fn finish(
-        &self,
+        self,
         alloc: Global,
         name: Name,
         nullable: bool,
     ) -> Result<(ColumnHead, Vec<u64>), AllocError>
-        requires { IsComplete self.now }
-        ensures { IfOk result (λ column. HasValues self.now nullable name column.0 column.1.items) }
+        requires { IsComplete self }
+        ensures { IfOk result (λ column. HasValues self nullable name column.0 column.1.items) }
     {
-        let names = self.texts.dictionary(alloc)?;
-        let ranks = self.texts.ranks(alloc, names.as_slice())?;
-        let numbers = self.numbers(&ranks);
-        let base = least_number(numbers);
-        let cells = distances(alloc, numbers, base)?;
+        let Values {
+            kind,
+            numbers,
+            texts,
+        } = self;
+        let names = texts.dictionary(alloc)?;
+        let ranks = texts.into_ranks(alloc, names.as_slice())?;
+        let mut cells = values_of(kind, numbers, ranks);
+        let base = least_number(&cells);
+        let top = greatest_number(&cells);
+        become_distances(&mut cells, base);
         let head = ColumnHead {
             name,
-            kind: self.kind,
+            kind,
             nullable,
             base,
-            top: greatest_number(numbers),
+            top,
             names,
         };
         Ok((head, cells))

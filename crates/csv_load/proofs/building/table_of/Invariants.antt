@@ -1,6 +1,11 @@
-use Rattle.std.proofs.Common.{map, vec_items}
-use Rattle.csv_load.specs.States.{AreFinished}
+use Rattle.std.proofs.Common.{◌≡◌, ◌≤◌, ℕ, length, map, vec_items, get_or}
+use Rattle.csv_load.specs.States.{AreFinished, State}
 use Rattle.csv_load.proofs.building.table_of.Given as goal
 
+-- the columns before the place are finished, and those from it on are as they were
 abbrev pub invariant-loop-place : goal.invariant-loop-place
-invariant-loop-place l = AreFinished l.schema.columns l.columns l.place l.heads.items (map vec_items l.lists.items) (map vec_items l.marks.items)
+invariant-loop-place l = record {
+  done : AreFinished l.schema.columns l.fn.columns l.place l.heads.items (map vec_items l.lists.items) (map vec_items l.marks.items);
+  wide : length l.columns ≡ length l.fn.columns;
+  left : (k : ℕ) (d : State) → l.place ≤ k → get_or l.columns k d ≡ get_or l.fn.columns k d;
+}

@@ -1,6 +1,7 @@
 use Rattle.std.proofs.Common.{◌≡◌, List, ℕ, pos, map, take, vec_items}
 use Rattle.csv_load.specs.Columns.{rank_of}
+use Rattle.csv_load.specs.Raised.{lowered}
 use Rattle.csv_load.proofs.ranks.ranks_of.Given as goal
 
 abbrev pub invariant-loop-text : goal.invariant-loop-text
-invariant-loop-text l = l.ranks.items ≡ map (λ (text : List ℕ). pos (rank_of l.names text)) (map vec_items (take l.text-index l.texts))
+invariant-loop-text l = map lowered l.ranks.items ≡ map (λ (text : List ℕ). pos (rank_of l.names text)) (map vec_items (take l.text-index l.texts))

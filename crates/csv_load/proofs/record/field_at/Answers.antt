@@ -1,10 +1,8 @@
-use Rattle.std.proofs.Common.{◌∙◌, Bor, List, ℕ, option_map, sym, ap}
-use Rattle.csv.proofs.RecordFacts.{field-get, field-there}
-use Rattle.csv.specs.Records.{fields_of}
+use Rattle.std.proofs.Common.{Bor, List, ℕ, [], sym, arith}
+use Rattle.std.proofs.lemmas.List.{get_or-map, length-map}
 use Rattle.csv_load.proofs.record.field_at.Goals as goal
 
-pub unreachable-requires : goal.unreachable-requires
-unreachable-requires c = field-there (fields_of c.args.fields.now) c.args.place c.requires (sym c.get.ensures.value ∙ ap (option_map (λ (s : Bor (List ℕ)). s.now)) c.in-None.is)
-
 pub returns : goal.returns
-returns c = sym (field-get (fields_of c.args.fields.now) c.args.place c.in-Some.field.now (sym c.get.ensures.value ∙ ap (option_map (λ (s : Bor (List ℕ)). s.now)) c.in-Some.is))
+returns c =
+    let view = λ (s : Bor (List ℕ)). s.now in
+    sym (get_or-map view c.args.fields.now c.args.place _ [] (omega (arith, c.requires, length-map c.args.fields.now view)))

@@ -1,16 +1,12 @@
-use Rattle.std.proofs.Common.{◌≡◌, ◌∙◌, Some, None, Bor, List, ℕ, slice_get, option_map, sym, ap}
-use Rattle.csv.specs.Records.{fields_of}
-use Rattle.csv_load.proofs.FieldFacts.{has_some, same_field}
+use Rattle.std.proofs.Common.{◌≡◌, ◌<◌, ◌∙◌, length, Some, Bor, List, ℕ, [], slice_get, sym, ap, arith}
+use Rattle.std.proofs.lemmas.List.{length-map}
+use Rattle.std.proofs.lemmas.Option.{slice_get-get_or}
+use Rattle.csv_load.specs.Records.{held}
+use Rattle.csv_load.proofs.FieldFacts.{has_some}
 use Rattle.csv_load.proofs.record.has_field.Goals as goal
 
-pub returns-in-Some : goal.returns-in-Some
-returns-in-Some c =
-    let e : slice_get (fields_of c.args.fields.now) c.args.place ≡ Some c.in-Some.field.now =
-    sym (same_field (fields_of c.args.fields.now) c.args.place) ∙ sym c.get.ensures.value ∙ ap (option_map (λ (s : Bor (List ℕ)). s.now)) c.in-Some.is in
-    rw e (has_some c.in-Some.field.now c.args.text.now c.eq.result c.eq.ensures)
-
-pub returns-in-None : goal.returns-in-None
-returns-in-None c =
-    let e : slice_get (fields_of c.args.fields.now) c.args.place ≡ None =
-    sym (same_field (fields_of c.args.fields.now) c.args.place) ∙ sym c.get.ensures.value ∙ ap (option_map (λ (s : Bor (List ℕ)). s.now)) c.in-None.is in
-    rw e (λ h. absurd cc, λ h. absurd cc)
+pub returns : goal.returns
+returns c =
+    let within : c.args.place < length (held c.args.fields.now) = omega (arith, c.if-place-fields.false, length-map c.args.fields.now (λ (s : Bor (List ℕ)). s.now)) in
+    let e : slice_get (held c.args.fields.now) c.args.place ≡ Some c.field_at.result.now = slice_get-get_or (held c.args.fields.now) c.args.place [] within ∙ ap Some (sym c.field_at.ensures) in
+    rw e (has_some c.field_at.result.now c.args.text.now c.eq.result c.eq.ensures)

@@ -1,5 +1,6 @@
-use Rattle.std.proofs.Common.{ap, length, refl, arith, rules}
+use Rattle.std.proofs.Common.{ap, length, map, refl, arith, rules}
 use Rattle.csv_load.specs.Columns.{IsShortText}
+use Rattle.csv_load.specs.Raised.{lowered}
 use Rattle.csv_load.proofs.StateFacts.{names_taken, text_is_value, text_taken}
 use Rattle.csv_load.proofs.values.Values.take_text.Goals as goal
 
@@ -20,4 +21,4 @@ returns-clause-ok c =
 pub returns-clause-taken : goal.returns-clause-taken
 returns-clause-taken c =
     let kind = rw (← c.self.view_is) at c.requires in
-    rw (← c.self.view_is) (text_taken c.self.inside.kind c.self.inside.numbers.items c.self.inside.texts c.push.new.self c.args.text.now kind c.in_ok-push.ensures)
+    rw (← c.self.view_is) (text_taken c.self.inside.kind (map lowered c.self.inside.numbers.items) c.self.inside.texts c.push.new.self c.args.text.now kind c.in_ok-push.ensures)

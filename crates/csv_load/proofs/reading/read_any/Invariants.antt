@@ -4,7 +4,7 @@ use Rattle.csv.specs.declared.parser.State.TheVariants as st
 use Rattle.csv.specs.declared.reader.Trim.TheVariants as trim
 use Rattle.csv_load.specs.Records.{Fields, without_marks}
 use Rattle.csv_load.specs.States.{HasTaken}
-use Rattle.csv_load.proofs.reading.read_columns.Given as goal
+use Rattle.csv_load.proofs.reading.read_any.Given as goal
 
 abbrev pub invariant-records : goal.invariant-records
 invariant-records l = (l.reader.trim ≡ trim.None) × Ready l.reader × (l.reader.config ≡ default_config)
