@@ -87,6 +87,13 @@ high_sum_fits kind ps p o q may sums =
 
 -- ---- places of lists
 
+-- the first elements stand where they stood
+pub taken_same : {A : Type 0} (n : ℕ) (xs : List A) (k : ℕ) → k < n → slice_get (take n xs) k ≡ slice_get xs k
+taken_same zero xs k h = absurd (omega arith)
+taken_same (suc n) [] k h = refl
+taken_same (suc n) (x ∷ xs) zero h = refl
+taken_same (suc n) (x ∷ xs) (suc k) h = taken_same n xs k (omega arith)
+
 pub taken_within : {A : Type 0} (n : ℕ) (xs : List A) (k : ℕ) (x : A) → slice_get (take n xs) k ≡ Some x → (k < n) × (k < length xs)
 taken_within n xs k x h =
     let within : k < length (take n xs) = slice_get_within (take n xs) k x h in
@@ -112,7 +119,7 @@ set_elsewhere (y ∷ ys) (suc i) (suc k) x h = set_elsewhere ys i k x (λ e. h (
 
 -- ---- a cell's place
 
-found_at : (n : ℕ) (xs : List Tally) (k : ℕ) (t r : Tally) → slice_get (take n xs) k ≡ Some t → r ≡ get_or xs k r → r ≡ t
+pub found_at : (n : ℕ) (xs : List Tally) (k : ℕ) (t r : Tally) → slice_get (take n xs) k ≡ Some t → r ≡ get_or xs k r → r ≡ t
 found_at n xs k t r h e = e ∙ get_or_from_slice_get xs k t r (taken_at n xs k t h)
 
 -- what the first n of these tallies are seen as

@@ -1,14 +1,15 @@
 -- Counts, sums and ends of a list with one element more.
-use Rattle.std.proofs.Common.{◌≡◌, ℕ, ◌+◌, ℤ, ◌+ℤ◌, true, false, List, [], ◌∷◌, ◌++◌, length, map, filter, refl, ap, sym, ◌∙◌, arith, Option, Some, None, length-append, append-nil}
+use Rattle.std.proofs.Common.{◌≡◌, ℕ, ◌+◌, ℤ, ◌+ℤ◌, true, false, List, [], ◌∷◌, ◌++◌, length, map, filter, refl, ap, sym, ◌∙◌, arith, Option, Some, None, inl, inr, cond, length-append, append-nil}
 use Rattle.std.specs.Int.{int_min, int_max}
+use Rattle.std.proofs.lemmas.Bool.{cases_Bool}
 use Rattle.std.proofs.lemmas.Int.{ints, clamps}
 use Rattle.std.proofs.lemmas.List.Elements.{filter-append, filter_map-append}
 use Rattle.query_model.specs.declared.query.ItemKind.{ItemKind}
-use Rattle.query_model.specs.declared.query.ItemKind.TheVariants.{Min, Max}
+use Rattle.query_model.specs.declared.query.ItemKind.TheVariants.{Count, Sum, Min, Max, Avg}
 use Rattle.query_model.specs.Answers.{total, least, greatest, answer}
 use Rattle.query_model.specs.Bounds.{Pair, certain_count, lows, highs, certain_lows, certain_highs}
 use Rattle.aggregates.specs.declared.tally.Tally.{Tally}
-use Rattle.aggregates.specs.Tallies.{if_summed}
+use Rattle.aggregates.specs.Tallies.{tally_of}
 
 -- ---- numbers
 
@@ -77,6 +78,14 @@ lows-uncertain ps p f = filter_map-append _ ps (p ∷ []) ∙ rw f (append-nil (
 pub highs-uncertain : (ps : List Pair) (p : Pair) → p.certain ≡ false → certain_highs (ps ++ p ∷ []) ≡ certain_highs ps
 highs-uncertain ps p f = filter_map-append _ ps (p ∷ []) ∙ rw f (append-nil (certain_highs ps))
 
+-- one more certain pair, or none
+pub count-more : (ps : List Pair) (p : Pair) (n : ℕ) → n ≡ cond p.certain 1 0 → certain_count (ps ++ p ∷ []) ≡ certain_count ps + n
+count-more ps p n is =
+    elim (cases_Bool p.certain) [
+      | inl t ↦ count-certain ps p t ∙ ap (λ k. certain_count ps + k) (sym (is ∙ ap (λ b. cond b 1 0) t))
+      | inr f ↦ count-uncertain ps p f ∙ (let none : n ≡ 0 = is ∙ ap (λ b. cond b 1 0) f in omega (arith, none))
+    ]
+
 -- ---- ends and sums of the longer list, of which one more number was taken in
 
 pub least_low-more : (ps : List Pair) (p : Pair) (n r m : ℤ) → m ≡ r → Some r ≡ answer Min (lows ps ++ n ∷ []) → n ≡ p.low → Some m ≡ answer Min (lows (ps ++ p ∷ []))
@@ -90,9 +99,6 @@ least_certain-more ps p n r m t same e is = ap Some same ∙ e ∙ ap (λ x. ans
 
 pub greatest_certain-more : (ps : List Pair) (p : Pair) (n r m : ℤ) → p.certain ≡ true → m ≡ r → Some r ≡ answer Max (certain_lows ps ++ n ∷ []) → n ≡ p.low → Some m ≡ answer Max (certain_lows (ps ++ p ∷ []))
 greatest_certain-more ps p n r m t same e is = ap Some same ∙ e ∙ ap (λ x. answer Max (certain_lows ps ++ x ∷ [])) is ∙ ap (answer Max) (sym (lows-certain ps p t))
-
-pub sum-more : (kind : ItemKind) (f : Pair → ℤ) (ps : List Pair) (p : Pair) (n r m : ℤ) → m ≡ r → r ≡ if_summed kind (total (map f ps) +ℤ n) → n ≡ f p → m ≡ if_summed kind (total (map f (ps ++ p ∷ [])))
-sum-more kind f ps p n r m same e is = same ∙ e ∙ ap (λ x. if_summed kind (total (map f ps) +ℤ x)) is ∙ ap (if_summed kind) (sym (total-more f ps p))
 
 -- ---- what is kept
 
@@ -121,3 +127,11 @@ same_tally certain all least_low greatest_high least_certain_high greatest_certa
       high_sum = t.high_sum;
     } = refl in
     cc
+
+-- what is kept of no pairs is the same for each kind
+pub no_pairs : (kind : ItemKind) → tally_of Min [] ≡ tally_of kind []
+no_pairs Count = refl
+no_pairs Sum = refl
+no_pairs Min = refl
+no_pairs Max = refl
+no_pairs Avg = refl

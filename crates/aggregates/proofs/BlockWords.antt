@@ -1,20 +1,25 @@
--- Candidates among the rows of a block, as the bits of a word, narrowed digit by digit.
-use Rattle.std.proofs.Common.{◌≡◌, ℕ, zero, suc, ◌+◌, ◌-◌, ◌*◌, ◌/◌, ◌%◌, ◌^◌, ◌<◌, ◌≤◌, ◌==◌, min, Bool, true, false, not, ◌&&◌, cond, List, length, map, take, drop, get_or, ◌⊎◌, inl, inr, refl, ap, sym, subst, ◌∙◌, arith}
+-- Candidates among the rows of a block of 512, as the bits of eight words, narrowed digit by digit.
+use Rattle.std.proofs.Common.{◌≡◌, ℕ, zero, suc, ◌+◌, ◌-◌, ◌*◌, ◌/◌, ◌%◌, ◌^◌, ◌<◌, ◌≤◌, ◌==◌, ◌↔◌, nat_eq, nat_lt, min, Bool, true, false, not, ◌&&◌, cond, IsTrue, List, [], ◌∷◌, length, map, take, drop, get_or, Option, None, Some, ◌⊎◌, inl, inr, refl, ap, sym, subst, ◌∙◌, arith}
 use Rattle.std.specs.Int.{w64, bit_at, bit_not, trailing_zeros}
-use Rattle.std.specs.Int.Bits.{bit_and}
+use Rattle.std.specs.Int.Bits.{bit_and, bit_or}
+use Rattle.std.specs.Simd.Lanes.{fold_l, zip2}
 use Rattle.std.proofs.Math.ListN.{get_or-eq_default}
-use Rattle.std.proofs.Math.Nat.{div-one, div-eq_of_lt, pow-suc}
+use Rattle.std.proofs.Math.Nat.{div-one, div-eq_of_lt, div-mul-le_self, pow-suc}
 use Rattle.std.proofs.lemmas.Bool.Decides.{nat_tests}
 use Rattle.std.proofs.lemmas.Bool.{false≢true}
 use Rattle.std.proofs.lemmas.List.{get_or-drop, get_or-map, get_or-take, length-map}
+use Rattle.std.proofs.lemmas.Nat.{le-div, le_or_l, le_or_r, pow_pos}
 use Rattle.std.proofs.lemmas.Option.{get_or_from_slice_get}
-use Rattle.std.proofs.lemmas.Nat.Bits.{bit_at-lt, bit_at-trailing_zeros, bit_at-zero, bit_at_and, bit_at_not, bit_at_ones, bit_at_ones_above}
-use Rattle.plane_kernels.specs.Rows.{bits_of}
-use Rattle.plane_kernels.proofs.RowLemmas.{get-bits_of}
+use Rattle.std.proofs.lemmas.Nat.Bits.{bit_at-lt, bit_at-trailing_zeros, bit_at-zero, bit_at_above, bit_at_and, bit_at_not}
+use Rattle.std.proofs.lemmas.Simd.{get_or-zip2}
+use Rattle.plane_kernels.specs.Rows.{block_rows, rows_of, IsPadded}
+use Rattle.plane_kernels.proofs.BytesLemmas.{below_padded}
+use Rattle.plane_kernels.proofs.RowLemmas.{get-rows_of}
 use Rattle.known_column.specs.Columns.{KnownColumn, digit_of}
+use Rattle.aggregates.specs.declared.extreme_rows.Candidate.{Candidate}
 use Rattle.aggregates.specs.declared.extreme_rows.Extreme.{Extreme}
 use Rattle.aggregates.specs.declared.extreme_rows.Extreme.TheVariants.{Least, Greatest}
-use Rattle.aggregates.specs.ExtremeRows.{extreme_digit, has_bit, number_at, AreBlockRows, IsAsFar, IsBestOf, IsNarrowed}
+use Rattle.aggregates.specs.ExtremeRows.{has_bit, has_place, is_ahead, is_further, number_at, AreBlockRows, AreZero, IsAsFar, IsBestAmong, IsBestOf, IsExtremeDigit, IsNarrowed}
 use Rattle.aggregates.specs.Selections.{has_row}
 use Rattle.aggregates.proofs.EndSums.{Counts, numbers}
 use Rattle.aggregates.proofs.NumberRows.{first_plane, halved}
@@ -36,6 +41,15 @@ not_bits b i small h = ap (λ k. k == 1) (bit_at_not w64 b i small h) ∙ not_te
 no_bits : (a i : ℕ) → a ≡ 0 → has_bit a i ≡ false
 no_bits a i e = ap (λ k. has_bit k i) e ∙ ap (λ k. k == 1) (bit_at-zero i)
 
+same_number : (n m : ℕ) → n ≡ m → true ≡ (n == m)
+same_number n m e = grind (arith, nat_tests)
+
+equal_numbers : (n m : ℕ) → (n == m) ≡ true → n ≡ m
+equal_numbers n m e = grind (arith, nat_tests)
+
+no_test : (x : ℕ) → x ≡ 0 → (x == 1) ≡ false
+no_test x e = grind (arith, nat_tests)
+
 one_there : (x : ℕ) → x ≡ 1 → (x == 1) ≡ true
 one_there x e = grind (arith, nat_tests)
 
@@ -45,19 +59,7 @@ lowest_there a some small =
     let t = bit_at-trailing_zeros w64 a some small in
     (t.0, one_there (bit_at a (trailing_zeros w64 a)) t.1)
 
-some_there : (a i : ℕ) → has_bit a i ≡ true → 0 < a
-some_there zero i e = absurd (false≢true (sym (no_bits 0 i refl) ∙ e))
-some_there (suc a) i e = omega arith
-
--- ---- words of lists of truth values
-
-pub word_bit : (rows : List Bool) (block w i : ℕ) → bits_of (min 64 (length rows - 64 * block)) w ≡ take 64 (drop (64 * block) rows) → i < 64 → 64 * block + i < length rows → has_bit w i ≡ get_or rows (64 * block + i) false
-word_bit rows block w i is small within =
-    let k = min 64 (length rows - 64 * block) in
-    sym (get_or_from_slice_get (bits_of k w) i (has_bit w i) false (get-bits_of k w i (omega (arith, small, within))))
-    ∙ ap (λ l. get_or l i false) is ∙ get_or-take 64 (drop (64 * block) rows) i false small ∙ get_or-drop (64 * block) rows i false
-
-place : (i m : ℕ) → (i < m) ⊎ (m ≤ i)
+pub place : (i m : ℕ) → (i < m) ⊎ (m ≤ i)
 place i zero = inr (omega arith)
 place zero (suc m) = inl (omega arith)
 place (suc i) (suc m) = elim (place i m) [
@@ -65,109 +67,183 @@ place (suc i) (suc m) = elim (place i m) [
   | inr h ↦ inr (omega (arith, h))
 ]
 
-both_true : (a : Bool) → (a && true) ≡ a
-both_true true = refl
-both_true false = refl
+-- a word is 0 where none of its bits is 1
+no_bit : (a : ℕ) → a < 18446744073709551616 → ((i : ℕ) → i < 64 → has_bit a i ≡ false) → a ≡ 0
+no_bit a small none = elim (place 0 a) [
+  | inl some ↦ (let t = lowest_there a some small in absurd (false≢true (sym (none (trailing_zeros w64 a) t.0) ∙ t.1)))
+  | inr h ↦ omega (arith, h)
+]
 
-both_false : (a : Bool) → (a && false) ≡ false
-both_false true = refl
-both_false false = refl
+-- ---- eight words
 
--- a word of which the bits behind the last row are taken away has the rows of its block
-pub block_word : (mask : List Bool) (block w m : ℕ) → bits_of (min 64 (length mask - 64 * block)) w ≡ take 64 (drop (64 * block) mask) → m ≡ min (length mask - 64 * block) 64 → AreBlockRows mask block (bit_and w (2 ^ m - 1))
-block_word mask block w m is count i small = and_bits w (2 ^ m - 1) i ∙ by_place (place i m)
+-- of a list of eight words, each fits
+pub record AreEight (words : List ℕ) : Type 0 where
+  pub eight : length words ≡ 8
+  pub fit : (k : ℕ) → get_or words k 0 < 18446744073709551616
+
+pub no_places : (words : List ℕ) (i : ℕ) → AreZero words → has_place words i ≡ false
+no_places words i none = no_bits (get_or words (i / 64) 0) (i % 64) (none (i / 64))
+
+-- no word has a bit exactly where all of them have none together
+fold_zero : (a : ℕ) (words : List ℕ) → fold_l bit_or a words ≡ 0 → (a ≡ 0) × AreZero words
+fold_zero a [] e = (e, λ k. nothing k)
   where
-    by_place : (i < m) ⊎ (m ≤ i) → (has_bit w i && has_bit (2 ^ m - 1) i) ≡ has_row mask (64 * block + i)
-    by_place (inl h) =
-        ap (λ b. has_bit w i && b) (one_there (bit_at (2 ^ m - 1) i) (bit_at_ones m i h)) ∙ both_true (has_bit w i) ∙ word_bit mask block w i is small (omega (arith, h, count))
+    nothing : (k : ℕ) → get_or {A = ℕ} [] k 0 ≡ 0
+    nothing k = (let past : 0 ≤ k = omega arith in get_or-eq_default [] 0 past)
+fold_zero a (w ∷ ws) e =
+    let rest = fold_zero (bit_or a w) ws e in
+    let left : a ≡ 0 = omega (arith, le_or_l a w, rest.0) in
+    let right : w ≡ 0 = omega (arith, le_or_r a w, rest.0) in
+    (left, λ k. by_place k right rest.1)
+  where
+    by_place : (k : ℕ) → w ≡ 0 → AreZero ws → get_or (w ∷ ws) k 0 ≡ 0
+    by_place zero none rest = none
+    by_place (suc k) none rest = rest k
+
+zero_fold : (words : List ℕ) → AreZero words → fold_l bit_or 0 words ≡ 0
+zero_fold [] none = refl
+zero_fold (w ∷ ws) none = ap (λ a. fold_l bit_or (bit_or 0 a) ws) (none 0) ∙ zero_fold ws (λ k. none (suc k))
+
+pub empty_words : (words : List ℕ) → IsTrue (nat_eq (fold_l bit_or 0 words) 0) ↔ AreZero words
+empty_words words = (λ e. (fold_zero 0 words (equal_numbers (fold_l bit_or 0 words) 0 e)).1, λ none. sym (same_number (fold_l bit_or 0 words) 0 (zero_fold words none)))
+
+-- where all words but the last are 0, the last is not
+pub last_word : (words : List ℕ) (k : ℕ) → length words ≡ 8 → 7 ≤ k → ((i : ℕ) → i < k → get_or words i 0 ≡ 0) → ¬ AreZero words → 0 < get_or words k 0
+last_word words k eight last none more = elim (place 0 (get_or words k 0)) [
+  | inl h ↦ h
+  | inr h ↦ absurd (more (λ i. by_place i (omega (arith, h)) (place i k)))
+]
+  where
+    by_place : (i : ℕ) → get_or words k 0 ≡ 0 → (i < k) ⊎ (k ≤ i) → get_or words i 0 ≡ 0
+    by_place i zero_last (inl h) = none i h
+    by_place i zero_last (inr h) = elim (place k i) [
+      | inl g ↦ get_or-eq_default words 0 (omega (arith, g, last, eight))
+      | inr g ↦ (let same : i ≡ k = omega (arith, g, h) in ap (λ j. get_or words j 0) same ∙ zero_last)
+    ]
+
+-- the bits of words of a block are its rows
+block_bit : (rows : List Bool) (block : ℕ) (words : List ℕ) (i : ℕ) → rows_of (block_rows (length rows) block) words ≡ take 512 (drop (512 * block) rows) → length words ≡ 8 → i < 512 → 512 * block + i < length rows →
+    has_place words i ≡ get_or rows (512 * block + i) false
+block_bit rows block words i is eight small within =
+    let n = block_rows (length rows) block in
+    sym (get_or_from_slice_get (rows_of n words) i (has_place words i) false (get-rows_of n words i (omega (arith, small, within)) (omega (arith, eight))))
+    ∙ ap (λ l. get_or l i false) is ∙ get_or-take 512 (drop (512 * block) rows) i false small ∙ get_or-drop (512 * block) rows i false
+
+pub block_is : (mask : List Bool) (block : ℕ) (words : List ℕ) → rows_of (block_rows (length mask) block) words ≡ take 512 (drop (512 * block) mask) → IsPadded (block_rows (length mask) block) words → length words ≡ 8 → 512 * block < length mask →
+    AreBlockRows mask block words
+block_is mask block words is padded eight some i small = by_place (place (512 * block + i) (length mask))
+  where
+    by_place : (512 * block + i < length mask) ⊎ (length mask ≤ 512 * block + i) → has_place words i ≡ has_row mask (512 * block + i)
+    by_place (inl h) = block_bit mask block words i is eight small h
     by_place (inr h) =
-        ap (λ b. has_bit w i && b) (ap (λ k. k == 1) (bit_at_ones_above m i h)) ∙ both_false (has_bit w i) ∙ sym (get_or-eq_default mask false (omega (arith, h, count, small)))
+        let n = block_rows (length mask) block in
+        let short = below_padded n words (i / 64) padded (omega (arith, small, eight)) in
+        no_test (bit_at (get_or words (i / 64) 0) (i % 64)) (bit_at_above (get_or words (i / 64) 0) (min (n - 64 * (i / 64)) 64) (i % 64) short (omega (arith, h, some)))
+        ∙ sym (get_or-eq_default mask false h)
+
+-- the place of the first bit of a word that is not 0
+pub place_there : (words : List ℕ) (k : ℕ) → k < 8 → 0 < get_or words k 0 → get_or words k 0 < 18446744073709551616 →
+    (64 * k + trailing_zeros w64 (get_or words k 0) < 512) × (has_place words (64 * k + trailing_zeros w64 (get_or words k 0)) ≡ true)
+place_there words k few some small =
+    let t = lowest_there (get_or words k 0) some small in
+    let bit = trailing_zeros w64 (get_or words k 0) in
+    let word : (64 * k + bit) / 64 ≡ k = omega (arith, t.0) in
+    let rest : (64 * k + bit) % 64 ≡ bit = omega (arith, t.0) in
+    (omega (arith, few, t.0), ap (λ m. has_bit (get_or words m 0) ((64 * k + bit) % 64)) word ∙ ap (has_bit (get_or words k 0)) rest ∙ t.1)
 
 -- ---- one digit
 
+abbrev pub ones_of : List ℕ → List ℕ → List ℕ
+ones_of old digits = zip2 bit_and old digits
+
+abbrev pub zeros_of : List ℕ → List ℕ → List ℕ
+zeros_of old digits = zip2 bit_and old (map (bit_not w64) digits)
+
 -- where no candidate has the other digit
-other_digit : (a i : ℕ) (o d : Bool) → a ≡ 0 → has_bit a i ≡ (o && d) → o ≡ true → d ≡ false
-other_digit a i true d none is e = sym is ∙ no_bits a i none
-other_digit a i false d none is e = absurd (false≢true e)
+other_digit : (words : List ℕ) (i : ℕ) (o d : Bool) → AreZero words → has_place words i ≡ (o && d) → o ≡ true → d ≡ false
+other_digit words i true d none is e = sym is ∙ no_places words i none
+other_digit words i false d none is e = absurd (false≢true e)
 
 opposite : (d : Bool) → not d ≡ false → d ≡ true
 opposite true e = refl
 opposite false e = sym e
 
-is_zero : (a : ℕ) → true ≡ (a == 0) → a ≡ 0
-is_zero a e = grind (arith, nat_tests)
-
-not_zero : (a : ℕ) → false ≡ (a == 0) → 0 < a
-not_zero a e = grind (arith, nat_tests)
-
-turned : (b c : Bool) → b ≡ not c → not b ≡ c
-turned true false e = refl
-turned true true e = sym e
-turned false true e = refl
-turned false false e = sym e
+no_word : (o d : ℕ) → o < 18446744073709551616 → d < 18446744073709551616 → bit_and o (bit_not w64 d) ≡ 0 → bit_and o d ≡ 0 → o ≡ 0
+no_word o d small small_digits no_zeros no_ones = no_bit o small (λ i h. neither (has_bit o i) (has_bit d i) (sym (and_bits o d i) ∙ no_bits (bit_and o d) i no_ones)
+    (sym (and_bits o (bit_not w64 d) i ∙ ap (λ b. has_bit o i && b) (not_bits d i small_digits h)) ∙ no_bits (bit_and o (bit_not w64 d)) i no_zeros))
+  where
+    neither : (o d : Bool) → (o && d) ≡ false → (o && not d) ≡ false → o ≡ false
+    neither false d e f = refl
+    neither true true e f = e
+    neither true false e f = f
 
 at_most_one : (b : Bool) → cond {A = ℕ} b 1 0 ≤ 1
 at_most_one true = omega arith
 at_most_one false = omega arith
 
-pub narrowed : (extreme : Extreme) (old digits : ℕ) (digit : Bool) → 0 < old → old < 18446744073709551616 → digits < 18446744073709551616 →
-    digit ≡ extreme_digit extreme (bit_and old (bit_not w64 digits)) (bit_and old digits) →
-    IsNarrowed extreme old digits (cond digit (bit_and old digits) (bit_and old (bit_not w64 digits))) digit
-narrowed extreme old digits digit some small small_digits is = by_digit extreme digit is
-  where
-    zero_bits : (i : ℕ) → i < 64 → has_bit (bit_and old (bit_not w64 digits)) i ≡ (has_bit old i && not (has_bit digits i))
-    zero_bits i h = and_bits old (bit_not w64 digits) i ∙ ap (λ b. has_bit old i && b) (not_bits digits i small_digits h)
+module _ (extreme : Extreme) (old digits : List ℕ) (olds : AreEight old) (news : AreEight digits) (more : ¬ AreZero old) where
+  one_word : (k : ℕ) → k < 8 → get_or (ones_of old digits) k 0 ≡ bit_and (get_or old k 0) (get_or digits k 0)
+  one_word k h = get_or-zip2 bit_and old digits k 0 0 0 (omega (arith, h, olds.eight)) (omega (arith, h, news.eight))
 
-    -- all candidates have the digit 1, or all have the digit 0
-    all_ones : bit_and old (bit_not w64 digits) ≡ 0 → (i : ℕ) → i < 64 → has_bit old i ≡ true → has_bit digits i ≡ true
-    all_ones none i h e = opposite (has_bit digits i) (other_digit (bit_and old (bit_not w64 digits)) i (has_bit old i) (not (has_bit digits i)) none (zero_bits i h) e)
+  zero_word : (k : ℕ) → k < 8 → get_or (zeros_of old digits) k 0 ≡ bit_and (get_or old k 0) (bit_not w64 (get_or digits k 0))
+  zero_word k h =
+      let long = length-map digits (bit_not w64) in
+      get_or-zip2 bit_and old (map (bit_not w64) digits) k 0 0 0 (omega (arith, h, olds.eight)) (omega (arith, h, news.eight, long))
+      ∙ ap (bit_and (get_or old k 0)) (get_or-map (bit_not w64) digits k 0 0 (omega (arith, h, news.eight)))
 
-    all_zeros : bit_and old digits ≡ 0 → (i : ℕ) → i < 64 → has_bit old i ≡ true → has_bit digits i ≡ false
-    all_zeros none i h e = other_digit (bit_and old digits) i (has_bit old i) (has_bit digits i) none (and_bits old digits i) e
+  one_places : (i : ℕ) → i < 512 → has_place (ones_of old digits) i ≡ (has_place old i && has_place digits i)
+  one_places i h = ap (λ w. has_bit w (i % 64)) (one_word (i / 64) (omega (arith, h))) ∙ and_bits (get_or old (i / 64) 0) (get_or digits (i / 64) 0) (i % 64)
 
-    some_ones : bit_and old (bit_not w64 digits) ≡ 0 → 0 < bit_and old digits
-    some_ones none =
-        let t = lowest_there old some small in
-        some_there (bit_and old digits) (trailing_zeros w64 old) (and_bits old digits (trailing_zeros w64 old) ∙ ap (λ b. b && has_bit digits (trailing_zeros w64 old)) t.1 ∙ all_ones none (trailing_zeros w64 old) t.0 t.1)
+  zero_places : (i : ℕ) → i < 512 → has_place (zeros_of old digits) i ≡ (has_place old i && not (has_place digits i))
+  zero_places i h =
+      ap (λ w. has_bit w (i % 64)) (zero_word (i / 64) (omega (arith, h))) ∙ and_bits (get_or old (i / 64) 0) (bit_not w64 (get_or digits (i / 64) 0)) (i % 64)
+      ∙ ap (λ b. has_place old i && b) (not_bits (get_or digits (i / 64) 0) (i % 64) (news.fit (i / 64)) (omega arith))
 
-    some_zeros : bit_and old digits ≡ 0 → 0 < bit_and old (bit_not w64 digits)
-    some_zeros none =
-        let t = lowest_there old some small in
-        some_there (bit_and old (bit_not w64 digits)) (trailing_zeros w64 old)
-        (zero_bits (trailing_zeros w64 old) t.0 ∙ ap (λ b. b && not (has_bit digits (trailing_zeros w64 old))) t.1 ∙ ap not (all_zeros none (trailing_zeros w64 old) t.0 t.1))
+  -- all candidates have the digit 1, or all have the digit 0
+  all_ones : AreZero (zeros_of old digits) → (i : ℕ) → i < 512 → has_place old i ≡ true → has_place digits i ≡ true
+  all_ones none i h e = opposite (has_place digits i) (other_digit (zeros_of old digits) i (has_place old i) (not (has_place digits i)) none (zero_places i h) e)
 
-    one_of : (b : Bool) → b ≡ true → 1 ≤ cond {A = ℕ} b 1 0
-    one_of b e = subst (λ b. 1 ≤ cond {A = ℕ} b 1 0) (sym e) (omega arith)
+  all_zeros : AreZero (ones_of old digits) → (i : ℕ) → i < 512 → has_place old i ≡ true → has_place digits i ≡ false
+  all_zeros none i h e = other_digit (ones_of old digits) i (has_place old i) (has_place digits i) none (one_places i h) e
 
-    none_of : (b : Bool) → b ≡ false → cond {A = ℕ} b 1 0 ≤ 0
-    none_of b e = subst (λ b. cond {A = ℕ} b 1 0 ≤ 0) (sym e) (omega arith)
+  none_left : AreZero (zeros_of old digits) → AreZero (ones_of old digits) → AreZero old
+  none_left no_zeros no_ones k = by_place (place k 8)
+    where
+      by_place : (k < 8) ⊎ (8 ≤ k) → get_or old k 0 ≡ 0
+      by_place (inl h) = no_word (get_or old k 0) (get_or digits k 0) (olds.fit k) (news.fit k) (sym (zero_word k h) ∙ no_zeros k) (sym (one_word k h) ∙ no_ones k)
+      by_place (inr h) = get_or-eq_default old 0 (omega (arith, h, olds.eight))
 
-    by_digit : (extreme : Extreme) (digit : Bool) → digit ≡ extreme_digit extreme (bit_and old (bit_not w64 digits)) (bit_and old digits) →
-        IsNarrowed extreme old digits (cond digit (bit_and old digits) (bit_and old (bit_not w64 digits))) digit
-    by_digit Least true e =
-        let none = is_zero (bit_and old (bit_not w64 digits)) e in
-        record {
-          some = some_ones none;
-          kept = λ i h. and_bits old digits i;
-          furthest = λ i h has. one_of (has_bit digits i) (all_ones none i h has);
-        }
-    by_digit Least false e = record {
-      some = not_zero (bit_and old (bit_not w64 digits)) e;
-      kept = λ i h. zero_bits i h;
-      furthest = λ i h has. omega arith;
-    }
-    by_digit Greatest true e = record {
-      some = not_zero (bit_and old digits) (turned true (bit_and old digits == 0) e);
-      kept = λ i h. and_bits old digits i;
-      furthest = λ i h has. at_most_one (has_bit digits i);
-    }
-    by_digit Greatest false e =
-        let none = is_zero (bit_and old digits) (turned false (bit_and old digits == 0) e) in
-        record {
-          some = some_zeros none;
-          kept = λ i h. zero_bits i h;
-          furthest = λ i h has. none_of (has_bit digits i) (all_zeros none i h has);
-        }
+  one_of : (b : Bool) → b ≡ true → 1 ≤ cond {A = ℕ} b 1 0
+  one_of b e = subst (λ b. 1 ≤ cond {A = ℕ} b 1 0) (sym e) (omega arith)
+
+  none_of : (b : Bool) → b ≡ false → cond {A = ℕ} b 1 0 ≤ 0
+  none_of b e = subst (λ b. cond {A = ℕ} b 1 0 ≤ 0) (sym e) (omega arith)
+
+  pub narrowed : (digit : Bool) → IsExtremeDigit extreme (zeros_of old digits) (ones_of old digits) digit → IsNarrowed extreme old digits (cond digit (ones_of old digits) (zeros_of old digits)) digit
+  narrowed digit is = by_digit extreme digit is
+    where
+      by_digit : (extreme : Extreme) (digit : Bool) → IsExtremeDigit extreme (zeros_of old digits) (ones_of old digits) digit →
+          IsNarrowed extreme old digits (cond digit (ones_of old digits) (zeros_of old digits)) digit
+      by_digit Least true is = record {
+        some = λ none. more (none_left (is.0 refl) none);
+        kept = one_places;
+        furthest = λ i h has. one_of (has_place digits i) (all_ones (is.0 refl) i h has);
+      }
+      by_digit Least false is = record {
+        some = λ none. false≢true (is.1 none);
+        kept = zero_places;
+        furthest = λ i h has. omega arith;
+      }
+      by_digit Greatest true is = record {
+        some = λ none. false≢true (sym (is.1 none));
+        kept = one_places;
+        furthest = λ i h has. at_most_one (has_place digits i);
+      }
+      by_digit Greatest false is = record {
+        some = λ none. more (none_left none (is.0 refl));
+        kept = zero_places;
+        furthest = λ i h has. none_of (has_place digits i) (all_zeros (is.0 refl) i h has);
+      }
 
 -- ---- the digits of the numbers of a block's rows
 
@@ -176,10 +252,10 @@ abbrev pub short_number : KnownColumn → ℕ → ℕ → ℕ
 short_number column k row = number_at column row / 2 ^ k
 
 -- the candidates are those rows of the mask in the block whose first digits are the extreme ones
-pub record AreLeading (extreme : Extreme) (column : KnownColumn) (mask : List Bool) (block k digits candidates number : ℕ) : Type 0 where
-  pub some : 0 < candidates
-  pub level : (i : ℕ) → i < 64 → has_bit candidates i ≡ (has_row mask (64 * block + i) && (short_number column k (64 * block + i) == number))
-  pub furthest : (i : ℕ) → i < 64 → has_row mask (64 * block + i) ≡ true → IsAsFar extreme number (short_number column k (64 * block + i))
+pub record AreLeading (extreme : Extreme) (column : KnownColumn) (mask : List Bool) (block k digits : ℕ) (candidates : List ℕ) (number : ℕ) : Type 0 where
+  pub some : ¬ AreZero candidates
+  pub level : (i : ℕ) → i < 512 → has_place candidates i ≡ (has_row mask (512 * block + i) && (short_number column k (512 * block + i) == number))
+  pub furthest : (i : ℕ) → i < 512 → has_row mask (512 * block + i) ≡ true → IsAsFar extreme number (short_number column k (512 * block + i))
   pub small : number < 2 ^ digits
 
 pub row_within : (mask : List Bool) (r : ℕ) → has_row mask r ≡ true → r < length mask
@@ -189,27 +265,22 @@ row_within mask r has = by_place (place r (length mask))
     by_place (inl h) = h
     by_place (inr h) = absurd (false≢true (sym (get_or-eq_default mask false h) ∙ has))
 
-same_number : (n m : ℕ) → n ≡ m → true ≡ (n == m)
-same_number n m e = grind (arith, nat_tests)
+-- before any digit each number is 0
+first_number : (column : KnownColumn) (mask : List Bool) (k r : ℕ) → Counts column mask → k ≡ column.known.read - first_plane column.ends column.known.read → has_row mask r ≡ true → short_number column k r ≡ 0
+first_number column mask k r h is has =
+    let below : r < length column.known.prefixes = omega (arith, row_within mask r has, h.rows) in
+    div-eq_of_lt (subst (λ i. number_at column r < 2 ^ i) (sym is) (numbers column mask h r below has).small)
 
-equal_numbers : (n m : ℕ) → (n == m) ≡ true → n ≡ m
-equal_numbers n m e = grind (arith, nat_tests)
-
--- before any digit all rows of the mask lead
-pub leading_first : (extreme : Extreme) (column : KnownColumn) (mask : List Bool) (block k word : ℕ) → Counts column mask → k ≡ column.known.read - first_plane column.ends column.known.read →
-    AreBlockRows mask block word → 0 < word → (digits : ℕ) → AreLeading extreme column mask block k digits word 0
-leading_first extreme column mask block k word h is rows some digits = record {
+-- and all rows of the mask lead
+pub leading_first : (extreme : Extreme) (column : KnownColumn) (mask : List Bool) (block k : ℕ) (words : List ℕ) → Counts column mask → k ≡ column.known.read - first_plane column.ends column.known.read →
+    AreBlockRows mask block words → ¬ AreZero words → (digits : ℕ) → AreLeading extreme column mask block k digits words 0
+leading_first extreme column mask block k words h is rows some digits = record {
   some = some;
-  level = λ i small. rows i small ∙ by_row (has_row mask (64 * block + i)) (short_number column k (64 * block + i)) (λ has. first (64 * block + i) has);
-  furthest = λ i small has. as_far extreme (short_number column k (64 * block + i)) (first (64 * block + i) has);
-  small = pow_some digits;
+  level = λ i small. rows i small ∙ by_row (has_row mask (512 * block + i)) (short_number column k (512 * block + i)) (λ has. first_number column mask k (512 * block + i) h is has);
+  furthest = λ i small has. as_far extreme (short_number column k (512 * block + i)) (first_number column mask k (512 * block + i) h is has);
+  small = pow_pos digits;
 }
   where
-    first : (r : ℕ) → has_row mask r ≡ true → short_number column k r ≡ 0
-    first r has =
-        let below : r < length column.known.prefixes = omega (arith, row_within mask r has, h.rows) in
-        div-eq_of_lt (subst (λ i. number_at column r < 2 ^ i) (sym is) (numbers column mask h r below has).small)
-
     by_row : (o : Bool) (n : ℕ) → (o ≡ true → n ≡ 0) → o ≡ (o && (n == 0))
     by_row true n e = same_number n 0 (e refl)
     by_row false n e = refl
@@ -218,24 +289,20 @@ leading_first extreme column mask block k word h is rows some digits = record {
     as_far Least n e = omega arith
     as_far Greatest n e = omega (arith, e)
 
-    pow_some : (k : ℕ) → 0 < 2 ^ k
-    pow_some zero = omega arith
-    pow_some (suc k) = omega (arith, pow-suc 2 k, pow_some k)
-
 -- a row's next digit
-digit_further : (column : KnownColumn) (mask plane : List Bool) (block j word i : ℕ) → Counts column mask → first_plane column.ends column.known.read ≤ j → j < column.known.read →
-    plane ≡ map (digit_of column.known.read j) column.known.prefixes → bits_of (min 64 (length plane - 64 * block)) word ≡ take 64 (drop (64 * block) plane) → i < 64 → has_row mask (64 * block + i) ≡ true →
-    short_number column (column.known.read - (j + 1)) (64 * block + i) ≡ 2 * short_number column (column.known.read - j) (64 * block + i) + cond (has_bit word i) 1 0
-digit_further column mask plane block j word i h from below plane_is word_is small has =
+digit_further : (column : KnownColumn) (mask plane : List Bool) (block j : ℕ) (words : List ℕ) (i : ℕ) → Counts column mask → first_plane column.ends column.known.read ≤ j → j < column.known.read →
+    plane ≡ map (digit_of column.known.read j) column.known.prefixes → rows_of (block_rows (length plane) block) words ≡ take 512 (drop (512 * block) plane) → length words ≡ 8 → i < 512 → has_row mask (512 * block + i) ≡ true →
+    short_number column (column.known.read - (j + 1)) (512 * block + i) ≡ 2 * short_number column (column.known.read - j) (512 * block + i) + cond (has_place words i) 1 0
+digit_further column mask plane block j words i h from below plane_is words_are eight small has =
     let read = column.known.read in
     let ps = column.known.prefixes in
-    let r = 64 * block + i in
+    let r = 512 * block + i in
     let within : r < length ps = omega (arith, row_within mask r has, h.rows) in
     let long : length plane ≡ length ps = ap length plane_is ∙ length-map ps (digit_of read j) in
     let n = number_at column r in
     let next : suc (read - (j + 1)) ≡ read - j = omega (arith, below) in
-    let bit : has_bit word i ≡ ((n / 2 ^ (read - (j + 1))) % 2 == 1) =
-    word_bit plane block word i word_is small (omega (arith, within, long)) ∙ ap (λ l. get_or l r false) plane_is ∙ get_or-map (digit_of read j) ps r 0 false within ∙ (numbers column mask h r within has).digits j from below in
+    let bit : has_place words i ≡ ((n / 2 ^ (read - (j + 1))) % 2 == 1) =
+    block_bit plane block words i words_are eight small (omega (arith, within, long)) ∙ ap (λ l. get_or l r false) plane_is ∙ get_or-map (digit_of read j) ps r 0 false within ∙ (numbers column mask h r within has).digits j from below in
     halved n (read - (j + 1)) ∙ ap (λ e. 2 * (n / 2 ^ e) + cond ((n / 2 ^ (read - (j + 1))) % 2 == 1) 1 0) next ∙ ap (λ b. 2 * (n / 2 ^ (read - j)) + cond b 1 0) (sym bit)
 
 -- the candidates that have a digit are those whose longer number is the longer number that leads
@@ -266,36 +333,36 @@ far_further Greatest digit d n number m is far same =
     ]
 
 -- one digit more
-pub leading_further : (extreme : Extreme) (column : KnownColumn) (mask plane : List Bool) (block j word old new number digits : ℕ) (digit : Bool) → Counts column mask → first_plane column.ends column.known.read ≤ j → j < column.known.read →
-    plane ≡ map (digit_of column.known.read j) column.known.prefixes → bits_of (min 64 (length plane - 64 * block)) word ≡ take 64 (drop (64 * block) plane) →
-    AreLeading extreme column mask block (column.known.read - j) digits old number → IsNarrowed extreme old word new digit →
+pub leading_further : (extreme : Extreme) (column : KnownColumn) (mask plane : List Bool) (block j : ℕ) (words old new : List ℕ) (number digits : ℕ) (digit : Bool) → Counts column mask → first_plane column.ends column.known.read ≤ j → j < column.known.read →
+    plane ≡ map (digit_of column.known.read j) column.known.prefixes → rows_of (block_rows (length plane) block) words ≡ take 512 (drop (512 * block) plane) → length words ≡ 8 →
+    AreLeading extreme column mask block (column.known.read - j) digits old number → IsNarrowed extreme old words new digit →
     AreLeading extreme column mask block (column.known.read - (j + 1)) (suc digits) new (2 * number + cond digit 1 0)
-leading_further extreme column mask plane block j word old new number digits digit h from below plane_is word_is lead step =
+leading_further extreme column mask plane block j words old new number digits digit h from below plane_is words_are eight lead step =
     let read = column.known.read in
     let k = read - (j + 1) in
-    let longer : (i : ℕ) → i < 64 → has_row mask (64 * block + i) ≡ true → short_number column k (64 * block + i) ≡ 2 * short_number column (read - j) (64 * block + i) + cond (has_bit word i) 1 0 =
-    λ i small has. digit_further column mask plane block j word i h from below plane_is word_is small has in
+    let longer : (i : ℕ) → i < 512 → has_row mask (512 * block + i) ≡ true → short_number column k (512 * block + i) ≡ 2 * short_number column (read - j) (512 * block + i) + cond (has_place words i) 1 0 =
+    λ i small has. digit_further column mask plane block j words i h from below plane_is words_are eight small has in
     record {
       some = step.some;
-      level = λ i small. step.kept i small ∙ ap (λ b. b && cond digit (has_bit word i) (not (has_bit word i))) (lead.level i small)
-          ∙ level_further (has_row mask (64 * block + i)) digit (has_bit word i) (short_number column (read - j) (64 * block + i)) number (short_number column k (64 * block + i)) (longer i small);
-      furthest = λ i small has. far_further extreme digit (has_bit word i) (short_number column (read - j) (64 * block + i)) number (short_number column k (64 * block + i)) (longer i small has) (lead.furthest i small has)
-          (λ same. step.furthest i small (lead.level i small ∙ ap (λ b. b && (short_number column (read - j) (64 * block + i) == number)) has ∙ sym (same_number (short_number column (read - j) (64 * block + i)) number same)));
+      level = λ i small. step.kept i small ∙ ap (λ b. b && cond digit (has_place words i) (not (has_place words i))) (lead.level i small)
+          ∙ level_further (has_row mask (512 * block + i)) digit (has_place words i) (short_number column (read - j) (512 * block + i)) number (short_number column k (512 * block + i)) (longer i small);
+      furthest = λ i small has. far_further extreme digit (has_place words i) (short_number column (read - j) (512 * block + i)) number (short_number column k (512 * block + i)) (longer i small has) (lead.furthest i small has)
+          (λ same. step.furthest i small (lead.level i small ∙ ap (λ b. b && (short_number column (read - j) (512 * block + i) == number)) has ∙ sym (same_number (short_number column (read - j) (512 * block + i)) number same)));
       small = (let twice = pow-suc 2 digits in omega (arith, twice, lead.small, at_most_one digit));
     }
 
 -- after all digits, the row of a candidate
-pub leading_last : (extreme : Extreme) (column : KnownColumn) (mask : List Bool) (block k digits candidates number i : ℕ) → k ≡ 0 → AreLeading extreme column mask block k digits candidates number → i < 64 → has_bit candidates i ≡ true →
-    IsBestOf extreme column mask (64 * block) (64 * block + 64) (record { row = 64 * block + i; number = number })
+leading_last : (extreme : Extreme) (column : KnownColumn) (mask : List Bool) (block k digits : ℕ) (candidates : List ℕ) (number i : ℕ) → k ≡ 0 → AreLeading extreme column mask block k digits candidates number → i < 512 → has_place candidates i ≡ true →
+    IsBestOf extreme column mask (512 * block) (512 * block + 512) (record { row = 512 * block + i; number = number })
 leading_last extreme column mask block k digits candidates number i none lead small has =
     let whole : (r : ℕ) → short_number column k r ≡ number_at column r = λ r. ap (λ e. number_at column r / 2 ^ e) none ∙ div-one (number_at column r) in
-    let both : (has_row mask (64 * block + i) && (short_number column k (64 * block + i) == number)) ≡ true = sym (lead.level i small) ∙ has in
+    let both : (has_row mask (512 * block + i) && (short_number column k (512 * block + i) == number)) ≡ true = sym (lead.level i small) ∙ has in
     record {
-      has = first_of (has_row mask (64 * block + i)) _ both;
-      number = sym (sym (whole (64 * block + i)) ∙ equal_numbers _ number (second_of (has_row mask (64 * block + i)) _ both));
+      has = first_of (has_row mask (512 * block + i)) _ both;
+      number = sym (sym (whole (512 * block + i)) ∙ equal_numbers _ number (second_of (has_row mask (512 * block + i)) _ both));
       furthest = λ r from below has.
-          let place : 64 * block + (r - 64 * block) ≡ r = omega (arith, from) in
-          subst (IsAsFar extreme number) (whole (64 * block + (r - 64 * block)) ∙ ap (number_at column) place) (lead.furthest (r - 64 * block) (omega (arith, from, below)) (ap (has_row mask) place ∙ has));
+          let place : 512 * block + (r - 512 * block) ≡ r = omega (arith, from) in
+          subst (IsAsFar extreme number) (whole (512 * block + (r - 512 * block)) ∙ ap (number_at column) place) (lead.furthest (r - 512 * block) (omega (arith, from, below)) (ap (has_row mask) place ∙ has));
     }
   where
     first_of : (a b : Bool) → (a && b) ≡ true → a ≡ true
@@ -306,8 +373,103 @@ leading_last extreme column mask block k digits candidates number i none lead sm
     second_of true b e = e
     second_of false b e = absurd (false≢true e)
 
--- where the block's word is 0, the mask has no row there
-pub no_rows : (mask : List Bool) (block word r : ℕ) → AreBlockRows mask block word → word ≡ 0 → 64 * block ≤ r → r < 64 * block + 64 → has_row mask r ≡ false
-no_rows mask block word r rows none from below =
-    let place : 64 * block + (r - 64 * block) ≡ r = omega (arith, from) in
-    sym (ap (has_row mask) place) ∙ sym (rows (r - 64 * block) (omega (arith, from, below))) ∙ no_bits word (r - 64 * block) none
+-- ---- the best so far
+
+-- of the rows before a block and those of the block
+both_parts : (extreme : Extreme) (column : KnownColumn) (mask : List Bool) (block number : ℕ) → ((r : ℕ) → r < 512 * block → has_row mask r ≡ true → IsAsFar extreme number (number_at column r)) →
+    ((r : ℕ) → 512 * block ≤ r → r < 512 * block + 512 → has_row mask r ≡ true → IsAsFar extreme number (number_at column r)) →
+    (r : ℕ) → 0 ≤ r → r < 512 * block + 512 → has_row mask r ≡ true → IsAsFar extreme number (number_at column r)
+both_parts extreme column mask block number earlier later r from below has = by_place (place r (512 * block))
+  where
+    by_place : (r < 512 * block) ⊎ (512 * block ≤ r) → IsAsFar extreme number (number_at column r)
+    by_place (inl h) = earlier r h has
+    by_place (inr h) = later r h below has
+
+-- a block without rows
+pub best_stays : (extreme : Extreme) (column : KnownColumn) (mask : List Bool) (block : ℕ) (words : List ℕ) (best : Option Candidate) → AreBlockRows mask block words → AreZero words →
+    IsBestAmong extreme column mask 0 (512 * block) best → IsBestAmong extreme column mask 0 (512 * block + 512) best
+best_stays extreme column mask block words best rows none is = by_best best is
+  where
+    nowhere : (r : ℕ) → 512 * block ≤ r → r < 512 * block + 512 → has_row mask r ≡ false
+    nowhere r from below =
+        let at : 512 * block + (r - 512 * block) ≡ r = omega (arith, from) in
+        sym (ap (has_row mask) at) ∙ sym (rows (r - 512 * block) (omega (arith, from, below))) ∙ no_places words (r - 512 * block) none
+
+    by_best : (best : Option Candidate) → IsBestAmong extreme column mask 0 (512 * block) best → IsBestAmong extreme column mask 0 (512 * block + 512) best
+    by_best None is = λ r from below. elim (place r (512 * block)) [
+      | inl h ↦ is r from h
+      | inr h ↦ nowhere r h below
+    ]
+    by_best (Some b) is = record {
+      has = is.has;
+      number = is.number;
+      furthest = both_parts extreme column mask block b.number (λ r below has. is.furthest r (omega arith) below has) (λ r from below has. absurd (false≢true (sym (nowhere r from below) ∙ has)));
+    }
+
+-- before any digit the best so far is not ahead
+pub not_ahead_first : (extreme : Extreme) (column : KnownColumn) (mask : List Bool) (to k : ℕ) (best : Option Candidate) → Counts column mask → k ≡ column.known.read - first_plane column.ends column.known.read →
+    IsBestAmong extreme column mask 0 to best → is_ahead extreme best 0 k ≡ false
+not_ahead_first extreme column mask to k None h is best = refl
+not_ahead_first extreme column mask to k (Some b) h is best = by_extreme extreme (b.number / 2 ^ k) (ap (λ n. n / 2 ^ k) best.number ∙ first_number column mask k b.row h is best.has)
+  where
+    by_extreme : (extreme : Extreme) (n : ℕ) → n ≡ 0 → is_further extreme n 0 ≡ false
+    by_extreme Least n e = grind (arith, nat_tests)
+    by_extreme Greatest n e = grind (arith, nat_tests)
+
+-- a number whose first digits lie further out lies further out
+whole_further : (extreme : Extreme) (b n number k : ℕ) → is_further extreme (b / 2 ^ k) number ≡ true → IsAsFar extreme number (n / 2 ^ k) → IsAsFar extreme b n
+whole_further extreme b n number k ahead far = by_extreme extreme ahead far
+  where
+    short : (x y : ℕ) → x ≤ y → x / 2 ^ k ≤ y / 2 ^ k
+    short x y h = (let part = div-mul-le_self x (2 ^ k) in le-div (x / 2 ^ k) y (2 ^ k) (pow_pos k) (omega (arith, part, h)))
+
+    less : (x y : ℕ) → nat_lt x y ≡ true → x < y
+    less x y e = grind (arith, nat_tests)
+
+    by_extreme : (extreme : Extreme) → is_further extreme (b / 2 ^ k) number ≡ true → IsAsFar extreme number (n / 2 ^ k) → IsAsFar extreme b n
+    by_extreme Least ahead far = elim (place n b) [
+      | inl h ↦ (let le : n ≤ b = omega (arith, h) in absurd (omega (arith, less _ _ ahead, far, short n b le)))
+      | inr h ↦ h
+    ]
+    by_extreme Greatest ahead far = elim (place b n) [
+      | inl h ↦ (let le : b ≤ n = omega (arith, h) in absurd (omega (arith, less _ _ ahead, far, short b n le)))
+      | inr h ↦ h
+    ]
+
+-- a block whose rows fall behind
+pub best_ahead : (extreme : Extreme) (column : KnownColumn) (mask : List Bool) (block k digits : ℕ) (candidates : List ℕ) (number : ℕ) (best : Option Candidate) → AreLeading extreme column mask block k digits candidates number →
+    is_ahead extreme best number k ≡ true → IsBestAmong extreme column mask 0 (512 * block) best → IsBestAmong extreme column mask 0 (512 * block + 512) best
+best_ahead extreme column mask block k digits candidates number None lead ahead is = absurd (false≢true ahead)
+best_ahead extreme column mask block k digits candidates number (Some b) lead ahead is = record {
+  has = is.has;
+  number = is.number;
+  furthest = both_parts extreme column mask block b.number (λ r below has. is.furthest r (omega arith) below has) (λ r from below has.
+      let at : 512 * block + (r - 512 * block) ≡ r = omega (arith, from) in
+      let far = lead.furthest (r - 512 * block) (omega (arith, from, below)) (ap (has_row mask) at ∙ has) in
+      whole_further extreme b.number (number_at column r) number k ahead (subst (λ r. IsAsFar extreme number (short_number column k r)) at far));
+}
+
+-- a block whose rows do not fall behind
+pub best_found : (extreme : Extreme) (column : KnownColumn) (mask : List Bool) (block k digits : ℕ) (candidates : List ℕ) (number i : ℕ) (best : Option Candidate) → k ≡ 0 → AreLeading extreme column mask block k digits candidates number →
+    is_ahead extreme best number k ≡ false → i < 512 → has_place candidates i ≡ true → IsBestAmong extreme column mask 0 (512 * block) best →
+    IsBestAmong extreme column mask 0 (512 * block + 512) (Some (record { row = 512 * block + i; number = number }))
+best_found extreme column mask block k digits candidates number i best none lead level small has is =
+    let found = leading_last extreme column mask block k digits candidates number i none lead small has in
+    record { has = found.has; number = found.number; furthest = both_parts extreme column mask block number (by_best best level is) found.furthest }
+  where
+    as_far : (extreme : Extreme) (b n : ℕ) → is_further extreme b number ≡ false → IsAsFar extreme b n → IsAsFar extreme number n
+    as_far Least b n e far = (let le : number ≤ b = not_less b number e in omega (arith, le, far))
+      where
+        not_less : (x y : ℕ) → nat_lt x y ≡ false → y ≤ x
+        not_less x y e = grind (arith, nat_tests)
+    as_far Greatest b n e far = (let le : b ≤ number = not_less number b e in omega (arith, le, far))
+      where
+        not_less : (x y : ℕ) → nat_lt x y ≡ false → y ≤ x
+        not_less x y e = grind (arith, nat_tests)
+
+    by_best : (best : Option Candidate) → is_ahead extreme best number k ≡ false → IsBestAmong extreme column mask 0 (512 * block) best →
+        (r : ℕ) → r < 512 * block → has_row mask r ≡ true → IsAsFar extreme number (number_at column r)
+    by_best None level is r below has = absurd (false≢true (sym (is r (omega arith) below) ∙ has))
+    by_best (Some b) level is r below has =
+        let whole : b.number / 2 ^ k ≡ b.number = ap (λ e. b.number / 2 ^ e) none ∙ div-one b.number in
+        as_far extreme b.number (number_at column r) (sym (ap (λ n. is_further extreme n number) whole) ∙ level) (is.furthest r (omega arith) below has)

@@ -1,5 +1,7 @@
 pub mod Adding
 pub mod Appending
+pub mod BlockSums
+pub mod BlockAdding
 pub mod BlockWords
 pub mod BoundFacts
 pub mod EndSigns

@@ -1,5 +1,5 @@
 -- The rows of a mask whose numbers are least or greatest, as far as their digits were read.
-use Rattle.std.specs.Prelude.{◌≡◌, ℕ, ◌+◌, ◌*◌, ◌<◌, ◌≤◌, ◌==◌, nat_lt, Bool, false, not, ◌&&◌, cond, List, slice_index, IsTrue}
+use Rattle.std.specs.Prelude.{◌≡◌, ℕ, ◌+◌, ◌*◌, ◌/◌, ◌%◌, ◌^◌, ◌<◌, ◌≤◌, ◌==◌, ◌↔◌, nat_lt, Bool, false, not, ◌&&◌, cond, List, slice_index, IsFalse, IsTrue}
 use Rattle.std.specs.Int.{bit_at}
 use Rattle.std.specs.declared.option.Option.{Option}
 use Rattle.std.specs.declared.option.Option.TheVariants.{Some, None}
@@ -41,12 +41,6 @@ abbrev pub IsBestAmong : Extreme → KnownColumn → List Bool → ℕ → ℕ �
 IsBestAmong extreme column mask from to None = (r : ℕ) → from ≤ r → r < to → has_row mask r ≡ false
 IsBestAmong extreme column mask from to (Some best) = IsBestOf extreme column mask from to best
 
--- of the rows before a place the first is the best, of those from it on the second, and of all the third
-abbrev pub IsBestOfBoth : Extreme → Option Candidate → Option Candidate → Option Candidate → Type 0
-IsBestOfBoth extreme earlier later best =
-    (column : KnownColumn) (mask : List Bool) (at to : ℕ) → IsBestAmong extreme column mask 0 at earlier →
-    IsBestAmong extreme column mask at to later → IsBestAmong extreme column mask 0 to best
-
 -- a row of the mask of whose rows none lies further out
 pub record IsExtreme (extreme : Extreme) (column : KnownColumn) (mask : List Bool) (row : ℕ) : Type 0 where
   pub has : IsTrue (has_row mask row)
@@ -57,22 +51,35 @@ abbrev pub IsExtremeRow : Extreme → KnownColumn → List Bool → Option ℕ �
 IsExtremeRow extreme column mask None = (r : ℕ) → has_row mask r ≡ false
 IsExtremeRow extreme column mask (Some row) = IsExtreme extreme column mask row
 
--- ---- candidates of a block of 64 rows, as the bits of a word
+-- ---- candidates of a block of 512 rows, as the bits of eight words
 
 abbrev pub has_bit : ℕ → ℕ → Bool
 has_bit word i = bit_at word i == 1
 
--- the word has the mask's rows of a block, and no others
-abbrev pub AreBlockRows : List Bool → ℕ → ℕ → Type 0
-AreBlockRows mask block word = (i : ℕ) → i < 64 → has_bit word i ≡ has_row mask (64 * block + i)
+-- the words have row i of the block
+abbrev pub has_place : List ℕ → ℕ → Bool
+has_place words i = has_bit (slice_index words (i / 64)) (i % 64)
 
--- the extreme digit of candidates, of which some have 0 and some have 1
-abbrev pub extreme_digit : Extreme → ℕ → ℕ → Bool
-extreme_digit Least with_zero with_one = with_zero == 0
-extreme_digit Greatest with_zero with_one = not (with_one == 0)
+-- the words have no row
+abbrev pub AreZero : List ℕ → Type 0
+AreZero words = (k : ℕ) → slice_index words k ≡ 0
+
+-- the words have the mask's rows of a block, and no others
+abbrev pub AreBlockRows : List Bool → ℕ → List ℕ → Type 0
+AreBlockRows mask block words = (i : ℕ) → i < 512 → has_place words i ≡ has_row mask (512 * block + i)
+
+-- the extreme digit of candidates, of which these have 0 and these have 1
+abbrev pub IsExtremeDigit : Extreme → List ℕ → List ℕ → Bool → Type 0
+IsExtremeDigit Least zeros ones digit = IsTrue digit ↔ AreZero zeros
+IsExtremeDigit Greatest zeros ones digit = IsFalse digit ↔ AreZero ones
 
 -- some candidates are left: those that have the extreme digit
-pub record IsNarrowed (extreme : Extreme) (old digits new : ℕ) (digit : Bool) : Type 0 where
-  pub some : 0 < new
-  pub kept : (i : ℕ) → i < 64 → has_bit new i ≡ (has_bit old i && cond digit (has_bit digits i) (not (has_bit digits i)))
-  pub furthest : (i : ℕ) → i < 64 → IsTrue (has_bit old i) → IsAsFar extreme (cond digit 1 0) (cond (has_bit digits i) 1 0)
+pub record IsNarrowed (extreme : Extreme) (old digits new : List ℕ) (digit : Bool) : Type 0 where
+  pub some : ¬ AreZero new
+  pub kept : (i : ℕ) → i < 512 → has_place new i ≡ (has_place old i && cond digit (has_place digits i) (not (has_place digits i)))
+  pub furthest : (i : ℕ) → i < 512 → IsTrue (has_place old i) → IsAsFar extreme (cond digit 1 0) (cond (has_place digits i) 1 0)
+
+-- the best so far lies further out than every number that begins with these digits and has so many more
+abbrev pub is_ahead : Extreme → Option Candidate → ℕ → ℕ → Bool
+is_ahead extreme None digits left = false
+is_ahead extreme (Some best) digits left = is_further extreme (best.number / 2 ^ left) digits

@@ -1,3 +1,4 @@
+pub mod BlockPairs
 pub mod ExtremeRows
 pub mod Runnings
 pub mod Selections

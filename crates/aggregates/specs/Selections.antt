@@ -1,5 +1,5 @@
 -- The rows of a mask, and the ends of the numbers that their values in a column may be.
-use Rattle.std.specs.Prelude.{ℕ, ◌+◌, ◌≤◌, ℤ, Bool, false, cond, ◌&&◌, List, [], ◌∷◌, length, map, slice_index_or, IsTrue}
+use Rattle.std.specs.Prelude.{ℕ, ◌+◌, ◌*◌, ◌≤◌, ℤ, Bool, false, cond, ◌&&◌, List, [], ◌∷◌, length, map, take, drop, slice_index_or, IsTrue}
 use Rattle.std.specs.List.{filter, range_with_len}
 use Rattle.interval_calc.specs.Intervals.{Interval}
 use Rattle.daq_table.specs.Tables.{width}
@@ -49,6 +49,10 @@ abbrev pub sum_where : List Bool → List ℕ → ℕ
 sum_where [] numbers = 0
 sum_where (b ∷ mask) [] = 0
 sum_where (b ∷ mask) (n ∷ numbers) = cond b n 0 + sum_where mask numbers
+
+-- what stands in a block of 512 rows
+abbrev pub block_of : {A : Type 0} → ℕ → List A → List A
+block_of block rows = take 512 (drop (512 * block) rows)
 
 -- what holds of every column: its prefixes are those of cells, and its numbers have at most 64 binary digits
 pub record IsSound (column : KnownColumn) : Type 0 where

@@ -1,5 +1,7 @@
 -- What is kept of a list of pairs. The bound of the list can be told from it, and it can be told of the list with one pair more.
 use Rattle.std.specs.Prelude.{◌<◌, ℤ, pos, ◌≤ℤ◌, Bool, List, [], ◌∷◌, ◌++◌, length, map}
+use Rattle.std.specs.declared.option.Option.{Option}
+use Rattle.std.specs.declared.option.Option.TheVariants.{None}
 use Rattle.interval_calc.specs.declared.Interval as code
 use Rattle.query_model.specs.declared.query.ItemKind.{ItemKind}
 use Rattle.query_model.specs.declared.query.ItemKind.TheVariants.{Count, Sum, Min, Max, Avg}
@@ -26,15 +28,31 @@ if_summed Min sum = pos 0
 if_summed Max sum = pos 0
 if_summed Avg sum = sum
 
+-- ends are kept for all items but counts
+abbrev pub if_ended : ItemKind → Option ℤ → Option ℤ
+if_ended Count end = None
+if_ended Sum end = end
+if_ended Min end = end
+if_ended Max end = end
+if_ended Avg end = end
+
+-- those of certain rows for least and greatest values alone
+abbrev pub if_extreme : ItemKind → Option ℤ → Option ℤ
+if_extreme Count end = None
+if_extreme Sum end = None
+if_extreme Min end = end
+if_extreme Max end = end
+if_extreme Avg end = None
+
 -- what is kept of a list of pairs
 abbrev pub tally_of : ItemKind → List Pair → Tally
 tally_of kind ps = record {
   certain = certain_count ps;
   all = length ps;
-  least_low = answer Min (lows ps);
-  greatest_high = answer Max (highs ps);
-  least_certain_high = answer Min (certain_highs ps);
-  greatest_certain_low = answer Max (certain_lows ps);
+  least_low = if_ended kind (answer Min (lows ps));
+  greatest_high = if_ended kind (answer Max (highs ps));
+  least_certain_high = if_extreme kind (answer Min (certain_highs ps));
+  greatest_certain_low = if_extreme kind (answer Max (certain_lows ps));
   low_sum = if_summed kind (total (map low_share ps));
   high_sum = if_summed kind (total (map high_share ps));
 }

@@ -1,13 +1,15 @@
-// The row of a mask whose number is least or greatest, as far as its digits were read, by blocks of 64 rows.
+// The row of a mask whose number is least or greatest, as far as its digits were read, by blocks of 512 rows.
 
-ghost use Rattle.std.specs.Prelude.{◌≡◌, ◌≤◌, ◌<◌, ◌+◌, ◌-◌, ◌*◌, ◌^◌, length, min, IsTrue};
+ghost use Rattle.std.specs.Prelude.{◌≡◌, ◌<◌, ◌+◌, ◌*◌, length};
 ghost use Rattle.known_column.specs.Columns.{rows_of_column};
-ghost use Rattle.aggregates.specs.ExtremeRows.{extreme_digit, has_bit, is_further, AreBlockRows, IsBestAmong, IsBestOfBoth, IsExtremeRow, IsNarrowed};
+ghost use Rattle.aggregates.specs.ExtremeRows.{is_ahead, is_further, AreBlockRows, AreZero, IsBestAmong, IsExtremeDigit, IsExtremeRow, IsNarrowed};
 ghost use Rattle.aggregates.specs.Selections.{IsSound, MayHaveValues};
 
+use crate::block_words::{first_place, is_empty};
 use crate::digits::number_planes;
 use known_column::Known;
 use plane_kernels::Mask;
+use std::simd::prelude::*;
 
 // Which of the numbers is sought.
 #[derive(Clone, Copy)]
@@ -23,77 +25,27 @@ pub(crate) struct Candidate {
     number: u64,
 }
 
-// The word whose lowest bits, so many of them, are 1.
-fn low_ones(count: usize) -> u64
-    ensures { result ≡ 2 ^ min count 64 - 1 }
-{
-    if count < 64 {
-        (1 << count) - 1
-    } else {
-        u64::MAX
-    }
-}
-
-// The mask's rows of a block, as the bits of a word.
-fn block_rows(mask: &Mask, block: usize) -> u64
-    requires { 64 * block < length mask.now }
-    ensures { AreBlockRows mask.now block result }
-{
-    mask.word(block) & low_ones(mask.rows() - 64 * block)
-}
-
 // The extreme digit of candidates, of which these have 0 and these have 1.
-fn extreme_digit(extreme: Extreme, zeros: u64, ones: u64) -> bool
-    ensures { result ≡ extreme_digit extreme zeros ones }
+fn extreme_digit(extreme: Extreme, zeros: &[u64; 8], ones: &[u64; 8]) -> bool
+    ensures { IsExtremeDigit extreme zeros.now ones.now result }
 {
     match extreme {
-        Extreme::Least => zeros == 0,
-        Extreme::Greatest => ones != 0,
+        Extreme::Least => is_empty(zeros),
+        Extreme::Greatest => !is_empty(ones),
     }
 }
 
 // Keeps the candidates that have their extreme digit, and tells that digit.
-fn narrow(extreme: Extreme, candidates: u64, digits: u64) -> (u64, bool)
-    requires { 0 < candidates }
-    ensures { IsNarrowed extreme candidates digits result.0 result.1 }
+fn narrow(extreme: Extreme, candidates: &[u64; 8], digits: &[u64; 8]) -> ([u64; 8], bool)
+    requires { ¬ AreZero candidates.now }
+    ensures { IsNarrowed extreme candidates.now digits.now result.0 result.1 }
 {
-    let zeros = candidates & !digits;
-    let ones = candidates & digits;
-    let digit = extreme_digit(extreme, zeros, ones);
+    let all = u64x8::from_array(*candidates);
+    let with_one = u64x8::from_array(*digits);
+    let zeros = (all & !with_one).to_array();
+    let ones = (all & with_one).to_array();
+    let digit = extreme_digit(extreme, &zeros, &ones);
     (if digit { ones } else { zeros }, digit)
-}
-
-// The place of a word's lowest bit of 1.
-fn lowest_bit(word: u64) -> usize
-    requires { 0 < word }
-    ensures within { result < 64 }
-    ensures set { IsTrue (has_bit word result) }
-{
-    word.trailing_zeros() as usize
-}
-
-// The extreme row of a block, if the mask has a row there.
-fn block_extreme(extreme: Extreme, known: &Known, mask: &Mask, block: usize) -> Option<Candidate>
-    requires rows { length mask.now ≡ rows_of_column known.now }
-    requires values { MayHaveValues known.now mask.now }
-    requires block { 64 * block < rows_of_column known.now }
-    ensures { IsBestAmong extreme known.now mask.now (64 * block) (64 * block + 64) result }
-{
-    let mut candidates = block_rows(mask, block);
-    if candidates == 0 {
-        return None;
-    }
-    let (from, to) = number_planes(known);
-    let mut number = 0;
-    for j in from..to {
-        let (left, digit) = narrow(extreme, candidates, known.plane(j).word(block));
-        candidates = left;
-        number = 2 * number + u64::from(digit);
-    }
-    Some(Candidate {
-        row: 64 * block + lowest_bit(candidates),
-        number,
-    })
 }
 
 // Whether the first number lies further out.
@@ -106,25 +58,50 @@ fn is_further(extreme: Extreme, a: u64, b: u64) -> bool
     }
 }
 
-// The extreme one of the rows before a block and those of the block.
-fn extreme_of_both(
-    extreme: Extreme,
-    earlier: Option<Candidate>,
-    later: Option<Candidate>,
-) -> Option<Candidate>
-    ensures { IsBestOfBoth extreme earlier later result }
+// Whether the best so far lies further out than every number that begins with these digits and has so many more.
+fn is_ahead(extreme: Extreme, best: Option<Candidate>, digits: u64, left: u8) -> bool
+    requires { left < 64 }
+    ensures { result ≡ is_ahead extreme best digits left }
 {
-    match (earlier, later) {
-        (None, _) => later,
-        (Some(_), None) => earlier,
-        (Some(first), Some(second)) => {
-            if is_further(extreme, second.number, first.number) {
-                later
-            } else {
-                earlier
-            }
+    match best {
+        Some(best) => is_further(extreme, best.number >> left, digits),
+        None => false,
+    }
+}
+
+// The extreme row of those before a block, which is known, and of the block. A block is left where its rows fall behind.
+fn extreme_so_far(
+    extreme: Extreme,
+    known: &Known,
+    mask: &Mask,
+    block: usize,
+    best: Option<Candidate>,
+) -> Option<Candidate>
+    requires rows { length mask.now ≡ rows_of_column known.now }
+    requires values { MayHaveValues known.now mask.now }
+    requires block { 512 * block < rows_of_column known.now }
+    requires best { IsBestAmong extreme known.now mask.now 0 (512 * block) best }
+    ensures { IsBestAmong extreme known.now mask.now 0 (512 * block + 512) result }
+{
+    let mut candidates = mask.block(block);
+    if is_empty(&candidates) {
+        return best;
+    }
+    let (from, to) = number_planes(known);
+    let mut number = 0;
+    for j in from..to {
+        let digits = known.plane(j).block(block);
+        let (left, digit) = narrow(extreme, &candidates, &digits);
+        candidates = left;
+        number = 2 * number + u64::from(digit);
+        if is_ahead(extreme, best, number, to - j - 1) {
+            return best;
         }
     }
+    Some(Candidate {
+        row: 512 * block + first_place(&candidates),
+        number,
+    })
 }
 
 // The row of a mask whose number is least or greatest, or none where it has no row.
@@ -136,8 +113,8 @@ pub(crate) fn extreme_row(extreme: Extreme, known: &Known, mask: &Mask) -> Optio
 {
     let _planes = number_planes(known);
     let mut best = None;
-    for block in 0..mask.rows().div_ceil(64) {
-        best = extreme_of_both(extreme, best, block_extreme(extreme, known, mask, block));
+    for block in 0..mask.rows().div_ceil(512) {
+        best = extreme_so_far(extreme, known, mask, block, best);
     }
     match best {
         Some(candidate) => Some(candidate.row),

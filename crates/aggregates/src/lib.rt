@@ -1,6 +1,7 @@
 //! Bounds of aggregates, from counts, sums and ends.
 #![tactic(auto)]
 
+mod block_words;
 mod digits;
 mod ends;
 mod extreme_rows;
@@ -16,5 +17,7 @@ pub use ends::{
 };
 pub use running::Running;
 
+#[cfg(test)]
+mod block_tests;
 #[cfg(test)]
 mod tests;

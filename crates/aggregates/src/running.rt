@@ -3,6 +3,7 @@
 ghost use Rattle.std.specs.Prelude.{◌≡◌, ◌≢◌, ◌≤◌, ◌<◌, List, length, IfOk};
 ghost use Rattle.query_model.specs.declared.query.ItemKind.TheVariants.{Avg};
 ghost use Rattle.query_model.specs.Bounds.{average_bound_of, bound_of, fractions_of, Pair};
+ghost use Rattle.aggregates.specs.BlockPairs.{pairs_in, AreAllAdded, MayAddAll};
 ghost use Rattle.aggregates.specs.Tallies.{pair_with};
 ghost use Rattle.aggregates.specs.Runnings.{IsAdded, IsBlank, MayAdd, StandsFor};
 
@@ -45,6 +46,13 @@ impl Running {
         })
     }
 
+    /// The kind of the item.
+    pub fn kind(&self) -> ItemKind
+        ensures { result ≡ self.now.kind }
+    {
+        self.kind
+    }
+
     /// So many cells without a row.
     pub fn begin(&mut self, cells: usize)
         requires { cells ≤ self.old.room }
@@ -63,6 +71,17 @@ impl Running {
     {
         let cell = cell as usize;
         self.tallies[cell] = self.tallies[cell].with(self.kind, certain, span);
+    }
+
+    /// Adds the rows of a block to a cell, at most 64. Bit r of a word is that of row r, whose span stands in place r: the row may count where
+    /// its bit in the first word is 1, and counts for certain where besides its bit in the second is.
+    pub fn add_block(&mut self, cell: u32, may: u64, must: u64, spans: &[Interval])
+        requires few { length spans.now ≤ 64 }
+        requires room { MayAddAll self.old cell (pairs_in may must spans.now) }
+        ensures { AreAllAdded self.old self.new cell (pairs_in may must spans.now) }
+    {
+        let cell = cell as usize;
+        self.tallies[cell] = self.tallies[cell].with_block(self.kind, may, must, spans);
     }
 
     /// The bound of an item that is no average.

@@ -1,11 +1,12 @@
-// Sums of the ends at some rows, by counts of rows plane by plane.
+// Sums of the ends at some rows, by counts of rows, block by block and plane by plane.
 
-ghost use Rattle.std.specs.Prelude.{◌≡◌, ◌≤◌, ◌+◌, ◌-◌, ◌*◌, ◌^◌, ◌%◌, ◌*ℤ◌, ◌-ℤ◌, nat_abs, ◌+ℤ◌, ◌≤ℤ◌, negsuc, pos, length, map};
+ghost use Rattle.std.specs.Prelude.{◌≡◌, ◌≤◌, ◌<◌, ◌+◌, ◌-◌, ◌*◌, ◌^◌, ◌%◌, ◌*ℤ◌, ◌-ℤ◌, nat_abs, ◌+ℤ◌, ◌≤ℤ◌, negsuc, pos, length, map};
 ghost use Rattle.query_model.specs.Answers.{total};
 ghost use Rattle.daq_table.specs.Tables.{planes};
 ghost use Rattle.known_column.specs.Columns.{number_of, rows_of_column};
-ghost use Rattle.aggregates.specs.Selections.{IsSound, MayHaveValues, highs_in, lows_in, sum_where};
+ghost use Rattle.aggregates.specs.Selections.{IsSound, MayHaveValues, block_of, highs_in, lows_in, sum_where};
 
+use crate::block_words::{count_both, is_empty};
 use crate::digits::number_planes;
 use known_column::Known;
 use plane_kernels::Mask;
@@ -30,8 +31,45 @@ fn multiples(base: i64, count: u64, number: u128, unread: u8) -> i128
     times(base, count) + (number << unread) as i128
 }
 
-// The digits that were read of the numbers at the mask's rows, added up as numbers.
-fn sum_numbers(known: &Known, mask: &Mask) -> u128
+// The digits that were read of the numbers at the mask's rows of a block of 512, added up as numbers.
+fn sum_block(known: &Known, mask: &Mask, block: usize) -> u128
+    requires rows { length mask.now ≡ rows_of_column known.now }
+    requires values { MayHaveValues known.now mask.now }
+    requires block { 512 * block < rows_of_column known.now }
+    ensures sum { result ≡ sum_where (block_of block mask.now) (map (number_of known.now.ends known.now.known.read) (block_of block known.now.known.prefixes)) }
+    ensures few { result ≤ 2 ^ 88 }
+{
+    let rows = mask.block(block);
+    if is_empty(&rows) {
+        return 0;
+    }
+    let (from, to) = number_planes(known);
+    let mut sum = 0;
+    for j in from..to {
+        sum = 2 * sum + u128::from(count_both(&rows, &known.plane(j).block(block)));
+    }
+    sum
+}
+
+// The digits that were read of the numbers at the mask's rows, added up as numbers. Planes are read where the mask has rows.
+fn sum_by_blocks(known: &Known, mask: &Mask) -> u128
+    requires rows { length mask.now ≡ rows_of_column known.now }
+    requires values { MayHaveValues known.now mask.now }
+    ensures sum { result ≡ sum_where mask.now (map (number_of known.now.ends known.now.known.read) known.now.known.prefixes) }
+    ensures few { result * 2 ^ (planes known.now.ends - known.now.known.read) ≤ 2 ^ 89 }
+    ensures sound { IsSound known.now }
+{
+    let _planes = number_planes(known);
+    let _rows = known.rows();
+    let mut sum = 0;
+    for block in 0..mask.rows().div_ceil(512) {
+        sum += sum_block(known, mask, block);
+    }
+    sum
+}
+
+// The same. Each plane is read from its first row to its last.
+fn sum_by_planes(known: &Known, mask: &Mask) -> u128
     requires rows { length mask.now ≡ rows_of_column known.now }
     requires values { MayHaveValues known.now mask.now }
     ensures sum { result ≡ sum_where mask.now (map (number_of known.now.ends known.now.known.read) known.now.known.prefixes) }
@@ -44,6 +82,33 @@ fn sum_numbers(known: &Known, mask: &Mask) -> u128
         sum = 2 * sum + u128::from(mask.count_plane(known.plane(j)));
     }
     sum
+}
+
+// Whether more than half of the blocks have rows. Only how fast a sum is found hangs on it.
+fn is_dense(mask: &Mask) -> bool {
+    let blocks = mask.rows().div_ceil(512);
+    let mut used = 0;
+    for block in 0..blocks {
+        if !is_empty(&mask.block(block)) {
+            used += 1;
+        }
+    }
+    used > blocks / 2
+}
+
+// The same, as is faster.
+fn sum_numbers(known: &Known, mask: &Mask) -> u128
+    requires rows { length mask.now ≡ rows_of_column known.now }
+    requires values { MayHaveValues known.now mask.now }
+    ensures sum { result ≡ sum_where mask.now (map (number_of known.now.ends known.now.known.read) known.now.known.prefixes) }
+    ensures few { result * 2 ^ (planes known.now.ends - known.now.known.read) ≤ 2 ^ 89 }
+    ensures sound { IsSound known.now }
+{
+    if is_dense(mask) {
+        sum_by_planes(known, mask)
+    } else {
+        sum_by_blocks(known, mask)
+    }
 }
 
 // The low ends at the mask's rows, added up.

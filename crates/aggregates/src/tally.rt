@@ -1,17 +1,19 @@
 // What is kept of a list of rows that may count, and the bound that follows from it.
-ghost use Rattle.std.specs.Prelude.{◌≡◌, ◌<◌, ℕ, ℤ, pos, ◌+ℤ◌, ◌≤ℤ◌, List, [], ◌∷◌, ◌++◌, if◌then◌else◌, int_le, FitsSigned};
+ghost use Rattle.std.specs.Prelude.{◌≡◌, ◌<◌, ◌≤◌, ℕ, ℤ, pos, length, ◌+ℤ◌, ◌≤ℤ◌, List, [], ◌∷◌, ◌++◌, cond, if◌then◌else◌, int_le, FitsSigned};
 ghost use Rattle.std.specs.Int.{w128};
-ghost use Rattle.query_model.specs.declared.query.ItemKind.TheVariants.{Sum};
+ghost use Rattle.query_model.specs.declared.query.ItemKind.TheVariants.{Count, Min, Sum};
 ghost use Rattle.query_model.specs.Bounds.{average_bound_of, bound_of, nullity_of, greatest_sum, high_of_least, high_share, least_sum, low_of_greatest, low_share, fractions_of, Pair};
 ghost use Rattle.query_model.specs.Validity.{IsSumKind};
-ghost use Rattle.aggregates.specs.Tallies.{if_summed, pair_with, tally_of};
+ghost use Rattle.plane_kernels.specs.Rows.{digit_at};
+ghost use Rattle.aggregates.specs.BlockPairs.{pairs_in, HasRoom};
+ghost use Rattle.aggregates.specs.Tallies.{pair_with, tally_of};
 
 use crate::extremes::{greater, lesser};
 use interval_calc::{Fraction, Interval};
 use query_model::{AverageBound, Bound, ItemKind, Nullity};
 
-// Counts, sums and ends of a list of pairs: how many rows count for certain and how many may count, their ends, and what
-// they add to the least and to the greatest sum.
+// Counts, sums and ends of a list of pairs: how many rows count for certain and how many may count, and as far as the item's kind
+// needs them, their ends, and what they add to the least and to the greatest sum.
 #[derive(Clone, Copy)]
 pub(crate) struct Tally {
     certain: u64,
@@ -38,15 +40,19 @@ fn high_share(certain: bool, span: Interval) -> i128
     if certain { span.hi } else { span.hi.max(0) }
 }
 
-// A sum with one number more, where sums are kept.
-fn sum_with(kind: ItemKind, sum: i128, share: i128) -> i128
-    requires { IsSumKind kind → FitsSigned w128 (sum +ℤ share) }
-    ensures { (earlier : ℤ) → sum ≡ if_summed kind earlier → result ≡ if_summed kind (earlier +ℤ share) }
+// Whether a bit of the word is 1, counted from the lowest.
+fn has_bit(word: u64, bit: usize) -> bool
+    requires { bit < 64 }
+    ensures { result ≡ digit_at bit word }
 {
-    match kind {
-        ItemKind::Sum | ItemKind::Avg => sum + share,
-        ItemKind::Count | ItemKind::Min | ItemKind::Max => sum,
-    }
+    word >> bit & 1 == 1
+}
+
+// 1 for a row that counts for certain, 0 for another.
+fn one_if(certain: bool) -> u64
+    ensures { result ≡ cond certain 1 0 }
+{
+    if certain { 1 } else { 0 }
 }
 
 // A sum divided by one number where it is not negative, else by another.
@@ -79,20 +85,48 @@ impl Tally {
         }
     }
 
-    // That of the pairs with one more at their end.
-    pub(crate) fn with(self, kind: ItemKind, certain: bool, span: Interval) -> Tally
+    // That of the pairs of a count, with one more.
+    fn counted(self, certain: bool) -> Tally
         requires few { self.all < 16777216 }
         requires few_certain { self.certain < 16777216 }
-        requires low { IsSumKind kind → FitsSigned w128 (self.low_sum +ℤ low_share (pair_with certain span)) }
-        requires high { IsSumKind kind → FitsSigned w128 (self.high_sum +ℤ high_share (pair_with certain span)) }
-        ensures { (ps : List Pair) → self ≡ tally_of kind ps → result ≡ tally_of kind (ps ++ pair_with certain span ∷ []) }
+        ensures { (ps : List Pair) (span : Interval) → self ≡ tally_of Count ps → result ≡ tally_of Count (ps ++ pair_with certain span ∷ []) }
+    {
+        Tally {
+            all: self.all + 1,
+            certain: self.certain + one_if(certain),
+            ..self
+        }
+    }
+
+    // That of the pairs of a sum, with one more.
+    fn summed(self, certain: bool, span: Interval) -> Tally
+        requires few { self.all < 16777216 }
+        requires few_certain { self.certain < 16777216 }
+        requires low { FitsSigned w128 (self.low_sum +ℤ low_share (pair_with certain span)) }
+        requires high { FitsSigned w128 (self.high_sum +ℤ high_share (pair_with certain span)) }
+        ensures { (ps : List Pair) → self ≡ tally_of Sum ps → result ≡ tally_of Sum (ps ++ pair_with certain span ∷ []) }
+    {
+        Tally {
+            all: self.all + 1,
+            certain: self.certain + one_if(certain),
+            least_low: Some(lesser(self.least_low, span.lo)),
+            greatest_high: Some(greater(self.greatest_high, span.hi)),
+            low_sum: self.low_sum + low_share(certain, span),
+            high_sum: self.high_sum + high_share(certain, span),
+            ..self
+        }
+    }
+
+    // That of the pairs of a least or greatest value, with one more.
+    fn ended(self, certain: bool, span: Interval) -> Tally
+        requires few { self.all < 16777216 }
+        requires few_certain { self.certain < 16777216 }
+        ensures { (ps : List Pair) → self ≡ tally_of Min ps → result ≡ tally_of Min (ps ++ pair_with certain span ∷ []) }
     {
         let next = Tally {
             all: self.all + 1,
             least_low: Some(lesser(self.least_low, span.lo)),
             greatest_high: Some(greater(self.greatest_high, span.hi)),
-            low_sum: sum_with(kind, self.low_sum, low_share(certain, span)),
-            high_sum: sum_with(kind, self.high_sum, high_share(certain, span)),
             ..self
         };
         if !certain {
@@ -104,6 +138,36 @@ impl Tally {
             greatest_certain_low: Some(greater(self.greatest_certain_low, span.lo)),
             ..next
         }
+    }
+
+    // That of the pairs with one more at their end.
+    pub(crate) fn with(self, kind: ItemKind, certain: bool, span: Interval) -> Tally
+        requires few { self.all < 16777216 }
+        requires few_certain { self.certain < 16777216 }
+        requires low { IsSumKind kind → FitsSigned w128 (self.low_sum +ℤ low_share (pair_with certain span)) }
+        requires high { IsSumKind kind → FitsSigned w128 (self.high_sum +ℤ high_share (pair_with certain span)) }
+        ensures { (ps : List Pair) → self ≡ tally_of kind ps → result ≡ tally_of kind (ps ++ pair_with certain span ∷ []) }
+    {
+        match kind {
+            ItemKind::Count => self.counted(certain),
+            ItemKind::Sum | ItemKind::Avg => self.summed(certain, span),
+            ItemKind::Min | ItemKind::Max => self.ended(certain, span),
+        }
+    }
+
+    // That of the pairs with those of a block's rows at their end.
+    pub(crate) fn with_block(self, kind: ItemKind, may: u64, must: u64, spans: &[Interval]) -> Tally
+        requires few { length spans.now ≤ 64 }
+        requires room { HasRoom kind self (pairs_in may must spans.now) }
+        ensures { (ps : List Pair) → self ≡ tally_of kind ps → result ≡ tally_of kind (ps ++ pairs_in may must spans.now) }
+    {
+        let mut tally = self;
+        for row in 0..spans.len() {
+            if has_bit(may, row) {
+                tally = tally.with(kind, has_bit(must, row), spans[row]);
+            }
+        }
+        tally
     }
 
     // Whether no row counts.
@@ -141,14 +205,14 @@ impl Tally {
 
     // The greatest that the least value can be.
     fn high_of_least(self) -> i128
-        ensures { (kind : ItemKind) (ps : List Pair) → self ≡ tally_of kind ps → result ≡ high_of_least ps }
+        ensures { (ps : List Pair) → self ≡ tally_of Min ps → result ≡ high_of_least ps }
     {
         self.least_certain_high.or(self.greatest_high).unwrap_or(0)
     }
 
     // The least that the greatest value can be.
     fn low_of_greatest(self) -> i128
-        ensures { (kind : ItemKind) (ps : List Pair) → self ≡ tally_of kind ps → result ≡ low_of_greatest ps }
+        ensures { (ps : List Pair) → self ≡ tally_of Min ps → result ≡ low_of_greatest ps }
     {
         self.greatest_certain_low.or(self.least_low).unwrap_or(0)
     }

@@ -278,7 +278,7 @@ fn cells_are_apart(rt: HostRuntime) -> Result<(), Fail> {
 
 // A column of whole numbers of which the first so many planes of these cells are read, where none is refused. It is nullable
 // where it is told which of the cells are null.
-fn partly_read(
+pub(super) fn partly_read(
     alloc: Global,
     base: i64,
     top: i64,
@@ -287,7 +287,7 @@ fn partly_read(
     planes: u8,
 ) -> Result<Known, AllocError>
     requires ordered { base ≤ℤ top }
-    requires few { length cells.now ≤ 1000 }
+    requires few { length cells.now ≤ 2000 }
 {
     let name = Name::new(b"v".to_vec(alloc)?);
     let names = Dictionary::new(Vec::new(alloc));
@@ -342,13 +342,17 @@ fn rows_of(alloc: Global, known: &Known, chosen: &[usize]) -> Result<Mask, Alloc
 }
 
 // The sum of the low ends at some rows, and that of the high ends.
-fn sums(alloc: Global, known: &Known, chosen: &[usize]) -> Result<[i128; 2], AllocError> {
+pub(super) fn sums(
+    alloc: Global,
+    known: &Known,
+    chosen: &[usize],
+) -> Result<[i128; 2], AllocError> {
     let mask = rows_of(alloc, known, chosen)?;
     Ok([sum_lows(known, &mask), sum_highs(known, &mask)])
 }
 
 // The least and the greatest low end at some rows, and the least and the greatest high end.
-fn extremes(
+pub(super) fn extremes(
     alloc: Global,
     known: &Known,
     chosen: &[usize],
@@ -363,7 +367,7 @@ fn extremes(
 }
 
 // The first and the number of some rows whose low is below 0, and of those whose high is above 0.
-fn signs(
+pub(super) fn signs(
     alloc: Global,
     known: &Known,
     chosen: &[usize],

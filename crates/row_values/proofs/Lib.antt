@@ -1,0 +1,5 @@
+pub mod BlockRows
+pub mod NumberRanges
+pub mod NullRows
+pub mod ShortNumbers
+pub mod ShortRows

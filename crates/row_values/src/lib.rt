@@ -1,11 +1,20 @@
-//! What is known of an expression at a row: whether it is null, and where its number lies, by what is known of its columns.
+//! What is known of an expression at a row: whether it is null, and where its number lies, by what is known of its columns; and the same of a block of rows.
 #![tactic(auto)]
 
+mod block_nulls;
+mod block_values;
 mod nulls;
+mod short;
+mod short_arithmetic;
+mod short_ranges;
+mod short_spans;
 mod spans;
 
+pub use block_values::BlockValues;
 pub use nulls::null_of;
 pub use spans::span_of;
 
+#[cfg(test)]
+mod block_tests;
 #[cfg(test)]
 mod tests;

@@ -1,0 +1,111 @@
+-- Sums at the rows of a mask, by blocks of 512 rows.
+use Rattle.std.proofs.Common.{◌≡◌, ℕ, ◌+◌, ◌-◌, ◌*◌, ◌/◌, ◌^◌, ◌<◌, ◌≤◌, min, Bool, true, false, ◌&&◌, cond, List, [], ◌∷◌, ◌++◌, length, map, take, drop, get_or, count_by, sum_by, IsTrue, refl, ap, sym, subst, ◌∙◌, arith, length-drop}
+use Rattle.std.specs.Int.Bits.{bit_and}
+use Rattle.std.specs.Int.Count.{ones}
+use Rattle.std.specs.Simd.Lanes.{zip2}
+use Rattle.std.proofs.Math.Seq.{take-add}
+use Rattle.std.proofs.lemmas.Bool.{false≢true}
+use Rattle.std.proofs.lemmas.List.{drop-map, get_or-drop, get_or-take, length-map, length-take, map-append, take-map, take_all}
+use Rattle.std.proofs.lemmas.List.Sums.{sum_by-append, sum_by-cons}
+use Rattle.plane_kernels.specs.Rows.{bits_of, rows_of, IsPadded}
+use Rattle.plane_kernels.proofs.Bitwise.{and_is_bitwise}
+use Rattle.plane_kernels.proofs.RowLemmas.{count-bits_of, length-bits_of, zip2-append}
+use Rattle.query_model.specs.Knowledge.{null_with, IsLegal}
+use Rattle.query_model.specs.Truths.{may_be_number}
+use Rattle.known_column.specs.Columns.{KnownColumn, digit_of, number_of}
+use Rattle.aggregates.specs.ExtremeRows.{AreBlockRows, AreZero}
+use Rattle.aggregates.specs.Selections.{block_of, has_row, sum_where}
+use Rattle.aggregates.proofs.BlockWords.{no_places, row_within}
+use Rattle.aggregates.proofs.EndSums.{Counts}
+use Rattle.aggregates.proofs.MaskSums.{sum_none}
+
+-- ---- rows of two blocks
+
+-- the ones that words share are the rows that they share
+count_words : (n : ℕ) (ws vs : List ℕ) → length vs ≡ length ws → IsPadded n ws → IsPadded n vs → sum_by ones (zip2 bit_and ws vs) ≡ count_by (λ b. b) (zip2 (λ a b. a && b) (rows_of n ws) (rows_of n vs))
+count_words n [] vs e p q = refl
+count_words n (w ∷ ws) [] e p q = absurd (omega (arith, e))
+count_words n (w ∷ ws) (v ∷ vs) e p q =
+    let k = min n 64 in
+    let both = zip2 (λ a b. a && b) (bits_of k w) (bits_of k v) in
+    let rest = zip2 (λ a b. a && b) (rows_of (n - 64) ws) (rows_of (n - 64) vs) in
+    let here : ones (bit_and w v) ≡ count_by (λ b. b) both =
+    sym (ap (count_by (λ b. b)) (sym (and_is_bitwise.bits k w v (omega arith) p.0 q.0)) ∙ count-bits_of k (bit_and w v) (and_is_bitwise.within k w v p.0 q.0)) in
+    let same : length (bits_of k w) ≡ length (bits_of k v) = length-bits_of k w ∙ sym (length-bits_of k v) in
+    sum_by-cons ones (bit_and w v) (zip2 bit_and ws vs) ∙ ap (λ m. m + sum_by ones (zip2 bit_and ws vs)) here
+    ∙ ap (λ m. count_by (λ b. b) both + m) (count_words (n - 64) ws vs (omega (arith, e)) p.1 q.1)
+    ∙ sym (sum_by-append (λ b. cond b 1 0) both rest)
+    ∙ ap (count_by (λ b. b)) (sym (zip2-append (λ a b. a && b) (bits_of k w) (rows_of (n - 64) ws) (bits_of k v) (rows_of (n - 64) vs) same))
+
+-- those of a mask and of a plane
+pub count_block : (mask : List Bool) (ps : List ℕ) (digit : ℕ → Bool) (block n : ℕ) (ws vs : List ℕ) (plane : List Bool) → length ws ≡ 8 → length vs ≡ 8 → IsPadded n ws → IsPadded n vs →
+    rows_of n ws ≡ block_of block mask → rows_of n vs ≡ block_of block plane → plane ≡ map digit ps →
+    sum_by ones (zip2 bit_and ws vs) ≡ count_by (λ b. b) (zip2 (λ a b. a && b) (block_of block mask) (map digit (block_of block ps)))
+count_block mask ps digit block n ws vs plane first second p q rows bits is =
+    let digits : block_of block plane ≡ map digit (block_of block ps) = ap (block_of block) is ∙ ap (take 512) (drop-map digit (512 * block) ps) ∙ take-map digit 512 (drop (512 * block) ps) in
+    count_words n ws vs (second ∙ sym first) p q ∙ ap (λ r. count_by (λ b. b) (zip2 (λ a b. a && b) r (rows_of n vs))) rows
+    ∙ ap (λ r. count_by (λ b. b) (zip2 (λ a b. a && b) (block_of block mask) r)) (bits ∙ digits)
+
+-- ---- the part of a column in a block
+
+abbrev pub column_block : KnownColumn → ℕ → KnownColumn
+column_block column block = record { ends = column.ends; known = record { read = column.known.read; prefixes = block_of block column.known.prefixes } }
+
+length_block : {A : Type 0} (block : ℕ) (xs : List A) → length (block_of block xs) ≡ min 512 (length xs - 512 * block)
+length_block block xs = length-take 512 (drop (512 * block) xs) ∙ ap (min 512) (length-drop (512 * block) xs)
+
+get_block : {A : Type 0} (block : ℕ) (xs : List A) (i : ℕ) (d : A) → i < 512 → get_or (block_of block xs) i d ≡ get_or xs (512 * block + i) d
+get_block block xs i d small = get_or-take 512 (drop (512 * block) xs) i d small ∙ get_or-drop (512 * block) xs i d
+
+pub counts_block : (column : KnownColumn) (mask : List Bool) (block : ℕ) → Counts column mask → Counts (column_block column block) (block_of block mask)
+counts_block column mask block h =
+    let ps = column.known.prefixes in
+    record {
+      sound = record {
+        known = record {
+          some_read = h.sound.known.some_read;
+          few_rows = omega (arith, length_block block ps, h.sound.known.few_rows);
+          legal = λ r d below. subst (IsLegal column.ends column.known.read) (sym (get_block block ps r d (omega (arith, below, length_block block ps)))) (h.sound.known.legal (512 * block + r) d (omega (arith, below, length_block block ps)));
+        };
+        digits = h.sound.digits;
+      };
+      rows = length_block block mask ∙ ap (λ n. min 512 (n - 512 * block)) h.rows ∙ sym (length_block block ps);
+      values = λ row has.
+          let small : row < 512 = omega (arith, row_within (block_of block mask) row has, length_block block mask) in
+          subst (λ p. IsTrue (may_be_number (null_with column.ends column.known.read p))) (sym (get_block block ps row 0 small)) (h.values (512 * block + row) (sym (get_block block mask row false small) ∙ has));
+    }
+
+-- a block without rows
+pub none_in_block : (column : KnownColumn) (mask : List Bool) (block : ℕ) (words : List ℕ) (f : ℕ → ℕ) → length mask ≡ length column.known.prefixes → AreBlockRows mask block words → AreZero words →
+    sum_where (block_of block mask) (map f (block_of block column.known.prefixes)) ≡ 0
+none_in_block column mask block words f long rows none =
+    let ps = column.known.prefixes in
+    sum_none (block_of block mask) (block_of block ps) f (length_block block mask ∙ ap (λ n. min 512 (n - 512 * block)) long ∙ sym (length_block block ps)) (λ r below has.
+    let small : r < 512 = omega (arith, below, length_block block ps) in
+    absurd (false≢true (sym (no_places words r none) ∙ rows r small ∙ sym (get_block block mask r false small) ∙ has)))
+
+-- ---- all blocks
+
+sum_parts : (mask more : List Bool) (ns others : List ℕ) → length mask ≡ length ns → sum_where (mask ++ more) (ns ++ others) ≡ sum_where mask ns + sum_where more others
+sum_parts [] more [] others e = omega arith
+sum_parts [] more (n ∷ ns) others e = absurd (omega (arith, e))
+sum_parts (b ∷ mask) more [] others e = absurd (omega (arith, e))
+sum_parts (b ∷ mask) more (n ∷ ns) others e = (let rest = sum_parts mask more ns others (omega (arith, e)) in omega (arith, rest))
+
+abbrev pub sum_before : List Bool → List ℕ → (ℕ → ℕ) → ℕ → ℕ
+sum_before mask ps f block = sum_where (take (512 * block) mask) (map f (take (512 * block) ps))
+
+pub next_block : (mask : List Bool) (ps : List ℕ) (f : ℕ → ℕ) (block : ℕ) → length mask ≡ length ps →
+    sum_before mask ps f (block + 1) ≡ sum_before mask ps f block + sum_where (block_of block mask) (map f (block_of block ps))
+next_block mask ps f block long =
+    let at = 512 * block in
+    let next : 512 * (block + 1) ≡ at + 512 = omega arith in
+    let same : length (take at mask) ≡ length (map f (take at ps)) = length-take at mask ∙ ap (min at) long ∙ sym (length-take at ps) ∙ sym (length-map (take at ps) f) in
+    ap (λ n. sum_where (take n mask) (map f (take n ps))) next
+    ∙ ap (λ l. sum_where l (map f (take (at + 512) ps))) (take-add at 512 mask)
+    ∙ ap (λ l. sum_where (take at mask ++ block_of block mask) l) (ap (map f) (take-add at 512 ps) ∙ map-append f (take at ps) (block_of block ps))
+    ∙ sum_parts (take at mask) (block_of block mask) (map f (take at ps)) (map f (block_of block ps)) same
+
+pub all_blocks : (mask : List Bool) (ps : List ℕ) (f : ℕ → ℕ) (block : ℕ) → length mask ≡ length ps → length mask ≤ 512 * block → sum_before mask ps f block ≡ sum_where mask (map f ps)
+all_blocks mask ps f block long past =
+    ap (λ l. sum_where l (map f (take (512 * block) ps))) (take_all (512 * block) mask past) ∙ ap (λ l. sum_where mask (map f l)) (take_all (512 * block) ps (omega (arith, long, past)))

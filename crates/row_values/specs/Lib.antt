@@ -1,0 +1,2 @@
+pub mod BlockValues
+pub mod ShortSpans

@@ -1,0 +1,14 @@
+// Intervals whose ends are numbers of 64 bits.
+
+ghost use Rattle.std.specs.Prelude.{◌≤ℤ◌};
+
+// The whole numbers from `lo` to `hi`, both included.
+#[derive(Clone, Copy)]
+pub(crate) struct ShortInterval {
+    pub(crate) lo: i64,
+    pub(crate) hi: i64,
+    pub(crate) ghost ordered: { lo ≤ℤ hi },
+}
+
+// The interval of the number 0.
+pub(crate) const ZERO: ShortInterval = ShortInterval { lo: 0, hi: 0 };
