@@ -1,20 +1,31 @@
 -- The places of prefixes by their digits: downwards the greatest comes first, upwards the least, and null last.
-use Rattle.std.proofs.Common.{◌≡◌, ℕ, zero, suc, ◌+◌, ◌-◌, ◌*◌, ◌/◌, ◌%◌, ◌^◌, ◌<◌, ◌≤◌, ◌==◌, Bool, true, false, cond, not, refl, sym, ap, subst, ◌∙◌, arith}
+use Rattle.std.proofs.Common.{◌≡◌, ℕ, zero, suc, ◌+◌, ◌-◌, ◌*◌, ◌/◌, ◌%◌, ◌^◌, ◌<◌, ◌≤◌, ◌==◌, Bool, true, false, not, refl, sym, ap, ◌∙◌, arith}
 use Rattle.std.proofs.lemmas.Bool.Decides.{nat_tests}
 use Rattle.std.proofs.Math.Nat.{pow-suc, div-div-eq-div-mul, div-one}
 use Rattle.std.proofs.lemmas.Nat.{pow_pos}
 use Rattle.query_model.proofs.Blocks.{quotient_from}
 use Rattle.known_column.specs.Columns.{digit_of}
-use Rattle.topk_bounds.specs.Cuts.{is_later}
+use Rattle.topk_bounds.specs.Cuts.{is_later, place_after}
 use Rattle.topk_bounds.proofs.Counting.{one_if}
-
--- the place by so many digits
-abbrev pub place_after : (ℕ → Bool) → ℕ → ℕ → ℕ → ℕ
-place_after first read zero p = 0
-place_after first read (suc j) p = 2 * place_after first read j p + one_if (is_later (first j) (digit_of read j p))
 
 pub place_next : (first : ℕ → Bool) (read j p : ℕ) → place_after first read (j + 1) p ≡ 2 * place_after first read j p + one_if (is_later (first j) (digit_of read j p))
 place_next first read j p = (let e : j + 1 ≡ suc j = omega arith in ap (λ k. place_after first read k p) e)
+
+-- a digit more behind the others leaves the place by the first ones
+digit_longer : (read j p b : ℕ) → b ≤ 1 → j < read → digit_of (read + 1) j (2 * p + b) ≡ digit_of read j p
+digit_longer read j p b small h =
+    let k = read - (j + 1) in
+    let e : read + 1 - (j + 1) ≡ suc k = omega arith in
+    let twice : 2 ^ suc k ≡ 2 * 2 ^ k = omega (arith, pow-suc 2 k) in
+    let half : (2 * p + b) / 2 ≡ p = omega arith in
+    ap (λ n. n % 2 == 1)
+    (ap (λ n. (2 * p + b) / 2 ^ n) e ∙ ap (λ n. (2 * p + b) / n) twice ∙ sym (div-div-eq-div-mul (2 * p + b) 2 (2 ^ k)) ∙ ap (λ n. n / 2 ^ k) half)
+
+pub place_longer : (first : ℕ → Bool) (read j p b : ℕ) → b ≤ 1 → j ≤ read → place_after first (read + 1) j (2 * p + b) ≡ place_after first read j p
+place_longer first read zero p b small h = refl
+place_longer first read (suc j) p b small h =
+    ap (λ n. 2 * n + one_if (is_later (first j) (digit_of (read + 1) j (2 * p + b)))) (place_longer first read j p b small (omega arith))
+    ∙ ap (λ d. 2 * place_after first read j p + one_if (is_later (first j) d)) (digit_longer read j p b small (omega arith))
 
 half_digit : (q : ℕ) → q ≡ 2 * (q / 2) + one_if (q % 2 == 1)
 half_digit q = grind (arith, nat_tests)

@@ -190,8 +190,8 @@ module _ (rivals : Rivals) (down : Bool) (key : KnownColumn) (known : IsKnownCol
     counted_there Must x h e nested t m = absurd (false≢true m)
     counted_there May x h e nested t m = is.counts x h ∙ ap (λ b. b && nat_eq (place x) is.at) (nested x t) ∙ eq-eqb (place x) is.at e
 
-    pub cut_finds : (new : Cut) → Settles rivals key share cut new → AreNested rivals counted among → FindsFirst rivals down key counted among limit new.before
-    cut_finds new settles nested x x_in =
+    pub cut_finds : (found : List Bool) → Settles rivals key share cut found → AreNested rivals counted among → FindsFirst rivals down key counted among limit found
+    cut_finds found settles nested x x_in =
         let h : x < n = subst (λ m. x < m) (sym rows) x_in in
         settles x x_in
         ∙ ap (λ b. b || (is_in cut.level x && tail x)) (is.before x h)
@@ -246,17 +246,24 @@ module _ (rivals : Rivals) (key : KnownColumn) (cut : Cut) (share : Share) (rows
   wanted_as x w h e t =
       ap (λ b. cond b (are_wanted rivals share) (is_reached share.wanted cut.counted x)) (ap is_wide (one x row h row_in t (position-Some (λ b. b) cut.counted row false is).1) ∙ e)
 
-  pub settles_narrow : (level : List Bool) (new : Cut) → is_wide (range_at key row) ≡ false → length level ≡ length cut.level → StopsAt share.wanted cut.counted cut.level level → new.before ≡ zip2 (λ a b. a || b) cut.before level →
-      Settles rivals key share cut new
-  settles_narrow level new narrow same stops put x h =
-      ap (λ l. is_in l x) put ∙ in_both (λ a b. a || b) cut.before level x (omega (arith, rows.before)) (same ∙ rows.level ∙ sym rows.before)
+  pub settles_narrow : (level found : List Bool) → is_wide (range_at key row) ≡ false → length level ≡ length cut.level → StopsAt share.wanted cut.counted cut.level level → found ≡ zip2 (λ a b. a || b) level cut.before →
+      Settles rivals key share cut found
+  settles_narrow level found narrow same stops put x h =
+      ap (λ l. is_in l x) put ∙ in_both (λ a b. a || b) level cut.before x (omega (arith, rows.level, same)) (rows.before ∙ sym rows.level ∙ sym same)
+      ∙ turned (is_in level x) (is_in cut.before x)
       ∙ ap (λ b. is_in cut.before x || b) (stops x (omega (arith, rows.level)) ∙ where_in (is_in cut.level x) (is_reached share.wanted cut.counted x) (wanted_at x) (λ t. sym (wanted_as x false h narrow t)))
+    where
+      turned : (a b : Bool) → (a || b) ≡ (b || a)
+      turned true true = refl
+      turned true false = refl
+      turned false true = refl
+      turned false false = refl
 
-  pub settles_all : (new : Cut) → is_wide (range_at key row) ≡ true → are_wanted rivals share ≡ true → new.before ≡ zip2 (λ a b. a || b) cut.before cut.level → Settles rivals key share cut new
-  settles_all new wide all put x h =
+  pub settles_all : (found : List Bool) → is_wide (range_at key row) ≡ true → are_wanted rivals share ≡ true → found ≡ zip2 (λ a b. a || b) cut.before cut.level → Settles rivals key share cut found
+  settles_all found wide all put x h =
       ap (λ l. is_in l x) put ∙ in_both (λ a b. a || b) cut.before cut.level x (omega (arith, rows.before)) (rows.level ∙ sym rows.before)
       ∙ ap (λ b. is_in cut.before x || b) (with_true (is_in cut.level x) ∙ where_in (is_in cut.level x) true (wanted_at x) (λ t. sym (wanted_as x true h wide t ∙ all)))
 
-  pub settles_none : (new : Cut) → is_wide (range_at key row) ≡ true → are_wanted rivals share ≡ false → new.before ≡ cut.before → Settles rivals key share cut new
-  settles_none new wide none put x h =
+  pub settles_none : (found : List Bool) → is_wide (range_at key row) ≡ true → are_wanted rivals share ≡ false → found ≡ cut.before → Settles rivals key share cut found
+  settles_none found wide none put x h =
       ap (λ l. is_in l x) put ∙ with_nothing (is_in cut.before x) (is_in cut.level x) ∙ ap (λ b. is_in cut.before x || b) (where_in (is_in cut.level x) false (wanted_at x) (λ t. sym (wanted_as x true h wide t ∙ none)))

@@ -1,6 +1,5 @@
 -- The standings by the rows found are those of the counts, and these are those of the definition.
-use Rattle.std.proofs.Common.{◌≡◌, ℕ, zero, suc, ◌+◌, ◌<◌, Bool, true, false, cond, not, ◌&&◌, ◌||◌, nat_eq, nat_le, nat_lt, List, [], ◌∷◌, length, map, replicate, get_or, slice_get, Some, refl, sym, ap, subst, ◌∙◌, arith, IsTrue}
-use Rattle.std.specs.List.{range_with_len}
+use Rattle.std.proofs.Common.{◌≡◌, ℕ, zero, suc, ◌+◌, ◌<◌, Bool, true, false, cond, not, ◌&&◌, ◌||◌, nat_eq, nat_le, nat_lt, List, [], ◌∷◌, length, map, replicate, slice_get, Some, refl, sym, ap, ◌∙◌, arith, IsTrue}
 use Rattle.std.specs.Simd.Lanes.{zip2}
 use Rattle.std.proofs.lemmas.Bool.Decides.{nat_tests}
 use Rattle.std.proofs.lemmas.List.FromFn.{get_or-map-range_with_len, length-map-range_with_len}
@@ -8,9 +7,9 @@ use Rattle.std.proofs.lemmas.Simd.{get_or-zip2, length-zip2}
 use Rattle.query_model.specs.declared.bounds.Standing.{Standing}
 use Rattle.query_model.specs.declared.bounds.Standing.TheVariants.{Certain, Possible, Excluded}
 use Rattle.query_model.specs.Knowledge.{ranges_of}
-use Rattle.query_model.specs.Ranking.{comes_before, first_end, last_end, may_beat, must_beat, rows_with, truth_at}
+use Rattle.query_model.specs.Ranking.{may_beat, must_beat, rows_with, truth_at}
 use Rattle.query_model.specs.Truths.{Range, is_false, is_true}
-use Rattle.known_column.specs.Columns.{KnownColumn, range_at, rows_of_column}
+use Rattle.known_column.specs.Columns.{range_at, rows_of_column}
 use Rattle.topk_bounds.specs.declared.rivals.Rivals.TheVariants.{Must, May}
 use Rattle.topk_bounds.specs.Standings.{AreApart, Judged, StandingsStand, comes, count_rows, is_certain, is_in, is_possible, rivals_of, standing_by, standing_in, standings_by}
 use Rattle.topk_bounds.specs.Cuts.{FindsFirst}

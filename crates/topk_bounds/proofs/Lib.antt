@@ -6,3 +6,4 @@ pub mod Digits
 pub mod Places
 pub mod Finding
 pub mod Judging
+pub mod Searching

@@ -1,11 +1,11 @@
 -- The rows of masks, one by one.
-use Rattle.std.proofs.Common.{◌≡◌, ℕ, zero, suc, ◌+◌, ◌<◌, Bool, true, false, cond, not, ◌&&◌, ◌||◌, List, [], ◌∷◌, length, map, count_by, get_or, slice_get, Some, refl, sym, ap, ◌∙◌, arith, IsTrue}
+use Rattle.std.proofs.Common.{◌≡◌, ℕ, suc, ◌+◌, ◌<◌, Bool, true, false, cond, not, ◌&&◌, List, [], ◌∷◌, length, map, count_by, get_or, slice_get, Some, refl, sym, ap, ◌∙◌, arith}
 use Rattle.std.specs.Simd.Lanes.{zip2}
 use Rattle.std.proofs.lemmas.List.{get_or-map}
 use Rattle.std.proofs.lemmas.List.Sums.{sum_by-cons}
 use Rattle.std.proofs.lemmas.Option.{get_or_from_slice_get}
 use Rattle.std.proofs.lemmas.Simd.{get_or-zip2, length-zip2}
-use Rattle.plane_kernels.specs.Rows.{greater_rows, kept_rows, less_rows}
+use Rattle.plane_kernels.specs.Rows.{kept_rows}
 use Rattle.topk_bounds.specs.Standings.{is_in}
 
 -- the bit of a row
@@ -56,35 +56,3 @@ module _ (rows plane : List Bool) (e : length plane ≡ length rows) where
   pub in_kept : (digit : Bool) (r : ℕ) → r < length rows → is_in (kept_rows digit rows plane) r ≡ (is_in rows r && cond digit (is_in plane r) (not (is_in plane r)))
   in_kept true r h = in_both (λ a b. a && b) rows plane r h e
   in_kept false r h = in_both (λ a b. a && not b) rows plane r h e
-
-nothing_more : (a b : Bool) → a ≡ (a || (b && false))
-nothing_more true b = refl
-nothing_more false true = refl
-nothing_more false false = refl
-
-module _ (side level plane : List Bool) (e : length level ≡ length side) (k : length plane ≡ length side) where
-  pub less_length : (digit : Bool) → length (less_rows digit side level plane) ≡ length side
-  less_length true = length-zip2 (λ a b. a || b) side (zip2 (λ a b. a && not b) level plane) (sym (length-zip2 (λ a b. a && not b) level plane (e ∙ sym k) ∙ e))
-  less_length false = refl
-
-  pub greater_length : (digit : Bool) → length (greater_rows digit side level plane) ≡ length side
-  greater_length true = refl
-  greater_length false = length-zip2 (λ a b. a || b) side (zip2 (λ a b. a && b) level plane) (sym (length-zip2 (λ a b. a && b) level plane (e ∙ sym k) ∙ e))
-
-  in_less : (digit : Bool) (r : ℕ) → r < length side → is_in (less_rows digit side level plane) r ≡ (is_in side r || (is_in level r && (digit && not (is_in plane r))))
-  in_less true r h =
-      in_both (λ a b. a || b) side (zip2 (λ a b. a && not b) level plane) r h (length-zip2 (λ a b. a && not b) level plane (e ∙ sym k) ∙ e)
-      ∙ ap (λ b. is_in side r || b) (in_both (λ a b. a && not b) level plane r (omega arith) (k ∙ sym e))
-  in_less false r h = nothing_more (is_in side r) (is_in level r)
-
-  in_greater : (digit : Bool) (r : ℕ) → r < length side → is_in (greater_rows digit side level plane) r ≡ (is_in side r || (is_in level r && (not digit && is_in plane r)))
-  in_greater true r h = nothing_more (is_in side r) (is_in level r)
-  in_greater false r h =
-      in_both (λ a b. a || b) side (zip2 (λ a b. a && b) level plane) r h (length-zip2 (λ a b. a && b) level plane (e ∙ sym k) ∙ e)
-      ∙ ap (λ b. is_in side r || b) (in_both (λ a b. a && b) level plane r (omega arith) (k ∙ sym e))
-
-  -- the rows that are put to those that come before
-  pub in_side : (first digit : Bool) (r : ℕ) → r < length side →
-      is_in (cond first (greater_rows digit side level plane) (less_rows digit side level plane)) r ≡ (is_in side r || (is_in level r && cond first (not digit && is_in plane r) (digit && not (is_in plane r))))
-  in_side true digit r h = in_greater digit r h
-  in_side false digit r h = in_less digit r h

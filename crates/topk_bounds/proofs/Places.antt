@@ -1,32 +1,31 @@
 -- Rows come before one another as their places say.
-use Rattle.std.proofs.Common.{◌≡◌, ℕ, zero, suc, ◌+◌, ◌-◌, ◌*◌, ◌^◌, ◌<◌, ◌≤◌, ◌==◌, min, ℤ, pos, ◌+ℤ◌, ◌<ℤ◌, ◌≤ℤ◌, int_lt, Bool, true, false, cond, ◌&&◌, ◌||◌, nat_eq, nat_lt, All, List, length, map, get_or, ◌⊎◌, inl, inr, refl, sym, ap, subst, ◌∙◌, arith, IsTrue, Option, Some, None}
+use Rattle.std.proofs.Common.{◌≡◌, ℕ, zero, suc, ◌+◌, ◌-◌, ◌*◌, ◌^◌, ◌<◌, ◌≤◌, ◌==◌, min, ℤ, pos, ◌+ℤ◌, ◌<ℤ◌, ◌≤ℤ◌, int_lt, Bool, true, false, cond, ◌&&◌, ◌||◌, nat_eq, nat_lt, List, length, map, get_or, ◌⊎◌, inl, inr, refl, sym, ap, subst, ◌∙◌, arith, Option, Some, None}
 use Rattle.std.specs.Ordering.{int_eq}
 use Rattle.std.proofs.Math.Nat.{mul-le-mul_right, pow-suc}
-use Rattle.std.proofs.lemmas.Bool.{cases_Bool, cases_eq, cases_lt, cond-true, cond-false, eqb-true, eq-eqb, ne_eqb, false≢true, lt-ltb, or_from, or_left, true≢false}
+use Rattle.std.proofs.lemmas.Bool.{cases_Bool, cases_eq, cases_lt, cond-true, cond-false, lt-ltb, or_from, or_left}
 use Rattle.std.proofs.lemmas.Bool.Decides.{nat_tests}
 use Rattle.std.proofs.lemmas.Int.{ints}
 use Rattle.std.proofs.lemmas.Nat.{pow_pos}
-use Rattle.interval_calc.specs.Intervals.{Interval}
 use Rattle.daq_table.specs.declared.head.Ends.{Ends}
 use Rattle.daq_table.specs.Tables.{first_code, planes, spread}
 use Rattle.query_model.specs.declared.bounds.Nullity.{Nullity}
 use Rattle.query_model.specs.declared.bounds.Nullity.TheVariants.{Never, Possibly, Always}
-use Rattle.query_model.specs.Answers.{same_value}
 use Rattle.query_model.specs.Knowledge.{IsLegal, block, null_with, prefix_of, range_of}
 use Rattle.query_model.specs.Ranking.{comes_before, first_end, last_end}
 use Rattle.query_model.specs.Truths.{Range, may_be_null, may_be_number}
 use Rattle.query_model.proofs.Blocks.{legal_cases, prefixes_are_legal, range_ordered, reaches_first}
 use Rattle.query_model.proofs.Groups.{prefix_small}
 use Rattle.query_model.proofs.Integers.{equal_when, when_equal}
-use Rattle.known_column.specs.Columns.{KnownColumn, digit_of, range_at, rows_of_column}
+use Rattle.query_model.proofs.Nesting.{longer_at}
+use Rattle.known_column.specs.Columns.{KnownColumn, digit_of, range_at, read_further, rows_of_column}
 use Rattle.known_column.specs.RowBlocks.{IsKnownColumn}
 use Rattle.known_column.proofs.CodeDigits.{least_nullable}
 use Rattle.topk_bounds.specs.declared.rivals.Rivals.{Rivals}
 use Rattle.topk_bounds.specs.declared.rivals.Rivals.TheVariants.{Must, May}
 use Rattle.topk_bounds.specs.Standings.{comes, is_in}
-use Rattle.topk_bounds.specs.Cuts.{comes_first, differ, is_later, is_wide, next_place}
+use Rattle.topk_bounds.specs.Cuts.{comes_first, differ, is_later, is_wide, next_place, place_after, place_in}
 use Rattle.topk_bounds.proofs.Marks.{in_map}
-use Rattle.topk_bounds.proofs.Digits.{place_after, place_next, place_down, place_null, place_number, place_up}
+use Rattle.topk_bounds.proofs.Digits.{place_longer, place_next, place_down, place_null, place_number, place_up}
 
 -- ---- values
 
@@ -313,10 +312,7 @@ tell false ends read p q few lp lq =
 
 -- ---- rows
 
--- the place of a row by so many digits, and by all
-abbrev pub place_in : Bool → KnownColumn → ℕ → ℕ → ℕ
-place_in down key j r = place_after (comes_first down key.ends.nullable) key.known.read j (get_or key.known.prefixes r 0)
-
+-- the place of a row by all digits
 abbrev pub place_of : Bool → KnownColumn → ℕ → ℕ
 place_of down key r = place_in down key key.known.read r
 
@@ -398,3 +394,10 @@ place_followed down key j plane first r is by h =
     ap (λ b. 2 * place_in down key j r + cond (is_later first b) 1 0) (ap (λ l. is_in l r) is ∙ in_map (digit_of key.known.read j) key.known.prefixes r 0 h)
     ∙ ap (λ f. 2 * place_in down key j r + cond (is_later f (digit_of key.known.read j (get_or key.known.prefixes r 0))) 1 0) by
     ∙ sym (place_next (comes_first down key.ends.nullable) key.known.read j (get_or key.known.prefixes r 0))
+
+-- and leaves their places by the digits before it
+pub place_stays : (down : Bool) (key : KnownColumn) (bits : List Bool) (j r : ℕ) → j ≤ key.known.read → r < rows_of_column key → length bits ≡ rows_of_column key → place_in down key j r ≡ place_in down (read_further key bits) j r
+place_stays down key bits j r h within rows =
+    let (b, small, e) = longer_at key.known.prefixes bits r within (omega (arith, rows, within)) in
+    let first = comes_first down key.ends.nullable in
+    sym (ap (place_after first (key.known.read + 1) j) e ∙ place_longer first key.known.read j (get_or key.known.prefixes r 0) b small h)

@@ -1,5 +1,5 @@
 -- Blocks of rows that are counted, kept or taken away.
-use Rattle.std.proofs.Common.{◌≡◌, ◌≢◌, ℕ, zero, suc, ◌+◌, ◌-◌, ◌*◌, ◌<◌, ◌≤◌, min, nat_lt, nat_eq, Bool, true, false, cond, ◌&&◌, List, [], ◌∷◌, ◌++◌, length, get_or, set, take, drop, count_by, replicate, slice_get, Some, inl, inr, refl, sym, ap, subst, ◌∙◌, arith}
+use Rattle.std.proofs.Common.{◌≡◌, ◌≢◌, ℕ, zero, suc, ◌+◌, ◌-◌, ◌<◌, ◌≤◌, min, nat_lt, Bool, true, false, cond, ◌&&◌, List, [], ◌∷◌, ◌++◌, length, get_or, set, take, drop, count_by, replicate, inl, inr, refl, sym, ap, subst, ◌∙◌, arith}
 use Rattle.std.specs.Simd.Lanes.{put_chunk}
 use Rattle.std.proofs.lemmas.Bool.{cases_eq, cases_lt}
 use Rattle.std.proofs.lemmas.Bool.Decides.{nat_tests}
@@ -10,7 +10,7 @@ use Rattle.plane_kernels.specs.Rows.{bits_of, rows_of}
 use Rattle.plane_kernels.proofs.RowLemmas.{length-rows_of}
 use Rattle.topk_bounds.specs.Standings.{count_rows, is_in}
 use Rattle.topk_bounds.specs.Stopping.{Clears, Stops, is_reached}
-use Rattle.topk_bounds.proofs.Counting.{count_at, one_if}
+use Rattle.topk_bounds.proofs.Counting.{count_at}
 
 -- ---- counts
 

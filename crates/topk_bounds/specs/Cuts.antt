@@ -1,12 +1,12 @@
 -- The first rows in an order, as the digits of the sort key part them.
-use Rattle.std.specs.Prelude.{◌≡◌, ℕ, ◌+◌, ◌*◌, ◌<◌, ◌≤◌, nat_lt, nat_le, nat_eq, int_lt, Bool, true, false, not, cond, ◌&&◌, ◌||◌, ◌==◌, List, length, count_by, IsTrue, if◌then◌else◌}
+use Rattle.std.specs.Prelude.{◌≡◌, ℕ, zero, suc, ◌+◌, ◌*◌, ◌<◌, ◌≤◌, nat_lt, nat_le, nat_eq, int_lt, Bool, true, false, not, cond, ◌&&◌, ◌||◌, ◌==◌, List, length, count_by, slice_index, IsTrue, if◌then◌else◌}
 use Rattle.std.specs.Simd.Lanes.{zip2}
 use Rattle.interval_calc.specs.Intervals.{Interval}
-use Rattle.plane_kernels.specs.Rows.{greater_rows, kept_rows, less_rows}
+use Rattle.plane_kernels.specs.Rows.{kept_rows}
 use Rattle.query_model.specs.declared.bounds.Nullity.{Nullity}
 use Rattle.query_model.specs.declared.bounds.Nullity.TheVariants.{Never, Possibly, Always}
 use Rattle.query_model.specs.Truths.{Range}
-use Rattle.known_column.specs.Columns.{KnownColumn, range_at, rows_of_column}
+use Rattle.known_column.specs.Columns.{KnownColumn, digit_of, range_at, rows_of_column}
 use Rattle.topk_bounds.specs.declared.cut.Cut.{Cut}
 use Rattle.topk_bounds.specs.declared.cut.Share.{Share}
 use Rattle.topk_bounds.specs.declared.rivals.Rivals.{Rivals}
@@ -24,7 +24,16 @@ comes_first down nullable j = down || (nullable && j == 0)
 abbrev pub is_later : Bool → Bool → Bool
 is_later first digit = if first then not digit else digit
 
--- places of rows, less where a row comes first, by one digit more
+-- the place of a prefix of so many digits by its first ones: less where they come first
+abbrev pub place_after : (ℕ → Bool) → ℕ → ℕ → ℕ → ℕ
+place_after first read zero p = 0
+place_after first read (suc j) p = 2 * place_after first read j p + cond (is_later (first j) (digit_of read j p)) 1 0
+
+-- the place of a row by the first digits of its sort key
+abbrev pub place_in : Bool → KnownColumn → ℕ → ℕ → ℕ
+place_in down key j r = place_after (comes_first down key.ends.nullable) key.known.read j (slice_index key.known.prefixes r)
+
+-- places of rows by one digit more
 abbrev pub next_place : (ℕ → ℕ) → List Bool → Bool → ℕ → ℕ
 next_place place plane first r = 2 * place r + cond (is_later first (is_in plane r)) 1 0
 
@@ -43,7 +52,6 @@ is_wide range = differ range.null range.numbers
 pub record HaveRows (rows : ℕ) (cut : Cut) : Type 0 where
   pub before : length cut.before ≡ rows
   pub level : length cut.level ≡ rows
-  pub after : length cut.after ≡ rows
   pub counted : length cut.counted ≡ rows
 
 -- the rows of `among` by their places: before one place and at it, and which rows at it are counted. With the rows wanted of those at it,
@@ -67,12 +75,17 @@ pub record Begins (counted among : List Bool) (cut : Cut) (there : ℕ) : Type 0
   pub counts : cut.counted ≡ counted
   pub total : there ≡ count_by (λ b. b) counted
 
--- the rows without the digit are moved
-pub record MovesRows (plane : List Bool) (first digit : Bool) (old new : Cut) : Type 0 where
-  pub rows : HaveRows (length plane) new
-  pub before : new.before ≡ (if first then greater_rows digit old.before old.level plane else less_rows digit old.before old.level plane)
-  pub level : new.level ≡ kept_rows digit old.level plane
-  pub counted : new.counted ≡ kept_rows digit old.counted plane
+-- the digit that comes first is chosen: no row more comes before it
+pub record KeepsFirsts (plane : List Bool) (first : Bool) (old new : Cut) : Type 0 where
+  pub before : new.before ≡ old.before
+  pub level : new.level ≡ kept_rows first old.level plane
+  pub counted : new.counted ≡ kept_rows first old.counted plane
+
+-- the other digit is chosen: the rows with the first come before it
+pub record PassesFirsts (plane : List Bool) (first : Bool) (old new : Cut) : Type 0 where
+  pub level : new.level ≡ kept_rows (not first) old.level plane
+  pub counted : new.counted ≡ kept_rows (not first) old.counted plane
+  pub before : new.before ≡ zip2 (λ a b. a && not b) (zip2 (λ a b. a || b) old.before old.level) new.level
 
 -- one digit more is chosen
 abbrev pub Narrows : List Bool → Bool → Cut → Share → Cut → Share → Type 0
@@ -92,11 +105,11 @@ abbrev pub are_wanted : Rivals → Share → Bool
 are_wanted Must share = true
 are_wanted May share = nat_le share.there share.wanted
 
--- the wanted rows of the level are put to those before it
-abbrev pub Settles : Rivals → KnownColumn → Share → Cut → Cut → Type 0
-Settles rivals key share old new =
+-- the rows before the cut, and the wanted ones of its level
+abbrev pub Settles : Rivals → KnownColumn → Share → Cut → List Bool → Type 0
+Settles rivals key share cut found =
     (x : ℕ) → x < rows_of_column key →
-    is_in new.before x ≡ (is_in old.before x || (is_in old.level x && (if is_wide (range_at key x) then are_wanted rivals share else is_reached share.wanted old.counted x)))
+    is_in found x ≡ (is_in cut.before x || (is_in cut.level x && (if is_wide (range_at key x) then are_wanted rivals share else is_reached share.wanted cut.counted x)))
 
 -- ---- the whole
 

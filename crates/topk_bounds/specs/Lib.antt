@@ -1,3 +1,4 @@
 pub mod Cuts
 pub mod Standings
 pub mod Stopping
+pub mod Searches

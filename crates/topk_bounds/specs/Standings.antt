@@ -9,6 +9,7 @@ use Rattle.query_model.specs.Knowledge.{Knowledge, ranges_of}
 use Rattle.query_model.specs.Ranking.{Order, comes_before, first_end, last_end, standing_of, truth_at}
 use Rattle.query_model.specs.Truths.{Range, is_false, is_true}
 use Rattle.known_column.specs.Columns.{KnownColumn, range_at, rows_of_column}
+use Rattle.topk_bounds.specs.declared.search.Search.{Search}
 use Rattle.topk_bounds.specs.declared.rivals.Rivals.{Rivals}
 use Rattle.topk_bounds.specs.declared.rivals.Rivals.TheVariants.{Must, May}
 
@@ -50,11 +51,13 @@ standings_by judged = map (standing_by judged) (range_with_len 0 (rows_of_column
 
 -- ---- what is kept
 
--- what is asked for, and the standing of each row at the last judgement
+-- what is asked for, the standing of each row at the last judgement, and how far the rows that surely pass and those that may were sought
 pub record Kept : Type 0 where
   pub limit : ℕ
   pub down : Bool
   pub standings : List Standing
+  pub must : Search
+  pub may : Search
 
 abbrev pub is_certain : Standing → Bool
 is_certain Certain = true

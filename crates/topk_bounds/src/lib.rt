@@ -5,10 +5,11 @@ mod cut;
 mod laws;
 mod order;
 mod rivals;
+mod search;
 mod stop;
 mod top;
 
-pub use laws::standings_stand;
+pub use laws::{searches_go_on, standings_stand};
 pub use top::TopK;
 
 #[cfg(test)]

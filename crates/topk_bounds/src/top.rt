@@ -3,10 +3,11 @@
 ghost use Rattle.std.specs.Prelude.{◌≡◌, ◌≤◌, ◌<◌, ℕ, length, map, replicate, slice_get, Some, IfOk, IsTrue};
 ghost use Rattle.query_model.specs.declared.bounds.Standing.{Standing};
 ghost use Rattle.known_column.specs.Columns.{rows_of_column};
-ghost use Rattle.topk_bounds.specs.Standings.{is_certain, is_in, is_possible, standing_in, standings_by};
+ghost use Rattle.topk_bounds.specs.Searches.{AreSearching, HasJudged};
+ghost use Rattle.topk_bounds.specs.Standings.{is_certain, is_in, is_possible, standing_in};
 
-use crate::cut::Cut;
 use crate::rivals::Rivals;
+use crate::search::Search;
 use known_column::Known;
 use plane_kernels::Mask;
 use query_model::Standing;
@@ -18,7 +19,8 @@ use std::marker::Model;
 pub struct TopK {
     limit: u64,
     down: bool,
-    cut: Cut,
+    must: Search,
+    may: Search,
     certain: Mask,
     possible: Mask,
 }
@@ -26,14 +28,14 @@ pub struct TopK {
 impl Model for TopK {
     ghost use Rattle.std.specs.Prelude.{◌≤◌, length};
     ghost use Rattle.std.specs.Simd.Lanes.{zip2};
-    ghost use Rattle.topk_bounds.specs.Cuts.{HaveRows};
+    ghost use Rattle.topk_bounds.specs.Searches.{IsKept};
     ghost use Rattle.topk_bounds.specs.Standings.{standing_in, AreApart, Kept};
 
     ghost Value = { Kept };
 
-    ghost view = { λ t. record { limit = t.limit; down = t.down; standings = zip2 standing_in t.certain t.possible } };
+    ghost view = { λ t. record { limit = t.limit; down = t.down; standings = zip2 standing_in t.certain t.possible; must = t.must; may = t.may } };
 
-    ghost invariant = { λ t. (1 ≤ t.limit) × HaveRows (length t.certain) t.cut × AreApart t.certain t.possible };
+    ghost invariant = { λ t. (1 ≤ t.limit) × IsKept (length t.certain) t.must × IsKept (length t.certain) t.may × AreApart t.certain t.possible };
 }
 
 // The standing of a row that is marked so.
@@ -61,7 +63,8 @@ impl TopK {
         Ok(TopK {
             limit: u64::from(limit),
             down,
-            cut: Cut::open(alloc, rows)?,
+            must: Search::open(alloc, rows)?,
+            may: Search::open(alloc, rows)?,
             certain: Mask::none(alloc, rows)?,
             possible: Mask::none(alloc, rows)?,
         })
@@ -75,14 +78,25 @@ impl TopK {
         requires within { (r : ℕ) → IsTrue (is_in must.now r) → IsTrue (is_in may.now r) }
         ensures limit { self.new.limit ≡ self.old.limit }
         ensures down { self.new.down ≡ self.old.down }
-        ensures standings { self.new.standings ≡ standings_by (record { limit = self.old.limit; down = self.old.down; must = must.now; may = may.now; key = key.now }) }
+        ensures judged { HasJudged self.new must.now may.now key.now }
     {
-        self.cut
-            .find(Rivals::Must, must, may, self.limit, self.down, key);
-        self.possible.copy_from(&self.cut.before);
-        self.cut
-            .find(Rivals::May, may, must, self.limit, self.down, key);
-        self.certain.copy_from(&self.cut.before);
+        self.must.begin(must, may, self.limit);
+        self.may.begin(may, must, self.limit);
+        self.follow(key);
+    }
+
+    /// Judges each row anew where the same rows pass, and more planes of the sort key were read.
+    pub fn follow(&mut self, key: &Known)
+        requires key { rows_of_column key.now ≡ length self.old.standings }
+        requires searching { AreSearching self.old key.now }
+        ensures limit { self.new.limit ≡ self.old.limit }
+        ensures down { self.new.down ≡ self.old.down }
+        ensures judged { (are : AreSearching self.old key.now) → HasJudged self.new are.must are.may key.now }
+    {
+        self.must.follow(self.down, key);
+        self.may.follow(self.down, key);
+        self.must.find(Rivals::Must, key, &mut self.possible);
+        self.may.find(Rivals::May, key, &mut self.certain);
         self.certain.and_into(&self.possible);
         self.possible.and_not_into(&self.certain);
     }

@@ -1,6 +1,6 @@
 use Rattle.std.proofs.Common.{◌≡◌, ◌+◌, ◌≤◌, ◌&&◌, nat_lt, Bool, true, false, cond, length, sym, ap, subst, ◌∙◌, arith, rules}
 use Rattle.std.proofs.lemmas.List.{length-set}
-use Rattle.topk_bounds.specs.Standings.{count_rows, is_in}
+use Rattle.topk_bounds.specs.Standings.{is_in}
 use Rattle.topk_bounds.specs.Stopping.{Stops, is_reached}
 use Rattle.topk_bounds.proofs.Counting.{count_few, count_next}
 use Rattle.topk_bounds.proofs.Marks.{bit_is}

@@ -21,6 +21,6 @@ judge-requires-clause-within c r t = within_both c.args.must.now c.args.may.now 
 
 pub returns : goal.returns
 returns c =
-    let old = c.args.top.now in
-    let judged : Judged = record { limit = old.limit; down = old.down; must = c.and_into.new.self; may = c.args.may.now; key = c.args.key.now } in
-    ap length c.judge.ensures.standings ∙ length-map-range_with_len (standing_by judged) 0 (rows_of_column c.args.key.now) ∙ c.requires.key
+    let new = c.judge.new.self in
+    let judged : Judged = record { limit = new.limit; down = new.down; must = c.and_into.new.self; may = c.args.may.now; key = c.args.key.now } in
+    ap length c.judge.ensures.judged.standings ∙ length-map-range_with_len (standing_by judged) 0 (rows_of_column c.args.key.now) ∙ c.requires.key

@@ -13,7 +13,6 @@ returns c =
       rows = record {
         before = ap length none ∙ length-zip2 (λ a b. a && not b) among among refl;
         level = ap length c.copy_from-2.ensures;
-        after = c.requires.rows.after;
         counted = ap length c.copy_from-3.ensures ∙ c.requires.counted;
       };
       before = λ r h. ap (λ l. is_in l r) none ∙ none_left among r h;

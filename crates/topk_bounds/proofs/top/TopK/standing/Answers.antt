@@ -1,14 +1,14 @@
-use Rattle.std.proofs.Common.{◌≡◌, Some, length, slice_get, sym, ap, ◌∙◌, arith}
+use Rattle.std.proofs.Common.{Some, length, slice_get, sym, ap, ◌∙◌, arith}
 use Rattle.topk_bounds.specs.Standings.{Kept}
 use Rattle.topk_bounds.proofs.Judging.{apart_length, marks_stand, stands_length}
 use Rattle.topk_bounds.proofs.top.TopK.standing.Goals as goal
 
 pub get-requires : goal.get-requires
-get-requires c = omega (arith, c.requires, ap (λ (k : Kept). length k.standings) c.self.view_is, stands_length c.self.inside.certain c.self.inside.possible c.self.invariant.2)
+get-requires c = omega (arith, c.requires, ap (λ (k : Kept). length k.standings) c.self.view_is, stands_length c.self.inside.certain c.self.inside.possible c.self.invariant.3)
 
 pub get-requires-2 : goal.get-requires-2
 get-requires-2 c =
-    omega (arith, c.requires, ap (λ (k : Kept). length k.standings) c.self.view_is, stands_length c.self.inside.certain c.self.inside.possible c.self.invariant.2, apart_length c.self.inside.certain c.self.inside.possible c.self.invariant.2)
+    omega (arith, c.requires, ap (λ (k : Kept). length k.standings) c.self.view_is, stands_length c.self.inside.certain c.self.inside.possible c.self.invariant.3, apart_length c.self.inside.certain c.self.inside.possible c.self.invariant.3)
 
 pub returns : goal.returns
 returns c =
