@@ -47,4 +47,4 @@ ending_of plan narrow round = first_ending narrow (is_most plan.most round) (is_
 
 -- each time the widest column, until each answer is one number
 abbrev pub widest_plan : Plan
-widest_plan = record { policy = Widest; width = 0; most = None }
+widest_plan = record { policy = Widest; width = 0; most = None; list = false }

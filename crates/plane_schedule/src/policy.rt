@@ -18,12 +18,14 @@ pub enum Policy {
     Listed(Columns),
 }
 
-/// A policy, how far apart the ends of a narrow bound may be, and the number of the last round that is wanted, if any.
+/// A policy, how far apart the ends of a narrow bound may be, and the number of the last round that is wanted, if any. And whether
+/// of rows in an order those are listed too that only may be among the first.
 #[derive(Drop, Debug)]
 pub struct Plan {
     pub policy: Policy,
     pub width: u64,
     pub most: Option<u32>,
+    pub list: bool,
 }
 
 /// Why a round is the last: it is narrow, or the last that is wanted, or the list of columns is at its end.
@@ -55,6 +57,7 @@ impl Plan {
             policy: Policy::Widest,
             width: 0,
             most: None,
+            list: false,
         }
     }
 

@@ -169,6 +169,7 @@ fn first_ending_is_told(rt: HostRuntime) -> Result<(), AllocError> {
         policy: Policy::Listed(Columns::new(vec![in rt.alloc(); 0, 0]?)),
         width: 0,
         most: Some(2),
+        list: false,
     };
     assert_eq!(rt; plan.ending(false, 1), None);
     assert_eq!(rt; plan.ending(true, 2), Some(Ending::Narrow));

@@ -9,16 +9,24 @@ use Rattle.query_model.specs.declared.bounds.AverageBound as code
 use Rattle.query_model.specs.declared.bounds.Bound.{Bound}
 use Rattle.query_model.specs.declared.bounds.Truth.{Truth}
 use Rattle.query_model.specs.Queries.{Aggregate, Query}
+use Rattle.query_model.specs.declared.query.Shape.{Shape}
+use Rattle.query_model.specs.declared.query.Shape.TheVariants.{Plain, Grouped, Top}
 use Rattle.query_model.specs.declared.query.ItemKind.{ItemKind}
 use Rattle.query_model.specs.declared.query.ItemKind.TheVariants.{Avg}
 use Rattle.query_model.specs.Bounds.{Pair, average_under, bound_under, fractions_of, pairs}
 use Rattle.query_model.specs.Knowledge.{ranges_of}
 use Rattle.query_model.specs.Truths.{truth_of}
-use Rattle.round_engine.specs.declared.answers.Answers.TheVariants.{Totals}
+use Rattle.query_model.specs.Validity.{IsTop}
+use Rattle.round_engine.specs.declared.answers.Answers.{Answers}
+use Rattle.round_engine.specs.declared.answers.Answers.TheVariants.{Totals, Groups, Ranking}
 use Rattle.round_engine.specs.declared.state.State.{State}
 use Rattle.round_engine.specs.declared.totals.Totals as declared
-use Rattle.round_engine.specs.Engines.{AreAnswers, IsEngine, stage_of}
-use Rattle.round_engine.specs.Stages.{IsOpenItem, IsOpenStage, Stage}
+use Rattle.round_engine.specs.declared.groups.Groups as cells
+use Rattle.round_engine.specs.declared.ranking.Ranking as rankings
+use Rattle.round_engine.specs.CellAnswers.{AreGroups}
+use Rattle.round_engine.specs.Rankings.{IsRanking}
+use Rattle.round_engine.specs.Engines.{AreAnswers, IsEngine, IsGroupsForm, IsRankingForm, IsTotalsForm, stage_of}
+use Rattle.round_engine.specs.Stages.{IsGrouped, IsOpenItem, IsOpenStage, Stage}
 use Rattle.round_engine.specs.declared.item_bound.ItemBound.{ItemBound}
 use Rattle.round_engine.specs.declared.item_bound.ItemBound.TheVariants.{Numbers, Fractions}
 use Rattle.round_engine.specs.Totals.{AreEach, AreTotals, HasFractions, HasNumbers, IsBoundOf}
@@ -104,7 +112,46 @@ pub answers_at : (query : Query) (state : State) (stage : Stage) → IsEngine qu
 answers_at query state stage kept is = subst (λ s. AreAnswers s state.answers) is kept.answered
 
 pub totals_at : (query : Query) (state : State) (stage : Stage) (totals : declared.Totals) → IsEngine query state → stage_of query state.columns ≡ stage → state.answers ≡ Totals totals → AreTotals stage totals.bounds.items
-totals_at query state stage totals kept is form = (subst (AreAnswers stage) form (answers_at query state stage kept is)).0
+totals_at query state stage totals kept is form = (subst (AreAnswers stage) form (answers_at query state stage kept is)).1
+
+-- a query without groups and order has totals
+totals_form : (stage : Stage) (answers : Answers) → stage.query.shape ≡ Plain → AreAnswers stage answers → IsTotalsForm answers
+totals_form stage (Totals totals) plain are = tt
+totals_form stage (Groups groups) plain are = subst IsGrouped plain are.grouped
+totals_form stage (Ranking ranking) plain are = subst IsTop (sym are.holds.order ∙ plain) tt
+
+pub has_totals : (query : Query) (state : State) (stage : Stage) → IsEngine query state → stage_of query state.columns ≡ stage → stage.query.shape ≡ Plain → IsTotalsForm state.answers
+has_totals query state stage kept is plain = totals_form stage state.answers plain (answers_at query state stage kept is)
+
+pub ranking_at : (query : Query) (state : State) (stage : Stage) (ranking : rankings.Ranking) → IsEngine query state → stage_of query state.columns ≡ stage → state.answers ≡ Ranking ranking → IsRanking stage ranking
+ranking_at query state stage ranking kept is form = subst (AreAnswers stage) form (answers_at query state stage kept is)
+
+-- rows that are grouped are in no order
+only_grouped : (shape : Shape) → IsGrouped shape → IsTop shape → ⊥
+only_grouped Plain grouped top = grouped
+only_grouped (Grouped columns) grouped top = top
+only_grouped (Top key down limit) grouped top = grouped
+
+pub groups_at : (query : Query) (state : State) (stage : Stage) (groups : cells.Groups) → IsEngine query state → stage_of query state.columns ≡ stage → state.answers ≡ Groups groups → AreGroups stage groups
+groups_at query state stage groups kept is form = subst (AreAnswers stage) form (answers_at query state stage kept is)
+
+-- a query with groups has their answers
+groups_form : (stage : Stage) (answers : Answers) → IsGrouped stage.query.shape → AreAnswers stage answers → IsGroupsForm answers
+groups_form stage (Totals totals) grouped are = subst IsGrouped are.0 grouped
+groups_form stage (Groups groups) grouped are = tt
+groups_form stage (Ranking ranking) grouped are = subst IsGrouped are.holds.order grouped
+
+pub has_groups : (query : Query) (state : State) (stage : Stage) → IsEngine query state → stage_of query state.columns ≡ stage → IsGrouped stage.query.shape → IsGroupsForm state.answers
+has_groups query state stage kept is grouped = groups_form stage state.answers grouped (answers_at query state stage kept is)
+
+-- a query for rows in an order has a ranking
+ranking_form : (stage : Stage) (answers : Answers) → IsTop stage.query.shape → AreAnswers stage answers → IsRankingForm answers
+ranking_form stage (Totals totals) top are = subst IsTop are.0 top
+ranking_form stage (Groups groups) top are = only_grouped stage.query.shape are.grouped top
+ranking_form stage (Ranking ranking) top are = tt
+
+pub has_ranking : (query : Query) (state : State) (stage : Stage) → IsEngine query state → stage_of query state.columns ≡ stage → IsTop stage.query.shape → IsRankingForm state.answers
+has_ranking query state stage kept is top = ranking_form stage state.answers top (answers_at query state stage kept is)
 
 pub open_at : (query : Query) (state : State) (stage : Stage) → IsEngine query state → stage_of query state.columns ≡ stage → IsOpenStage stage
 open_at query state stage kept is = subst IsOpenStage is kept.open_stage

@@ -1,4 +1,5 @@
 pub mod RowPairs
+pub mod FilledBlocks
 pub mod Openings
 pub mod Kept
 pub mod Certain
@@ -8,7 +9,6 @@ pub mod Interleaved
 pub mod Counted
 pub mod Narrow
 pub mod Declared
-pub mod BlockRows
 pub mod Places
 pub mod Unmoved
 pub mod Walks
@@ -16,3 +16,10 @@ pub mod Masked
 pub mod Rows
 pub mod SelectedPairs
 pub mod SelectedBounds
+pub mod RankedRows
+pub mod Keys
+pub mod DeclaredKeys
+pub mod CellRows
+pub mod CellPairs
+pub mod CellKept
+pub mod CellNarrow

@@ -3,6 +3,8 @@ use Rattle.std.proofs.Common.{◌≡◌, ◌≢◌, ℕ, ◌<◌, ◌^◌, ◌&&
 use Rattle.std.specs.List.{list_all}
 use Rattle.query_model.specs.Queries.{Aggregate}
 use Rattle.query_model.specs.declared.query.ItemKind.{ItemKind}
+use Rattle.query_model.specs.declared.query.Shape.{Shape}
+use Rattle.query_model.specs.declared.query.Shape.TheVariants.{Plain}
 use Rattle.query_model.specs.declared.query.ItemKind.TheVariants.{Count, Sum, Min, Max, Avg}
 use Rattle.query_model.specs.Bounds.{Pair, average_under, bound_of, pairs}
 use Rattle.query_model.specs.Laws.{PairsAreFew}
@@ -10,7 +12,7 @@ use Rattle.query_model.specs.Truths.{span_of}
 use Rattle.query_model.specs.Validity.{FitsKind, declared_ranges}
 use Rattle.round_engine.specs.declared.item_bound.ItemBound.{ItemBound}
 use Rattle.round_engine.specs.declared.item_bound.ItemBound.TheVariants.{Numbers, Fractions}
-use Rattle.round_engine.specs.Narrowness.{FitsNarrow, FitsNarrowOf, is_narrow, is_narrow_average, is_narrow_bound, is_narrow_item, is_narrow_of}
+use Rattle.round_engine.specs.Narrowness.{FitsNarrow, FitsNarrowOf, are_narrow, is_narrow, is_narrow_form, is_narrow_average, is_narrow_bound, is_narrow_item, is_narrow_of}
 use Rattle.round_engine.specs.Stages.{IsOpenStage, Stage}
 use Rattle.round_engine.specs.Totals.{AreSomeTotals, AreTotals, IsBoundOf, IsTotal}
 use Rattle.round_engine.proofs.Kept.{item_of, open_item_at}
@@ -59,5 +61,9 @@ narrow_each width pairs_for (i ∷ is) (b ∷ bs) count each =
     ap (λ c. c && list_all (is_narrow_of width) bs) (narrow_form width i.kind (pairs_for i) b (each zero i b refl refl))
     ∙ ap (λ c. is_narrow_item width i.kind (pairs_for i) && c) (narrow_each width pairs_for is bs (omega arith) (λ n. each (suc n)))
 
-pub narrow_all : (width : ℕ) (stage : Stage) (bounds : List ItemBound) → AreTotals stage bounds → list_all (is_narrow_of width) bounds ≡ is_narrow width stage
-narrow_all width stage bounds are = narrow_each width (λ i. pairs stage.query i [] stage.frame stage.known) stage.query.items bounds are.count are.each
+narrow_in_form : (width : ℕ) (stage : Stage) (shape : Shape) → shape ≡ Plain → are_narrow width stage.query.items (λ i. pairs stage.query i [] stage.frame stage.known) ≡ is_narrow_form width stage shape
+narrow_in_form width stage shape plain = sym (ap (is_narrow_form width stage) plain)
+
+pub narrow_all : (width : ℕ) (stage : Stage) (bounds : List ItemBound) → stage.query.shape ≡ Plain → AreTotals stage bounds → list_all (is_narrow_of width) bounds ≡ is_narrow width stage
+narrow_all width stage bounds plain are =
+    narrow_each width (λ i. pairs stage.query i [] stage.frame stage.known) stage.query.items bounds are.count are.each ∙ narrow_in_form width stage stage.query.shape plain

@@ -6,20 +6,22 @@ use Rattle.std.proofs.lemmas.Option.{none-some, same_Some, slice_get_within}
 use Rattle.daq_table.specs.declared.table_head.Head.{Head}
 use Rattle.daq_table.specs.Tables.{ends_at, frame_of}
 use Rattle.query_model.specs.Queries.{Aggregate, Query}
-use Rattle.query_model.specs.declared.query.Shape.TheVariants.{Plain}
+use Rattle.query_model.specs.declared.query.Shape.{Shape}
+use Rattle.query_model.specs.declared.query.Shape.TheVariants.{Plain, Grouped, Top}
 use Rattle.query_model.specs.Laws.{StartIsKnowledge}
 use Rattle.query_model.specs.Meaning.{PredReadsBelow, ReadsBelow}
 use Rattle.query_model.specs.Projection.{projected_frame}
-use Rattle.query_model.specs.Validity.{IsValid, IsValidItem}
-use Rattle.known_column.specs.KnownTables.{KnownTable, read_column, unread_table}
+use Rattle.query_model.specs.Validity.{IsValid, IsValidItem, IsValidShape}
+use Rattle.known_column.specs.KnownTables.{KnownTable, unread_table}
 use Rattle.aggregates.specs.Runnings.{IsBlank, Tallies}
 use Rattle.round_engine.specs.declared.item_bound.ItemBound.{ItemBound}
 use Rattle.round_engine.specs.declared.answers.Answers.{Answers}
 use Rattle.round_engine.specs.declared.answers.Answers.TheVariants.{Totals}
-use Rattle.round_engine.specs.Engines.{stage_of, AreAnswers, AreAnswersBeside, HoldItems}
+use Rattle.round_engine.specs.declared.totals.Totals as declared
+use Rattle.round_engine.specs.Engines.{stage_of, AreAnswers, StoodBefore}
 use Rattle.round_engine.specs.Moves.{AreMoved, is_marked, is_moved}
 use Rattle.round_engine.specs.Selected.{HaveRows}
-use Rattle.round_engine.specs.Stages.{IsOpenItem, IsOpenQuery, IsOpenStage, Stage}
+use Rattle.round_engine.specs.Stages.{IsOpenItem, IsOpenQuery, IsOpenShape, IsOpenStage, Stage, stepped}
 use Rattle.round_engine.specs.Totals.{AreTotals, AreTotalsBeside, HaveRoom, IsBoundOf}
 use Rattle.round_engine.proofs.Unmoved.{pairs_unmoved}
 
@@ -36,21 +38,27 @@ open_items head query (item ∷ items) valid = (
   open_items head query items valid.1,
 )
 
-open_query : (head : Head) (query : Query) → IsValid head query → query.shape ≡ Plain → head.rows ≤ 16777216 → IsOpenQuery query (projected_frame query (frame_of head))
-open_query head query valid plain few = record {
+open_shape : (head : Head) (query : Query) (shape : Shape) → IsValidShape head query shape → IsOpenShape (projected_frame query (frame_of head)) query shape
+open_shape head query Plain valid = tt
+open_shape head query (Grouped columns) valid =
+    (subst (λ n. AllByRecursion (λ c. c < n) columns) (sym (length-map query.columns (ends_at (frame_of head)))) valid.0, valid.1, valid.2)
+open_shape head query (Top key down limit) valid = (subst (λ n. key < n) (sym (length-map query.columns (ends_at (frame_of head)))) valid.0, valid.1, valid.2, valid.3)
+
+open_query : (head : Head) (query : Query) → IsValid head query → head.rows ≤ 16777216 → IsOpenQuery query (projected_frame query (frame_of head))
+open_query head query valid few = record {
   columns = length-map query.columns (ends_at (frame_of head));
   few_columns = valid.few_columns;
   few_items = valid.few_items;
   few_rows = few;
   condition = subst (λ n. PredReadsBelow n query.pred) (sym (length-map query.columns (ends_at (frame_of head)))) valid.condition;
-  plain = plain;
+  shape = open_shape head query query.shape valid.shape;
   items = open_items head query query.items valid.items;
 }
 
-pub open_stage : StartIsKnowledge → (head : Head) (query : Query) (columns : KnownTable) → IsValid head query → query.shape ≡ Plain → head.rows ≤ 16777216 → columns ≡ unread_table (projected_frame query (frame_of head)) →
+pub open_stage : StartIsKnowledge → (head : Head) (query : Query) (columns : KnownTable) → IsValid head query → head.rows ≤ 16777216 → columns ≡ unread_table (projected_frame query (frame_of head)) →
     IsOpenStage (stage_of query columns)
-open_stage knows head query columns valid plain few is =
-    subst (λ t. IsOpenStage (stage_of query t)) (sym is) (record { open_query = open_query head query valid plain few; knowledge = knows (projected_frame query (frame_of head)) })
+open_stage knows head query columns valid few is =
+    subst (λ t. IsOpenStage (stage_of query t)) (sym is) (record { open_query = open_query head query valid few; knowledge = knows (projected_frame query (frame_of head)) })
 
 -- ---- lists that agree place by place
 
@@ -76,28 +84,28 @@ opened_more items i item runnings running within there opened blank =
 
 -- ---- what is computed anew after a plane, and what stays
 
-beside_moved : (query : Query) (before columns : KnownTable) (column : ℕ) (bits marks : List Bool) (bounds : List ItemBound) → query.shape ≡ Plain → AreMoved query column marks → AreTotals (stage_of query before) bounds →
-    columns ≡ read_column before column bits → AreTotalsBeside (stage_of query columns) marks bounds
-beside_moved query before columns column bits marks bounds plain moved are taken = subst (λ t. AreTotalsBeside (stage_of query t) marks bounds) (sym taken) (record {
+beside_moved : (before : Stage) (column : ℕ) (bits marks : List Bool) (bounds : List ItemBound) → before.query.shape ≡ Plain → AreMoved before.query column marks → AreTotals before bounds →
+    AreTotalsBeside (stepped before column bits) marks bounds
+beside_moved before column bits marks bounds plain moved are = record {
   count = are.count;
   each = λ i item bound at_item at_bound unmarked.
-      (let still : is_moved query column item ≡ false = is_false (is_moved query column item) (λ yes. unmarked (moved i item at_item ∙ yes)) in
-      subst (λ ps. IsBoundOf item.kind ps bound) (sym (pairs_unmoved query item before.frame before.known column bits plain still)) (are.each i item bound at_item at_bound));
-})
+      (let still : is_moved before.query column item ≡ false = is_false (is_moved before.query column item) (λ yes. unmarked (moved i item at_item ∙ yes)) in
+      subst (λ ps. IsBoundOf item.kind ps bound) (sym (pairs_unmoved before.query item before.frame before.known column bits plain still)) (are.each i item bound at_item at_bound));
+}
   where
     is_false : (b : Bool) → b ≢ true → b ≡ false
     is_false true h = absurd (h refl)
     is_false false h = refl
 
--- what a plane does not move is told still
-pub still_told : (query : Query) (before columns : KnownTable) (column : ℕ) (bits marks : List Bool) (answers : Answers) → query.shape ≡ Plain → AreMoved query column marks → AreAnswers (stage_of query before) answers →
-    columns ≡ read_column before column bits → AreAnswersBeside (stage_of query columns) marks answers
-still_told query before columns column bits marks (Totals totals) plain moved are taken = (beside_moved query before columns column bits marks totals.bounds.items plain moved are.0 taken, are.1, subst (λ (t : KnownTable). HaveRows t.frame.rows totals.masks) (sym taken) are.2)
+-- the totals of before a plane
+pub stood_totals : (stage : Stage) (column : ℕ) (bits : List Bool) (answers : Answers) (totals : declared.Totals) → StoodBefore stage column bits answers → answers ≡ Totals totals →
+    (before : Stage) × (stage ≡ stepped before column bits) × AreAnswers before (Totals totals)
+stood_totals stage column bits answers totals stood form = (stood.before, stood.read, subst (AreAnswers stood.before) form stood.answered)
 
--- where all are marked, room is enough
-pub all_marked : (stage : Stage) (marks : List Bool) (answers : Answers) → ((i : ℕ) → i < length stage.query.items → is_marked marks i ≡ true) → HoldItems stage.query.items stage.frame.rows answers → AreAnswersBeside stage marks answers
-all_marked stage marks (Totals totals) all hold = (
-  record { count = hold.0; each = λ i item bound at_item at_bound unmarked. absurd (unmarked (all i (slice_get_within stage.query.items i item at_item))) },
-  hold.1,
-  hold.2,
-)
+-- what a plane does not move is told still
+pub still_told : (stage : Stage) (column : ℕ) (bits marks : List Bool) (totals : declared.Totals) → AreMoved stage.query column marks →
+    (before : Stage) × (stage ≡ stepped before column bits) × AreAnswers before (Totals totals) →
+    AreTotalsBeside stage marks totals.bounds.items
+still_told stage column bits marks totals moved (before, read, are) =
+    subst (λ (s : Stage). AreTotalsBeside s marks totals.bounds.items) (sym read)
+    (beside_moved before column bits marks totals.bounds.items are.0 (subst (λ (s : Stage). AreMoved s.query column marks) read moved) are.1)

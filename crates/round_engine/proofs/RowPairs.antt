@@ -31,11 +31,11 @@ use Rattle.round_engine.specs.Totals.{pair_at, IsFilledBelow}
 
 -- ---- lists of what rows give
 
-range-more : (a n : ℕ) → range_with_len a (suc n) ≡ range_with_len a n ++ (a + n) ∷ []
+pub range-more : (a n : ℕ) → range_with_len a (suc n) ≡ range_with_len a n ++ (a + n) ∷ []
 range-more a zero = ap (λ k. k ∷ []) (omega arith)
 range-more a (suc n) = ap (λ ks. a ∷ ks) (range-more (a + 1) n ∙ ap (λ k. range_with_len (a + 1) n ++ k ∷ []) (omega arith))
 
-given-more : {X : Type 0} (give : ℕ → Option X) (n : ℕ) → filter_map give (range_with_len 0 (n + 1)) ≡ filter_map give (range_with_len 0 n) ++ filter_map give (n ∷ [])
+pub given-more : {X : Type 0} (give : ℕ → Option X) (n : ℕ) → filter_map give (range_with_len 0 (n + 1)) ≡ filter_map give (range_with_len 0 n) ++ filter_map give (n ∷ [])
 given-more give n =
     let up : n + 1 ≡ suc n = omega arith in
     let from_none : 0 + n ≡ n = omega arith in
@@ -61,7 +61,7 @@ none_if_impossible False u span may = refl
 none_if_impossible Unknown u span may = cc
 none_if_impossible True u span may = cc
 
-none_if_null : (t : Truth) (span : Interval) → pair_unless_false (and_of t False) span ≡ None
+pub none_if_null : (t : Truth) (span : Interval) → pair_unless_false (and_of t False) span ≡ None
 none_if_null False span = refl
 none_if_null Unknown span = refl
 none_if_null True span = refl

@@ -1,5 +1,5 @@
 -- A selection of a column's rows, and the pairs of an item over the column.
-use Rattle.std.proofs.Common.{◌≡◌, ℕ, zero, suc, ◌+◌, ◌<◌, ◌≤◌, Bool, true, false, ◌&&◌, not, cond, List, [], ◌∷◌, length, map, filter, filter_map, get_or, refl, sym, ap, subst, ◌∙◌, arith}
+use Rattle.std.proofs.Common.{◌≡◌, ℕ, zero, suc, ◌+◌, ◌<◌, ◌≤◌, ◌==◌, Bool, true, false, ◌&&◌, not, cond, List, [], ◌∷◌, length, map, filter, filter_map, get_or, refl, sym, ap, subst, ◌∙◌, arith}
 use Rattle.std.specs.declared.option.Option.{Option}
 use Rattle.std.specs.List.{cons_option, range_with_len}
 use Rattle.std.specs.Simd.Lanes.{zip2}
@@ -12,6 +12,7 @@ use Rattle.kleene_filter.specs.Filters.{is_certain, is_possible, truth_at, truth
 use Rattle.known_column.specs.Columns as column
 use Rattle.known_column.specs.Columns.{KnownColumn, is_sure, numbers_at, rows_of_column, rows_where}
 use Rattle.known_column.specs.KnownTables.{KnownTable, column_at}
+use Rattle.query_model.specs.declared.bounds.Nullity.TheVariants.{Always, Never, Possibly}
 use Rattle.query_model.specs.declared.bounds.Truth.{Truth}
 use Rattle.query_model.specs.declared.query.Shape.TheVariants.{Plain}
 use Rattle.query_model.specs.Bounds.{Pair, pair_of, pairs}
@@ -88,3 +89,26 @@ module _ (query : Query) (item : Aggregate) (columns : KnownTable) (plain : quer
       ∙ ap (λ b. told_pair b (perhaps r) (numbers_at known r)) (sym (at_row surely selection.must told_rows.0 r (omega arith)))
       ∙ ap (λ b. told_pair (has_row selection.must r) b (numbers_at known r)) (sym (at_row perhaps selection.may told_rows.1 r (omega arith))))
       ∙ ap (λ k. map (pair_in known selection.must) (filter (has_row selection.may) (range_with_len 0 k))) (sym (long perhaps selection.may told_rows.1))
+
+-- ---- a column that is never null
+
+-- a mask's rows that pass a test are all of them, where each prefix passes
+both_all : (test : ℕ → Bool) (mask : List Bool) (prefixes : List ℕ) → ((p : ℕ) → test p ≡ true) → length mask ≡ length prefixes → mask ≡ zip2 (λ a b. a && b) mask (map test prefixes)
+both_all test [] prefixes all long = refl
+both_all test (m ∷ mask) [] all long = absurd (omega (arith, long))
+both_all test (m ∷ mask) (p ∷ prefixes) all long = ap (λ b. b ∷ mask) (both m (test p) (all p)) ∙ ap (λ ms. (m && test p) ∷ ms) (both_all test mask prefixes all (omega (arith, long)))
+  where
+    both : (m t : Bool) → t ≡ true → m ≡ (m && t)
+    both true true e = refl
+    both true false e = sym e
+    both false t e = refl
+
+pub never_null : (known : KnownColumn) (mask : List Bool) → known.ends.nullable ≡ false → length mask ≡ rows_of_column known →
+    (mask ≡ zip2 (λ a b. a && b) mask (rows_where is_sure known)) × (mask ≡ zip2 (λ a b. a && b) mask (rows_where column.is_possible known))
+never_null known mask plain long = (both_all (is_sure known.ends known.known.read) mask known.known.prefixes sure long, both_all (column.is_possible known.ends known.known.read) mask known.known.prefixes possible long)
+  where
+    sure : (p : ℕ) → is_sure known.ends known.known.read p ≡ true
+    sure p = ap (λ b. not (may_be_null (cond (b && (p == 0)) (cond (known.known.read == 0) Possibly Always) Never))) plain
+
+    possible : (p : ℕ) → column.is_possible known.ends known.known.read p ≡ true
+    possible p = ap (λ b. may_be_number (cond (b && (p == 0)) (cond (known.known.read == 0) Possibly Always) Never)) plain

@@ -44,7 +44,7 @@ one_within False s i ps h rest = rest
 one_within Unknown s i ps h rest = (let ends = ends_within s i h in (ends.0, ends.1, rest))
 one_within True s i ps h rest = (let ends = ends_within s i h in (ends.0, ends.1, rest))
 
-rows_within : (counts : ℕ → Truth) (i : Aggregate) (frame : Frame) (known : Knowledge) (a n : ℕ) → IsKnowledge frame known → a + n ≤ frame.rows →
+pub rows_within : (counts : ℕ → Truth) (i : Aggregate) (frame : Frame) (known : Knowledge) (a n : ℕ) → IsKnowledge frame known → a + n ≤ frame.rows →
     AreWithin (span_of i.arg (declared_ranges frame)) (filter_map (λ r. pair_by (counts r) i (ranges_of frame known r)) (range_with_len a n))
 rows_within counts i frame known a zero k h = tt
 rows_within counts i frame known a (suc n) k h =

@@ -6,6 +6,7 @@ use Rattle.std.proofs.lemmas.List.{get_or-set_other}
 use Rattle.std.proofs.lemmas.List.Folds.{list_any-append}
 use Rattle.std.specs.List.{cons_option}
 use Rattle.daq_table.specs.Tables.{Frame, ends_at, rows_of}
+use Rattle.query_model.specs.declared.bounds.Truth.{Truth}
 use Rattle.query_model.specs.declared.query.Atom.{Atom}
 use Rattle.query_model.specs.declared.query.Atom.TheVariants.{Compare, CompareColumns, Between, OneOf, IsNull}
 use Rattle.query_model.specs.declared.query.Shape.TheVariants.{Plain}
@@ -83,7 +84,27 @@ ranges_alike frame known c bits row k other =
     ap (λ (w : ColumnKnowledge). range_of (ends_at frame k) w.read (slice_index w.prefixes row))
     (get_or-set_other known c k (longer_column (known_at known c) bits) (record { read = 0; prefixes = [] }) other)
 
-same_given : {X : Type 0} (f g : ℕ → Option X) (rows : List ℕ) → ((r : ℕ) → f r ≡ g r) → filter_map f rows ≡ filter_map g rows
+-- what is known of a condition that does not read the column
+pub pred_unmoved : (pred : Condition) (frame : Frame) (known : Knowledge) (c : ℕ) (bits : List Bool) (row : ℕ) → stands_in (columns_of_pred pred) c ≡ false →
+    truth_of pred (ranges_of frame (taken known c bits) row) ≡ truth_of pred (ranges_of frame known row)
+pred_unmoved pred frame known c bits row h =
+    ap truth_among (pred_alike c (ranges_of frame (taken known c bits) row) (ranges_of frame known row) (ranges_alike frame known c bits row) pred h)
+
+-- and of another column
+pub range_unmoved : (frame : Frame) (known : Knowledge) (c : ℕ) (bits : List Bool) (row k : ℕ) → k ≢ c → ranges_of frame (taken known c bits) row k ≡ ranges_of frame known row k
+range_unmoved frame known c bits row k other = ranges_alike frame known c bits row k other
+
+-- the pair of a row by what is known of whether it counts, for an argument that does not read the column
+pub pair_by_unmoved : (counts : Truth) (item : Aggregate) (frame : Frame) (known : Knowledge) (c : ℕ) (bits : List Bool) (row : ℕ) → stands_in (columns_of item.arg) c ≡ false →
+    pair_by counts item (ranges_of frame (taken known c bits) row) ≡ pair_by counts item (ranges_of frame known row)
+pair_by_unmoved counts item frame known c bits row h =
+    let agree = ranges_alike frame known c bits row in
+    let new = ranges_of frame (taken known c bits) row in
+    let old = ranges_of frame known row in
+    ap (λ n. pair_unless_false (and_of counts (truth_of_number n)) (span_of item.arg new)) (null_alike c new old agree item.arg h)
+    ∙ ap (pair_unless_false (and_of counts (truth_of_number (null_of item.arg old)))) (span_alike c new old agree item.arg h)
+
+pub same_given : {X : Type 0} (f g : ℕ → Option X) (rows : List ℕ) → ((r : ℕ) → f r ≡ g r) → filter_map f rows ≡ filter_map g rows
 same_given f g [] h = refl
 same_given f g (r ∷ rows) h = ap (λ o. cons_option o (filter_map f rows)) (h r) ∙ ap (cons_option (g r)) (same_given f g rows h)
 

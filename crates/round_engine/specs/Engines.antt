@@ -4,38 +4,67 @@ use Rattle.std.specs.declared.option.Option.TheVariants.{Some}
 use Rattle.kleene_filter.specs.Filters.{StandsFor}
 use Rattle.known_column.specs.KnownTables.{KnownTable}
 use Rattle.plane_schedule.specs.declared.progress.Role.{Role}
-use Rattle.query_model.specs.Queries.{Aggregate, Query}
+use Rattle.query_model.specs.Queries.{Query}
+use Rattle.query_model.specs.declared.query.Shape.TheVariants.{Plain}
 use Rattle.round_engine.specs.declared.answers.Answers.{Answers}
-use Rattle.round_engine.specs.declared.answers.Answers.TheVariants.{Totals}
+use Rattle.round_engine.specs.declared.answers.Answers.TheVariants.{Totals, Groups, Ranking}
 use Rattle.round_engine.specs.declared.state.State.{State}
+use Rattle.round_engine.specs.CellAnswers.{AreGroups, AreSomeGroups, HoldGroups}
 use Rattle.round_engine.specs.Progresses.{role_of}
+use Rattle.round_engine.specs.Rankings.{HoldsOrder, IsRanking}
 use Rattle.round_engine.specs.Selected.{HaveRows}
-use Rattle.round_engine.specs.Stages.{IsOpenStage, Stage}
-use Rattle.round_engine.specs.Totals.{AreSomeTotals, AreTotals, AreTotalsBeside, HaveRoom}
+use Rattle.round_engine.specs.Stages.{IsOpenStage, Stage, stepped}
+use Rattle.round_engine.specs.Totals.{AreSomeTotals, AreTotals, HaveRoom}
 
 -- the stage of a query over known columns
 abbrev pub stage_of : Query → KnownTable → Stage
 stage_of query columns = record { query = query; frame = columns.frame; known = columns.known }
 
--- the answers are those of the stage, and there is room to compute them anew
+-- the answers are those of the stage, in the form of its query, and there is room to compute them anew
 abbrev pub AreAnswers : Stage → Answers → Type 0
 AreAnswers stage (Totals totals) =
-    AreTotals stage totals.bounds.items × HaveRoom stage.query.items totals.runnings.items × HaveRows stage.frame.rows totals.masks
+    (stage.query.shape ≡ Plain) × AreTotals stage totals.bounds.items × HaveRoom stage.query.items totals.runnings.items
+    × HaveRows stage.frame.rows totals.masks
+AreAnswers stage (Groups groups) = AreGroups stage groups
+AreAnswers stage (Ranking ranking) = IsRanking stage ranking
 
--- there is room for those of a query with these items, over so many rows
-abbrev pub HoldItems : List Aggregate → ℕ → Answers → Type 0
-HoldItems items rows (Totals totals) =
-    (length totals.bounds.items ≡ length items) × HaveRoom items totals.runnings.items × HaveRows rows totals.masks
+-- there is room for those of the stage
+abbrev pub HoldAnswers : Stage → Answers → Type 0
+HoldAnswers stage (Totals totals) =
+    (stage.query.shape ≡ Plain) × (length totals.bounds.items ≡ length stage.query.items) × HaveRoom stage.query.items totals.runnings.items
+    × HaveRows stage.frame.rows totals.masks
+HoldAnswers stage (Groups groups) = HoldGroups stage groups
+HoldAnswers stage (Ranking ranking) = HoldsOrder stage ranking
+
+-- the form of the answers
+abbrev pub IsTotalsForm : Answers → Type 0
+IsTotalsForm (Totals totals) = Unit {0}
+IsTotalsForm (Groups groups) = ⊥
+IsTotalsForm (Ranking ranking) = ⊥
+
+abbrev pub IsGroupsForm : Answers → Type 0
+IsGroupsForm (Totals totals) = ⊥
+IsGroupsForm (Groups groups) = Unit {0}
+IsGroupsForm (Ranking ranking) = ⊥
+
+abbrev pub IsRankingForm : Answers → Type 0
+IsRankingForm (Totals totals) = ⊥
+IsRankingForm (Groups groups) = ⊥
+IsRankingForm (Ranking ranking) = Unit {0}
 
 -- they are those of an open stage
 abbrev pub AreSomeAnswers : Answers → Type 0
 AreSomeAnswers (Totals totals) = AreSomeTotals totals.bounds.items
+AreSomeAnswers (Groups groups) = AreSomeGroups groups
+AreSomeAnswers (Ranking ranking) = Unit {0}
 
--- those that are not marked are those of the stage
-abbrev pub AreAnswersBeside : Stage → List Bool → Answers → Type 0
-AreAnswersBeside stage marks (Totals totals) =
-    AreTotalsBeside stage marks totals.bounds.items × HaveRoom stage.query.items totals.runnings.items
-    × HaveRows stage.frame.rows totals.masks
+-- they are those of before these bits were read as the next plane of a column
+pub record StoodBefore (stage : Stage) (column : ℕ) (bits : List Bool) (answers : Answers) : Type 0 where
+  pub before : Stage
+  pub open_stage : IsOpenStage before
+  pub answered : AreAnswers before answers
+  pub rows : length bits ≡ before.frame.rows
+  pub read : stage ≡ stepped before column bits
 
 -- each column is read for what its role says
 abbrev pub AreRoles : Query → List Role → Type 0

@@ -1,9 +1,12 @@
 pub mod Stages
 pub mod Narrowness
+pub mod Cells
 pub mod Promises
 pub mod Progresses
 pub mod Moves
 pub mod Counts
 pub mod Selected
 pub mod Totals
+pub mod CellAnswers
+pub mod Rankings
 pub mod Engines

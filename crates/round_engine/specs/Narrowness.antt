@@ -1,13 +1,20 @@
 -- When a round is narrow: whether each item has an answer is known, and where it has one, its ends are near enough.
-use Rattle.std.specs.Prelude.{ℕ, ◌*◌, pos, ◌-ℤ◌, ◌*ℤ◌, int_le, Bool, true, false, List, [], FitsSigned}
+use Rattle.std.specs.Prelude.{ℕ, ◌*◌, pos, ◌-ℤ◌, ◌*ℤ◌, int_le, Bool, true, false, not, List, [], FitsSigned}
 use Rattle.std.specs.Int.{w128}
-use Rattle.std.specs.List.{list_all}
+use Rattle.std.specs.List.{list_all, range_with_len}
 use Rattle.query_model.specs.declared.bounds.Bound.{Bound}
 use Rattle.query_model.specs.declared.bounds.Nullity.{Nullity}
 use Rattle.query_model.specs.declared.bounds.Nullity.TheVariants.{Never, Possibly, Always}
 use Rattle.query_model.specs.declared.query.ItemKind.{ItemKind}
 use Rattle.query_model.specs.declared.query.ItemKind.TheVariants.{Count, Sum, Min, Max, Avg}
 use Rattle.query_model.specs.Bounds.{AverageBound, Pair, average_bound_of, bound_of, fractions_of, pairs}
+use Rattle.query_model.specs.declared.query.Shape.{Shape}
+use Rattle.query_model.specs.declared.query.Shape.TheVariants.{Plain, Grouped, Top}
+use Rattle.daq_table.specs.Tables.{rows_of}
+use Rattle.query_model.specs.Groups.{cell_count, pairs_in_cell, presence_in_cell}
+use Rattle.query_model.specs.Queries.{Aggregate}
+use Rattle.query_model.specs.Ranking.{standing_under}
+use Rattle.topk_bounds.specs.Standings.{is_possible}
 use Rattle.round_engine.specs.declared.item_bound.ItemBound.{ItemBound}
 use Rattle.round_engine.specs.declared.item_bound.ItemBound.TheVariants.{Numbers, Fractions}
 use Rattle.round_engine.specs.Stages.{Stage}
@@ -36,10 +43,29 @@ is_narrow_item width Min ps = is_narrow_bound width (bound_of Min ps)
 is_narrow_item width Max ps = is_narrow_bound width (bound_of Max ps)
 is_narrow_item width Avg ps = is_narrow_average width (average_bound_of ps)
 
--- the bound of each item is narrow
+-- the bound of each item over its pairs is narrow
+abbrev pub are_narrow : ℕ → List Aggregate → (Aggregate → List Pair) → Bool
+are_narrow width items pairs_for = list_all (λ item. is_narrow_item width item.kind (pairs_for item)) items
+
+-- whether the keys of a cell are in the result is known, and where they are, the bounds of the cell are narrow. A cell of several keys is in no
+-- result for certain
+abbrev pub is_narrow_cell : ℕ → Stage → ℕ → Bool
+is_narrow_cell width stage cell =
+    is_told (presence_in_cell stage.query cell stage.frame stage.known)
+    (are_narrow width stage.query.items (λ item. pairs_in_cell stage.query item cell stage.frame stage.known))
+
+-- it is known whether the row is among the first
+abbrev pub is_settled : Stage → ℕ → Bool
+is_settled stage r = not (is_possible (standing_under stage.query stage.frame stage.known r))
+
+-- without groups and order each item is narrow, with groups each cell, and in an order each row is settled
+abbrev pub is_narrow_form : ℕ → Stage → Shape → Bool
+is_narrow_form width stage Plain = are_narrow width stage.query.items (λ item. pairs stage.query item [] stage.frame stage.known)
+is_narrow_form width stage (Grouped columns) = list_all (is_narrow_cell width stage) (range_with_len 0 (cell_count stage.known columns))
+is_narrow_form width stage (Top key down limit) = list_all (is_settled stage) (rows_of stage.frame)
+
 abbrev pub is_narrow : ℕ → Stage → Bool
-is_narrow width stage =
-    list_all (λ item. is_narrow_item width item.kind (pairs stage.query item [] stage.frame stage.known)) stage.query.items
+is_narrow width stage = is_narrow_form width stage stage.query.shape
 
 -- the cross products by which the fractions of an average are compared are numbers of 128 bits
 pub record FitsNarrow (width : ℕ) (bound : AverageBound) : Type 0 where

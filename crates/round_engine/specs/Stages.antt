@@ -1,14 +1,15 @@
 -- What an engine stands for: a query, what is declared of its columns, and what is known of them. Nothing else decides what it answers.
-use Rattle.std.specs.Prelude.{◌≡◌, ℕ, ◌+◌, ◌<◌, ◌≤◌, Bool, List, length, slice_index}
-use Rattle.std.specs.List.{AllByRecursion}
+use Rattle.std.specs.Prelude.{◌≡◌, ℕ, ◌+◌, ◌<◌, ◌≤◌, Bool, List, [], IsTrue, length, map, slice_index}
+use Rattle.std.specs.List.{AllByRecursion, sum}
 use Rattle.daq_table.specs.declared.table_head.Head.{Head}
 use Rattle.daq_table.specs.Tables.{Frame, ends_at, frame_of, planes}
 use Rattle.query_model.specs.Queries.{Aggregate, Query}
-use Rattle.query_model.specs.declared.query.Shape.TheVariants.{Plain}
+use Rattle.query_model.specs.declared.query.Shape.{Shape}
+use Rattle.query_model.specs.declared.query.Shape.TheVariants.{Plain, Grouped, Top}
 use Rattle.query_model.specs.Knowledge.{IsKnowledge, IsLegal, Knowledge, known_at, longer, start, taken}
 use Rattle.query_model.specs.Meaning.{PredReadsBelow, ReadsBelow}
 use Rattle.query_model.specs.Projection.{projected_frame}
-use Rattle.query_model.specs.Validity.{FaceOf, FitsItem}
+use Rattle.query_model.specs.Validity.{FaceOf, FitsItem, no_repeats}
 
 -- a query, the rows and the ends of its columns, and what is known of these
 pub record Stage : Type 0 where
@@ -47,13 +48,27 @@ pub record IsOpenItem (frame : Frame) (item : Aggregate) : Type 0 where
   pub face : FaceOf item.kind item.arg item.face
   pub fits : FitsItem frame item
 
+-- the rows are grouped
+abbrev pub IsGrouped : Shape → Type 0
+IsGrouped Plain = ⊥
+IsGrouped (Grouped columns) = Unit {0}
+IsGrouped (Top key down limit) = ⊥
+
+-- of the shape: group columns are different columns of few planes, a sort key is a column, and rows in an order have no items
+abbrev pub IsOpenShape : Frame → Query → Shape → Type 0
+IsOpenShape frame query Plain = Unit {0}
+IsOpenShape frame query (Grouped columns) =
+    AllByRecursion (λ c. c < length frame.columns) columns × IsTrue (no_repeats columns)
+    × (sum (map (λ c. planes (ends_at frame c)) columns) ≤ 16)
+IsOpenShape frame query (Top key down limit) = (key < length frame.columns) × (1 ≤ limit) × (limit ≤ 1000) × (query.items ≡ [])
+
 pub record IsOpenQuery (query : Query) (frame : Frame) : Type 0 where
   pub columns : length frame.columns ≡ length query.columns
   pub few_columns : length query.columns ≤ 16
   pub few_items : length query.items ≤ 16
   pub few_rows : frame.rows ≤ 16777216
   pub condition : PredReadsBelow (length frame.columns) query.pred
-  pub plain : query.shape ≡ Plain
+  pub shape : IsOpenShape frame query query.shape
   pub items : AllByRecursion (IsOpenItem frame) query.items
 
 -- the query is open over its columns, and for each row of each column some cell's prefix is known

@@ -1,58 +1,109 @@
 // The answers of a query, in the form that its shape asks for.
 
-ghost use Rattle.std.specs.Prelude.{◌≡◌, ◌<◌, ◌^◌, IfOk};
+ghost use Rattle.std.specs.Prelude.{◌≡◌, ◌<◌, ◌^◌, length, IfOk};
 ghost use Rattle.kleene_filter.specs.Filters.{truths_under};
-ghost use Rattle.round_engine.specs.Engines.{stage_of, AreAnswers, AreSomeAnswers, AreAnswersBeside, HoldItems};
+ghost use Rattle.known_column.specs.KnownTables.{unread_table};
+ghost use Rattle.round_engine.specs.Engines.{stage_of, AreAnswers, AreSomeAnswers, HoldAnswers, IsGroupsForm, IsRankingForm, IsTotalsForm, StoodBefore};
 ghost use Rattle.round_engine.specs.Narrowness.{is_narrow};
 ghost use Rattle.round_engine.specs.Stages.{IsOpenStage, Stage};
 
+use crate::groups::Groups;
+use crate::moved::moved_items;
+use crate::ranking::Ranking;
 use crate::totals::Totals;
 use kleene_filter::Filter;
 use known_column::{KnownColumns, RowBlock};
-use query_model::TypedQuery;
+use plane_kernels::Plane;
+use query_model::{Shape, TypedQuery};
 use std::alloc::{AllocError, Global};
 
 #[derive(Drop)]
 pub(crate) enum Answers {
     // Of a query without groups and order: one answer for each item.
     Totals(Totals),
+    // Of a query with groups: for each cell of keys one for each item.
+    Groups(Groups),
+    // Of a query for rows in an order: the standing of each row.
+    Ranking(Ranking),
 }
 
 impl Answers {
-    // Room for the answers over so many rows.
+    // Room for the answers over these columns, of which nothing is read.
     pub(crate) fn open(
         alloc: Global,
         query: &TypedQuery,
-        rows: usize,
+        columns: &KnownColumns,
     ) -> Result<Answers, AllocError>
-        ensures { IfOk result (HoldItems query.now.items rows) }
+        requires open_stage { IsOpenStage (stage_of query.now columns.now) }
+        requires unread { columns.now ≡ unread_table columns.now.frame }
+        ensures { IfOk result (HoldAnswers (stage_of query.now columns.now)) }
     {
-        let items = query.items.as_slice();
-        Ok(Answers::Totals(Totals::open(alloc, items, rows)?))
+        let rows = columns.rows();
+        match &query.shape {
+            Shape::Plain => {
+                let items = query.items.as_slice();
+                Ok(Answers::Totals(Totals::open(alloc, items, rows)?))
+            }
+            Shape::Grouped(_) => Ok(Answers::Groups(Groups::open(alloc, query, columns)?)),
+            Shape::Top { key, down, limit } => {
+                let ranking = Ranking::open(alloc, *key, *down, *limit, rows)?;
+                Ok(Answers::Ranking(ranking))
+            }
+        }
     }
 
-    // Computes the marked ones anew.
+    // Computes all of them.
     pub(crate) fn fill(
         &mut self,
         query: &TypedQuery,
         columns: &KnownColumns,
         filter: &Filter,
         block: &mut RowBlock,
-        marks: &[bool; 16],
     )
         requires open_stage { IsOpenStage (stage_of query.now columns.now) }
         requires judged { filter.now.truths ≡ truths_under query.now.pred columns.now }
-        requires beside { AreAnswersBeside (stage_of query.now columns.now) marks.now self.old }
+        requires room { HoldAnswers (stage_of query.now columns.now) self.old }
         requires same { block.old.frame.columns ≡ columns.now.frame.columns }
         ensures same { block.new.frame.columns ≡ columns.now.frame.columns }
         ensures answers { AreAnswers (stage_of query.now columns.now) self.new }
     {
         match self {
-            Answers::Totals(totals) => totals.fill(query, columns, filter, block, marks),
+            Answers::Totals(totals) => totals.fill(query, columns, filter, block, &[true; 16]),
+            Answers::Groups(groups) => groups.fill(query, columns, filter, block),
+            Answers::Ranking(ranking) => ranking.judge(query, columns, filter),
         }
     }
 
-    // Whether the bound of each is narrow.
+    // Follows the columns after a plane of one of them: what reads that column is computed anew.
+    pub(crate) fn refresh(
+        &mut self,
+        query: &TypedQuery,
+        columns: &KnownColumns,
+        filter: &Filter,
+        column: usize,
+        plane: &Plane,
+        block: &mut RowBlock,
+    )
+        requires open_stage { IsOpenStage (stage_of query.now columns.now) }
+        requires judged { filter.now.truths ≡ truths_under query.now.pred columns.now }
+        requires before { StoodBefore (stage_of query.now columns.now) column plane.now self.old }
+        requires same { block.old.frame.columns ≡ columns.now.frame.columns }
+        ensures same { block.new.frame.columns ≡ columns.now.frame.columns }
+        ensures answers { AreAnswers (stage_of query.now columns.now) self.new }
+    {
+        match self {
+            Answers::Totals(totals) => {
+                let moved = moved_items(query, column);
+                totals.fill(query, columns, filter, block, &moved);
+            }
+            Answers::Groups(groups) => {
+                groups.refresh(query, columns, filter, column, plane, block);
+            }
+            Answers::Ranking(ranking) => ranking.refresh(query, columns, filter, column, plane),
+        }
+    }
+
+    // Whether each is narrow.
     pub(crate) fn is_narrow(&self, width: u64) -> bool
         requires answers { AreSomeAnswers self.now }
         requires width { width < 2 ^ 63 }
@@ -60,15 +111,41 @@ impl Answers {
     {
         match self {
             Answers::Totals(totals) => totals.is_narrow(width),
+            Answers::Groups(groups) => groups.is_narrow(width),
+            Answers::Ranking(ranking) => ranking.is_narrow(width),
         }
     }
 
     // Those of a query without groups and order.
     pub(crate) fn totals(&self) -> &Totals
+        requires { IsTotalsForm self.now }
         ensures { self.now ≡ Answers.Totals result.now }
     {
         match self {
             Answers::Totals(totals) => totals,
+            Answers::Groups(_) | Answers::Ranking(_) => unreachable!(),
+        }
+    }
+
+    // Those of a query with groups.
+    pub(crate) fn groups(&self) -> &Groups
+        requires { IsGroupsForm self.now }
+        ensures { self.now ≡ Answers.Groups result.now }
+    {
+        match self {
+            Answers::Groups(groups) => groups,
+            Answers::Totals(_) | Answers::Ranking(_) => unreachable!(),
+        }
+    }
+
+    // Those of a query for rows in an order.
+    pub(crate) fn ranking(&self) -> &Ranking
+        requires { IsRankingForm self.now }
+        ensures { self.now ≡ Answers.Ranking result.now }
+    {
+        match self {
+            Answers::Ranking(ranking) => ranking,
+            Answers::Totals(_) | Answers::Groups(_) => unreachable!(),
         }
     }
 }

@@ -1,6 +1,6 @@
 // Bounds of a bare column's items, from the rows that give a value, by masks and planes.
 
-ghost use Rattle.std.specs.Prelude.{◌≡◌, ◌<◌, pos, int_le, if◌then◌else◌, length};
+ghost use Rattle.std.specs.Prelude.{◌≡◌, ◌<◌, pos, int_le, if◌then◌else◌, length, count_by, IsFalse, IsTrue};
 ghost use Rattle.known_column.specs.Columns.{KnownColumn, rows_of_column};
 ghost use Rattle.query_model.specs.declared.query.ItemKind.TheVariants.{Count, Max, Min, Sum};
 ghost use Rattle.query_model.specs.Bounds.{average_bound_of, bound_of, fractions_of, greatest_sum, high_of_least, least_sum, low_of_greatest, nullity_of};
@@ -8,7 +8,7 @@ ghost use Rattle.round_engine.specs.Selected.{IsSelection, pairs_in};
 ghost use Rattle.round_engine.specs.Totals.{IsBoundOf};
 
 use crate::item_bound::ItemBound;
-use crate::selection::Selection;
+use crate::selection::Selected;
 use aggregates::{
     greatest_high, greatest_low, least_high, least_low, negative_lows, positive_highs, sum_highs,
     sum_lows,
@@ -31,16 +31,22 @@ fn quotient(sum: i128, most: u64, least: u64) -> Fraction
     }
 }
 
-impl Selection {
+// Whether a mask has rows.
+fn has_rows(mask: &Mask) -> bool
+    ensures some { IsTrue result → 0 < count_by (λ b. b) mask.now }
+    ensures none { IsFalse result → count_by (λ b. b) mask.now ≡ 0 }
+{
+    mask.first_one().is_some()
+}
+
+impl Selected<'_> {
     // Whether no row counts.
     fn nullity(&self) -> Nullity
         ensures { (column : KnownColumn) → IsSelection column self.now → result ≡ nullity_of (pairs_in column self.now) }
     {
-        let certain = self.must.count();
-        let all = self.may.count();
-        if certain > 0 {
+        if has_rows(self.must) {
             Nullity::Never
-        } else if all > 0 {
+        } else if has_rows(self.may) {
             Nullity::Possibly
         } else {
             Nullity::Always
@@ -63,9 +69,9 @@ impl Selection {
         requires { IsSelection known.now self.now }
         ensures { result ≡ high_of_least (pairs_in known.now self.now) }
     {
-        match least_high(known, &self.must) {
+        match least_high(known, self.must) {
             Some(high) => high,
-            None => greatest_high(known, &self.may).unwrap_or(0),
+            None => greatest_high(known, self.may).unwrap_or(0),
         }
     }
 
@@ -74,9 +80,9 @@ impl Selection {
         requires { IsSelection known.now self.now }
         ensures { result ≡ low_of_greatest (pairs_in known.now self.now) }
     {
-        match greatest_low(known, &self.must) {
+        match greatest_low(known, self.must) {
             Some(low) => low,
-            None => least_low(known, &self.may).unwrap_or(0),
+            None => least_low(known, self.may).unwrap_or(0),
         }
     }
 
@@ -87,7 +93,7 @@ impl Selection {
     {
         Bound {
             null: self.nullity(),
-            lo: least_low(known, &self.may).unwrap_or(0),
+            lo: least_low(known, self.may).unwrap_or(0),
             hi: self.high_of_least(known),
         }
     }
@@ -100,7 +106,7 @@ impl Selection {
         Bound {
             null: self.nullity(),
             lo: self.low_of_greatest(known),
-            hi: greatest_high(known, &self.may).unwrap_or(0),
+            hi: greatest_high(known, self.may).unwrap_or(0),
         }
     }
 
@@ -111,12 +117,12 @@ impl Selection {
         ensures room { length added.new ≡ rows_of_column known.now }
         ensures sum { result ≡ least_sum (pairs_in known.now self.now) }
     {
-        negative_lows(known, &self.may, added);
-        added.or_into(&self.must);
-        if added.count() > 0 {
+        negative_lows(known, self.may, added);
+        added.or_into(self.must);
+        if has_rows(added) {
             sum_lows(known, added)
         } else {
-            least_low(known, &self.may).unwrap_or(0)
+            least_low(known, self.may).unwrap_or(0)
         }
     }
 
@@ -127,12 +133,12 @@ impl Selection {
         ensures room { length added.new ≡ rows_of_column known.now }
         ensures sum { result ≡ greatest_sum (pairs_in known.now self.now) }
     {
-        positive_highs(known, &self.may, added);
-        added.or_into(&self.must);
-        if added.count() > 0 {
+        positive_highs(known, self.may, added);
+        added.or_into(self.must);
+        if has_rows(added) {
             sum_highs(known, added)
         } else {
-            greatest_high(known, &self.may).unwrap_or(0)
+            greatest_high(known, self.may).unwrap_or(0)
         }
     }
 

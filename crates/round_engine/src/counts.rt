@@ -1,6 +1,7 @@
 // Counts of the rows that pass, by the filter's masks.
 
 ghost use Rattle.std.specs.Prelude.{◌≡◌, true};
+ghost use Rattle.query_model.specs.declared.query.Shape.TheVariants.{Plain};
 ghost use Rattle.kleene_filter.specs.Filters.{truths_under};
 ghost use Rattle.round_engine.specs.Counts.{is_counted};
 ghost use Rattle.round_engine.specs.Engines.{stage_of};
@@ -32,6 +33,7 @@ pub(crate) fn bound_of_counts(
     filter: &Filter,
 ) -> ItemBound
     requires open_stage { IsOpenStage (stage_of query.now columns.now) }
+    requires plain { query.now.shape ≡ Plain }
     requires judged { filter.now.truths ≡ truths_under query.now.pred columns.now }
     requires counted { is_counted columns.now.frame item.now ≡ true }
     ensures { IsTotal (stage_of query.now columns.now) item.now result }

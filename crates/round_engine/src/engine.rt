@@ -1,17 +1,16 @@
 //! A query in progress.
 
 ghost use Rattle.std.specs.Prelude.{◌≡◌, length, IfOk, IfErr, OnOk, OnErr};
-ghost use Rattle.query_model.specs.declared.query.Shape.TheVariants.{Plain};
 ghost use Rattle.query_model.specs.Knowledge.{CanTake, IsKnowledge};
 ghost use Rattle.query_model.specs.Validity.{IsValid};
-ghost use Rattle.round_engine.specs.Promises.{LiesWithin};
+ghost use Rattle.round_engine.specs.Promises.{LiesWithin, StandingsStay};
 ghost use Rattle.round_engine.specs.Stages.{HasPlane, IsFirstOver, IsOpenQuery, opened, stepped};
 
 use crate::state::State;
 use daq_table::Head;
 use known_column::OverTop;
 use plane_kernels::Plane;
-use query_model::{TypedQuery, average_bounds_nest, bounds_nest};
+use query_model::{TypedQuery, average_bounds_nest, bounds_nest, standings_nest};
 use std::alloc::{AllocError, Global};
 use std::marker::Model;
 
@@ -42,7 +41,6 @@ impl Engine {
     /// The query over tables with that head, of which nothing is read. All room is taken here.
     pub fn open(alloc: Global, query: TypedQuery, head: &Head) -> Result<Engine, AllocError>
         requires valid { IsValid head.now query }
-        requires plain { query.shape ≡ Plain }
         ensures { IfOk result (λ engine. engine ≡ opened query head.now) }
     {
         match State::open(alloc, &query, head) {
@@ -58,12 +56,14 @@ impl Engine {
         requires rows { length plane.now ≡ self.old.frame.rows }
         ensures taken { OnOk result (self.new ≡ stepped self.old column plane.now) }
         ensures legal { OnOk result (CanTake self.old.frame self.old.known column plane.now) }
-        ensures nested { OnOk result ((item : _) → LiesWithin self.old self.new item) }
+        ensures nested { OnOk result ((item : _) (key : _) → LiesWithin self.old self.new item key) }
+        ensures kept { OnOk result (StandingsStay self.old self.new) }
         ensures unchanged { OnErr result (self.new ≡ self.old) }
         ensures over { IfErr result (λ e. IsFirstOver self.old column plane.now e.row) }
     {
         bounds_nest();
         average_bounds_nest();
+        standings_nest();
         self.state.step(&self.query, column, plane)
     }
 

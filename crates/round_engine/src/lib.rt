@@ -2,15 +2,24 @@
 #![tactic(auto)]
 
 mod answers;
+mod cell_filling;
+mod cell_narrowness;
+mod cell_room;
+mod cells;
 mod column_bounds;
 mod counts;
 mod engine;
 mod filling;
+mod group_columns;
+mod groups;
 mod item_bound;
 mod laws;
 mod moved;
 mod narrowness;
+mod one_key;
 mod progress;
+mod ranking;
+mod rankings;
 mod readers;
 mod roles;
 mod row_masks;

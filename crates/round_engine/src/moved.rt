@@ -4,8 +4,10 @@ ghost use Rattle.std.specs.Prelude.{◌≡◌, ◌≤◌, length};
 ghost use Rattle.kleene_filter.specs.Filters.{stands_in};
 ghost use Rattle.query_model.specs.Meaning.{columns_of};
 ghost use Rattle.query_model.specs.Queries.{term_of};
+ghost use Rattle.round_engine.specs.CellAnswers.{moves_rows};
 ghost use Rattle.round_engine.specs.Moves.{AreMoved};
 
+use crate::group_columns::is_group;
 use kleene_filter::pred_reads;
 use query_model::{Expr, TypedQuery};
 
@@ -20,6 +22,13 @@ fn expr_reads(expr: &Expr, wanted: usize) -> bool
             expr_reads(a, wanted) || expr_reads(b, wanted)
         }
     }
+}
+
+// Whether the condition reads the column, or the rows are grouped by it.
+pub(crate) fn moves_rows(query: &TypedQuery, column: usize) -> bool
+    ensures { result ≡ moves_rows query.now column }
+{
+    pred_reads(&query.pred, column) || is_group(query, column)
 }
 
 // Those whose condition or argument reads the column.

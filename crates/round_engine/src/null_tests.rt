@@ -107,11 +107,10 @@ fn step(
     }
 }
 
-// The engine of the query after so many planes, first those of v.
-fn engine_after(alloc: Global, pred: Pred, planes: usize) -> Result<Engine, AllocError>
-    requires columns { PredReadsBelow 2 (condition_of pred) }
-    requires compared { (head : Head) (query : Query) → CanCompareIn head query (condition_of pred) }
-    ensures { IfOk result (λ engine. engine.frame.rows ≡ 3) }
+// Takes so many planes, first those of v.
+fn follow(alloc: Global, engine: &mut Engine, planes: usize) -> Result<(), AllocError>
+    requires { engine.old.frame.rows ≡ 3 }
+    ensures { engine.new.frame.rows ≡ 3 }
 {
     let steps = [
         (0, [1, 0, 1]),
@@ -121,11 +120,21 @@ fn engine_after(alloc: Global, pred: Pred, planes: usize) -> Result<Engine, Allo
         (1, [1, 1, 0]),
         (1, [0, 1, 0]),
     ];
-    let mut engine = Engine::open(alloc, null_query(alloc, pred)?, &null_head(alloc)?)?;
     for at in 0..planes.min(6) {
         let (column, bits) = steps[at];
-        step(alloc, &mut engine, column, bits)?;
+        step(alloc, engine, column, bits)?;
     }
+    Ok(())
+}
+
+// The engine of the query after so many planes.
+fn engine_after(alloc: Global, pred: Pred, planes: usize) -> Result<Engine, AllocError>
+    requires columns { PredReadsBelow 2 (condition_of pred) }
+    requires compared { (head : Head) (query : Query) → CanCompareIn head query (condition_of pred) }
+    ensures { IfOk result (λ engine. engine.frame.rows ≡ 3) }
+{
+    let mut engine = Engine::open(alloc, null_query(alloc, pred)?, &null_head(alloc)?)?;
+    follow(alloc, &mut engine, planes)?;
     Ok(engine)
 }
 
@@ -135,6 +144,10 @@ type Told = Option<(Bound, Nullity)>;
 fn item_at(engine: &Engine, item: usize) -> Told
     requires { engine.now.frame.rows ≡ 3 }
 {
+    match engine.query().shape {
+        Shape::Plain => {}
+        Shape::Grouped(_) | Shape::Top { .. } => return None,
+    }
     let items = engine.query().items.as_slice();
     if item >= items.len() {
         return None;

@@ -12,7 +12,7 @@ use plane_schedule::Progress;
 use query_model::TypedQuery;
 
 // The planes of a column, from 0 to 65.
-fn plane_count(known: &Known) -> u8
+pub(crate) fn plane_count(known: &Known) -> u8
     ensures all { result ≡ planes known.now.ends }
     ensures few { result ≤ 65 }
 {

@@ -1,14 +1,15 @@
 //! What an engine tells of rows, of items, and of how far it has come.
 
 ghost use Rattle.std.specs.Prelude.{◌≡◌, ◌≢◌, ◌≤◌, ◌<◌, ◌^◌, [], length, slice_get, IfSome};
-ghost use Rattle.interval_calc.specs.Intervals.{interval_of};
+ghost use Rattle.interval_calc.specs.Intervals.{Within, interval_of};
 ghost use Rattle.daq_table.specs.declared.table_head.Head.{Head};
-ghost use Rattle.daq_table.specs.Tables.{frame_of};
+ghost use Rattle.daq_table.specs.Tables.{ends_at, frame_of};
 ghost use Rattle.query_model.specs.declared.query.ItemKind.TheVariants.{Avg};
+ghost use Rattle.query_model.specs.declared.query.Shape.TheVariants.{Plain};
 ghost use Rattle.query_model.specs.Bounds.{average_under, bound_under, fractions_of};
 ghost use Rattle.query_model.specs.Knowledge.{ranges_of};
 ghost use Rattle.query_model.specs.Truths.{null_of, span_of, truth_of};
-ghost use Rattle.query_model.specs.Validity.{FitsHead};
+ghost use Rattle.query_model.specs.Validity.{FitsHead, declared_range};
 ghost use Rattle.round_engine.specs.Narrowness.{is_narrow};
 ghost use Rattle.round_engine.specs.Progresses.{IsProgress};
 ghost use Rattle.round_engine.specs.Promises.{IsCertainAverage, IsCertainBound, IsShownWithin};
@@ -26,12 +27,13 @@ use row_values::{null_of, span_of};
 impl Engine {
     /// The bound of an item that is no average: what is computed from the prefixes alone, and what it says of the answer.
     pub fn plain(&self, item: usize) -> Bound
+        requires plain { self.now.query.shape ≡ Plain }
         requires item { item < length self.now.query.items }
         requires kind { IfSome (slice_get self.now.query.items item) (λ i. i.kind ≢ Avg) }
         ensures bound { IfSome (slice_get self.now.query.items item) (λ i.
             result ≡ bound_under self.now.query i [] self.now.frame self.now.known) }
         ensures certain { IfSome (slice_get self.now.query.items item) (λ i.
-            (head : Head) → FitsHead self.now.query self.now.frame head → IsCertainBound self.now i (frame_of head)) }
+            (head : Head) → FitsHead self.now.query self.now.frame head → IsCertainBound self.now i [] (frame_of head)) }
         ensures shown { IfSome (slice_get self.now.query.items item) (λ i. IsShownWithin self.now.frame i.face result) }
     {
         bounds_contain_on_tables();
@@ -43,12 +45,13 @@ impl Engine {
 
     /// The bound of an average.
     pub fn average(&self, item: usize) -> AverageBound
+        requires plain { self.now.query.shape ≡ Plain }
         requires item { item < length self.now.query.items }
         requires kind { IfSome (slice_get self.now.query.items item) (λ i. i.kind ≡ Avg) }
         ensures bound { IfSome (slice_get self.now.query.items item) (λ i.
             fractions_of result ≡ average_under self.now.query i [] self.now.frame self.now.known) }
         ensures certain { IfSome (slice_get self.now.query.items item) (λ i.
-            (head : Head) → FitsHead self.now.query self.now.frame head → IsCertainAverage self.now i (frame_of head)) }
+            (head : Head) → FitsHead self.now.query self.now.frame head → IsCertainAverage self.now i [] (frame_of head)) }
     {
         average_bounds_contain_on_tables();
         average_bounds_become_exact_on_tables();
@@ -111,8 +114,19 @@ impl Engine {
     pub fn range(&self, column: usize, row: usize) -> Interval
         requires column { column < length self.now.query.columns }
         requires row { row < self.now.frame.rows }
-        ensures { interval_of result ≡ (ranges_of self.now.frame self.now.known row column).numbers }
+        ensures range { interval_of result ≡ (ranges_of self.now.frame self.now.known row column).numbers }
+        ensures declared { Within (declared_range (ends_at self.now.frame column)).numbers (interval_of result).low
+            × Within (declared_range (ends_at self.now.frame column)).numbers (interval_of result).high }
     {
         self.state.columns.range(column, row)
+    }
+
+    /// Whether the value of a column is null at a row.
+    pub fn null_at(&self, column: usize, row: usize) -> Nullity
+        requires column { column < length self.now.query.columns }
+        requires row { row < self.now.frame.rows }
+        ensures { result ≡ (ranges_of self.now.frame self.now.known row column).null }
+    {
+        self.state.columns.missing(column, row)
     }
 }

@@ -1,6 +1,7 @@
 // Items over a bare column, told by masks.
 
 ghost use Rattle.std.specs.Prelude.{◌≡◌, IfOk};
+ghost use Rattle.query_model.specs.declared.query.Shape.TheVariants.{Plain};
 ghost use Rattle.kleene_filter.specs.Filters.{truths_under};
 ghost use Rattle.query_model.specs.Queries.{Column};
 ghost use Rattle.round_engine.specs.Engines.{stage_of};
@@ -9,7 +10,7 @@ ghost use Rattle.round_engine.specs.Stages.{IsOpenItem, IsOpenStage};
 ghost use Rattle.round_engine.specs.Totals.{IsTotal};
 
 use crate::item_bound::ItemBound;
-use crate::selection::Selection;
+use crate::selection::{Selection, select_all};
 use kleene_filter::Filter;
 use known_column::KnownColumns;
 use plane_kernels::Mask;
@@ -43,6 +44,7 @@ impl RowMasks {
         filter: &Filter,
     ) -> ItemBound
         requires open_stage { IsOpenStage (stage_of query.now columns.now) }
+        requires plain { query.now.shape ≡ Plain }
         requires open_item { IsOpenItem columns.now.frame item.now }
         requires judged { filter.now.truths ≡ truths_under query.now.pred columns.now }
         requires column { item.now.arg ≡ Column column }
@@ -51,7 +53,13 @@ impl RowMasks {
         ensures bound { IsTotal (stage_of query.now columns.now) item.now result }
     {
         let known = columns.column(column as usize);
-        self.selection.select(filter, known);
-        self.selection.bound(item.kind, known, &mut self.added)
+        if known.nullable() {
+            self.selection.select(filter, known);
+            self.selection
+                .lend()
+                .bound(item.kind, known, &mut self.added)
+        } else {
+            select_all(filter, known).bound(item.kind, known, &mut self.added)
+        }
     }
 }

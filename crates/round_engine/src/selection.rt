@@ -1,6 +1,6 @@
 // The rows that give a column's values to an item, as masks.
 
-ghost use Rattle.std.specs.Prelude.{◌≡◌, ◌&&◌, length, map, IfOk};
+ghost use Rattle.std.specs.Prelude.{◌≡◌, ◌&&◌, length, map, IfOk, IsFalse};
 ghost use Rattle.std.specs.Simd.Lanes.{zip2};
 ghost use Rattle.kleene_filter.specs.Filters.{is_certain, is_possible};
 ghost use Rattle.known_column.specs.Columns as column;
@@ -11,12 +11,41 @@ use kleene_filter::Filter;
 use known_column::Known;
 use plane_kernels::Mask;
 use std::alloc::{AllocError, Global};
+use std::marker::Model;
 
 // The rows that may give a value, and of them those that surely do.
 #[derive(Drop)]
 pub(crate) struct Selection {
     pub(crate) may: Mask,
     pub(crate) must: Mask,
+}
+
+// The same rows, wherever they are kept.
+#[derive(Drop)]
+pub(crate) struct Selected<'a> {
+    pub(crate) may: &'a Mask,
+    pub(crate) must: &'a Mask,
+}
+
+impl<'a> Model for Selected<'a> {
+    ghost use Rattle.round_engine.specs.declared.selection.Selection.{Selection};
+
+    ghost Value = { Selection };
+
+    ghost view = { λ s. record { may = s.may.now; must = s.must.now } };
+}
+
+// The rows at which a condition holds, which all have a value in a column that is never null.
+pub(crate) fn select_all<'a>(filter: &'a Filter, known: &Known) -> Selected<'a>
+    requires never_null { IsFalse known.now.ends.nullable }
+    requires rows { length filter.now.truths ≡ rows_of_column known.now }
+    ensures may { result.may ≡ zip2 (λ a b. a && b) (map is_possible filter.now.truths) (rows_where column.is_possible known.now) }
+    ensures must { result.must ≡ zip2 (λ a b. a && b) (map is_certain filter.now.truths) (rows_where is_sure known.now) }
+{
+    Selected {
+        may: filter.may(),
+        must: filter.must(),
+    }
 }
 
 impl Selection {
@@ -41,5 +70,14 @@ impl Selection {
         self.may.and_into(known.possible());
         self.must.copy_from(filter.must());
         self.must.and_into(known.sure());
+    }
+    // Lends them.
+    pub(crate) fn lend(&self) -> Selected<'_>
+        ensures { result ≡ self.now }
+    {
+        Selected {
+            may: &self.may,
+            must: &self.must,
+        }
     }
 }

@@ -128,18 +128,31 @@ fn step(alloc: Global, engine: &mut Engine, column: usize, bits: [u64; 6]) -> Re
     Ok(())
 }
 
+// Takes so many planes, from one of them on.
+fn follow(alloc: Global, engine: &mut Engine, first: usize, planes: usize) -> Result<(), AllocError>
+    requires { engine.old.frame.rows ≡ 6 }
+    ensures { engine.new.frame.rows ≡ 6 }
+{
+    for at in 0..planes.min(7) {
+        let (column, bits) = PLANES[(first % 7 + at) % 7];
+        step(alloc, engine, column, bits)?;
+    }
+    Ok(())
+}
+
 // The engine after so many planes, from one of them on.
 fn engine_after(alloc: Global, first: usize, planes: usize) -> Result<Engine, AllocError> {
     let mut engine = Engine::open(alloc, signed_query(alloc)?, &signed_head(alloc)?)?;
-    for at in 0..planes.min(7) {
-        let (column, bits) = PLANES[(first % 7 + at) % 7];
-        step(alloc, &mut engine, column, bits)?;
-    }
+    follow(alloc, &mut engine, first, planes)?;
     Ok(engine)
 }
 
 // The bound of an item that is no average.
 fn plain_at(engine: &Engine, item: usize) -> Option<Bound> {
+    match engine.query().shape {
+        Shape::Plain => {}
+        Shape::Grouped(_) | Shape::Top { .. } => return None,
+    }
     let items = engine.query().items.as_slice();
     if item >= items.len() {
         return None;
@@ -153,6 +166,10 @@ fn plain_at(engine: &Engine, item: usize) -> Option<Bound> {
 
 // The bound of an average.
 fn average_at(engine: &Engine, item: usize) -> Option<AverageBound> {
+    match engine.query().shape {
+        Shape::Plain => {}
+        Shape::Grouped(_) | Shape::Top { .. } => return None,
+    }
     let items = engine.query().items.as_slice();
     if item >= items.len() {
         return None;

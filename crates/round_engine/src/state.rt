@@ -3,7 +3,6 @@
 ghost use Rattle.std.specs.Prelude.{◌≡◌, length, IfOk, IfErr, OnOk, OnErr};
 ghost use Rattle.daq_table.specs.Tables.{frame_of};
 ghost use Rattle.known_column.specs.KnownTables.{read_column, unread_table};
-ghost use Rattle.query_model.specs.declared.query.Shape.TheVariants.{Plain};
 ghost use Rattle.query_model.specs.Knowledge.{CanTake};
 ghost use Rattle.query_model.specs.Projection.{projected_frame};
 ghost use Rattle.query_model.specs.Validity.{IsValid};
@@ -11,7 +10,6 @@ ghost use Rattle.round_engine.specs.Engines.{stage_of, IsEngine};
 ghost use Rattle.round_engine.specs.Stages.{HasPlane, IsFirstOver};
 
 use crate::answers::Answers;
-use crate::moved::moved_items;
 use crate::roles::roles_of;
 use daq_table::Head;
 use kleene_filter::Filter;
@@ -35,7 +33,6 @@ impl State {
     // Nothing is read of the query's columns, in a table with that head.
     pub(crate) fn open(alloc: Global, query: &TypedQuery, head: &Head) -> Result<State, AllocError>
         requires valid { IsValid head.now query.now }
-        requires plain { query.now.shape ≡ Plain }
         ensures kept { IfOk result (IsEngine query.now) }
         ensures unread { IfOk result (λ state. state.columns ≡ unread_table (projected_frame query.now (frame_of head.now))) }
     {
@@ -43,8 +40,8 @@ impl State {
         let columns = KnownColumns::open(alloc, query.columns.as_slice(), head)?;
         let mut block = RowBlock::open(alloc, &columns)?;
         let filter = Filter::open(alloc, &query.pred, &columns, &mut block)?;
-        let mut answers = Answers::open(alloc, query, columns.rows())?;
-        answers.fill(query, &columns, &filter, &mut block, &[true; 16]);
+        let mut answers = Answers::open(alloc, query, &columns)?;
+        answers.fill(query, &columns, &filter, &mut block);
         Ok(State {
             columns,
             block,
@@ -75,9 +72,8 @@ impl State {
         let block = &mut self.block;
         self.filter
             .refresh(&query.pred, &self.columns, column, plane, block);
-        let moved = moved_items(query, column);
         self.answers
-            .fill(query, &self.columns, &self.filter, block, &moved);
+            .refresh(query, &self.columns, &self.filter, column, plane, block);
         Ok(())
     }
 }

@@ -85,6 +85,7 @@ fn small_engine(alloc: Global) -> Result<Engine, AllocError>
     ensures rows { IfOk result (λ engine. engine.frame.rows ≡ 2) }
     ensures columns { IfOk result (λ engine. length engine.query.columns ≡ 1) }
     ensures items { IfOk result (λ engine. length engine.query.items ≡ 3) }
+    ensures plain { IfOk result (λ engine. engine.query.shape ≡ Plain) }
     ensures count { IfOk result (λ engine. IfSome (slice_get engine.query.items 0) (λ item. item.kind ≢ Avg)) }
     ensures least { IfOk result (λ engine. IfSome (slice_get engine.query.items 1) (λ item. item.kind ≢ Avg)) }
     ensures average { IfOk result (λ engine. IfSome (slice_get engine.query.items 2) (λ item. item.kind ≡ Avg)) }
@@ -92,9 +93,20 @@ fn small_engine(alloc: Global) -> Result<Engine, AllocError>
     Engine::open(alloc, small_query(alloc)?, &small_head(alloc)?)
 }
 
+// What is told of the items, and of the second row.
+type Start = ([Bound; 2], AverageBound, (Truth, Interval, Interval));
+
+fn told_at_the_start(alloc: Global) -> Result<Start, AllocError> {
+    let engine = small_engine(alloc)?;
+    Ok((
+        [engine.plain(0), engine.plain(1)],
+        engine.average(2),
+        (engine.truth(1), engine.range(0, 1), engine.span(0, 1)),
+    ))
+}
+
 #[test]
 fn bounds_at_the_start(rt: HostRuntime) -> Result<(), Fail> {
-    let engine = small_engine(rt.alloc())?;
     let count = Bound {
         null: Nullity::Never,
         lo: 0,
@@ -110,16 +122,15 @@ fn bounds_at_the_start(rt: HostRuntime) -> Result<(), Fail> {
         lo: Fraction { num: 1, den: 2 },
         hi: Fraction { num: 6, den: 1 },
     };
-    assert_eq!(rt; [engine.plain(0), engine.plain(1)], [count, least]);
-    assert_eq!(rt; engine.average(2), average);
-    assert_eq!(rt;
-        (engine.truth(1), engine.range(0, 1), engine.span(0, 1)),
-        (
-            Truth::Unknown,
-            Interval { lo: 1, hi: 3 },
-            Interval { lo: 0, hi: 0 }
-        )
+    let row = (
+        Truth::Unknown,
+        Interval { lo: 1, hi: 3 },
+        Interval { lo: 0, hi: 0 },
     );
+    let told = told_at_the_start(rt.alloc())?;
+    assert_eq!(rt; told.0, [count, least]);
+    assert_eq!(rt; told.1, average);
+    assert_eq!(rt; told.2, row);
     Ok(())
 }
 
@@ -136,20 +147,37 @@ fn step(engine: &mut Engine, plane: &Plane) -> Option<OverTop>
     }
 }
 
+// What three planes come to, of which the second has a digit that the top has not; with how far the query has come, and whether each
+// answer is known, after the second and after the third.
+type Taken = ([Option<OverTop>; 3], (u32, bool), (u8, Role, bool));
+
+fn take_three(engine: &mut Engine, plane: &mut Plane) -> Taken
+    requires rows { engine.old.frame.rows ≡ 2 }
+    requires plane { length plane.old ≡ 2 }
+{
+    transpose(&[1, 2], 2, 0, plane);
+    let first = step(engine, plane);
+    transpose(&[1, 3], 2, 1, plane);
+    let second = step(engine, plane);
+    let between = (engine.progress().done, engine.narrow(0));
+    transpose(&[1, 2], 2, 1, plane);
+    let third = step(engine, plane);
+    let progress = engine.progress();
+    let last = (progress.unread[0], progress.role[0], engine.narrow(0));
+    ([first, second, third], between, last)
+}
+
+fn taken(alloc: Global) -> Result<Taken, AllocError> {
+    let mut plane = Plane::blank(alloc, 2)?;
+    let mut engine = small_engine(alloc)?;
+    Ok(take_three(&mut engine, &mut plane))
+}
+
 #[test]
 fn planes_are_taken_or_refused(rt: HostRuntime) -> Result<(), Fail> {
-    let alloc = rt.alloc();
-    let mut engine = small_engine(alloc)?;
-    let mut plane = Plane::blank(alloc, 2)?;
-    transpose(&[1, 2], 2, 0, &mut plane);
-    assert_eq!(rt; step(&mut engine, &plane), None);
-    transpose(&[1, 3], 2, 1, &mut plane);
-    assert_eq!(rt; step(&mut engine, &plane), Some(OverTop { row: 1 }));
-    assert_eq!(rt; (engine.progress().done, engine.narrow(0)), (1, false));
-    transpose(&[1, 2], 2, 1, &mut plane);
-    assert_eq!(rt; step(&mut engine, &plane), None);
-    let progress = engine.progress();
-    assert_eq!(rt; (progress.unread[0], progress.role[0]), (0, Role::Filter));
-    assert!(rt; engine.narrow(0));
+    let told = taken(rt.alloc())?;
+    assert_eq!(rt; told.0, [None, Some(OverTop { row: 1 }), None]);
+    assert_eq!(rt; told.1, (1, false));
+    assert_eq!(rt; told.2, (0, Role::Filter, true));
     Ok(())
 }

@@ -2,8 +2,9 @@
 
 ghost use Rattle.std.specs.Prelude.{◌≡◌, ◌<◌, ◌+◌, ◌*◌, ◌^◌, ℕ, min, false, List, length, slice_get, Some, IfOk};
 ghost use Rattle.aggregates.specs.Runnings.{StandsFor};
+ghost use Rattle.query_model.specs.declared.query.Shape.TheVariants.{Plain};
 ghost use Rattle.kleene_filter.specs.Filters.{truths_under};
-ghost use Rattle.known_column.specs.RowBlocks.{block_of};
+ghost use Rattle.query_model.specs.declared.query.Shape.TheVariants.{Plain};
 ghost use Rattle.query_model.specs.Bounds.{Pair};
 ghost use Rattle.query_model.specs.Queries.{term_of};
 ghost use Rattle.round_engine.specs.declared.item_bound.ItemBound.TheVariants.{Fractions, Numbers};
@@ -22,6 +23,7 @@ use aggregates::Running;
 use kleene_filter::Filter;
 use known_column::{KnownColumns, RowBlock};
 use query_model::{AverageBound, Bound, Expr, Item, ItemKind, Nullity, TypedQuery, pairs_are_few};
+use row_values::BlockValues;
 use std::alloc::{AllocError, Global};
 
 // The bound of each item, and room to add its rows one by one, or to tell it by masks.
@@ -79,17 +81,20 @@ fn add_block(
     query: &TypedQuery,
     columns: &KnownColumns,
     filter: &Filter,
-    block: &RowBlock,
     number: usize,
     marks: &[bool; 16],
+    block: &mut RowBlock,
+    values: &mut BlockValues,
     runnings: &mut [Running],
 )
     requires open_stage { IsOpenStage (stage_of query.now columns.now) }
+    requires plain { query.now.shape ≡ Plain }
     requires judged { filter.now.truths ≡ truths_under query.now.pred columns.now }
     requires rows { 64 * number < columns.now.frame.rows }
-    requires block { block.now ≡ block_of columns.now number }
+    requires same { block.old.frame.columns ≡ columns.now.frame.columns }
     requires filled { AreFilledBelow (stage_of query.now columns.now) marks.now (64 * number) runnings.old }
-    ensures { AreFilledBelow (stage_of query.now columns.now) marks.now (min (64 * number + 64) columns.now.frame.rows) runnings.new }
+    ensures same { block.new.frame.columns ≡ columns.now.frame.columns }
+    ensures filled { AreFilledBelow (stage_of query.now columns.now) marks.now (min (64 * number + 64) columns.now.frame.rows) runnings.new }
 {
     for i in 0..runnings.len() {
         if marks[i] {
@@ -99,8 +104,9 @@ fn add_block(
                 item,
                 columns,
                 filter,
-                block,
                 number,
+                block,
+                values,
                 &mut runnings[i],
             );
         }
@@ -119,7 +125,7 @@ fn some_marked(marks: &[bool; 16]) -> bool
     false
 }
 
-// Adds all rows to each marked item of which none is added. Each block is read once for all of them, and none where no item is marked.
+// Adds all rows to each marked item of which none is added. A block of whose rows none may pass is not read.
 fn fill_each(
     query: &TypedQuery,
     columns: &KnownColumns,
@@ -129,6 +135,7 @@ fn fill_each(
     runnings: &mut [Running],
 )
     requires open_stage { IsOpenStage (stage_of query.now columns.now) }
+    requires plain { query.now.shape ≡ Plain }
     requires judged { filter.now.truths ≡ truths_under query.now.pred columns.now }
     requires blank { AreBlank query.now.items runnings.old }
     requires same { block.old.frame.columns ≡ columns.now.frame.columns }
@@ -138,9 +145,20 @@ fn fill_each(
     if !some_marked(marks) {
         return;
     }
+    let mut values = BlockValues::room();
     for number in 0..columns.rows().div_ceil(64) {
-        block.read(columns, number);
-        add_block(query, columns, filter, block, number, marks, runnings);
+        if filter.may().word(number) != 0 {
+            add_block(
+                query,
+                columns,
+                filter,
+                number,
+                marks,
+                block,
+                &mut values,
+                runnings,
+            );
+        }
     }
 }
 
@@ -166,6 +184,7 @@ fn bound_of_item(
     masks: &mut RowMasks,
 ) -> ItemBound
     requires open_stage { IsOpenStage (stage_of query.now columns.now) }
+    requires plain { query.now.shape ≡ Plain }
     requires open_item { IsOpenItem columns.now.frame item.now }
     requires judged { filter.now.truths ≡ truths_under query.now.pred columns.now }
     requires filled { is_by_masks columns.now.frame item.now ≡ false
@@ -192,6 +211,7 @@ fn tell_each(
     bounds: &mut [ItemBound],
 )
     requires open_stage { IsOpenStage (stage_of query.now columns.now) }
+    requires plain { query.now.shape ≡ Plain }
     requires judged { filter.now.truths ≡ truths_under query.now.pred columns.now }
     requires filled { AreFilled (stage_of query.now columns.now) marks.now runnings.now }
     requires room { HaveRows columns.now.frame.rows masks.old }
@@ -242,6 +262,7 @@ impl Totals {
         marks: &[bool; 16],
     )
         requires open_stage { IsOpenStage (stage_of query.now columns.now) }
+        requires plain { query.now.shape ≡ Plain }
         requires judged { filter.now.truths ≡ truths_under query.now.pred columns.now }
         requires beside { AreTotalsBeside (stage_of query.now columns.now) marks.now self.old.bounds.items }
         requires room { HaveRoom query.now.items self.old.runnings.items }
@@ -292,7 +313,7 @@ impl Totals {
     pub(crate) fn is_narrow(&self, width: u64) -> bool
         requires totals { AreSomeTotals self.now.bounds.items }
         requires width { width < 2 ^ 63 }
-        ensures { (stage : Stage) → AreTotals stage self.now.bounds.items → result ≡ is_narrow width stage }
+        ensures { (stage : Stage) → stage.query.shape ≡ Plain → AreTotals stage self.now.bounds.items → result ≡ is_narrow width stage }
     {
         pairs_are_few();
         for bound in &self.bounds {

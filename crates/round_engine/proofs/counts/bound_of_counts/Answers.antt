@@ -17,7 +17,7 @@ returns c =
     let known = c.args.columns.now.known in
     let counted = count_kind item.kind _ c.requires.counted in
     let null : may_be_null (null_of item.arg (declared_ranges frame)) ≡ false = not-true _ counted.1 in
-    let told = counted_by_filter c.args.query.now item c.args.columns.now c.requires.open_stage.open_query.plain c.args.filter.now.truths c.must.result.now c.may.result.now c.requires.judged
+    let told = counted_by_filter c.args.query.now item c.args.columns.now c.requires.plain c.args.filter.now.truths c.must.result.now c.may.result.now c.requires.judged
     c.must.ensures c.may.ensures (λ r. never_null item.arg frame known r null) in
     let low : to_z w128 (of_z w128 c.from.result) ≡ c.from.result = omega (arith, ints) in
     let high : to_z w128 (of_z w128 c.from-2.result) ≡ c.from-2.result = omega (arith, ints) in (

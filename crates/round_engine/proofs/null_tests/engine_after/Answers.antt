@@ -3,17 +3,19 @@ use Rattle.std.specs.List.{AllByRecursion}
 use Rattle.query_model.specs.Validity.{CanCompareIn, IsValidItem}
 use Rattle.round_engine.proofs.null_tests.engine_after.Goals as goal
 
-pub open-requires-clause-valid : goal.open-requires-clause-valid
-open-requires-clause-valid c =
+pub open-requires : goal.open-requires
+open-requires c =
     let head = c.in_ok-null_head.field-0 in
     let query = c.in_ok-null_query.field-0 in
     record {
-      few_columns = search rules;
-      in_range = search rules;
-      distinct = search rules;
-      few_items = search rules;
-      condition = search rules;
-      compared = subst (CanCompareIn head query) (sym c.in_ok-null_query.ensures.condition) (c.requires.compared head query);
-      shape = search rules;
-      items = subst (AllByRecursion (IsValidItem head query)) (sym c.in_ok-null_query.ensures.items) (search rules, (search rules, (search rules, (search rules, tt))));
+      valid = record {
+        few_columns = search rules;
+        in_range = search rules;
+        distinct = search rules;
+        few_items = search rules;
+        condition = search rules;
+        compared = subst (CanCompareIn head query) (sym c.in_ok-null_query.ensures.condition) (c.requires.compared head query);
+        shape = search rules;
+        items = subst (AllByRecursion (IsValidItem head query)) (sym c.in_ok-null_query.ensures.items) (search rules, (search rules, (search rules, (search rules, tt))));
+      };
     }

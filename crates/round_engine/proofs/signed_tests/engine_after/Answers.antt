@@ -3,17 +3,19 @@ use Rattle.std.specs.List.{AllByRecursion}
 use Rattle.query_model.specs.Validity.{IsValidItem}
 use Rattle.round_engine.proofs.signed_tests.engine_after.Goals as goal
 
-pub open-requires-clause-valid : goal.open-requires-clause-valid
-open-requires-clause-valid c =
+pub open-requires : goal.open-requires
+open-requires c =
     let head = c.in_ok-signed_head.field-0 in
     let query = c.in_ok-signed_query.field-0 in
     record {
-      few_columns = search rules;
-      in_range = search rules;
-      distinct = search rules;
-      few_items = search rules;
-      condition = search rules;
-      compared = search rules;
-      shape = search rules;
-      items = subst (AllByRecursion (IsValidItem head query)) (sym c.in_ok-signed_query.ensures.items) (search rules, (search rules, (search rules, (search rules, (search rules, (search rules, tt))))));
+      valid = record {
+        few_columns = search rules;
+        in_range = search rules;
+        distinct = search rules;
+        few_items = search rules;
+        condition = search rules;
+        compared = search rules;
+        shape = search rules;
+        items = subst (AllByRecursion (IsValidItem head query)) (sym c.in_ok-signed_query.ensures.items) (search rules, (search rules, (search rules, (search rules, (search rules, (search rules, tt))))));
+      };
     }

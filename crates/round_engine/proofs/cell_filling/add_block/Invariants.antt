@@ -1,0 +1,7 @@
+use Rattle.std.proofs.Common.{◌≡◌}
+use Rattle.round_engine.specs.CellAnswers.{StandBelow}
+use Rattle.round_engine.specs.Engines.{stage_of}
+use Rattle.round_engine.proofs.cell_filling.add_block.Given as goal
+
+abbrev pub invariant-loop-row : goal.invariant-loop-row
+invariant-loop-row l = StandBelow (stage_of l.query l.columns) l.item l.row l.running

@@ -1,0 +1,46 @@
+use Rattle.std.proofs.Common.{◌≡◌, ◌||◌, ◌++◌, false, length, drop, take, refl, ap, sym, subst, ◌∙◌, arith}
+use Rattle.std.proofs.lemmas.Bool.{or_parts}
+use Rattle.kleene_filter.specs.Filters.{stands_in}
+use Rattle.query_model.specs.Answers.{every_row, groups_of}
+use Rattle.query_model.specs.Meaning.{columns_of_pred}
+use Rattle.row_groups.specs.Partition.{is_group}
+use Rattle.round_engine.specs.CellAnswers.{IsParted, StandForCells, StandForEach, StandForOthers, moves_rows}
+use Rattle.round_engine.specs.Engines.{stage_of}
+use Rattle.round_engine.specs.Moves.{AreMoved}
+use Rattle.round_engine.specs.Stages.{IsGrouped, Stage, stepped}
+use Rattle.round_engine.proofs.CellKept.{moved_for_others, parted_still, rows_stay, stand_still, written}
+use Rattle.round_engine.proofs.groups.Groups.refresh.Goals as goal
+
+pub fill_each-requires-clause-parted : goal.fill_each-requires-clause-parted
+fill_each-requires-clause-parted c =
+    let stood = c.requires.before in
+    let stay = subst (λ (s : Stage). moves_rows s.query c.args.column ≡ false) stood.read (sym c.moves_rows.ensures ∙ c.if-moves_rows.false) in
+    subst (IsParted (stage_of c.args.query.now c.args.columns.now) c.args.self.now.cells) (sym c.deref.ensures.value)
+    (subst (λ (s : Stage). IsParted s c.args.self.now.cells c.args.self.now.single.items) (sym stood.read)
+    (parted_still stood.before c.args.column c.args.plane.now stood.open_stage c.others_leave_cells.ensures c.args.self.now.cells c.args.self.now.single.items stood.answered.parted (rows_stay stood.before.query c.args.column stay)))
+
+pub fill_each-requires-clause-others : goal.fill_each-requires-clause-others
+fill_each-requires-clause-others c =
+    let stood = c.requires.before in
+    let stay = subst (λ (s : Stage). moves_rows s.query c.args.column ≡ false) stood.read (sym c.moves_rows.ensures ∙ c.if-moves_rows.false) in
+    let moved = subst (λ (s : Stage). AreMoved s.query c.args.column c.moved_items-moved.result) stood.read c.moved_items-moved.ensures in
+    subst (StandForOthers (stage_of c.args.query.now c.args.columns.now) c.moved_items-moved.result) (sym c.deref_mut.ensures.value)
+    (subst (λ (s : Stage). StandForOthers s c.moved_items-moved.result c.args.self.now.runnings.items) (sym stood.read)
+    (moved_for_others stood.before c.args.column c.args.plane.now c.moved_items-moved.result c.args.self.now.runnings.items stay moved stood.answered.items))
+
+pub returns-else-moves_rows-clause-answers : goal.returns-else-moves_rows-clause-answers
+returns-else-moves_rows-clause-answers c =
+    let stood = c.requires.before in
+    let stay = subst (λ (s : Stage). moves_rows s.query c.args.column ≡ false) stood.read (sym c.moves_rows.ensures ∙ c.if-moves_rows.false) in
+    let new = c.fill_each.new.runnings in
+    let old = c.args.self.now.runnings in
+    let was = ap (λ (s : Stage). length s.query.items) stood.read in
+    let same = written new (drop (length new) old.items) old.len (omega (arith, old.ok.0, c.fill_each.ensures.stand.count, stood.answered.items.count, was)) in
+    record {
+      grouped = subst (λ (s : Stage). IsGrouped s.query.shape) (sym stood.read) stood.answered.grouped;
+      parted = subst (λ (s : Stage). IsParted s c.args.self.now.cells c.args.self.now.single.items) (sym stood.read)
+          (parted_still stood.before c.args.column c.args.plane.now stood.open_stage c.others_leave_cells.ensures c.args.self.now.cells c.args.self.now.single.items stood.answered.parted (rows_stay stood.before.query c.args.column stay));
+      presence = subst (λ (s : Stage). StandForCells s every_row c.args.self.now.presence) (sym stood.read)
+          (stand_still stood.before c.args.column c.args.plane.now every_row c.args.self.now.presence stay refl stood.answered.presence);
+      items = subst (StandForEach (stage_of c.args.query.now c.args.columns.now)) (sym same) c.fill_each.ensures.stand;
+    }

@@ -1,0 +1,44 @@
+use Rattle.std.proofs.Common.{◌≡◌, ◌<◌, length, slice_get, Some, ap, sym, subst, ◌∙◌, arith}
+use Rattle.std.proofs.lemmas.Bool.{false≢true}
+use Rattle.std.proofs.lemmas.Option.{slice_get-get_or}
+use Rattle.query_model.specs.Queries.{Query}
+use Rattle.round_engine.specs.Engines.{stage_of}
+use Rattle.round_engine.proofs.Kept.{open_item_at}
+use Rattle.round_engine.proofs.Places.{read_there}
+use Rattle.round_engine.proofs.Walks.{walk_end, walk_keep, walk_set, walk_start}
+use Rattle.round_engine.proofs.groups.fill_each.Goals as goal
+use Rattle.round_engine.proofs.groups.fill_each.Goals.{then-marks-i, else-marks-i}
+
+pub loop-i-init : goal.loop-i-init
+loop-i-init c = record { same = c.requires.same; walk = walk_start _ _ c.args.query.now.items c.args.runnings.now c.requires.others }
+
+pub fill_cells-requires-clause-room : goal.fill_cells-requires-clause-room
+fill_cells-requires-clause-room c =
+    let walk = c.loop-i.invariant.walk in
+    let i = c.loop-i.i in
+    let items = c.args.query.now.items in
+    let item = c.index-as_slice-i.result in
+    let inside : i < length items = omega (arith, walk.count, c.requires.others.count) in
+    let there : slice_get items i ≡ Some item = read_there items c.as_slice.result.now i item inside (c.as_slice.ensures ∙ ap (λ (q : Query). q.items) c.query.view_is) c.index-as_slice-i.is in
+    (walk.rest i item _ (omega arith) there (slice_get-get_or c.loop-i.runnings i c.index-runnings-i.result (omega (arith, walk.count, inside)))).has_room
+
+pub loop-i-preserved : goal.loop-i-preserved
+loop-i-preserved c =
+    let walk = c.loop-i.invariant.walk in
+    let i = c.loop-i.i in
+    let items = c.args.query.now.items in
+    elim c.if-marks-i.branch [
+      | then-marks-i w ↦
+          (let item = w.index-as_slice-i.result in
+          let inside : i < length items = omega (arith, walk.count, c.requires.others.count) in
+          let there : slice_get items i ≡ Some item = read_there items w.as_slice.result.now i item inside (w.as_slice.ensures ∙ ap (λ (q : Query). q.items) c.query.view_is) w.index-as_slice-i.is in
+          rw (w.runnings-is, w.block-is) (record { same = w.fill_cells.ensures.same; walk = walk_set _ _ items c.loop-i.runnings i item w.fill_cells.new.running there w.fill_cells.ensures.stand walk }))
+      | else-marks-i w ↦
+          rw (w.runnings-is, w.block-is) (record {
+            same = c.loop-i.invariant.same;
+            walk = walk_keep _ _ items c.loop-i.runnings i (λ item running at before. before.stands (λ marked. false≢true (sym w.if-marks-i.false ∙ marked))) walk;
+          })
+    ]
+
+pub returns-clause-stand : goal.returns-clause-stand
+returns-clause-stand c = walk_end _ _ c.args.query.now.items c.loop-i.runnings c.loop-i.i (omega (arith, c.loop-i.invariant.walk.count, c.requires.others.count)) c.loop-i.invariant.walk

@@ -1,0 +1,24 @@
+use Rattle.std.proofs.Common.{◌≡◌, max, cond, count_by, int_le, pos, to_z, of_z, ap, sym, ◌∙◌, arith}
+use Rattle.std.specs.Int.{w128}
+use Rattle.std.proofs.lemmas.Int.{ints}
+use Rattle.aggregates.proofs.BoundFacts.{average_is}
+use Rattle.round_engine.specs.Selected.{pairs_in}
+use Rattle.round_engine.proofs.SelectedBounds.{all_is, certain_is}
+use Rattle.round_engine.proofs.selection.Selected.average.Goals as goal
+
+pub returns-clause-bound : goal.returns-clause-bound
+returns-clause-bound c =
+    let column = c.args.known.now in
+    let selection = c.args.self.now in
+    let is = c.requires.selection in
+    let low : to_z w128 (of_z w128 c.least_sum.result) ≡ c.least_sum.result = omega (arith, ints) in
+    let high : to_z w128 (of_z w128 c.greatest_sum.result) ≡ c.greatest_sum.result = omega (arith, ints) in
+    average_is (pairs_in column selection) _ _ _ _ _ c.max-most.result c.max-fewest.result (record {
+      word_is = c.nullity.ensures column is;
+      low_is = c.quotient.ensures.num ∙ low ∙ c.least_sum.ensures.sum;
+      high_is = c.quotient-2.ensures.num ∙ high ∙ c.greatest_sum.ensures.sum;
+      most_is = c.max-most.ensures ∙ ap (λ n. max n 1) (c.count.ensures ∙ ap (λ s. count_by (λ b. b) s.may) c.self.view_is ∙ all_is column selection is);
+      fewest_is = c.max-fewest.ensures ∙ ap (λ n. max n 1) (c.count-2.ensures ∙ ap (λ s. count_by (λ b. b) s.must) c.self.view_is ∙ certain_is column selection is);
+      low_den_is = c.quotient.ensures.den ∙ ap (λ n. cond (int_le (pos 0) n) c.max-most.result c.max-fewest.result) (sym c.quotient.ensures.num);
+      high_den_is = c.quotient-2.ensures.den ∙ ap (λ n. cond (int_le (pos 0) n) c.max-fewest.result c.max-most.result) (sym c.quotient-2.ensures.num);
+    })

@@ -1,0 +1,241 @@
+// The answers of a query with groups: for each cell of keys one for each item, and whether the keys are in the result.
+
+ghost use Rattle.std.specs.Prelude.{◌≡◌, ◌≢◌, ◌<◌, ◌^◌, length, slice_get, IfOk, IfSome, IsSome, IsTrue, ◌↔◌};
+ghost use Rattle.kleene_filter.specs.Filters.{truths_under};
+ghost use Rattle.known_column.specs.KnownTables.{unread_table};
+ghost use Rattle.query_model.specs.declared.query.ItemKind.TheVariants.{Avg};
+ghost use Rattle.query_model.specs.Bounds.{fractions_of};
+ghost use Rattle.round_engine.specs.CellAnswers.{AreGroups, AreSomeGroups, HasCell, HasItem, HoldGroups, IsParted, StandForEach, StandForOthers, WereGroups};
+ghost use Rattle.row_groups.specs.Partition.{is_legal_cell, ranges_in, ranges_of_cell};
+ghost use Rattle.round_engine.specs.Cells.{absence_in_cell, average_in_cell, bound_in_cell, cells_in, parts_in};
+ghost use Rattle.round_engine.specs.Engines.{stage_of};
+ghost use Rattle.round_engine.specs.Stages.{IsGrouped, IsOpenStage, Stage};
+
+use crate::cell_filling::fill_cells;
+use crate::cell_room::{every_row, most_cells, open_cells, open_each};
+use crate::group_columns::is_group;
+use crate::moved::{moved_items, moves_rows};
+use crate::one_key::tell_single;
+use aggregates::Running;
+use kleene_filter::Filter;
+use known_column::{KnownColumns, RowBlock};
+use plane_kernels::Plane;
+use query_model::{AverageBound, Bound, ItemKind, Nullity, TypedQuery};
+use row_groups::{
+    CellKeys, Cells, cells_tell_keys, opening_stands, others_leave_cells, refining_stands,
+};
+use std::alloc::{AllocError, Global};
+
+// Which cell each row is in, which cells hold one key, and what is added up of each cell: its rows, and each item's values.
+#[derive(Drop)]
+pub(crate) struct Groups {
+    cells: Cells,
+    single: Vec<bool>,
+    presence: Running,
+    pub(crate) runnings: Vec<Running>,
+}
+
+// Adds all rows of each marked item anew, each to the cell that it is in.
+fn fill_each(
+    query: &TypedQuery,
+    columns: &KnownColumns,
+    filter: &Filter,
+    block: &mut RowBlock,
+    cells: &Cells,
+    single: &[bool],
+    marks: &[bool; 16],
+    runnings: &mut [Running],
+)
+    requires open_stage { IsOpenStage (stage_of query.now columns.now) }
+    requires judged { filter.now.truths ≡ truths_under query.now.pred columns.now }
+    requires same { block.old.frame.columns ≡ columns.now.frame.columns }
+    requires parted { IsParted (stage_of query.now columns.now) cells.now single.now }
+    requires others { StandForOthers (stage_of query.now columns.now) marks.now runnings.old }
+    ensures same { block.new.frame.columns ≡ columns.now.frame.columns }
+    ensures stand { StandForEach (stage_of query.now columns.now) runnings.new }
+{
+    for i in 0..runnings.len() {
+        if marks[i] {
+            let item = &query.items.as_slice()[i];
+            fill_cells(
+                query,
+                item,
+                columns,
+                filter,
+                block,
+                cells,
+                single,
+                &mut runnings[i],
+            );
+        }
+    }
+}
+
+impl Groups {
+    // Room for the cells of a query of whose columns nothing is read. All of it is taken here.
+    pub(crate) fn open(
+        alloc: Global,
+        query: &TypedQuery,
+        columns: &KnownColumns,
+    ) -> Result<Groups, AllocError>
+        requires open_stage { IsOpenStage (stage_of query.now columns.now) }
+        requires grouped { IsGrouped query.now.shape }
+        requires unread { columns.now ≡ unread_table columns.now.frame }
+        ensures { IfOk result (HoldGroups (stage_of query.now columns.now)) }
+    {
+        opening_stands();
+        cells_tell_keys();
+        let most = most_cells(query, columns);
+        let cells = open_cells(alloc, query, columns)?;
+        let mut single = vec![in alloc; false; most]?;
+        tell_single(&cells, &mut single);
+        let presence = Running::open(alloc, ItemKind::Count, most)?;
+        let runnings = open_each(alloc, query, most)?;
+        Ok(Groups {
+            cells,
+            single,
+            presence,
+            runnings,
+        })
+    }
+
+    // Adds all rows of each item anew.
+    pub(crate) fn fill(
+        &mut self,
+        query: &TypedQuery,
+        columns: &KnownColumns,
+        filter: &Filter,
+        block: &mut RowBlock,
+    )
+        requires open_stage { IsOpenStage (stage_of query.now columns.now) }
+        requires judged { filter.now.truths ≡ truths_under query.now.pred columns.now }
+        requires room { HoldGroups (stage_of query.now columns.now) self.old }
+        requires same { block.old.frame.columns ≡ columns.now.frame.columns }
+        ensures same { block.new.frame.columns ≡ columns.now.frame.columns }
+        ensures answers { AreGroups (stage_of query.now columns.now) self.new }
+    {
+        fill_cells(
+            query,
+            &every_row(),
+            columns,
+            filter,
+            block,
+            &self.cells,
+            &self.single,
+            &mut self.presence,
+        );
+        let all = [true; 16];
+        fill_each(
+            query,
+            columns,
+            filter,
+            block,
+            &self.cells,
+            &self.single,
+            &all,
+            &mut self.runnings,
+        );
+    }
+
+    // Parts the rows where the column whose plane was read is a group column.
+    fn refine(&mut self, query: &TypedQuery, columns: &KnownColumns, column: usize, plane: &Plane)
+        requires open_stage { IsOpenStage (stage_of query.now columns.now) }
+        requires before { WereGroups (stage_of query.now columns.now) column plane.now self.old }
+        requires rows { length plane.now ≡ columns.now.frame.rows }
+        ensures { HoldGroups (stage_of query.now columns.now) self.new }
+    {
+        cells_tell_keys();
+        others_leave_cells();
+        refining_stands();
+        if is_group(query, column) {
+            self.cells.refine(column as u8, plane);
+            tell_single(&self.cells, &mut self.single);
+        }
+    }
+
+    // Follows the columns after a plane of one of them: what it moves is added anew.
+    pub(crate) fn refresh(
+        &mut self,
+        query: &TypedQuery,
+        columns: &KnownColumns,
+        filter: &Filter,
+        column: usize,
+        plane: &Plane,
+        block: &mut RowBlock,
+    )
+        requires open_stage { IsOpenStage (stage_of query.now columns.now) }
+        requires judged { filter.now.truths ≡ truths_under query.now.pred columns.now }
+        requires before { WereGroups (stage_of query.now columns.now) column plane.now self.old }
+        requires rows { length plane.now ≡ columns.now.frame.rows }
+        requires same { block.old.frame.columns ≡ columns.now.frame.columns }
+        ensures same { block.new.frame.columns ≡ columns.now.frame.columns }
+        ensures answers { AreGroups (stage_of query.now columns.now) self.new }
+    {
+        if moves_rows(query, column) {
+            self.refine(query, columns, column, plane);
+            self.fill(query, columns, filter, block);
+        } else {
+            others_leave_cells();
+            let moved = moved_items(query, column);
+            fill_each(
+                query,
+                columns,
+                filter,
+                block,
+                &self.cells,
+                &self.single,
+                &moved,
+                &mut self.runnings,
+            );
+        }
+    }
+
+    // How many cells there are.
+    pub(crate) fn count(&self) -> u32
+        ensures { (stage : Stage) → AreGroups stage self.now → result ≡ cells_in stage }
+    {
+        cells_tell_keys();
+        self.cells.count()
+    }
+
+    // What the keys of a cell may be, or none where it has no keys.
+    pub(crate) fn keys(&self, cell: u32) -> Option<CellKeys>
+        ensures legal { (stage : Stage) → AreGroups stage self.now → IsSome result ↔ IsTrue (is_legal_cell (parts_in stage) cell) }
+        ensures keys { (stage : Stage) → AreGroups stage self.now → IfSome result (λ keys. ranges_in keys ≡ ranges_of_cell (parts_in stage) cell) }
+    {
+        self.cells.keys_of(cell)
+    }
+
+    // Whether the keys of a cell are missing in the result.
+    pub(crate) fn absence(&self, cell: u32) -> Nullity
+        requires { HasCell self.now cell }
+        ensures { (stage : Stage) → AreGroups stage self.now → result ≡ absence_in_cell stage cell }
+    {
+        let count = self.presence.bound(cell);
+        if count.hi == 0 {
+            Nullity::Always
+        } else if count.lo > 0 {
+            Nullity::Never
+        } else {
+            Nullity::Possibly
+        }
+    }
+
+    // The bound of an item that is no average, in a cell.
+    pub(crate) fn bound(&self, cell: u32, item: usize) -> Bound
+        requires { HasItem self.now cell item (λ aggregate. aggregate.kind ≢ Avg) }
+        ensures { (stage : Stage) → AreGroups stage self.now → IfSome (slice_get stage.query.items item) (λ i.
+            result ≡ bound_in_cell stage i cell) }
+    {
+        self.runnings[item].bound(cell)
+    }
+
+    // The bound of an average.
+    pub(crate) fn average(&self, cell: u32, item: usize) -> AverageBound
+        requires { HasItem self.now cell item (λ aggregate. aggregate.kind ≡ Avg) }
+        ensures { (stage : Stage) → AreGroups stage self.now → IfSome (slice_get stage.query.items item) (λ i.
+            fractions_of result ≡ average_in_cell stage i cell) }
+    {
+        self.runnings[item].average(cell)
+    }
+}
