@@ -1,25 +1,34 @@
 -- The bounds of rounds are certain, of each table that has the planes read.
-use Rattle.std.proofs.Common.{◌≡◌, ℕ, ◌+◌, ◌<◌, ◌≤◌, List, [], length, get_or, sym, ap, ◌∙◌, subst, arith}
+use Rattle.std.proofs.Common.{◌≡◌, ℕ, ◌+◌, ◌<◌, ◌≤◌, Bool, List, length, get_or, sym, ap, ◌∙◌, subst, arith}
 use Rattle.daq_table.specs.Tables.{Cells, Frame, IsTable}
 use Rattle.plane_schedule.specs.declared.policy.Plan.{Plan}
-use Rattle.query_model.specs.Bounds.{IsNested, IsNestedAverage, average_under, bound_under}
-use Rattle.query_model.specs.Knowledge.{IsKnowledge, Knowledge, known_of, plane_of, taken}
-use Rattle.query_model.specs.Laws.{AverageBoundsBecomeExactOnTables, AverageBoundsContainOnTables, AverageBoundsNest, BoundsAreExtremesOnTables, BoundsBecomeExactOnTables, BoundsContainOnTables, BoundsNest, PlanesAreTaken, TableAgrees, TablesAgree}
+use Rattle.query_model.specs.Answers.{Key, every_row}
+use Rattle.query_model.specs.Knowledge.{CanTake, IsKnowledge, Knowledge, known_of, plane_of, taken}
+use Rattle.query_model.specs.Laws.{AverageBoundsBecomeExactOnTables, AverageBoundsContainOnTables, AverageBoundsNest, BoundsAreExtremesOnTables, BoundsBecomeExactOnTables, BoundsContainOnTables, BoundsNest, CompletionsAreSelections, PlanesAreTaken, ResultsAreToldOnTables, StandingsAreRightOnTables, StandingsBecomeExact, StandingsNest, TableAgrees, TablesAgree, WordsBecomeExact}
 use Rattle.query_model.specs.Projection.{projected}
+use Rattle.query_model.specs.Ranking.{order_of}
 use Rattle.query_model.specs.Worlds.{AgreesWith, NamesColumns}
 use Rattle.query_model.specs.declared.query.Item.{Item}
 use Rattle.query_model.specs.declared.query.TypedQuery.{TypedQuery}
-use Rattle.round_engine.specs.Promises.{IsCertain, LiesWithin}
+use Rattle.round_engine.specs.Promises.{IsCertain, IsCertainKey, IsCertainStanding, LiesWithin, StandingsStay}
 use Rattle.round_engine.specs.Stages.{Stage}
-use Rattle.table_rounds.specs.Headline.{AreCertain, RoundsAreCertain}
+use Rattle.table_rounds.specs.Headline.{AreCertain, IsCertainValue, RoundsAreCertain, stage_of}
 use Rattle.table_rounds.specs.Rounds.{AreRounds, counts_after, stage_after, stage_with}
 use Rattle.table_rounds.proofs.Agreeing.{table_tells}
 use Rattle.table_rounds.proofs.Counts.{next_counts}
+use Rattle.table_rounds.proofs.Keys.{CellLaws, has_cell}
 use Rattle.table_rounds.proofs.OfTables.{same_rounds}
-use Rattle.table_rounds.proofs.Reached.{chosen_column, chosen_unread, few_rounds, has_plane, is_part, part_of, reads_after}
+use Rattle.table_rounds.proofs.Reached.{chosen_column, chosen_unread, columns_of_part, few_rounds, has_plane, is_part, part_of, reads_after}
 
--- the laws of bounds
+-- the laws of values, of bounds, of keys and of standings
 pub record Laws : Type 0 where
+  pub values : CompletionsAreSelections
+  pub cells : CellLaws
+  pub results : ResultsAreToldOnTables
+  pub words : WordsBecomeExact
+  pub standings : StandingsAreRightOnTables
+  pub settled : StandingsBecomeExact
+  pub keep : StandingsNest
   pub agree : TablesAgree
   pub taking : PlanesAreTaken
   pub contain : BoundsContainOnTables
@@ -31,22 +40,42 @@ pub record Laws : Type 0 where
   pub nest_averages : AverageBoundsNest
 
 module _ (law : Laws) (plan : Plan) (query : TypedQuery) (frame : Frame) (cells : Cells) (named : NamesColumns query frame) (table : IsTable frame cells) where
+  -- what is told under a knowledge
+  abbrev at : Knowledge → Stage
+  at known = record { query = query; frame = part_of query frame; known = known }
+
   -- of one item
-  pub item_is_certain : (known : Knowledge) (item : Item) → IsKnowledge (part_of query frame) known → IsCertain (record { query = query; frame = part_of query frame; known = known }) item frame
-  item_is_certain known item is_known =
+  item_is_certain : (known : Knowledge) (item : Item) (key : Key) → IsKnowledge (part_of query frame) known → IsCertain (at known) item key frame
+  item_is_certain known item key is_known =
       let part = part_of query frame in
       let its = is_part query frame named in
       record {
         bound = λ plain. record {
-          contains = λ world agrees. law.contain query item [] frame part known world plain its is_known agrees;
-          tight = λ once. law.extremes query item [] frame part known plain once its is_known;
-          exact = λ read full world agrees. law.exact query item [] frame part known world plain its is_known read agrees full;
+          contains = λ world agrees. law.contain query item key frame part known world plain its is_known agrees;
+          tight = λ once. law.extremes query item key frame part known plain once its is_known;
+          exact = λ read full world agrees. law.exact query item key frame part known world plain its is_known read agrees full;
         };
         average = λ _. record {
-          contains = λ world agrees. law.contain_averages query item [] frame part known world its is_known agrees;
-          exact = λ read full world agrees. law.exact_averages query item [] frame part known world its is_known read agrees full;
+          contains = λ world agrees. law.contain_averages query item key frame part known world its is_known agrees;
+          exact = λ read full world agrees. law.exact_averages query item key frame part known world its is_known read agrees full;
         };
       }
+
+  value_is_certain : (known : Knowledge) (r c : ℕ) → IsKnowledge (part_of query frame) known → r < frame.rows → c < length query.columns → IsCertainValue (at known) frame r c
+  value_is_certain known r c is_known r_in c_in world agrees =
+      (law.values (part_of query frame) known is_known).within (projected query world) agrees.part r c r_in (subst (λ n. c < n) (sym (columns_of_part query frame)) c_in)
+
+  key_is_certain : (known : Knowledge) (key : Key) → IsKnowledge (part_of query frame) known → IsCertainKey (at known) key frame
+  key_is_certain known key is_known = record {
+    told = law.results query key frame (part_of query frame) known (is_part query frame named) is_known;
+    exact = law.words query every_row key (part_of query frame) known is_known;
+  }
+
+  standing_is_certain : (known : Knowledge) (r : ℕ) → IsKnowledge (part_of query frame) known → r < frame.rows → IsCertainStanding (at known) r frame
+  standing_is_certain known r is_known r_in = record {
+    right = law.standings query frame (part_of query frame) known r (is_part query frame named) is_known r_in;
+    exact = λ read. law.settled query.pred (order_of query.shape) (part_of query frame) known r is_known read r_in;
+  }
 
   -- what the table's planes tell after rounds is what is known of it
   tells : (reads : List ℕ) → AreRounds plan query frame (plane_of frame cells) reads → (round : ℕ) → round ≤ length reads →
@@ -59,10 +88,16 @@ module _ (law : Laws) (plan : Plan) (query : TypedQuery) (frame : Frame) (cells 
   agrees reads rounds round h =
       law.agree query frame (part_of query frame) cells (counts_after query reads round) (is_part query frame named) table (reads_after plan query frame (plane_of frame cells) reads rounds round h)
 
-  -- a bound after one plane more lies within the one before
-  item_is_nested : (reads : List ℕ) → AreRounds plan query frame (plane_of frame cells) reads → (round : ℕ) → round < length reads → (item : Item) →
-      LiesWithin (stage_with query frame cells (counts_after query reads round)) (stage_with query frame cells (counts_after query reads (round + 1))) item
-  item_is_nested reads rounds round h item =
+  -- a round that is not the last reads a plane
+  record OneMore (reads : List ℕ) (round : ℕ) : Type 0 where
+    pub column : ℕ
+    pub bits : List Bool
+    pub knowledge : IsKnowledge (part_of query frame) (stage_of query frame cells reads round).known
+    pub can : CanTake (part_of query frame) (stage_of query frame cells reads round).known column bits
+    pub next : stage_of query frame cells reads (round + 1) ≡ at (taken (stage_of query frame cells reads round).known column bits)
+
+  one_more : (reads : List ℕ) → AreRounds plan query frame (plane_of frame cells) reads → (round : ℕ) → round < length reads → OneMore reads round
+  one_more reads rounds round h =
       let part = part_of query frame in
       let counts = counts_after query reads round in
       let known = known_of part (projected query cells) counts in
@@ -73,19 +108,44 @@ module _ (law : Laws) (plan : Plan) (query : TypedQuery) (frame : Frame) (cells 
       let here = agrees reads rounds round (omega arith) in
       let (can, same, next) = law.taking part (projected query cells) counts c here.table are w.column (has_plane query frame (plane_of frame cells) counts c w) in
       let counted = next_counts query reads round h (chosen_column plan query frame (plane_of frame cells) reads rounds round h) in
-      let after : taken known c bits ≡ (stage_with query frame cells (counts_after query reads (round + 1))).known = same ∙ ap (known_of part (projected query cells)) (sym counted) in
+      let old : stage_of query frame cells reads round ≡ at known = tells reads rounds round (omega arith) in
       record {
-        bound = λ plain. subst (λ k. IsNested (bound_under query item [] part known) (bound_under query item [] part k)) after (law.nest query item [] part known c bits plain here.knowledge can);
-        average = λ _. subst (λ k. IsNestedAverage (average_under query item [] part known) (average_under query item [] part k)) after (law.nest_averages query item [] part known c bits here.knowledge can);
+        column = c;
+        bits = bits;
+        knowledge = rounds.legal round (omega arith);
+        can = subst (λ (s : Stage). CanTake part s.known c bits) (sym old) can;
+        next = tells reads rounds (round + 1) (omega arith) ∙ ap (λ counts. at (known_of part (projected query cells) counts)) counted
+            ∙ ap at (sym same) ∙ ap (λ (s : Stage). at (taken s.known c bits)) (sym old);
       }
+
+  -- a bound after one plane more lies within the one before
+  item_is_nested : (reads : List ℕ) (round : ℕ) → OneMore reads round → (item : Item) (key : Key) →
+      LiesWithin (stage_of query frame cells reads round) (stage_of query frame cells reads (round + 1)) item key
+  item_is_nested reads round more item key =
+      let part = part_of query frame in
+      let known = (stage_of query frame cells reads round).known in
+      subst (λ s. LiesWithin (stage_of query frame cells reads round) s item key) (sym more.next) (record {
+        bound = λ plain. law.nest query item key part known more.column more.bits plain more.knowledge more.can;
+        average = λ _. law.nest_averages query item key part known more.column more.bits more.knowledge more.can;
+      })
+
+  -- certain and excluded rows stay so
+  standings_stay : (reads : List ℕ) (round : ℕ) → OneMore reads round →
+      StandingsStay (stage_of query frame cells reads round) (stage_of query frame cells reads (round + 1))
+  standings_stay reads round more =
+      subst (StandingsStay (stage_of query frame cells reads round)) (sym more.next)
+      (λ r r_in. law.keep query.pred (order_of query.shape) (part_of query frame) (stage_of query frame cells reads round).known more.column more.bits r more.knowledge more.can r_in)
 
   pub are_certain : (reads : List ℕ) → AreRounds plan query frame (plane_of frame cells) reads → AreCertain query frame cells reads
   are_certain reads rounds = record {
     itself = λ round h. subst (λ (s : Stage). AgreesWith query frame s.known cells) (sym (tells reads rounds round h)) (agrees reads rounds round h).agrees;
-    certain = λ round h i item there. item_is_certain (stage_after query frame (plane_of frame cells) reads round).known item (rounds.legal round h);
-    nested = λ round h i item there.
-        subst (λ (s : Stage). LiesWithin s (stage_after query frame (plane_of frame cells) reads (round + 1)) item) (sym (tells reads rounds round (omega arith)))
-        (subst (λ (s : Stage). LiesWithin (stage_with query frame cells (counts_after query reads round)) s item) (sym (tells reads rounds (round + 1) (omega arith))) (item_is_nested reads rounds round h item));
+    values = λ round h row column row_in column_in. value_is_certain (stage_of query frame cells reads round).known row column (rounds.legal round h) row_in column_in;
+    certain = λ round h key is i item there. item_is_certain (stage_of query frame cells reads round).known item key (rounds.legal round h);
+    nested = λ round h key is i item there. item_is_nested reads round (one_more reads rounds round h) item key;
+    results = λ round h key is. key_is_certain (stage_of query frame cells reads round).known key (rounds.legal round h);
+    in_cells = λ round h key is. has_cell law.cells (stage_of query frame cells reads round) (rounds.legal round h) key is;
+    standings = λ top round h row row_in. standing_is_certain (stage_of query frame cells reads round).known row (rounds.legal round h) row_in;
+    kept = λ top round h. standings_stay reads round (one_more reads rounds round h);
     few = few_rounds plan query frame (plane_of frame cells) reads rounds;
   }
 

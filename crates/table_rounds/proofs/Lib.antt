@@ -8,6 +8,7 @@ pub mod Reached
 pub mod Going
 pub mod Agreeing
 pub mod OfTables
+pub mod Keys
 pub mod Certain
 pub mod One
 pub mod Taking

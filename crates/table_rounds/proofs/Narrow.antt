@@ -1,22 +1,37 @@
 -- With nothing unread a round is narrow, for every width.
-use Rattle.std.proofs.Common.{◌≡◌, ◌≢◌, ℕ, ◌*◌, ℤ, pos, ◌-ℤ◌, ◌*ℤ◌, int_le, Bool, List, [], ◌∷◌, refl, sym, ◌∙◌, subst, arith, IsTrue}
+use Rattle.std.proofs.Common.{◌≡◌, ◌≢◌, ℕ, zero, suc, ◌+◌, ◌<◌, ◌≤◌, ◌*◌, ℤ, pos, ◌-ℤ◌, ◌*ℤ◌, int_le, Bool, not, List, [], ◌∷◌, refl, sym, ◌∙◌, subst, arith, IsTrue}
 use Rattle.std.proofs.lemmas.Int.{ints}
-use Rattle.std.specs.List.{list_all}
+use Rattle.std.specs.List.{list_all, range_with_len}
 use Rattle.interval_calc.specs.Intervals.{Fraction}
+use Rattle.query_model.specs.Answers.{every_row}
 use Rattle.query_model.specs.Bounds.{AverageBound, Pair, average_bound_of, bound_of, nullity_of, pairs}
-use Rattle.query_model.specs.Laws.{AverageEndsMeet, EndsMeet, WordsBecomeExact}
+use Rattle.query_model.specs.Groups.{cell_count, pairs_in_cell, presence_in_cell}
+use Rattle.query_model.specs.Laws.{AverageEndsMeet, AverageEndsOfCellsMeet, EndsMeet, EndsOfCellsMeet, StandingsBecomeExact, WordsBecomeExact, WordsOfCellsBecomeExact}
+use Rattle.query_model.specs.Queries.{Aggregate, Query}
+use Rattle.query_model.specs.Ranking.{order_of, standing_under}
 use Rattle.query_model.specs.declared.bounds.Bound.{Bound}
 use Rattle.query_model.specs.declared.bounds.Nullity.{Nullity}
 use Rattle.query_model.specs.declared.bounds.Nullity.TheVariants.{Always, Never, Possibly}
-use Rattle.query_model.specs.declared.query.Item.{Item}
+use Rattle.query_model.specs.declared.bounds.Standing.{Standing}
+use Rattle.query_model.specs.declared.bounds.Standing.TheVariants.{Certain, Possible, Excluded}
 use Rattle.query_model.specs.declared.query.ItemKind.{ItemKind}
 use Rattle.query_model.specs.declared.query.ItemKind.TheVariants.{Count, Sum, Min, Max, Avg}
-use Rattle.round_engine.specs.Narrowness.{is_narrow_average, is_narrow_bound, is_narrow_item, is_told}
+use Rattle.query_model.specs.declared.query.Shape.{Shape}
+use Rattle.query_model.specs.declared.query.Shape.TheVariants.{Plain, Grouped, Top}
+use Rattle.round_engine.specs.Narrowness.{are_narrow, is_narrow_average, is_narrow_bound, is_narrow_cell, is_narrow_form, is_narrow_item, is_settled, is_told}
+use Rattle.topk_bounds.specs.Standings.{is_possible}
 use Rattle.table_rounds.specs.Headline.{FullStagesAreNarrow}
 
 all_hold : {A : Type 0} (test : A → Bool) (xs : List A) → ((x : A) → IsTrue (test x)) → IsTrue (list_all test xs)
 all_hold test [] h = refl
 all_hold test (x ∷ xs) h = let first = h x in let rest = all_hold test xs h in grind arith
+
+all_below : (test : ℕ → Bool) (a n : ℕ) → ((r : ℕ) → a ≤ r → r < a + n → IsTrue (test r)) → IsTrue (list_all test (range_with_len a n))
+all_below test a zero h = refl
+all_below test a (suc n) h =
+    let first = h a (omega arith) (omega arith) in
+    let rest = all_below test (suc a) n (λ r low high. h r (omega arith) (omega arith)) in
+    grind arith
 
 narrow_bound : (width : ℕ) (bound : Bound) → bound.null ≢ Possibly → (bound.null ≢ Always → bound.lo ≡ bound.hi) → IsTrue (is_narrow_bound width bound)
 narrow_bound width bound known meet = by bound.null bound.lo bound.hi known meet
@@ -49,22 +64,72 @@ average_word : (ps : List Pair) → (average_bound_of ps).null ≡ nullity_of ps
 average_word [] = refl
 average_word (p ∷ ps) = refl
 
-pub full_stages_are_narrow : EndsMeet → AverageEndsMeet → WordsBecomeExact → FullStagesAreNarrow
-full_stages_are_narrow meet meet_average words width stage known read = all_hold (λ item. is_narrow_item width item.kind (pairs stage.query item [] stage.frame stage.known)) stage.query.items narrow
+-- what is known of lists of pairs when everything is read
+record AreExact (pairs_for : Aggregate → List Pair) : Type 0 where
+  pub words : (item : Aggregate) → nullity_of (pairs_for item) ≢ Possibly
+  pub ends : (item : Aggregate) → item.kind ≢ Avg → (bound_of item.kind (pairs_for item)).null ≢ Always →
+      (bound_of item.kind (pairs_for item)).lo ≡ (bound_of item.kind (pairs_for item)).hi
+  pub averages : (item : Aggregate) → (average_bound_of (pairs_for item)).null ≢ Always →
+      (average_bound_of (pairs_for item)).lo ≡ (average_bound_of (pairs_for item)).hi
+
+items_are_narrow : (width : ℕ) (items : List Aggregate) (pairs_for : Aggregate → List Pair) → AreExact pairs_for → IsTrue (are_narrow width items pairs_for)
+items_are_narrow width items pairs_for exact = all_hold (λ item. is_narrow_item width item.kind (pairs_for item)) items (λ item. by item item.kind refl)
   where
-    ends : (item : Item) (kind : ItemKind) → item.kind ≡ kind → kind ≢ Avg → (bound_of kind (pairs stage.query item [] stage.frame stage.known)).null ≢ Always →
-        (bound_of kind (pairs stage.query item [] stage.frame stage.known)).lo ≡ (bound_of kind (pairs stage.query item [] stage.frame stage.known)).hi
-    ends item kind e plain = subst (λ k. (bound_of k (pairs stage.query item [] stage.frame stage.known)).null ≢ Always → (bound_of k (pairs stage.query item [] stage.frame stage.known)).lo ≡ (bound_of k (pairs stage.query item [] stage.frame stage.known)).hi) e
-        (meet stage.query item [] stage.frame stage.known (λ a. plain (sym e ∙ a)) known read)
+    ends : (item : Aggregate) (kind : ItemKind) → item.kind ≡ kind → kind ≢ Avg → (bound_of kind (pairs_for item)).null ≢ Always →
+        (bound_of kind (pairs_for item)).lo ≡ (bound_of kind (pairs_for item)).hi
+    ends item kind e plain = subst (λ k. (bound_of k (pairs_for item)).null ≢ Always → (bound_of k (pairs_for item)).lo ≡ (bound_of k (pairs_for item)).hi) e
+        (exact.ends item (λ a. plain (sym e ∙ a)))
 
-    by : (item : Item) (kind : ItemKind) → item.kind ≡ kind → IsTrue (is_narrow_item width kind (pairs stage.query item [] stage.frame stage.known))
-    by item Count e = narrow_bound width (bound_of Count (pairs stage.query item [] stage.frame stage.known)) never_possibly (λ n. ends item Count e (λ a. cc) n)
-    by item Sum e = narrow_bound width (bound_of Sum (pairs stage.query item [] stage.frame stage.known)) (words stage.query item [] stage.frame stage.known known read) (λ n. ends item Sum e (λ a. cc) n)
-    by item Min e = narrow_bound width (bound_of Min (pairs stage.query item [] stage.frame stage.known)) (words stage.query item [] stage.frame stage.known known read) (λ n. ends item Min e (λ a. cc) n)
-    by item Max e = narrow_bound width (bound_of Max (pairs stage.query item [] stage.frame stage.known)) (words stage.query item [] stage.frame stage.known known read) (λ n. ends item Max e (λ a. cc) n)
-    by item Avg e = narrow_average width (average_bound_of (pairs stage.query item [] stage.frame stage.known))
-        (subst (λ w. w ≢ Possibly) (sym (average_word (pairs stage.query item [] stage.frame stage.known))) (words stage.query item [] stage.frame stage.known known read))
-        (meet_average stage.query item [] stage.frame stage.known known read)
+    by : (item : Aggregate) (kind : ItemKind) → item.kind ≡ kind → IsTrue (is_narrow_item width kind (pairs_for item))
+    by item Count e = narrow_bound width (bound_of Count (pairs_for item)) never_possibly (λ n. ends item Count e (λ a. cc) n)
+    by item Sum e = narrow_bound width (bound_of Sum (pairs_for item)) (exact.words item) (λ n. ends item Sum e (λ a. cc) n)
+    by item Min e = narrow_bound width (bound_of Min (pairs_for item)) (exact.words item) (λ n. ends item Min e (λ a. cc) n)
+    by item Max e = narrow_bound width (bound_of Max (pairs_for item)) (exact.words item) (λ n. ends item Max e (λ a. cc) n)
+    by item Avg e = narrow_average width (average_bound_of (pairs_for item)) (subst (λ w. w ≢ Possibly) (sym (average_word (pairs_for item))) (exact.words item)) (exact.averages item)
 
-    narrow : (item : Item) → IsTrue (is_narrow_item width item.kind (pairs stage.query item [] stage.frame stage.known))
-    narrow item = by item item.kind refl
+told_near : (word : Nullity) (near : Bool) → word ≢ Possibly → IsTrue near → IsTrue (is_told word near)
+told_near Never near known h = h
+told_near Possibly near known h = absurd (known refl)
+told_near Always near known h = refl
+
+settled : (standing : Standing) → standing ≢ Possible → IsTrue (not (is_possible standing))
+settled Certain known = refl
+settled Possible known = absurd (known refl)
+settled Excluded known = refl
+
+-- the laws of what is read to its end
+pub record ExactLaws : Type 0 where
+  pub words : WordsBecomeExact
+  pub ends : EndsMeet
+  pub averages : AverageEndsMeet
+  pub words_of_cells : WordsOfCellsBecomeExact
+  pub ends_of_cells : EndsOfCellsMeet
+  pub averages_of_cells : AverageEndsOfCellsMeet
+  pub standings : StandingsBecomeExact
+
+pub full_stages_are_narrow : ExactLaws → FullStagesAreNarrow
+full_stages_are_narrow law width stage known read = by stage.query.shape
+  where
+    query : Query
+    query = stage.query
+
+    all_items : IsTrue (are_narrow width query.items (λ item. pairs query item [] stage.frame stage.known))
+    all_items = items_are_narrow width query.items (λ item. pairs query item [] stage.frame stage.known) (record {
+      words = λ item. law.words query item [] stage.frame stage.known known read;
+      ends = λ item plain. law.ends query item [] stage.frame stage.known plain known read;
+      averages = λ item. law.averages query item [] stage.frame stage.known known read;
+    })
+
+    in_cell : (cell : ℕ) → IsTrue (is_narrow_cell width stage cell)
+    in_cell cell = told_near (presence_in_cell query cell stage.frame stage.known) _ (law.words_of_cells query every_row stage.frame stage.known cell known read)
+        (items_are_narrow width query.items (λ item. pairs_in_cell query item cell stage.frame stage.known) (record {
+          words = λ item. law.words_of_cells query item stage.frame stage.known cell known read;
+          ends = λ item plain. law.ends_of_cells query item stage.frame stage.known cell plain known read;
+          averages = λ item. law.averages_of_cells query item stage.frame stage.known cell known read;
+        }))
+
+    by : (shape : Shape) → IsTrue (is_narrow_form width stage shape)
+    by Plain = all_items
+    by (Grouped columns) = all_hold (is_narrow_cell width stage) (range_with_len 0 (cell_count stage.known columns)) in_cell
+    by (Top key down limit) = all_below (is_settled stage) 0 stage.frame.rows
+        (λ r low r_in. settled (standing_under query stage.frame stage.known r) (law.standings query.pred (order_of query.shape) stage.frame stage.known r known read (omega arith)))

@@ -1,21 +1,26 @@
--- What the bounds of each round say of the answers on the table.
+-- What each round says of the answers on the table: its values, the bounds of its items, its keys and its first rows.
 use Rattle.std.specs.Prelude.{◌≡◌, ◌⊎◌, ℕ, ◌+◌, ◌<◌, ◌≤◌, List, [], ◌++◌, length, map, take, slice_get, IsTrue, IsNone}
 use Rattle.std.specs.declared.option.Option.TheVariants.{Some}
 use Rattle.std.specs.List.{sum}
-use Rattle.daq_table.specs.Tables.{Cells, Frame, IsTable, frame_of, planes}
+use Rattle.daq_table.specs.Tables.{Cells, Frame, IsTable, frame_of, planes, row_of}
 use Rattle.daq_table.specs.declared.table_head.Head.{Head}
 use Rattle.plane_schedule.specs.Choices.{HasUnread}
 use Rattle.plane_schedule.specs.Plans.{IsReadable}
 use Rattle.plane_schedule.specs.declared.policy.Plan.{Plan}
 use Rattle.plane_schedule.specs.declared.policy.Policy.TheVariants.{Listed}
-use Rattle.query_model.specs.Knowledge.{AreCounts, IsAllRead, IsKnowledge, plane_of}
-use Rattle.query_model.specs.Projection.{projected_frame}
+use Rattle.query_model.specs.Answers.{Key, groups_of}
+use Rattle.query_model.specs.Groups.{IsKey}
+use Rattle.query_model.specs.Knowledge.{AreCounts, IsAllRead, IsKnowledge, plane_of, ranges_of}
+use Rattle.query_model.specs.Projection.{projected, projected_frame}
+use Rattle.query_model.specs.Truths.{IsIn}
+use Rattle.query_model.specs.Validity.{IsTop}
 use Rattle.query_model.specs.Worlds.{AgreesWith, NamesColumns}
 use Rattle.query_model.specs.declared.query.Item.{Item}
 use Rattle.query_model.specs.declared.query.TypedQuery.{TypedQuery}
+use Rattle.round_engine.specs.Cells.{HasCell}
 use Rattle.round_engine.specs.Narrowness.{is_narrow}
 use Rattle.round_engine.specs.Progresses.{planes_read}
-use Rattle.round_engine.specs.Promises.{IsCertain, LiesWithin}
+use Rattle.round_engine.specs.Promises.{IsCertain, IsCertainKey, IsCertainStanding, LiesWithin, StandingsStay}
 use Rattle.round_engine.specs.Stages.{Stage, opened}
 use Rattle.table_rounds.specs.Rounds.{AreAllRounds, AreRefused, AreRounds, HasPlanes, HaveRows, HaveSame, IsAfter, Planes, counts_after, ending_at, outlook_at, stage_after, stage_by, stage_with}
 
@@ -27,17 +32,43 @@ all_planes query frame = sum (map planes (projected_frame query frame).columns)
 abbrev pub stage_of : TypedQuery → Frame → Cells → List ℕ → ℕ → Stage
 stage_of query frame cells reads round = stage_after query frame (plane_of frame cells) reads round
 
+-- a key of the query's groups, on tables with the frame: a query without groups has one, that of no parts
+abbrev pub IsKeyOn : TypedQuery → Frame → Key → Type 0
+IsKeyOn query frame key = IsKey (projected_frame query frame) (groups_of query.shape) key
+
+-- on each table that agrees with what is known, the value of a column at a row is out of its range
+abbrev pub IsCertainValue : Stage → Frame → ℕ → ℕ → Type 0
+IsCertainValue stage frame row column =
+    (world : Cells) → AgreesWith stage.query frame stage.known world →
+    IsIn (ranges_of stage.frame stage.known row column) (row_of stage.frame (projected stage.query world) row column)
+
 -- what holds of each round over a table, up to the last
 pub record AreCertain (query : TypedQuery) (frame : Frame) (cells : Cells) (reads : List ℕ) : Type 0 where
   -- the table itself is among those that agree with what is known
   pub itself : (round : ℕ) → round ≤ length reads → AgreesWith query frame (stage_of query frame cells reads round).known cells
-  -- each item's bound admits its answer on every table that agrees; where the item reads no column twice it is as narrow as it can be, but
-  -- for averages; and where all planes are read, its ends are the answer
-  pub certain : (round : ℕ) → round ≤ length reads → (i : ℕ) (item : Item) → slice_get query.items i ≡ Some item →
-      IsCertain (stage_of query frame cells reads round) item frame
+  -- each value lies in its range on every table that agrees
+  pub values : (round : ℕ) → round ≤ length reads → (row column : ℕ) → row < frame.rows → column < length query.columns →
+      IsCertainValue (stage_of query frame cells reads round) frame row column
+  -- for each key, each item's bound admits its answer on every table that agrees; where the item reads no column twice it is as narrow as it
+  -- can be, but for averages; and where all planes are read, its ends are the answer
+  pub certain : (round : ℕ) → round ≤ length reads → (key : Key) → IsKeyOn query frame key →
+      (i : ℕ) (item : Item) → slice_get query.items i ≡ Some item → IsCertain (stage_of query frame cells reads round) item key frame
   -- each bound lies within the one before
-  pub nested : (round : ℕ) → round < length reads → (i : ℕ) (item : Item) → slice_get query.items i ≡ Some item →
-      LiesWithin (stage_of query frame cells reads round) (stage_of query frame cells reads (round + 1)) item
+  pub nested : (round : ℕ) → round < length reads → (key : Key) → IsKeyOn query frame key →
+      (i : ℕ) (item : Item) → slice_get query.items i ≡ Some item →
+      LiesWithin (stage_of query frame cells reads round) (stage_of query frame cells reads (round + 1)) item key
+  -- a key is said to be in the result only where it is in that of each table that agrees, and to be missing only where it is in none
+  pub results : (round : ℕ) → round ≤ length reads → (key : Key) → IsKeyOn query frame key →
+      IsCertainKey (stage_of query frame cells reads round) key frame
+  -- each key is in one cell, and what is told of the cell is so of the key
+  pub in_cells : (round : ℕ) → round ≤ length reads → (key : Key) → IsKeyOn query frame key →
+      HasCell (stage_of query frame cells reads round) key
+  -- where the first rows in an order are asked for, a certain row is among them on each table that agrees, and an excluded row on none
+  pub standings : IsTop query.shape → (round : ℕ) → round ≤ length reads → (row : ℕ) → row < frame.rows →
+      IsCertainStanding (stage_of query frame cells reads round) row frame
+  -- certain and excluded rows stay so
+  pub kept : IsTop query.shape → (round : ℕ) → round < length reads →
+      StandingsStay (stage_of query frame cells reads round) (stage_of query frame cells reads (round + 1))
   -- there are no more rounds that read a plane than there are planes
   pub few : length reads ≤ all_planes query frame
 

@@ -5,10 +5,15 @@ ghost use Rattle.table_rounds.specs.Headline.{FullStagesAreNarrow, LegalPlanesHa
 use plane_schedule::{choices_are_one, policies_choose};
 use query_model::{
     average_bounds_become_exact_on_tables, average_bounds_contain_on_tables, average_bounds_nest,
-    average_ends_meet, bounds_are_extremes_on_tables, bounds_become_exact_on_tables,
-    bounds_contain_on_tables, bounds_nest, ends_meet, planes_are_taken, start_is_knowledge,
+    average_ends_meet, average_ends_of_cells_meet, bounds_are_extremes_on_tables,
+    bounds_become_exact_on_tables, bounds_contain_on_tables, bounds_nest,
+    completions_are_selections, ends_meet, ends_of_cells_meet, keys_have_cells, keys_have_ranges,
+    legal_cells_have_keys, pairs_go_by_cells, planes_are_taken, results_are_told_on_tables,
+    standings_are_right_on_tables, standings_become_exact, standings_nest, start_is_knowledge,
     tables_agree, tables_exist, tables_have_parts, taken_is_knowledge, words_become_exact,
+    words_of_cells_become_exact,
 };
+use row_groups::cells_tell_keys;
 
 /// The planes of a table tell of it what is known of it.
 pub fn tables_tell_stages()
@@ -37,6 +42,10 @@ pub fn full_stages_are_narrow()
     ends_meet();
     average_ends_meet();
     words_become_exact();
+    ends_of_cells_meet();
+    average_ends_of_cells_meet();
+    words_of_cells_become_exact();
+    standings_become_exact();
 }
 
 /// So a plane is unread wherever the rounds go on.
@@ -83,14 +92,16 @@ pub fn tables_are_taken()
     planes_are_taken();
 }
 
-/// In each round each table that has the planes read agrees with what is known; each bound admits the answer on every table that does, is
-/// as narrow as it can be where its item reads no column twice and is no average, and lies within the one before; with all planes read
-/// its ends are the answer. There are no more reads than planes.
+/// In each round each table that has the planes read agrees with what is known; each value lies in its range; for each key each bound admits the answer on every table
+/// that does, is as narrow as it can be where its item reads no column twice and is no average, and lies within the one before; with all
+/// planes read its ends are the answer. A key that is said to be in the result is, and so is a row that is said to be among the first.
+/// There are no more reads than planes.
 pub fn rounds_are_certain()
     ensures { RoundsAreCertain }
 {
     tables_agree();
     planes_are_taken();
+    completions_are_selections();
     bounds_contain_on_tables();
     bounds_are_extremes_on_tables();
     bounds_become_exact_on_tables();
@@ -98,6 +109,16 @@ pub fn rounds_are_certain()
     average_bounds_contain_on_tables();
     average_bounds_become_exact_on_tables();
     average_bounds_nest();
+    results_are_told_on_tables();
+    words_become_exact();
+    keys_have_cells();
+    legal_cells_have_keys();
+    keys_have_ranges();
+    pairs_go_by_cells();
+    cells_tell_keys();
+    standings_are_right_on_tables();
+    standings_become_exact();
+    standings_nest();
 }
 
 /// Each round but the first reads one plane.

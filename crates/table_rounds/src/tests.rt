@@ -146,35 +146,47 @@ fn next_column(
     }
 }
 
+// The columns of three rounds; before the third the source fails.
+fn three_columns(
+    engine: &mut Engine,
+    source: &mut Numbers,
+    plane: &mut Plane,
+) -> [Result<Option<usize>, StepFault<u8>>; 3]
+    requires fits { FitsHead engine.old.query engine.old.frame source.old.head }
+    requires rows { length plane.old ≡ engine.old.frame.rows }
+{
+    let first = next_column(engine, source, plane);
+    let second = next_column(engine, source, plane);
+    source.fails = true;
+    let third = next_column(engine, source, plane);
+    [first, second, third]
+}
+
+// The same over a column of the numbers 7 and 2.
+fn columns_told(alloc: Global) -> Result<[Result<Option<usize>, StepFault<u8>>; 3], AllocError> {
+    let head = small_head(alloc)?;
+    let cells = vec![in alloc; 7, 2]?;
+    let mut plane = Plane::blank(alloc, 2)?;
+    let mut engine = opened(alloc, &head)?;
+    let mut source = Numbers {
+        head,
+        cells,
+        fails: false,
+    };
+    Ok(three_columns(&mut engine, &mut source, &mut plane))
+}
+
 // The first plane is read; with the second the digits of 7 would pass those of 5. A fault of the source is handed on.
 #[test]
 fn faults_are_told(rt: HostRuntime) -> Result<(), Fail> {
-    let alloc = rt.alloc();
-    let head = small_head(alloc)?;
-    let mut engine = opened(alloc, &head)?;
-    let mut plane = Plane::blank(alloc, 2)?;
-    let mut source = Numbers {
-        head,
-        cells: vec![in alloc; 7, 2]?,
-        fails: false,
-    };
-    assert_eq!(rt;
-        next_column(&mut engine, &mut source, &mut plane),
-        Ok(Some(0))
-    );
+    let told = columns_told(rt.alloc())?;
     let over = StepFault::OverTop {
         column: 0,
         plane: 1,
         row: 0,
     };
-    assert_eq!(rt;
-        next_column(&mut engine, &mut source, &mut plane),
-        Err(over)
-    );
-    source.fails = true;
-    assert_eq!(rt;
-        next_column(&mut engine, &mut source, &mut plane),
-        Err(StepFault::Source(7))
-    );
+    assert_eq!(rt; told[0], Ok(Some(0)));
+    assert_eq!(rt; told[1], Err(over));
+    assert_eq!(rt; told[2], Err(StepFault::Source(7)));
     Ok(())
 }

@@ -4,6 +4,19 @@ use Rattle.table_rounds.proofs.laws.rounds_are_certain.Goals as goal
 pub returns : goal.returns
 returns c = rounds_are_certain
     (record {
+      values = c.completions_are_selections.ensures;
+      cells = record {
+        have = c.keys_have_cells.ensures;
+        legal = c.legal_cells_have_keys.ensures;
+        ranges = c.keys_have_ranges.ensures;
+        pairs = c.pairs_go_by_cells.ensures;
+        tell = c.cells_tell_keys.ensures;
+      };
+      results = c.results_are_told_on_tables.ensures;
+      words = c.words_become_exact.ensures;
+      standings = c.standings_are_right_on_tables.ensures;
+      settled = c.standings_become_exact.ensures;
+      keep = c.standings_nest.ensures;
       agree = c.tables_agree.ensures;
       taking = c.planes_are_taken.ensures;
       contain = c.bounds_contain_on_tables.ensures;
