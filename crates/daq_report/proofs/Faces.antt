@@ -1,5 +1,5 @@
 -- The ends of the bound of an item can be shown under the item's face.
-use Rattle.std.proofs.Common.{◌≡◌, ◌≢◌, ℕ, zero, suc, ◌<◌, ◌≤◌, ℤ, List, [], ◌∷◌, length, map, get_or, slice_get, Some, IfSome, refl, sym, ap, subst, ◌∙◌, arith}
+use Rattle.std.proofs.Common.{◌≡◌, ◌≢◌, ℕ, zero, suc, ◌<◌, ◌≤◌, ℤ, List, [], ◌∷◌, length, map, get_or, slice_get, Option, Some, IfSome, refl, sym, ap, subst, ◌∙◌, arith}
 use Rattle.std.proofs.lemmas.List.{get_or-map}
 use Rattle.std.specs.List.{AllByRecursion}
 use Rattle.interval_calc.specs.Intervals.{Within}
@@ -22,7 +22,7 @@ use Rattle.query_model.specs.declared.query.TypedQuery.{TypedQuery}
 use Rattle.round_engine.specs.Promises.{IsShownWithin}
 use Rattle.round_engine.specs.Stages.{IsOpenItem, IsOpenQuery}
 use Rattle.daq_report.specs.Intervals.{column_of}
-use Rattle.daq_report.specs.Ends.{CanShowBound, CanShowEnds, HasNumber, IfShown, IsThere}
+use Rattle.daq_report.specs.Ends.{CanShow, CanShowBound, CanShowEnds, HasNumber, IfShown, IsThere}
 
 -- ---- the columns of the query
 
@@ -109,19 +109,32 @@ open_at frame [] place item h e = absurd (cc)
 open_at frame (i ∷ is) zero item h e = subst (IsOpenItem frame) (cc) h.0
 open_at frame (i ∷ is) (suc place) item h e = open_at frame is place item h.1 e
 
+-- a number that a column of the query may have can be shown as one of its values
+pub number_shows : (head : Head) (query : TypedQuery) (part : Frame) (c : ℕ) (value : ℤ) → FitsHead query part head → HeadHasTexts head → c < length query.columns →
+    Within (declared_range (ends_at part c)).numbers value → CanShow head query (OfColumn c) value
+number_shows head query part c value fits texts below within =
+    let at = column_there head query part c fits below in
+    let w = subst (λ ends. Within (declared_range ends).numbers value) at.ends within in
+    let has : HasNumber at.column value = record { above = w.above; below = w.below; texts = texts at.place at.column at.in_table } in
+    (at.there, subst (λ (o : Option ColumnHead). IfSome o (λ column. HasNumber column value)) (sym at.is) has)
+
+-- a bound within a column of the query can be shown as values of the column
+pub column_shows : (head : Head) (query : TypedQuery) (part : Frame) (c : ℕ) (bound : Bound) → FitsHead query part head → HeadHasTexts head → c < length query.columns →
+    IsShownWithin part (OfColumn c) bound → CanShowBound head query (OfColumn c) bound
+column_shows head query part c bound fits texts below shown =
+    if_shown bound.null (CanShowEnds head query (OfColumn c) bound.lo bound.hi) (λ some.
+    record {
+      low_end = number_shows head query part c bound.lo fits texts below (shown some).0;
+      high_end = number_shows head query part c bound.hi fits texts below (shown some).1;
+    })
+
 by_face : (head : Head) (query : TypedQuery) (part : Frame) (kind : ItemKind) (arg : Term) (face : Face) (bound : Bound) → FitsHead query part head → HeadHasTexts head → FaceOf kind arg face →
     ReadsBelow (length query.columns) arg → IsShownWithin part face bound → CanShowBound head query face bound
 by_face head query part kind arg (Number scale) bound fits texts face reads shown =
     let few = few_decimals kind arg scale face in
     if_shown bound.null (CanShowEnds head query (Number scale) bound.lo bound.hi) (λ some. record { low_end = few; high_end = few })
 by_face head query part kind arg (OfColumn c) bound fits texts face reads shown =
-    let at = column_there head query part c fits (own_column (length query.columns) kind arg c face reads) in
-    let has = texts at.place at.column at.in_table in
-    let number : (value : ℤ) → Within (declared_range (ends_at part c)).numbers value → IfSome (column_of head query c) (λ column. HasNumber column value) =
-    (λ value h. let w = subst (λ ends. Within (declared_range ends).numbers value) at.ends h in
-    subst (λ o. IfSome o (λ column. HasNumber column value)) (sym at.is) (record { above = w.above; below = w.below; texts = has })) in
-    if_shown bound.null (CanShowEnds head query (OfColumn c) bound.lo bound.hi)
-    (λ some. record { low_end = (at.there, number bound.lo (shown some).0); high_end = (at.there, number bound.hi (shown some).1) })
+    column_shows head query part c bound fits texts (own_column (length query.columns) kind arg c face reads) shown
 
 pub bound_shows : (head : Head) (query : TypedQuery) (part : Frame) (place : ℕ) (item : Item) (bound : Bound) → FitsHead query part head → HeadHasTexts head → IsOpenQuery query part →
     slice_get query.items place ≡ Some item → IsShownWithin part item.face bound → CanShowBound head query item.face bound

@@ -1,13 +1,18 @@
 -- The text of a block: the line of the round, and the lines of the query's form.
-use Rattle.std.specs.Prelude.{ℕ, List, ◌++◌, codes, decimal}
+use Rattle.std.specs.Prelude.{ℕ, Bool, List, ◌++◌, codes, decimal}
 use Rattle.std.specs.declared.option.Option.{Option}
 use Rattle.std.specs.declared.option.Option.TheVariants.{Some, None}
 use Rattle.daq_table.specs.Tables.{ends_at, planes}
 use Rattle.daq_table.specs.declared.table_head.Head.{Head}
 use Rattle.query_model.specs.Knowledge.{known_at}
+use Rattle.query_model.specs.declared.query.Shape.{Shape}
+use Rattle.query_model.specs.declared.query.Shape.TheVariants.{Plain, Grouped, Top}
 use Rattle.round_engine.specs.Stages.{Stage}
 use Rattle.daq_report.specs.Intervals.{column_of, name_of}
-use Rattle.daq_report.specs.Totals.{totals_text}
+use Rattle.daq_report.specs.Groups.{groups_text}
+use Rattle.daq_report.specs.Items.{items_text}
+use Rattle.daq_report.specs.Rankings.{ranking_text}
+use Rattle.daq_report.specs.declared.scope.Scope.TheVariants.{AllRows}
 
 -- a column by its name, how many of its planes are read, and of how many
 abbrev pub planes_text : Head → Stage → ℕ → List ℕ
@@ -20,9 +25,12 @@ abbrev pub round_line : Head → Stage → ℕ → Option ℕ → List ℕ
 round_line head stage round None = codes "round " ++ (decimal round ++ codes "\n")
 round_line head stage round (Some c) = codes "round " ++ (decimal round ++ (planes_text head stage c ++ codes "\n"))
 
--- the lines of the query's form: totals are the one form so far
-abbrev pub form_text : Head → Stage → List ℕ
-form_text head stage = totals_text head stage
+-- the lines of the query's form: the items over all rows, the groups, or the first rows in an order
+abbrev pub form_text : Head → Bool → Stage → Shape → List ℕ
+form_text head list stage Plain = items_text head stage AllRows
+form_text head list stage (Grouped columns) = groups_text head stage columns
+form_text head list stage (Top key down limit) = ranking_text head stage key limit list
 
-abbrev pub block_text : Head → Stage → ℕ → Option ℕ → List ℕ
-block_text head stage round last = round_line head stage round last ++ form_text head stage
+-- with a list, rows of which it is not known yet whether they are among the first are shown too
+abbrev pub block_text : Head → Bool → Stage → ℕ → Option ℕ → List ℕ
+block_text head list stage round last = round_line head stage round last ++ form_text head list stage stage.query.shape

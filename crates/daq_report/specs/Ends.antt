@@ -1,12 +1,13 @@
 -- Which ends of a bound can be shown under a face.
-use Rattle.std.specs.Prelude.{ℕ, ◌≤◌, ◌<◌, ℤ, ◌≤ℤ◌, List, length, slice_index, IfSome}
-use Rattle.interval_calc.specs.Intervals.{Fraction}
+use Rattle.std.specs.Prelude.{ℕ, ◌≤◌, ◌<◌, ℤ, ◌≤ℤ◌, List, [], ◌∷◌, length, slice_index, IfSome}
+use Rattle.interval_calc.specs.Intervals.{Fraction, Interval}
 use Rattle.interval_calc.specs.declared.Fraction as fractions
 use Rattle.daq_table.specs.ValueTexts.{HasTexts}
 use Rattle.daq_table.specs.declared.head.ColumnHead.{ColumnHead}
 use Rattle.daq_table.specs.declared.head.Kind.{Kind}
 use Rattle.daq_table.specs.declared.head.Kind.TheVariants.{Int, Dec, Date, Text}
 use Rattle.daq_table.specs.declared.table_head.Head.{Head}
+use Rattle.query_model.specs.Truths.{Range}
 use Rattle.query_model.specs.declared.query.Face.{Face}
 use Rattle.query_model.specs.declared.query.Face.TheVariants.{Number, OfColumn}
 use Rattle.query_model.specs.declared.query.TypedQuery.{TypedQuery}
@@ -14,6 +15,7 @@ use Rattle.query_model.specs.declared.bounds.AverageBound as averages
 use Rattle.query_model.specs.declared.bounds.Bound.{Bound}
 use Rattle.query_model.specs.declared.bounds.Nullity.{Nullity}
 use Rattle.query_model.specs.declared.bounds.Nullity.TheVariants.{Never, Possibly, Always}
+use Rattle.daq_report.specs.Groups.{dotted}
 use Rattle.daq_report.specs.Intervals.{column_of, ends_text}
 use Rattle.daq_report.specs.declared.intervals.Ends.{Ends}
 
@@ -57,6 +59,19 @@ CanShowBound head query face bound = IfShown bound.null (CanShowEnds head query 
 abbrev pub CanShowAverage : Head → TypedQuery → Face → averages.AverageBound → Type 0
 CanShowAverage head query face bound = IfShown bound.null (CanShowEnds head query face bound.lo.num bound.hi.num)
 
+-- the first and the last number of a part of a key can be shown
+pub record CanShowSpan (column : ColumnHead) (numbers : Interval) : Type 0 where
+  pub low_end : HasNumber column numbers.low
+  pub high_end : HasNumber column numbers.high
+
+-- for each group column there is a part, and its numbers can be shown
+abbrev pub CanShowKey : Head → TypedQuery → List ℕ → List Range → Type 0
+CanShowKey head query [] [] = Unit {0}
+CanShowKey head query [] (range ∷ ranges) = ⊥
+CanShowKey head query (c ∷ cs) [] = ⊥
+CanShowKey head query (c ∷ cs) (range ∷ ranges) =
+    IsThere head query c × IfSome (column_of head query c) (λ column. CanShowSpan column range.numbers) × CanShowKey head query cs ranges
+
 -- a sum over a number of rows
 abbrev pub fraction_of : fractions.Fraction → Fraction
 fraction_of fraction = record { num = fraction.num; den = fraction.den }
@@ -64,3 +79,6 @@ fraction_of fraction = record { num = fraction.num; den = fraction.den }
 -- the texts of two ends, laid out
 abbrev pub text_of_ends : Ends → List ℕ
 text_of_ends ends = ends_text ends.equal ends.low ends.high
+
+abbrev pub text_of_span : Ends → List ℕ
+text_of_span ends = dotted ends.equal ends.low ends.high

@@ -1,4 +1,6 @@
 pub mod Blocks
 pub mod Ends
+pub mod Groups
 pub mod Intervals
-pub mod Totals
+pub mod Items
+pub mod Rankings

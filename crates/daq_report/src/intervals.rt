@@ -15,9 +15,9 @@ use query_model::{AverageBound, Bound, Face, Nullity, TypedQuery};
 // The texts of both ends, and whether the ends are equal.
 #[derive(Drop)]
 pub(crate) struct Ends {
-    equal: bool,
-    low: TextBuf,
-    high: TextBuf,
+    pub(crate) equal: bool,
+    pub(crate) low: TextBuf,
+    pub(crate) high: TextBuf,
 }
 
 // Writes one text where the ends are equal, else both.
@@ -41,8 +41,8 @@ fn write_ends_or_null<K: Sink>(ends: &Ends, out: &mut K) -> Result<(), Failed>
     write_whole(out, b" or null")
 }
 
-// Writes that there is no answer.
-fn write_null<K: Sink>(out: &mut K) -> Result<(), Failed>
+// Writes that there is no answer, or no value.
+pub(crate) fn write_null<K: Sink>(out: &mut K) -> Result<(), Failed>
     ensures { Writes result (K.state out.old) (K.state out.new) (codes "null") }
 {
     write_whole(out, b"null")

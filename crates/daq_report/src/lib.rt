@@ -1,11 +1,15 @@
-//! The text of a block of a report: the round, and where the answer of each item lies.
+//! The text of a block of a report: the round, and what is known of the answers, by the query's form.
 #![tactic(auto)]
 
 mod block;
+mod groups;
 mod intervals;
+mod items;
+mod keys;
+mod rankings;
 mod round_line;
+mod scope;
 mod texts;
-mod totals;
 
 pub use block::write_block;
 

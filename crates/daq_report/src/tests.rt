@@ -1,15 +1,15 @@
 // Blocks of a small table.
 
-ghost use Rattle.std.specs.Prelude.{◌≡◌, ◌<◌, [], ◌∷◌, length, map, pos, slice_get, Some, IfOk, IfSome};
+ghost use Rattle.std.specs.Prelude.{◌≡◌, ◌<◌, ◌≤◌, [], ◌∷◌, false, length, map, pos, slice_get, Some, IfOk, IfSome};
 ghost use Rattle.daq_table.specs.declared.head.Kind.TheVariants.{Dec};
 ghost use Rattle.daq_table.specs.Tables.{ends_at, frame_of};
 ghost use Rattle.query_model.specs.Validity.{FitsHead};
 ghost use Rattle.query_model.specs.declared.query.Atom.TheVariants.{Compare};
-ghost use Rattle.query_model.specs.Queries.{Column, Literal, Single};
+ghost use Rattle.query_model.specs.Queries.{All, Column, Literal, Single};
 ghost use Rattle.query_model.specs.declared.query.Face.TheVariants.{Number, OfColumn};
 ghost use Rattle.query_model.specs.declared.query.ItemKind.TheVariants.{Avg, Count, Min};
 ghost use Rattle.query_model.specs.declared.query.Comparison.TheVariants.{Ge};
-ghost use Rattle.query_model.specs.declared.query.Shape.TheVariants.{Plain};
+ghost use Rattle.query_model.specs.declared.query.Shape.TheVariants.{Plain, Top};
 ghost use Rattle.daq_table.specs.ValueTexts.{HeadHasTexts};
 
 use crate::write_block;
@@ -22,7 +22,7 @@ use round_engine::Engine;
 use std::alloc::{AllocError, Global};
 use std::test::Fail;
 
-// Two rows of a price from 0.05 to 0.20 and one of two fruits, of which one has a quote.
+// Two rows of a price from 0.05 to 0.20, and null or one of two fruits, of which one has a quote.
 fn market(alloc: Global) -> Result<Head, AllocError>
     ensures rows { IfOk result (λ head. head.rows ≡ 2) }
     ensures columns { IfOk result (λ head. length head.columns ≡ 2) }
@@ -46,7 +46,7 @@ fn market(alloc: Global) -> Result<Head, AllocError>
     let fruit = ColumnHead {
         name: Name::new(Vec::from_slice(alloc, b"fruit")?),
         kind: Kind::Text,
-        nullable: false,
+        nullable: true,
         base: 0,
         top: 1,
         names: Dictionary::new(vec![in alloc; quoted, plum]?),
@@ -90,6 +90,25 @@ fn question(alloc: Global) -> Result<TypedQuery, AllocError>
     })
 }
 
+// The first rows, so many, in the order of the fruit.
+fn ranking(alloc: Global, limit: u32) -> Result<TypedQuery, AllocError>
+    ensures columns { IfOk result (λ query. query.columns ≡ 0 ∷ 1 ∷ []) }
+    ensures items { IfOk result (λ query. query.items ≡ []) }
+    ensures condition { IfOk result (λ query. query.pred ≡ All) }
+    ensures shape { IfOk result (λ query. query.shape ≡ Top 1 false limit) }
+{
+    Ok(TypedQuery {
+        columns: TableColumns::new(vec![in alloc; 0, 1]?),
+        items: Items::new(Vec::new(alloc)),
+        pred: Pred::All,
+        shape: Shape::Top {
+            key: 1,
+            down: false,
+            limit,
+        },
+    })
+}
+
 // The query over the table, of which nothing is read.
 fn opened(alloc: Global, head: &Head) -> Result<Engine, AllocError>
     requires rows { head.now.rows ≡ 2 }
@@ -105,12 +124,23 @@ fn opened(alloc: Global, head: &Head) -> Result<Engine, AllocError>
     Engine::open(alloc, question(alloc)?, head)
 }
 
+// The ranking over the table, of which nothing is read.
+fn ranked(alloc: Global, head: &Head, limit: u32) -> Result<Engine, AllocError>
+    requires columns { length head.now.columns ≡ 2 }
+    requires limit { 1 ≤ limit }
+    requires few { limit ≤ 1000 }
+    ensures fits { IfOk result (λ engine. FitsHead engine.query engine.frame head.now) }
+{
+    Engine::open(alloc, ranking(alloc, limit)?, head)
+}
+
 // A sink of so much room, after the block of round 3 was written to it.
 fn sink_after(
     alloc: Global,
     engine: &Engine,
     head: &Head,
     last: Option<usize>,
+    list: bool,
     room: usize,
 ) -> Result<MemSink, AllocError>
     requires fits { FitsHead engine.now.query engine.now.frame head.now }
@@ -118,22 +148,57 @@ fn sink_after(
     requires last { IfSome last (λ c. c < length engine.now.query.columns) }
 {
     let mut sink = MemSink::with_room(alloc, room, 7, Vec::new(alloc))?;
-    let _done = write_block(engine, head, 3, last, &mut sink).is_ok();
+    let _done = write_block(engine, head, 3, last, list, &mut sink).is_ok();
     Ok(sink)
+}
+
+// The block of a round of the market, in which this column was read, in a sink of so much room.
+fn round_shown(alloc: Global, last: Option<usize>, room: usize) -> Result<MemSink, AllocError>
+    requires last { IfSome last (λ c. c < 2) }
+{
+    let head = market(alloc)?;
+    let engine = opened(alloc, &head)?;
+    sink_after(alloc, &engine, &head, last, false, room)
 }
 
 #[test]
 fn blocks_of_a_round(rt: HostRuntime) -> Result<(), Fail> {
     let alloc = rt.alloc();
-    let head = market(alloc)?;
-    let engine = opened(alloc, &head)?;
     assert_eq!(rt;
-        sink_after(alloc, &engine, &head, Some(0), 300)?.contents(),
+        round_shown(alloc, Some(0), 300)?.contents(),
         b"round 3 price 0/4\n1 [0, 2]\n2 ['it''s', 'plum'] or null\n3 [0.05/2, 0.40/1] or null\n".as_slice()
     );
     assert_eq!(rt;
-        sink_after(alloc, &engine, &head, None, 27)?.contents(),
+        round_shown(alloc, None, 27)?.contents(),
         b"round 3\n1 [0, 2]\n2 ['it''s'".as_slice()
+    );
+    Ok(())
+}
+
+// The block of a ranking of so many rows of the market.
+fn ranking_shown(alloc: Global, limit: u32, list: bool) -> Result<MemSink, AllocError>
+    requires limit { 1 ≤ limit }
+    requires few { limit ≤ 1000 }
+{
+    let head = market(alloc)?;
+    let engine = ranked(alloc, &head, limit)?;
+    sink_after(alloc, &engine, &head, None, list, 300)
+}
+
+#[test]
+fn blocks_of_a_ranking(rt: HostRuntime) -> Result<(), Fail> {
+    let alloc = rt.alloc();
+    assert_eq!(rt;
+        ranking_shown(alloc, 2, false)?.contents(),
+        b"round 3\ntop 2 certain 2 possible 0\nrow 1 certain ['it''s', 'plum'] or null\nrow 2 certain ['it''s', 'plum'] or null\n".as_slice()
+    );
+    assert_eq!(rt;
+        ranking_shown(alloc, 1, false)?.contents(),
+        b"round 3\ntop 1 certain 0 possible 2\n".as_slice()
+    );
+    assert_eq!(rt;
+        ranking_shown(alloc, 1, true)?.contents(),
+        b"round 3\ntop 1 certain 0 possible 2\nrow 1 possible ['it''s', 'plum'] or null\nrow 2 possible ['it''s', 'plum'] or null\n".as_slice()
     );
     Ok(())
 }

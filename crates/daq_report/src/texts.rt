@@ -29,7 +29,7 @@ fn decimals(kind: Kind) -> u8
 }
 
 // A value of a column. It fits, since there are at most 255 decimals.
-fn written_value(column: &ColumnHead, value: i128) -> TextBuf
+pub(crate) fn written_value(column: &ColumnHead, value: i128) -> TextBuf
     requires { HasNumber column.now value }
     ensures text { result ≡ text_of_value column.now value }
     ensures short { length result ≤ 512 }

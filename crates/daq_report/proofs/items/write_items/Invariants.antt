@@ -2,9 +2,9 @@
 use Rattle.std.proofs.Common.{Ok, take}
 use Rattle.outer_world.specs.declared.device.Failed.{Failed}
 use Rattle.outer_world.specs.Whole.{Writes}
-use Rattle.daq_report.specs.Totals.{item_lines}
-use Rattle.daq_report.proofs.totals.write_totals.Given as goal
+use Rattle.daq_report.specs.Items.{item_lines}
+use Rattle.daq_report.proofs.items.write_items.Given as goal
 
 abbrev pub invariant-loop-place : goal.invariant-loop-place
 invariant-loop-place g l =
-    Writes {T = Unit {0}} {E = Failed} (Ok tt) (g.K.Sink.state l.initial.out) (g.K.Sink.state l.out) (item_lines l.head l.engine 1 (take l.place l.engine.query.items))
+    Writes {T = Unit {0}} {E = Failed} (Ok tt) (g.K.Sink.state l.initial.out) (g.K.Sink.state l.out) (item_lines l.head l.engine l.scope 1 (take l.place l.engine.query.items))

@@ -1,0 +1,48 @@
+-- The blocks are written in order.
+use Rattle.std.proofs.Common.{◌≡◌, ◌<◌, ◌≤◌, ℕ, ◌+◌, ◌*◌, ◌-◌, min, List, Ok, arith, subst, ◌∙◌}
+use Rattle.outer_world.specs.declared.device.Failed.{Failed}
+use Rattle.outer_world.specs.Whole.{Writes}
+use Rattle.daq_report.specs.Rankings.{row_text, rows_text, standing_at}
+use Rattle.daq_report.proofs.Sequences.{texts_after, texts_cut}
+use Rattle.daq_report.proofs.Shown.{mask_rows}
+use Rattle.daq_report.proofs.rankings.write_rows.Goals as goal
+
+pub write_rows_in-requires-clause-block : goal.write_rows_in-requires-clause-block
+write_rows_in-requires-clause-block g c =
+    let rows = c.rows.ensures ∙ mask_rows c.args.engine.now _ _ c.certain_rows.ensures in
+    omega (arith, rows, c.div_ceil-blocks.ensures, c.loop-block-test.true)
+
+pub returns-in_err-write_rows_in : goal.returns-in_err-write_rows_in
+returns-in_err-write_rows_in g c =
+    let stage = c.args.engine.now in
+    let first = 64 * c.loop-block.block in
+    let text : ℕ → List ℕ = λ r. row_text c.args.head.now stage c.args.key c.args.list r (standing_at stage r) in
+    let rows = c.rows.ensures ∙ mask_rows stage _ _ c.certain_rows.ensures in
+    let below : first < stage.frame.rows = omega (arith, rows, c.div_ceil-blocks.ensures, c.loop-block-test.true) in
+    let so_far = min stage.frame.rows first in
+    let more = min 64 (stage.frame.rows - first) in
+    let at : 0 + so_far ≡ first = omega (arith, below) in
+    let within : so_far + more ≤ stage.frame.rows = omega (arith, below) in
+    texts_cut _ _ _ text 0 so_far more first stage.frame.rows _ _ _ at within c.loop-block.invariant c.from_residual.ensures.0 c.in_err-write_rows_in.ensures
+
+pub loop-block-preserved : goal.loop-block-preserved
+loop-block-preserved g c =
+    let stage = c.args.engine.now in
+    let first = 64 * c.loop-block.block in
+    let text : ℕ → List ℕ = λ r. row_text c.args.head.now stage c.args.key c.args.list r (standing_at stage r) in
+    let rows = c.rows.ensures ∙ mask_rows stage _ _ c.certain_rows.ensures in
+    let below : first < stage.frame.rows = omega (arith, rows, c.div_ceil-blocks.ensures, c.loop-block-test.true) in
+    let so_far = min stage.frame.rows first in
+    let more = min 64 (stage.frame.rows - first) in
+    let at : 0 + so_far ≡ first = omega (arith, below) in
+    let now : so_far + more ≡ min stage.frame.rows (64 * (c.loop-block.block + 1)) = omega (arith, below) in
+    texts_after _ _ _ text 0 so_far more first _ _ _ _ at now c.loop-block.invariant c.in_ok-write_rows_in.ensures
+
+pub returns : goal.returns
+returns g c =
+    let stage = c.args.engine.now in
+    let rows = c.rows.ensures ∙ mask_rows stage _ _ c.certain_rows.ensures in
+    let end : min stage.frame.rows (64 * c.loop-block.block) ≡ stage.frame.rows = omega (arith, rows, c.div_ceil-blocks.ensures) in
+    let old = g.K.Sink.state c.args.out.now in
+    let now = g.K.Sink.state c.loop-block.out in
+    subst (λ (k : ℕ). Writes {T = Unit {0}} {E = Failed} (Ok tt) old now (rows_text c.args.head.now stage c.args.key c.args.list 0 k)) end c.loop-block.invariant

@@ -1,0 +1,186 @@
+// The lines of a ranking: how many rows are among the first for certain and how many perhaps, and these rows.
+
+ghost use Rattle.std.specs.Prelude.{◌≡◌, ◌≤◌, ◌<◌, ◌+◌, ◌*◌, ◌-◌, false, length, min};
+ghost use Rattle.daq_table.specs.ValueTexts.{HeadHasTexts};
+ghost use Rattle.outer_world.specs.Whole.{Writes};
+ghost use Rattle.query_model.specs.Knowledge.{ranges_of};
+ghost use Rattle.query_model.specs.Validity.{FitsHead, IsTop};
+ghost use Rattle.query_model.specs.declared.query.Face.TheVariants.{OfColumn};
+ghost use Rattle.round_engine.specs.Promises.{IsShownWithin};
+ghost use Rattle.daq_report.specs.Rankings.{AreHidden, bound_of_range, ranking_text, row_line, row_start, row_text, rows_text};
+ghost use Rattle.daq_report.specs.Rankings.{standing_at, top_line};
+
+use crate::intervals::write_bound;
+use crate::texts::written_count;
+use daq_table::{Head, TextBuf};
+use outer_world::{Failed, Sink, write_whole};
+use query_model::{Bound, Face, Standing};
+use round_engine::Engine;
+
+// The line of the numbers of rows.
+fn written_top(engine: &Engine, limit: u32) -> TextBuf
+    requires { IsTop engine.now.query.shape }
+    ensures { result ≡ top_line engine.now limit }
+{
+    let mut text = TextBuf::new();
+    text.append(b"top ");
+    text.append(written_count(u64::from(limit)).bytes());
+    text.append(b" certain ");
+    text.append(written_count(engine.certain_rows().count()).bytes());
+    text.append(b" possible ");
+    text.append(written_count(engine.possible_rows().count()).bytes());
+    text.append(b"\n");
+    text
+}
+
+// The front of the line of a row: rows are counted from 1.
+fn written_row(row: usize, standing: &[u8]) -> TextBuf
+    requires row { row < 16777216 }
+    requires short { length standing.now ≤ 100 }
+    ensures { result ≡ row_start standing.now row }
+{
+    let mut text = TextBuf::new();
+    text.append(b"row ");
+    text.append(written_count(row as u64 + 1).bytes());
+    text.append(standing);
+    text
+}
+
+// Where the sort key of a row lies.
+fn sort_bound(engine: &Engine, key: u8, row: usize) -> Bound
+    requires key { key < length engine.now.query.columns }
+    requires row { row < engine.now.frame.rows }
+    ensures bound { result ≡ bound_of_range (ranges_of engine.now.frame engine.now.known row key) }
+    ensures shown { IsShownWithin engine.now.frame (OfColumn key) result }
+{
+    let numbers = engine.range(usize::from(key), row);
+    Bound {
+        null: engine.null_at(usize::from(key), row),
+        lo: numbers.lo,
+        hi: numbers.hi,
+    }
+}
+
+// Writes the line of a row.
+fn write_row<K: Sink>(
+    engine: &Engine,
+    head: &Head,
+    key: u8,
+    row: usize,
+    standing: &[u8],
+    out: &mut K,
+) -> Result<(), Failed>
+    requires fits { FitsHead engine.now.query engine.now.frame head.now }
+    requires texts { HeadHasTexts head.now }
+    requires key { key < length engine.now.query.columns }
+    requires row { row < engine.now.frame.rows }
+    requires short { length standing.now ≤ 100 }
+    ensures { Writes result (K.state out.old) (K.state out.new) (row_line head.now engine.now key standing.now row) }
+{
+    let bound = sort_bound(engine, key, row);
+    let query = engine.query();
+    write_whole(out, written_row(row, standing).bytes())?;
+    write_bound(head, query, Face::OfColumn(key), &bound, out)?;
+    write_whole(out, b"\n")
+}
+
+// Writes the line of a row, if it is shown.
+fn write_standing<K: Sink>(
+    engine: &Engine,
+    head: &Head,
+    key: u8,
+    list: bool,
+    row: usize,
+    out: &mut K,
+) -> Result<(), Failed>
+    requires fits { FitsHead engine.now.query engine.now.frame head.now }
+    requires texts { HeadHasTexts head.now }
+    requires ranked { IsTop engine.now.query.shape }
+    requires key { key < length engine.now.query.columns }
+    requires row { row < engine.now.frame.rows }
+    ensures { Writes result (K.state out.old) (K.state out.new)
+        (row_text head.now engine.now key list row (standing_at engine.now row)) }
+{
+    match engine.standing(row) {
+        Standing::Certain => write_row(engine, head, key, row, b" certain ", out),
+        Standing::Possible if list => write_row(engine, head, key, row, b" possible ", out),
+        Standing::Possible | Standing::Excluded => Ok(()),
+    }
+}
+
+// Whether a row of a block of 64 may be shown.
+fn may_show(engine: &Engine, list: bool, block: usize) -> bool
+    requires ranked { IsTop engine.now.query.shape }
+    requires block { 64 * block < engine.now.frame.rows }
+    ensures { result ≡ false → AreHidden engine.now list (64 * block) (min 64 (engine.now.frame.rows - 64 * block)) }
+{
+    engine.certain_rows().word(block) != 0 || list && engine.possible_rows().word(block) != 0
+}
+
+// Writes the lines of a block of 64 rows. Where none is shown, no row is looked at.
+fn write_rows_in<K: Sink>(
+    engine: &Engine,
+    head: &Head,
+    key: u8,
+    list: bool,
+    block: usize,
+    out: &mut K,
+) -> Result<(), Failed>
+    requires fits { FitsHead engine.now.query engine.now.frame head.now }
+    requires texts { HeadHasTexts head.now }
+    requires ranked { IsTop engine.now.query.shape }
+    requires key { key < length engine.now.query.columns }
+    requires block { 64 * block < engine.now.frame.rows }
+    ensures { Writes result (K.state out.old) (K.state out.new)
+        (rows_text head.now engine.now key list (64 * block) (min 64 (engine.now.frame.rows - 64 * block))) }
+{
+    if !may_show(engine, list, block) {
+        return Ok(());
+    }
+    let first = 64 * block;
+    let count = (engine.certain_rows().rows() - first).min(64);
+    for place in 0..count {
+        write_standing(engine, head, key, list, first + place, out)?;
+    }
+    Ok(())
+}
+
+// Writes the lines of the rows, in order.
+fn write_rows<K: Sink>(
+    engine: &Engine,
+    head: &Head,
+    key: u8,
+    list: bool,
+    out: &mut K,
+) -> Result<(), Failed>
+    requires fits { FitsHead engine.now.query engine.now.frame head.now }
+    requires texts { HeadHasTexts head.now }
+    requires ranked { IsTop engine.now.query.shape }
+    requires key { key < length engine.now.query.columns }
+    ensures { Writes result (K.state out.old) (K.state out.new) (rows_text head.now engine.now key list 0 engine.now.frame.rows) }
+{
+    let blocks = engine.certain_rows().rows().div_ceil(64);
+    for block in 0..blocks {
+        write_rows_in(engine, head, key, list, block, out)?;
+    }
+    Ok(())
+}
+
+// Writes how many rows are among the first, and these rows.
+pub(crate) fn write_ranking<K: Sink>(
+    engine: &Engine,
+    head: &Head,
+    key: u8,
+    limit: u32,
+    list: bool,
+    out: &mut K,
+) -> Result<(), Failed>
+    requires fits { FitsHead engine.now.query engine.now.frame head.now }
+    requires texts { HeadHasTexts head.now }
+    requires ranked { IsTop engine.now.query.shape }
+    requires key { key < length engine.now.query.columns }
+    ensures { Writes result (K.state out.old) (K.state out.new) (ranking_text head.now engine.now key limit list) }
+{
+    write_whole(out, written_top(engine, limit).bytes())?;
+    write_rows(engine, head, key, list, out)
+}
