@@ -67,8 +67,7 @@ refused 'a word that is no text' 2 'daq: usage: word 1' ask "$(printf '\377')" p
 
 refused 'no query' 3 'daq: query refused: syntax at 17' ask "$prices" price:int 'SELECT SUM(price FROM t'
 refused 'an unknown column' 3 'daq: query refused: unknown column at 11' ask "$prices" price:int 'SELECT SUM(cost) FROM t'
-refused 'a form that is not built' 3 'daq: query refused: not built' \
-    ask "$prices" price:int 'SELECT price, COUNT(*) FROM t GROUP BY price'
+refused 'a column that is not grouped' 3 'daq: query refused: not grouped at 7' ask "$prices" price:int 'SELECT price FROM t'
 
 # ---- table
 

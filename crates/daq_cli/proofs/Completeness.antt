@@ -1,5 +1,5 @@
 -- Each step of a command accepts something or shows a refusal.
-use Rattle.std.proofs.Common.{◌≡◌, ◌≢◌, ℕ, ◌≤◌, List, Ok, Err, Result, length, refl, inl, inr, ◌⊎◌, ◌∙◌, lit≤, subst, sym}
+use Rattle.std.proofs.Common.{◌≢◌, ℕ, ◌≤◌, List, Ok, Err, Result, length, refl, inl, inr, ◌⊎◌, lit≤, subst, sym}
 use Rattle.std.proofs.lemmas.Bool.{cases_lt}
 use Rattle.command_line.specs.Commands.{Options, ReadOrder, widest, in_order, filter_first, reads}
 use Rattle.command_line.specs.Commands as line
@@ -20,8 +20,6 @@ use Rattle.plane_reads.specs.declared.fault.ReadsFault.{ReadsFault}
 use Rattle.plane_reads.specs.declared.fault.ReadsFault.TheVariants as r
 use Rattle.plane_schedule.specs.declared.policy.Policy.{Policy}
 use Rattle.plane_schedule.specs.declared.policy.Policy.TheVariants as p
-use Rattle.query_model.specs.declared.query.Shape.{Shape}
-use Rattle.query_model.specs.declared.query.Shape.TheVariants.{Plain, Grouped, Top}
 use Rattle.query_model.specs.declared.query.TypedQuery.{TypedQuery}
 use Rattle.sql_text.specs.Answer.{IsFault, IsText}
 use Rattle.sql_text.specs.Laws as text_laws
@@ -42,7 +40,7 @@ use Rattle.daq_cli.specs.Steps.{IsComplete, Step, then}
 use Rattle.daq_cli.specs.commands.Demo.{generator_step, most_rows}
 use Rattle.daq_cli.specs.commands.Query.{head_step, query_step, report_step}
 use Rattle.daq_cli.specs.declared.refusal.Refusal.{Refusal}
-use Rattle.daq_cli.specs.declared.refusal.Refusal.TheVariants.{NotBuilt, Query, Reads, Schema, Table, TooLong, TooManyRows, Typing}
+use Rattle.daq_cli.specs.declared.refusal.Refusal.TheVariants.{Query, Reads, Schema, Table, TooLong, TooManyRows, Typing}
 use Rattle.daq_cli.proofs.FileRounds.{GoOn, rounds_complete}
 use Rattle.daq_cli.proofs.Files.{file_complete}
 use Rattle.daq_cli.proofs.Upgrade.{upgrade_complete}
@@ -127,28 +125,23 @@ module _ (law : Laws) where
     abbrev Judged : Type 0
     Judged = IsAnswerable (asked_with query options head) ⊎ ((why : Refusal) × ShowsQuestion (asked_with query options head) why)
 
-    planned : typed.shape ≡ Plain → Judged
-    planned plain = by (ordered options.order)
+    planned : Judged
+    planned = by (ordered options.order)
       where
         by : Ordered options.order → Judged
         by (inl (policy, is)) = inl (record {
           typed = typed;
-          plan = record { policy = policy; width = options.width; most = options.rounds };
-          planned = record { is_typed = is_typed; plain = plain; planned = record { policy = is; width = refl; most = refl } };
+          plan = record { policy = policy; width = options.width; most = options.rounds; list = options.list };
+          planned = record { is_typed = is_typed; planned = record { policy = is; width = refl; most = refl; list = refl } };
         })
-        by (inr (fault, shown, faulty)) = inr (Reads fault, inr (inr (record { typed = typed; is_typed = is_typed; plain = plain; fault = fault; shown = shown; is = refl; faulty = faulty })))
-
-    shaped : (shape : Shape) → typed.shape ≡ shape → Judged
-    shaped Plain e = planned e
-    shaped (Grouped columns) e = inr (NotBuilt, inr (inl (record { typed = typed; is_typed = is_typed; other = λ plain. let both = sym e ∙ plain in cc; is = refl })))
-    shaped (Top key down limit) e = inr (NotBuilt, inr (inl (record { typed = typed; is_typed = is_typed; other = λ plain. let both = sym e ∙ plain in cc; is = refl })))
+        by (inr (fault, shown, faulty)) = inr (Reads fault, inr (record { typed = typed; is_typed = is_typed; fault = fault; shown = shown; is = refl; faulty = faulty }))
 
   judged : (query : sql.Query) (options : Options) (head : Head) → IsAnswerable (asked_with query options head) ⊎ ((why : Refusal) × ShowsQuestion (asked_with query options head) why)
   judged query options head = by (law.typings query head)
     where
       by : ((typed : TypedQuery) × IsTyped query head typed) ⊎ ((fault : TypeFault) × (fault ≢ y.NoMemory) × typing.Refuses query head fault) →
           IsAnswerable (asked_with query options head) ⊎ ((why : Refusal) × ShowsQuestion (asked_with query options head) why)
-      by (inl (typed, is)) = shaped query options head typed is typed.shape refl
+      by (inl (typed, is)) = planned query options head typed is
       by (inr (fault, shown, faulty)) = inr (Typing fault, inl (record { fault = fault; shown = shown; is = refl; faulty = faulty }))
 
   question_complete : (query : sql.Query) (options : Options) (table : Contents) → IsComplete (question_step query options table)

@@ -170,25 +170,16 @@ module _ (law : Laws) (query : sql.Query) (options : Options) (head : Head) wher
       let both = law.reads f.names typed head (Err a) (Ok list) (law.valid query head typed is) (fault_answers f.names typed head a shown f.faulty) all in
       absurd cc
 
-  same_shape : (one other : TypedQuery) → IsTyped query head one → IsTyped query head other → one.shape ≡ other.shape
-  same_shape one other p r = ap (λ (t : TypedQuery). t.shape) (law.typings query head one other p r)
-
   pub question_same : (x y : Refusal) → ShowsQuestion asked x → ShowsQuestion asked y → x ≡ y
   question_same x y (inl p) (inl r) = p.is ∙ ap Typing (law.type_faults query head p.fault r.fault p.shown r.shown p.faulty r.faulty) ∙ sym r.is
-  question_same x y (inl p) (inr (inl r)) = absurd (law.good_typings query head p.fault r.typed p.shown r.is_typed p.faulty)
-  question_same x y (inl p) (inr (inr r)) = absurd (law.good_typings query head p.fault r.typed p.shown r.is_typed p.faulty)
-  question_same x y (inr (inl p)) (inl r) = absurd (law.good_typings query head r.fault p.typed r.shown p.is_typed r.faulty)
-  question_same x y (inr (inl p)) (inr (inl r)) = p.is ∙ sym r.is
-  question_same x y (inr (inl p)) (inr (inr r)) = absurd (p.other (same_shape p.typed r.typed p.is_typed r.is_typed ∙ r.plain))
-  question_same x y (inr (inr p)) (inl r) = absurd (law.good_typings query head r.fault p.typed r.shown p.is_typed r.faulty)
-  question_same x y (inr (inr p)) (inr (inl r)) = absurd (r.other (same_shape r.typed p.typed r.is_typed p.is_typed ∙ p.plain))
-  question_same x y (inr (inr p)) (inr (inr r)) = p.is ∙ ap Reads (same_reads p.typed p.fault r.fault p.is_typed p.shown r.shown p.faulty
+  question_same x y (inl p) (inr r) = absurd (law.good_typings query head p.fault r.typed p.shown r.is_typed p.faulty)
+  question_same x y (inr p) (inl r) = absurd (law.good_typings query head r.fault p.typed r.shown p.is_typed r.faulty)
+  question_same x y (inr p) (inr r) = p.is ∙ ap Reads (same_reads p.typed p.fault r.fault p.is_typed p.shown r.shown p.faulty
       (subst (λ (t : TypedQuery). RefusesOrder options.order t head r.fault) (law.typings query head r.typed p.typed r.is_typed p.is_typed) r.faulty)) ∙ sym r.is
 
   pub question_apart : (y : Refusal) → IsAnswerable asked → ShowsQuestion asked y → ⊥
   question_apart y a (inl r) = law.good_typings query head r.fault a.typed r.shown a.planned.is_typed r.faulty
-  question_apart y a (inr (inl r)) = r.other (same_shape r.typed a.typed r.is_typed a.planned.is_typed ∙ a.planned.plain)
-  question_apart y a (inr (inr r)) = no_reads a.typed r.fault a.plan.policy a.planned.is_typed r.shown
+  question_apart y a (inr r) = no_reads a.typed r.fault a.plan.policy a.planned.is_typed r.shown
       (subst (λ (t : TypedQuery). RefusesOrder options.order t head r.fault) (law.typings query head r.typed a.typed r.is_typed a.planned.is_typed) r.faulty) a.planned.planned.policy
 
 pub question_exact : (law : Laws) (query : sql.Query) (options : Options) (table : Contents) → IsExact (question_step query options table)

@@ -9,7 +9,6 @@ use Rattle.plane_reads.specs.declared.fault.ReadsFault.TheVariants as r
 use Rattle.plane_schedule.specs.Plans.{IsReadable}
 use Rattle.plane_schedule.specs.declared.policy.Policy.{Policy}
 use Rattle.query_model.specs.Projection.{projected_frame}
-use Rattle.query_model.specs.declared.query.Shape.TheVariants.{Plain}
 use Rattle.query_model.specs.declared.query.TypedQuery.{TypedQuery}
 use Rattle.sql_typing.specs.Refusals as typing
 use Rattle.sql_typing.specs.Refusals.{IsTyped}
@@ -18,7 +17,7 @@ use Rattle.sql_typing.specs.declared.fault.TypeFault.TheVariants as y
 use Rattle.daq_cli.specs.Faults as of
 use Rattle.daq_cli.specs.Questions.{Asked, IsPolicyOf, Question, QuestionCause, RefusesOrder, StopsPlanning, asked_of, step, no_memory}
 use Rattle.daq_cli.specs.declared.refusal.Refusal.{Refusal}
-use Rattle.daq_cli.specs.declared.refusal.Refusal.TheVariants.{NotBuilt, Reads, Typing}
+use Rattle.daq_cli.specs.declared.refusal.Refusal.TheVariants.{Reads, Typing}
 
 module _ (asked : Asked) where
   untyped : (fault : TypeFault) (why : Refusal) → fault ≢ y.NoMemory → typing.Refuses asked.query asked.head fault → why ≡ of.typing fault → of.typing fault ≡ Typing fault → StopsPlanning asked why
@@ -39,19 +38,15 @@ module _ (asked : Asked) where
   typing_cause y.NoMemory why faulty is = inr is
 
   module _ (typed : TypedQuery) (is_typed : IsTyped asked.query asked.head typed) where
-    -- it has groups or an order
-    pub form_cause : typed.shape ≢ Plain → StopsPlanning asked NotBuilt
-    form_cause other = inl (inr (inl (record { typed = typed; is_typed = is_typed; other = other; is = refl })))
-
-    unread : (fault : ReadsFault) (why : Refusal) → typed.shape ≡ Plain → fault ≢ r.NoMemory → RefusesOrder asked.options.order typed asked.head fault → why ≡ of.reads fault →
+    unread : (fault : ReadsFault) (why : Refusal) → fault ≢ r.NoMemory → RefusesOrder asked.options.order typed asked.head fault → why ≡ of.reads fault →
         of.reads fault ≡ Reads fault → StopsPlanning asked why
-    unread fault why plain shown faulty is same =
-        inl (inr (inr (record { typed = typed; is_typed = is_typed; plain = plain; fault = fault; shown = shown; is = is ∙ same; faulty = faulty })))
+    unread fault why shown faulty is same =
+        inl (inr (record { typed = typed; is_typed = is_typed; fault = fault; shown = shown; is = is ∙ same; faulty = faulty }))
 
-    pub reads_cause : (fault : ReadsFault) (why : Refusal) → typed.shape ≡ Plain → RefusesOrder asked.options.order typed asked.head fault → why ≡ of.reads fault → StopsPlanning asked why
-    reads_cause (r.UnknownName place) why plain faulty is = unread (r.UnknownName place) why plain (λ n. cc) faulty is refl
-    reads_cause (r.PastEnd place) why plain faulty is = unread (r.PastEnd place) why plain (λ n. cc) faulty is refl
-    reads_cause r.NoMemory why plain faulty is = inr is
+    pub reads_cause : (fault : ReadsFault) (why : Refusal) → RefusesOrder asked.options.order typed asked.head fault → why ≡ of.reads fault → StopsPlanning asked why
+    reads_cause (r.UnknownName place) why faulty is = unread (r.UnknownName place) why (λ n. cc) faulty is refl
+    reads_cause (r.PastEnd place) why faulty is = unread (r.PastEnd place) why (λ n. cc) faulty is refl
+    reads_cause r.NoMemory why faulty is = inr is
 
 -- so the question is not answered
 pub stops_question : (question : Question) (out : SinkState) (why : Refusal) → StopsPlanning (asked_of question) why → QuestionCause question out out why

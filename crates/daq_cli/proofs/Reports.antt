@@ -42,7 +42,8 @@ module _ (lists : reads_laws.AnswersAreOne) (options : Options) (head : Head) (t
       let policy = one_policy options.order a.policy b.policy p.policy r.policy in
       let width = p.width ∙ sym r.width in
       let most = p.most ∙ sym r.most in
-      λ i. record { policy = policy i; width = width i; most = most i }
+      let list = p.list ∙ sym r.list in
+      λ i. record { policy = policy i; width = width i; most = most i; list = list i }
 
 module _ (law : Laws) (question : Question) where
   pub one_report : (a b : List ℕ) → IsReport question a → IsReport question b → a ≡ b

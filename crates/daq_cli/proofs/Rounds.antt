@@ -30,7 +30,7 @@ pub record Reached (plan : Plan) (head : Head) (query : TypedQuery) (bits : Plan
   pub reads : List ℕ
   pub after : IsAfter plan query (frame_of head) bits reads stage
   pub last_is : last ≡ column_read reads (length reads)
-  pub text : Writes whole old new (blocks_below head query bits reads (length reads))
+  pub text : Writes whole old new (blocks_below head plan query bits reads (length reads))
   pub handed : Appends from to (places_of places query reads (length reads))
   pub shown : OfEach shows query reads
 
@@ -48,40 +48,40 @@ module _ (plan : Plan) (head : Head) (query : TypedQuery) (bits : Planes) (place
     reads = [];
     after = after;
     last_is = refl;
-    text = subst (Writes whole old old) (sym (no_blocks head query bits [])) (record { done = Appends-nil old.written; part = tt; cause = record { later = omega arith; failed = tt } });
+    text = subst (Writes whole old old) (sym (no_blocks head plan query bits [])) (record { done = Appends-nil old.written; part = tt; cause = record { later = omega arith; failed = tt } });
     handed = Appends-nil from;
     shown = each_of_none shows query;
   }
 
   -- the block that is written is the round's
   pub block_is : RoundsAreCounted → (stage : Stage) (last : Option ℕ) (old now : SinkState) (from to : Option (List ℕ)) (done : ℕ) →
-      (r : Reached plan head query bits places shows stage last old now from to) → done ≡ planes_read stage.known → block_text head stage done last ≡ block_of head query bits r.reads (length r.reads)
+      (r : Reached plan head query bits places shows stage last old now from to) → done ≡ planes_read stage.known → block_text head plan.list stage done last ≡ block_of head plan query bits r.reads (length r.reads)
   block_is counted stage last old now from to done r is =
       let round = length r.reads in
       let n : done ≡ round = is ∙ counted plan query (frame_of head) bits r.reads stage r.after in
-      ap (λ k. block_text head stage k last) n ∙ ap (block_text head stage round) r.last_is ∙ ap (λ s. block_text head s round (column_read r.reads round)) r.after.known
+      ap (λ k. block_text head plan.list stage k last) n ∙ ap (block_text head plan.list stage round) r.last_is ∙ ap (λ s. block_text head plan.list s round (column_read r.reads round)) r.after.known
 
   -- with its block written and the next plane read, the rounds have come one further
   pub next_reached : (stage new : Stage) (last : Option ℕ) (c : ℕ) (old mid now : SinkState) (from at to : Option (List ℕ)) → (r : Reached plan head query bits places shows stage last old mid from at) →
-      Writes whole mid now (block_of head query bits r.reads (length r.reads)) → IsAfter plan query (frame_of head) bits (r.reads ++ c ∷ []) new →
+      Writes whole mid now (block_of head plan query bits r.reads (length r.reads)) → IsAfter plan query (frame_of head) bits (r.reads ++ c ∷ []) new →
       Appends from to (places_of places query (r.reads ++ c ∷ []) (length r.reads + 1)) → OfEach shows query (r.reads ++ c ∷ []) → Reached plan head query bits places shows new (Some c) old now from to
   next_reached stage new last c old mid now from at to r written after handed shown =
       let long : length (r.reads ++ c ∷ []) ≡ length r.reads + 1 = length-append r.reads (c ∷ []) in
-      let same = blocks_before head query bits r.reads (c ∷ []) (length r.reads + 1) (omega arith) in
-      let all : Writes whole old now (blocks_below head query bits r.reads (length r.reads + 1)) =
-      subst (Writes whole old now) (sym (next_block head query bits r.reads (length r.reads))) (writes_both tt whole old mid now _ _ r.text written) in
+      let same = blocks_before head plan query bits r.reads (c ∷ []) (length r.reads + 1) (omega arith) in
+      let all : Writes whole old now (blocks_below head plan query bits r.reads (length r.reads + 1)) =
+      subst (Writes whole old now) (sym (next_block head plan query bits r.reads (length r.reads))) (writes_both tt whole old mid now _ _ r.text written) in
       record {
         reads = r.reads ++ c ∷ [];
         after = after;
-        last_is = sym (ap (column_read (r.reads ++ c ∷ [])) long ∙ column_last head query bits r.reads c);
-        text = subst (Writes whole old now) (sym (ap (blocks_below head query bits (r.reads ++ c ∷ [])) long ∙ same)) all;
+        last_is = sym (ap (column_read (r.reads ++ c ∷ [])) long ∙ column_last head plan query bits r.reads c);
+        text = subst (Writes whole old now) (sym (ap (blocks_below head plan query bits (r.reads ++ c ∷ [])) long ∙ same)) all;
         handed = subst (λ n. Appends from to (places_of places query (r.reads ++ c ∷ []) n)) (sym long) handed;
         shown = shown;
       }
 
   -- the same by the step of a round
   pub read_further : (one : TypedQuery) → one ≡ query → (stage new : Stage) (last : Option ℕ) (c : ℕ) (old mid now : SinkState) (from at to : Option (List ℕ)) →
-      (r : Reached plan head query bits places shows stage last old mid from at) → Writes whole mid now (block_of head query bits r.reads (length r.reads)) →
+      (r : Reached plan head query bits places shows stage last old mid from at) → Writes whole mid now (block_of head plan query bits r.reads (length r.reads)) →
       ((reads : List ℕ) → IsAfter plan one (frame_of head) bits reads stage → IsAfter plan one (frame_of head) bits (reads ++ c ∷ []) new) →
       c < length (projected_frame query (frame_of head)).columns → Appends at to (next_places places stage c) → OfNext shows stage c → Reached plan head query bits places shows new (Some c) old now from to
   read_further one same stage new last c old mid now from at to r written step inside grown shown =
@@ -91,17 +91,17 @@ module _ (plan : Plan) (head : Head) (query : TypedQuery) (bits : Planes) (place
       (one_more shows query r.reads c r.shown (next_of shows query plan (frame_of head) bits r.reads stage c (ap (λ s. s.query) r.after.known) r.after inside shown))
 
   -- the last of the rounds so far is written whole, or in part
-  pub last_whole : (line reads : List ℕ) (old mid new : SinkState) → Writes whole old mid (line ++ blocks_below head query bits reads (length reads)) →
+  pub last_whole : (line reads : List ℕ) (old mid new : SinkState) → Writes whole old mid (line ++ blocks_below head plan query bits reads (length reads)) →
       Writes whole mid new (last_text head plan query bits reads) → Writes whole old new (line ++ rounds_text head plan query bits reads)
   last_whole line reads old mid new begun last =
-      subst (Writes whole old new) (append_assoc line (blocks_below head query bits reads (length reads)) (last_text head plan query bits reads)) (writes_both tt whole old mid new _ _ begun last)
+      subst (Writes whole old new) (append_assoc line (blocks_below head plan query bits reads (length reads)) (last_text head plan query bits reads)) (writes_both tt whole old mid new _ _ begun last)
 
-  pub last_in_part : (line reads : List ℕ) (old mid new : SinkState) → Writes whole old mid (line ++ blocks_below head query bits reads (length reads)) →
+  pub last_in_part : (line reads : List ℕ) (old mid new : SinkState) → Writes whole old mid (line ++ blocks_below head plan query bits reads (length reads)) →
       Writes partly mid new (last_text head plan query bits reads) → Writes partly old new (line ++ rounds_text head plan query bits reads)
   last_in_part line reads old mid new begun last =
-      subst (Writes partly old new) (append_assoc line (blocks_below head query bits reads (length reads)) (last_text head plan query bits reads)) (writes_both tt partly old mid new _ _ begun last)
+      subst (Writes partly old new) (append_assoc line (blocks_below head plan query bits reads (length reads)) (last_text head plan query bits reads)) (writes_both tt partly old mid new _ _ begun last)
 
-  fails_in_last : (line reads : List ℕ) (old mid new : SinkState) → Writes whole old mid (line ++ blocks_below head query bits reads (length reads)) →
+  fails_in_last : (line reads : List ℕ) (old mid new : SinkState) → Writes whole old mid (line ++ blocks_below head plan query bits reads (length reads)) →
       Writes partly mid new (last_text head plan query bits reads) → FailsInLast line head plan query bits reads old new
   fails_in_last line [] old mid new begun last = last_in_part line [] old mid new begun last
   fails_in_last line (c ∷ reads) old mid new begun last = (mid, begun, last)
@@ -118,7 +118,7 @@ module _ (plan : Plan) (head : Head) (query : TypedQuery) (bits : Planes) (place
 
   -- the last round's block was written, and the end line whole or in part
   pub all_written : (stage : Stage) (last : Option ℕ) (ending : Ending) (old mid now end : SinkState) (from to : Option (List ℕ)) → (r : Reached plan head query bits places shows stage last old mid from to) →
-      Writes whole mid now (block_of head query bits r.reads (length r.reads)) → ending_at plan stage ≡ Some ending → Writes whole now end (ending_line ending) →
+      Writes whole mid now (block_of head plan query bits r.reads (length r.reads)) → ending_at plan stage ≡ Some ending → Writes whole now end (ending_line ending) →
       Finishes [] head plan query bits places shows old end from to
   all_written stage last ending old mid now end from to r written ended line =
       let is = end_is stage ending r.reads r.after ended in
@@ -131,7 +131,7 @@ module _ (plan : Plan) (head : Head) (query : TypedQuery) (bits : Planes) (place
       }
 
   pub line_in_part : (stage : Stage) (last : Option ℕ) (ending : Ending) (old mid now end : SinkState) (from to : Option (List ℕ)) → (r : Reached plan head query bits places shows stage last old mid from to) →
-      Writes whole mid now (block_of head query bits r.reads (length r.reads)) → ending_at plan stage ≡ Some ending → Writes partly now end (ending_line ending) →
+      Writes whole mid now (block_of head plan query bits r.reads (length r.reads)) → ending_at plan stage ≡ Some ending → Writes partly now end (ending_line ending) →
       Fails [] head plan query bits places shows old end from to
   line_in_part stage last ending old mid now end from to r written ended line =
       let is = end_is stage ending r.reads r.after ended in
@@ -145,7 +145,7 @@ module _ (plan : Plan) (head : Head) (query : TypedQuery) (bits : Planes) (place
 
   -- the last block was not written whole
   pub block_in_part : (stage : Stage) (last : Option ℕ) (old mid now : SinkState) (from to : Option (List ℕ)) → (r : Reached plan head query bits places shows stage last old mid from to) →
-      Writes partly mid now (block_of head query bits r.reads (length r.reads)) → Fails [] head plan query bits places shows old now from to
+      Writes partly mid now (block_of head plan query bits r.reads (length r.reads)) → Fails [] head plan query bits places shows old now from to
   block_in_part stage last old mid now from to r written = record {
     reads = r.reads;
     rounds = r.after.rounds;
@@ -156,13 +156,13 @@ module _ (plan : Plan) (head : Head) (query : TypedQuery) (bits : Planes) (place
 
   -- the rounds stopped at the next plane
   pub stopped : {E : Type 0} (causes : CausesAfter E) (one : TypedQuery) → one ≡ query → (stage : Stage) (last : Option ℕ) (fault : StepFault E) (old mid now : SinkState) (from at to : Option (List ℕ)) →
-      (r : Reached plan head query bits places shows stage last old mid from at) → Writes whole mid now (block_of head query bits r.reads (length r.reads)) → IsNone (ending_at plan stage) →
+      (r : Reached plan head query bits places shows stage last old mid from at) → Writes whole mid now (block_of head plan query bits r.reads (length r.reads)) → IsNone (ending_at plan stage) →
       ((reads : List ℕ) → IsAfter plan one (frame_of head) bits reads stage → (handed : List ℕ) × StopsAt plan one (frame_of head) bits places (causes at) reads fault handed × Appends at to handed) →
       OnRefused fault shows → Stops [] head plan query bits places shows causes fault old now from to
   stopped causes one same stage last fault old mid now from at to r written going stop refused =
       let (handed, stops, grown) = stop r.reads (subst (λ q. IsAfter plan q (frame_of head) bits r.reads stage) (sym same) r.after) in
       let none = no_line (ending_at plan (stage_after query (frame_of head) bits r.reads (length r.reads))) (subst (λ s. IsNone (ending_at plan s)) r.after.known going) in
-      let block = block_of head query bits r.reads (length r.reads) in
+      let block = block_of head plan query bits r.reads (length r.reads) in
       record {
         reads = r.reads;
         at = at;

@@ -38,11 +38,11 @@ module _ (line : List ℕ) (head : Head) (plan : Plan) (query : TypedQuery) (bit
       let all = reads ++ c ∷ rest in
       let n = length reads in
       let long : length all ≡ n + length (c ∷ rest) = length-append reads (c ∷ rest) in
-      let (between, whole_is) = blocks_rest head query bits all (n + 1) (length all) (omega (arith, long)) in
-      let before = blocks_below head query bits reads n in
-      let block = block_of head query bits reads n in
+      let (between, whole_is) = blocks_rest head plan query bits all (n + 1) (length all) (omega (arith, long)) in
+      let before = blocks_below head plan query bits reads n in
+      let block = block_of head plan query bits reads n in
       let last = last_text head plan query bits all in
-      let first : blocks_below head query bits all (n + 1) ≡ before ++ block = blocks_before head query bits reads (c ∷ rest) (n + 1) (omega arith) ∙ next_block head query bits reads n in
+      let first : blocks_below head plan query bits all (n + 1) ≡ before ++ block = blocks_before head plan query bits reads (c ∷ rest) (n + 1) (omega arith) ∙ next_block head plan query bits reads n in
       let end : block ++ end_line (ending_at plan (stage_after query (frame_of head) bits reads n)) ≡ block =
       ap (λ l. block ++ l) (no_line (ending_at plan (stage_after query (frame_of head) bits reads n)) going) ∙ append-nil block in (
         between ++ last,

@@ -13,7 +13,6 @@ use Rattle.plane_reads.specs.declared.fault.ReadsFault.TheVariants as r
 use Rattle.plane_reads.specs.Reads as lists
 use Rattle.plane_reads.specs.Reads.{AreAllReads}
 use Rattle.query_model.specs.Knowledge.{plane_of}
-use Rattle.query_model.specs.declared.query.Shape.TheVariants.{Plain}
 use Rattle.query_model.specs.declared.query.TypedQuery.{TypedQuery}
 use Rattle.sql_text.specs.Answer.{IsFault, IsText}
 use Rattle.sql_print.specs.Printed.{printed}
@@ -30,7 +29,7 @@ use Rattle.daq_cli.specs.Report.{WritesRounds, report}
 use Rattle.daq_cli.specs.Steps.{Step}
 use Rattle.daq_cli.specs.Worlds.{Extent, partly}
 use Rattle.daq_cli.specs.declared.refusal.Refusal.{Refusal}
-use Rattle.daq_cli.specs.declared.refusal.Refusal.TheVariants.{Query, Typing, NotBuilt, Reads, WriteFault, NoMemory}
+use Rattle.daq_cli.specs.declared.refusal.Refusal.TheVariants.{Query, Typing, Reads, WriteFault, NoMemory}
 
 pub record Question : Type 0 where
   pub query : sql.Query
@@ -84,11 +83,11 @@ pub record IsPlanOf (options : Options) (typed : TypedQuery) (head : Head) (plan
   pub policy : IsPolicyOf options.order typed head plan.policy
   pub width : plan.width ≡ options.width
   pub most : plan.most ≡ options.rounds
+  pub list : plan.list ≡ options.list
 
--- the query is typed as one of aggregates over all rows that meet its condition, and there is a plan of the options
+-- the query is typed so, and there is such a plan of the options
 pub record IsPlanned (asked : Asked) (typed : TypedQuery) (plan : Plan) : Type 0 where
   pub is_typed : IsTyped asked.query asked.head typed
-  pub plain : typed.shape ≡ Plain
   pub planned : IsPlanOf asked.options typed asked.head plan
 
 -- it cannot be typed
@@ -98,26 +97,18 @@ pub record ShowsTyping (asked : Asked) (why : Refusal) : Type 0 where
   pub is : why ≡ Typing fault
   pub faulty : typing.Refuses asked.query asked.head fault
 
--- it has groups or an order
-pub record ShowsForm (asked : Asked) (why : Refusal) : Type 0 where
-  pub typed : TypedQuery
-  pub is_typed : IsTyped asked.query asked.head typed
-  pub other : typed.shape ≢ Plain
-  pub is : why ≡ NotBuilt
-
 -- the columns to be read are none, or not so often
 pub record ShowsReads (asked : Asked) (why : Refusal) : Type 0 where
   pub typed : TypedQuery
   pub is_typed : IsTyped asked.query asked.head typed
-  pub plain : typed.shape ≡ Plain
   pub fault : ReadsFault
   pub shown : fault ≢ r.NoMemory
   pub is : why ≡ Reads fault
   pub faulty : RefusesOrder asked.options.order typed asked.head fault
 
--- its typing comes first, then its form, then its reads
+-- its typing comes first, then its reads
 abbrev pub ShowsQuestion : Asked → Refusal → Type 0
-ShowsQuestion asked why = ShowsTyping asked why ⊎ ShowsForm asked why ⊎ ShowsReads asked why
+ShowsQuestion asked why = ShowsTyping asked why ⊎ ShowsReads asked why
 
 -- it is refused so, or memory ran out
 abbrev pub StopsPlanning : Asked → Refusal → Type 0

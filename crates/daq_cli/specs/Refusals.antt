@@ -17,7 +17,7 @@ use Rattle.sql_typing.specs.declared.fault.TypeFault.{TypeFault}
 use Rattle.sql_typing.specs.declared.fault.TypeFault.TheVariants as typing
 use Rattle.daq_cli.specs.Worlds.{partly, whole}
 use Rattle.daq_cli.specs.declared.refusal.Refusal.{Refusal}
-use Rattle.daq_cli.specs.declared.refusal.Refusal.TheVariants.{Usage, Query, Schema, TooLong, Table, TooManyRows, Typing, NotBuilt, Reads, File, PadBits, OverTop, ReadFault, WriteFault, NoMemory}
+use Rattle.daq_cli.specs.declared.refusal.Refusal.TheVariants.{Usage, Query, Schema, TooLong, Table, TooManyRows, Typing, Reads, File, PadBits, OverTop, ReadFault, WriteFault, NoMemory}
 use Rattle.daq_cli.specs.declared.status.Status.{Status}
 use Rattle.daq_cli.specs.declared.status.Status.TheVariants as s
 
@@ -93,7 +93,6 @@ fault_text (TooLong limit) = codes "table refused: longer than " ++ signed_decim
 fault_text (Table fault) = table_fault_text fault
 fault_text TooManyRows = codes "table refused: more than 16777216 rows"
 fault_text (Typing fault) = type_fault_text fault
-fault_text NotBuilt = codes "query refused: not built"
 fault_text (Reads fault) = reads_fault_text fault
 fault_text (File fault) = file_fault_text fault
 fault_text (PadBits column plane) = plane_text column plane ++ codes " has pad bits"
@@ -113,7 +112,6 @@ status_of (TooLong limit) = s.TableRefused
 status_of (Table fault) = s.TableRefused
 status_of TooManyRows = s.TableRefused
 status_of (Typing fault) = s.QueryRefused
-status_of NotBuilt = s.QueryRefused
 status_of (Reads fault) = s.QueryRefused
 status_of (File _) = s.FileRefused
 status_of (PadBits column plane) = s.FileRefused

@@ -20,15 +20,15 @@ use Rattle.daq_cli.specs.Worlds.{Extent, partly, whole}
 use Rattle.daq_cli.specs.declared.stop.Stop.{Stop}
 use Rattle.daq_cli.specs.declared.stop.Stop.TheVariants.{Failed, Step}
 
--- the block of a round, where the rounds read these columns
-abbrev pub block_of : Head → TypedQuery → Planes → List ℕ → ℕ → List ℕ
-block_of head query bits reads round =
-    block_text head (stage_after query (frame_of head) bits reads round) round (column_read reads round)
+-- the block of a round by the plan, where the rounds read these columns
+abbrev pub block_of : Head → Plan → TypedQuery → Planes → List ℕ → ℕ → List ℕ
+block_of head plan query bits reads round =
+    block_text head plan.list (stage_after query (frame_of head) bits reads round) round (column_read reads round)
 
 -- the blocks of the rounds below a number
-unfoldable pub blocks_below : Head → TypedQuery → Planes → List ℕ → ℕ → List ℕ
-blocks_below head query bits reads zero = []
-blocks_below head query bits reads (suc round) = blocks_below head query bits reads round ++ block_of head query bits reads round
+unfoldable pub blocks_below : Head → Plan → TypedQuery → Planes → List ℕ → ℕ → List ℕ
+blocks_below head plan query bits reads zero = []
+blocks_below head plan query bits reads (suc round) = blocks_below head plan query bits reads round ++ block_of head plan query bits reads round
 
 -- the first line of a report shows the printed form of the query
 abbrev pub query_line : List ℕ → List ℕ
@@ -47,11 +47,11 @@ end_line (Some ending) = ending_line ending
 -- the block of the last of these rounds, and the end line where the rounds end with it
 abbrev pub last_text : Head → Plan → TypedQuery → Planes → List ℕ → List ℕ
 last_text head plan query bits reads =
-    block_of head query bits reads (length reads) ++ end_line (ending_at plan (stage_after query (frame_of head) bits reads (length reads)))
+    block_of head plan query bits reads (length reads) ++ end_line (ending_at plan (stage_after query (frame_of head) bits reads (length reads)))
 
 -- the blocks of these rounds, and the end line where they end
 abbrev pub rounds_text : Head → Plan → TypedQuery → Planes → List ℕ → List ℕ
-rounds_text head plan query bits reads = blocks_below head query bits reads (length reads) ++ last_text head plan query bits reads
+rounds_text head plan query bits reads = blocks_below head plan query bits reads (length reads) ++ last_text head plan query bits reads
 
 -- the whole report of the query with that printed form, all of whose rounds by the plan read these columns
 abbrev pub report : List ℕ → Head → Plan → TypedQuery → Planes → List ℕ → List ℕ
@@ -71,7 +71,7 @@ pub record WritesRounds (text : List ℕ → List ℕ) (head : Head) (plan : Pla
 abbrev pub FailsInLast : List ℕ → Head → Plan → TypedQuery → Planes → List ℕ → SinkState → SinkState → Type 0
 FailsInLast line head plan query bits [] old new = Writes partly old new (line ++ rounds_text head plan query bits [])
 FailsInLast line head plan query bits (c ∷ reads) old new =
-    (mid : SinkState) × Writes whole old mid (line ++ blocks_below head query bits (c ∷ reads) (length (c ∷ reads)))
+    (mid : SinkState) × Writes whole old mid (line ++ blocks_below head plan query bits (c ∷ reads) (length (c ∷ reads)))
     × Writes partly mid new (last_text head plan query bits (c ∷ reads))
 
 -- all rounds were written, and the places of their planes handed over, each of which shows what is said of a plane that was read

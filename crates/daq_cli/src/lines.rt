@@ -50,7 +50,6 @@ fn written_cause(why: &Refusal) -> TextBuf
         Refusal::Table(fault) => written_table_fault(fault),
         Refusal::TooManyRows => plain(b"table refused: more than 16777216 rows"),
         Refusal::Typing(fault) => written_type_fault(fault),
-        Refusal::NotBuilt => plain(b"query refused: not built"),
         Refusal::Reads(fault) => written_reads_fault(fault),
         Refusal::File(fault) => written_file_fault(fault),
         Refusal::PadBits { column, plane } => written_plane(*column, *plane, b" has pad bits"),

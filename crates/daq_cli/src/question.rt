@@ -1,6 +1,6 @@
 //! A question: a query over a table, with its options. It is typed and planned, and its report is written.
 
-ghost use Rattle.std.specs.Prelude.{◌≡◌, ◌↔◌, ◌<◌, ◌^◌, Err, IfOk, IfErr, IsTrue, IsUtf8, OnOk, length, string_bytes};
+ghost use Rattle.std.specs.Prelude.{◌≡◌, ◌↔◌, ◌<◌, ◌^◌, Err, IfOk, IfErr, IsUtf8, OnOk, length, string_bytes};
 ghost use Rattle.plane_schedule.specs.Plans.{IsReadable};
 ghost use Rattle.round_engine.specs.Stages.{opened};
 ghost use Rattle.command_line.specs.Values.{options_of, order_of};
@@ -8,7 +8,6 @@ ghost use Rattle.daq_table.specs.ValueTexts.{HeadHasTexts};
 ghost use Rattle.daq_cli.specs.Questions.{IsPlanOf, IsPlanned, IsPolicyOf, QuestionCause, RefusesOrder, Reports, StopsPlanning, asked_with, question_of};
 ghost use Rattle.daq_cli.specs.Worlds.{whole};
 ghost use Rattle.query_model.specs.Validity.{IsValid};
-ghost use Rattle.query_model.specs.declared.query.Shape.TheVariants.{Plain};
 ghost use Rattle.sql_text.specs.Answer.{IsFault, IsText};
 ghost use Rattle.sql_print.specs.Printed.{printed};
 ghost use Rattle.sql_text.specs.Tree.{query_of};
@@ -22,7 +21,7 @@ use outer_world::Sink;
 use plane_kernels::Plane;
 use plane_reads::{ReadsFault, answers_are_one, check_reads};
 use plane_schedule::{Plan, Policy};
-use query_model::{Shape, TypedQuery};
+use query_model::TypedQuery;
 use round_engine::Engine;
 use sql_print::{print, reads_back};
 use sql_text::{SqlFault, Tree, parse};
@@ -81,14 +80,8 @@ fn plan_of(
         policy,
         width: options.width,
         most: options.rounds,
+        list: options.list,
     })
-}
-
-// Whether the query is one of aggregates over all rows.
-fn is_plain(typed: &TypedQuery) -> bool
-    ensures { IsTrue result ↔ (typed.now.shape ≡ Plain) }
-{
-    matches!(typed.shape, Shape::Plain)
 }
 
 // A question that may be answered: the printed form of its query, its plan, the query in progress, and room for a plane.
@@ -120,9 +113,6 @@ pub(crate) fn prepare(
 {
     typed_queries_are_valid();
     let typed = type_query(alloc, query, head)?;
-    if !is_plain(&typed) {
-        return Err(Refusal::NotBuilt);
-    }
     let plan = plan_of(alloc, options, &typed, head)?;
     let sql = print(alloc, query)?;
     let plane = Plane::blank(alloc, head.rows as usize)?;

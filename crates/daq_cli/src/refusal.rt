@@ -37,8 +37,6 @@ pub enum Refusal {
     /// More rows are asked of the generator than a table may have.
     TooManyRows,
     Typing(TypeFault),
-    /// The query is of a form that is not answered yet.
-    NotBuilt,
     Reads(ReadsFault),
     /// The plane file is none.
     File(FileFault),
@@ -228,9 +226,7 @@ pub(crate) fn status_of(why: &Refusal) -> Status
 {
     match why {
         Refusal::Usage { .. } => Status::Usage,
-        Refusal::Query(_) | Refusal::Typing(_) | Refusal::NotBuilt | Refusal::Reads(_) => {
-            Status::QueryRefused
-        }
+        Refusal::Query(_) | Refusal::Typing(_) | Refusal::Reads(_) => Status::QueryRefused,
         Refusal::Schema(_) | Refusal::TooLong { .. } | Refusal::Table(_) | Refusal::TooManyRows =>
             Status::TableRefused,
         Refusal::File(_) | Refusal::PadBits { .. } | Refusal::OverTop { .. } => Status::FileRefused,

@@ -76,7 +76,14 @@ fn write_rounds<S: PlaneSource, F: Fn(&Progress) -> usize, K: Sink>(
     let mut last = None;
     'rounds: loop {
         let ended = ending(engine, plan);
-        write_block(engine, source.head(), engine.progress().done, last, out)?;
+        write_block(
+            engine,
+            source.head(),
+            engine.progress().done,
+            last,
+            plan.list,
+            out,
+        )?;
         match ended {
             Some(why) => {
                 write_ending(why, out)?;

@@ -10,11 +10,15 @@ mod expressions;
 #[cfg(test)]
 mod extremes;
 #[cfg(test)]
+mod groups;
+#[cfg(test)]
 mod large;
 #[cfg(test)]
 mod nulls;
 #[cfg(test)]
 mod plans;
+#[cfg(test)]
+mod rankings;
 #[cfg(test)]
 mod sheets;
 #[cfg(test)]

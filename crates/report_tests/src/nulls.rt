@@ -1,25 +1,7 @@
 //! Reports over tables with nulls. The expected lines were worked out by the definitions, apart from the program.
 
-use crate::sheets::{Case, Sheet, are_reported};
+use crate::sheets::{BARE, Case, GAPS, HOLES, Sheet, VOID, are_reported};
 use std::test::Fail;
-
-// Three rows of two numbers, each null once.
-const HOLES: Sheet = Sheet {
-    csv: "v,w\n5,1\n,2\n9,\n",
-    schema: "v:int?,w:int?",
-};
-
-// Six rows of all kinds, of which each column but one has nulls.
-const GAPS: Sheet = Sheet {
-    csv: "price,qty,cost,day,city\n5,2,1.50,2024-02-28,Oslo\n,1,-0.25,,Rome\n12,4,,2024-02-29,\n3,3,0.10,2023-12-31,Bern\n,0,,,O'Hara\n7,4,2.25,2024-01-15,\n",
-    schema: "price:int?,qty:int,cost:dec2?,day:date?,city:text?",
-};
-
-// Columns of nulls alone.
-const VOID: Sheet = Sheet {
-    csv: "n,a,b,c,d\n1,,,,\n2,,,,\n4,,,,\n",
-    schema: "n:int,a:int?,b:dec1?,c:date?,d:text?",
-};
 
 // Columns that may have nulls and have none.
 const WHOLE: Sheet = Sheet {
@@ -43,12 +25,6 @@ const ALIKE: Sheet = Sheet {
 const VAST: Sheet = Sheet {
     csv: "v,n\n-9223372036854775808,1\n,2\n9223372036854775807,3\n0,4\n",
     schema: "v:int?,n:int",
-};
-
-// No row.
-const BARE: Sheet = Sheet {
-    csv: "v,w\n",
-    schema: "v:int?,w:text?",
 };
 
 // Aggregates leave nulls out; COUNT(*) does not.

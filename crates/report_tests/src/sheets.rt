@@ -22,6 +22,15 @@ pub(crate) struct Case {
     pub(crate) report: &'static str,
 }
 
+/// A query over a sheet, with options parted by blanks, and its whole report.
+#[derive(Clone, Copy)]
+pub(crate) struct Planned {
+    pub(crate) sheet: Sheet,
+    pub(crate) sql: &'static str,
+    pub(crate) words: &'static str,
+    pub(crate) report: &'static str,
+}
+
 /// Six rows of all kinds.
 pub(crate) const SHOP: Sheet = Sheet {
     csv: "price,qty,cost,day,city\n5,2,1.50,2024-02-28,Oslo\n9,1,-0.25,2024-03-01,Rome\n12,4,3.00,2024-02-29,Oslo\n3,3,0.10,2023-12-31,Bern\n-4,0,-2.75,2024-03-01,O'Hara\n7,4,2.25,2024-01-15,Rome\n",
@@ -67,6 +76,42 @@ pub(crate) const SEVENS: Sheet = Sheet {
 /// Two numbers.
 pub(crate) const PAIR: Sheet = Sheet {
     csv: "v\n3\n11\n",
+    schema: "v:int",
+};
+
+/// Three rows of two numbers, each null once.
+pub(crate) const HOLES: Sheet = Sheet {
+    csv: "v,w\n5,1\n,2\n9,\n",
+    schema: "v:int?,w:int?",
+};
+
+/// Six rows of all kinds, of which each column but one has nulls.
+pub(crate) const GAPS: Sheet = Sheet {
+    csv: "price,qty,cost,day,city\n5,2,1.50,2024-02-28,Oslo\n,1,-0.25,,Rome\n12,4,,2024-02-29,\n3,3,0.10,2023-12-31,Bern\n,0,,,O'Hara\n7,4,2.25,2024-01-15,\n",
+    schema: "price:int?,qty:int,cost:dec2?,day:date?,city:text?",
+};
+
+/// Columns of nulls alone.
+pub(crate) const VOID: Sheet = Sheet {
+    csv: "n,a,b,c,d\n1,,,,\n2,,,,\n4,,,,\n",
+    schema: "n:int,a:int?,b:dec1?,c:date?,d:text?",
+};
+
+/// No row.
+pub(crate) const BARE: Sheet = Sheet {
+    csv: "v,w\n",
+    schema: "v:int?,w:text?",
+};
+
+/// Five keys of 16 binary digits.
+pub(crate) const WIDE: Sheet = Sheet {
+    csv: "key,n\n0,1\n65535,2\n40000,3\n40001,4\n7,5\n",
+    schema: "key:int,n:int",
+};
+
+/// A number twice, behind a lesser one.
+pub(crate) const TIES: Sheet = Sheet {
+    csv: "v\n5\n8\n8\n",
     schema: "v:int",
 };
 
@@ -130,6 +175,31 @@ fn is_reported(alloc: Global, case: &Case) -> Result<bool, AllocError> {
 pub(crate) fn are_reported(alloc: Global, cases: &[Case]) -> Result<bool, AllocError> {
     for case in cases {
         if !is_reported(alloc, case)? {
+            return Ok(false);
+        }
+    }
+    Ok(true)
+}
+
+// Whether the command with these options writes this report.
+fn is_planned(alloc: Global, case: &Planned) -> Result<bool, AllocError> {
+    let csv = case.sheet.csv.as_bytes().to_vec(alloc)?;
+    let mut world = world_of(alloc, csv, 50, 4000)?;
+    let mut words = Words::new(alloc);
+    for word in ["ask", "t.csv", case.sheet.schema, case.sql] {
+        words.push(word)?;
+    }
+    for word in case.words.split_whitespace() {
+        words.push(word)?;
+    }
+    let ended = run(alloc, &words, &mut world);
+    Ok(ended == Status::Done && world.out.contents() == case.report.as_bytes())
+}
+
+/// Whether each query has its report.
+pub(crate) fn are_planned(alloc: Global, cases: &[Planned]) -> Result<bool, AllocError> {
+    for case in cases {
+        if !is_planned(alloc, case)? {
             return Ok(false);
         }
     }

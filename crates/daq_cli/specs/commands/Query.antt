@@ -87,6 +87,12 @@ QueryAccepts words told text = (bytes : List ℕ) × (told ≡ Some bytes) × (r
 
 -- ---- what becomes of a `query`
 
+-- the text is this query, and this file was opened
+pub record HasOpened (words : line.Query) (planes opened : StoreState) (query : sql.Query) (file : Opened) : Type 0 where
+  pub is_text : IsText words.sql query
+  pub opens : Opens planes opened file
+  pub same : HoldsSame planes opened
+
 -- the file was opened, which hands over the places of its head, and there is a plan for the question to its table
 pub record Begins (words : line.Query) (planes opened : StoreState) : Type 0 where
   pub query : sql.Query

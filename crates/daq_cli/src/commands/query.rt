@@ -1,16 +1,18 @@
 //! `query`: a question to the table whose planes a file holds. The head is read, and then the planes of the rounds.
 
-ghost use Rattle.std.specs.Prelude.{◌≡◌, ◌<◌, ◌^◌, IfErr, OnOk, length};
+ghost use Rattle.std.specs.Prelude.{◌≡◌, ◌<◌, ◌^◌, IfErr, IsUtf8, OnOk, length};
 ghost use Rattle.command_line.specs.Values.{query_of};
 ghost use Rattle.file_rounds.specs.Told.{HoldsFile};
+ghost use Rattle.outer_world.specs.Device.{StoreState};
 ghost use Rattle.outer_world.specs.Whole.{HoldsSame};
 ghost use Rattle.plane_schedule.specs.Plans.{IsReadable};
 ghost use Rattle.query_model.specs.Validity.{IsValid};
 ghost use Rattle.round_engine.specs.Stages.{opened};
+ghost use Rattle.sql_print.specs.Printed.{printed};
 ghost use Rattle.sql_text.specs.Answer.{IsText};
 ghost use Rattle.sql_text.specs.Tree as sql;
 ghost use Rattle.daq_cli.specs.Report.{HasStopCause};
-ghost use Rattle.daq_cli.specs.commands.Query.{EndsFile, Queries, QueryCause, StopsAfter};
+ghost use Rattle.daq_cli.specs.commands.Query.{EndsFile, HasOpened, Queries, QueryCause, StopsAfter};
 
 use crate::question::{Prepared, prepare, read_query};
 use crate::refusal::Refusal;
@@ -24,6 +26,7 @@ use plane_kernels::Plane;
 use plane_schedule::Plan;
 use query_model::valid_queries_name_columns;
 use round_engine::Engine;
+use sql_text::Tree;
 use std::alloc::Global;
 use table_rounds::rounds_are_certain;
 
@@ -84,7 +87,46 @@ fn report_file<P: Store, K: Sink>(
     report_planes(sql, plan, engine, &mut source, plane, out)
 }
 
-// Opens the file, and answers the question to its table. All memory is taken before the report's first byte.
+// Answers the question to the table of a file that was opened. All memory is taken before the report's first byte.
+fn answer_file<P: Store, K: Sink>(
+    alloc: Global,
+    asked: &Query,
+    query: &Tree,
+    file: &PlaneFile,
+    planes: &mut P,
+    out: &mut K,
+) -> Result<(), Refusal>
+    requires width { asked.now.options.width < 2 ^ 63 }
+    requires printable { IsUtf8 (printed (sql.query_of query.now)) }
+    requires holds { HoldsFile file.now.head (P.state planes.old) }
+    ensures done { (first : StoreState) → HasOpened (query_of asked.now) first (P.state planes.old) (sql.query_of query.now) file.now
+        → OnOk result (Queries (query_of asked.now) first (P.state planes.new) (K.state out.old) (K.state out.new)) }
+    ensures refused { (first : StoreState) → HasOpened (query_of asked.now) first (P.state planes.old) (sql.query_of query.now) file.now
+        → IfErr result (QueryCause (query_of asked.now) first (P.state planes.new) (K.state out.old) (K.state out.new)) }
+    ensures same { HoldsSame (P.state planes.old) (P.state planes.new) }
+{
+    rounds_are_certain();
+    valid_queries_name_columns();
+    let prepared = prepare(alloc, query, &asked.options, file.head())?;
+    let Prepared {
+        sql,
+        plan,
+        mut engine,
+        mut plane,
+    } = prepared;
+    report_file(
+        sql.as_bytes(),
+        &plan,
+        &mut engine,
+        file,
+        planes,
+        &mut plane,
+        out,
+    )?;
+    Ok(())
+}
+
+// Opens the file, and answers the question to its table.
 pub(crate) fn carry_out<P: Store, K: Sink>(
     alloc: Global,
     asked: &Query,
@@ -100,25 +142,7 @@ pub(crate) fn carry_out<P: Store, K: Sink>(
     ensures untouched { ¬ ((query : sql.Query) × IsText asked.now.sql.now query)
         → (P.state planes.new ≡ P.state planes.old) × (K.state out.new ≡ K.state out.old) }
 {
-    rounds_are_certain();
-    valid_queries_name_columns();
     let query = read_query(alloc, asked.sql)?;
     let file = open(alloc, planes)?;
-    let prepared = prepare(alloc, &query, &asked.options, file.head())?;
-    let Prepared {
-        sql,
-        plan,
-        mut engine,
-        mut plane,
-    } = prepared;
-    report_file(
-        sql.as_bytes(),
-        &plan,
-        &mut engine,
-        &file,
-        planes,
-        &mut plane,
-        out,
-    )?;
-    Ok(())
+    answer_file(alloc, asked, &query, &file, planes, out)
 }

@@ -1,5 +1,5 @@
 -- A question is refused by its first step that shows why, or it has a plan that can be followed to its end.
-use Rattle.std.proofs.Common.{refl, sym, ap, subst, inr}
+use Rattle.std.proofs.Common.{sym, ap, subst, inr}
 use Rattle.std.proofs.lemmas.Result.{err_from_is_err_and}
 use Rattle.command_line.specs.Values.{options_of, order_of}
 use Rattle.daq_table.specs.Tables.{Frame}
@@ -7,7 +7,7 @@ use Rattle.plane_schedule.specs.Plans.{IsReadable}
 use Rattle.round_engine.specs.Stages.{Stage}
 use Rattle.sql_text.specs.Tree.{query_of}
 use Rattle.daq_cli.specs.Questions.{asked_with}
-use Rattle.daq_cli.proofs.QuestionCauses.{form_cause, readable_of, reads_cause, typing_cause}
+use Rattle.daq_cli.proofs.QuestionCauses.{readable_of, reads_cause, typing_cause}
 use Rattle.daq_cli.proofs.question.prepare.Goals as goal
 
 pub returns-in_err-typed-clause-refused : goal.returns-in_err-typed-clause-refused
@@ -16,16 +16,11 @@ returns-in_err-typed-clause-refused c =
     let p = err_from_is_err_and c.from_residual.result c.from_residual.ensures.1 in
     rw p.1 (typing_cause asked c.in_err-typed.field-0.0 p.0 c.in_err-typed.ensures.refused p.2)
 
-pub returns-then-not-is_plain-clause-refused : goal.returns-then-not-is_plain-clause-refused
-returns-then-not-is_plain-clause-refused c =
-    let asked = asked_with (query_of c.args.query.now) (options_of c.args.options.now) c.args.head.now in
-    form_cause asked c.in_ok-typed.typed c.in_ok-typed.ensures.typed (λ e. let none = c.if-not-is_plain.ensures.1 e in cc)
-
 pub returns-in_err-plan-clause-refused : goal.returns-in_err-plan-clause-refused
 returns-in_err-plan-clause-refused c =
     let asked = asked_with (query_of c.args.query.now) (options_of c.args.options.now) c.args.head.now in
     let p = err_from_is_err_and c.from_residual-in_err-plan.result c.from_residual-in_err-plan.ensures.1 in
-    rw p.1 (reads_cause asked c.in_ok-typed.typed c.in_ok-typed.ensures.typed c.in_err-plan.field-0.0 p.0 (c.if-not-is_plain.ensures.0 refl) c.in_err-plan.ensures.refused p.2)
+    rw p.1 (reads_cause asked c.in_ok-typed.typed c.in_ok-typed.ensures.typed c.in_err-plan.field-0.0 p.0 c.in_err-plan.ensures.refused p.2)
 
 pub returns-in_err-sql-clause-refused : goal.returns-in_err-sql-clause-refused
 returns-in_err-sql-clause-refused c =
@@ -45,7 +40,7 @@ returns-in_err-engine-clause-refused c =
 pub returns-clause-planned : goal.returns-clause-planned
 returns-clause-planned c =
     let same = ap (λ (s : Stage). s.query) c.in_ok-engine.ensures in
-    rw same (record { is_typed = c.in_ok-typed.ensures.typed; plain = c.if-not-is_plain.ensures.0 refl; planned = c.in_ok-plan.ensures.ok })
+    rw same (record { is_typed = c.in_ok-typed.ensures.typed; planned = c.in_ok-plan.ensures.ok })
 
 pub returns-clause-readable : goal.returns-clause-readable
 returns-clause-readable c =

@@ -50,13 +50,20 @@ const WORKS: Case = Case {
     err: "",
 };
 
-const CASES: [Case; 11] = [
+const CASES: [Case; 13] = [
     Case {
         out: "query SELECT SUM(price) FROM t\nround 0\n1 [12, 48]\nround 1 price 1/4\n1 [20, 42]\nround 2 price 2/4\n1 [24, 34]\nround 3 price 3/4\n1 [28, 32]\nround 4 price 4/4\n1 29\nend narrow\n",
         ..WORKS
     },
     Case {
         words: "query\np.daq\nSELECT SUM(price) FROM t\n--width\n6\n",
+        out: "query SELECT SUM(price) FROM t\nround 0\n1 [12, 48]\nround 1 price 1/4\n1 [20, 42]\nround 2 price 2/4\n1 [24, 34]\nround 3 price 3/4\n1 [28, 32]\nend narrow\n",
+        ..WORKS
+    },
+    // Behind the reads of the size, of the head and of three planes there is no other, which would fail.
+    Case {
+        words: "query\np.daq\nSELECT SUM(price) FROM t\n--width\n6\n",
+        fails: Some(6),
         out: "query SELECT SUM(price) FROM t\nround 0\n1 [12, 48]\nround 1 price 1/4\n1 [20, 42]\nround 2 price 2/4\n1 [24, 34]\nround 3 price 3/4\n1 [28, 32]\nend narrow\n",
         ..WORKS
     },
@@ -104,6 +111,15 @@ const CASES: [Case; 11] = [
     },
     Case {
         room: 40,
+        status: Status::WriteFault,
+        out: "query SELECT SUM(price) FROM t\nround 0\n1",
+        err: "daq: write fault\n",
+        ..WORKS
+    },
+    // No plane was read then: its read would fail.
+    Case {
+        room: 40,
+        fails: Some(3),
         status: Status::WriteFault,
         out: "query SELECT SUM(price) FROM t\nround 0\n1",
         err: "daq: write fault\n",

@@ -144,18 +144,18 @@ const CASES: [Case; 25] = [
         err: "daq: query refused: item 1 too wide\n",
     },
     Case {
-        words: "ask\np.csv\nprice:int,qty:int,city:text\nSELECT qty, SUM(price) FROM t GROUP BY qty\n",
-        csv: TOWNS,
+        words: "demo\n1\n2\nSELECT a, COUNT(*) FROM t GROUP BY a\n",
+        csv: "",
         status: Status::QueryRefused,
         out: "",
-        err: "daq: query refused: not built\n",
+        err: "daq: query refused: group of 29 bits\n",
     },
     Case {
-        words: "ask\np.csv\nprice:int,qty:int,city:text\nSELECT * FROM t ORDER BY price DESC LIMIT 2\n",
+        words: "ask\np.csv\nprice:int,qty:int,city:text\nSELECT * FROM t ORDER BY price DESC LIMIT 1001\n--list\n",
         csv: TOWNS,
         status: Status::QueryRefused,
         out: "",
-        err: "daq: query refused: not built\n",
+        err: "daq: query refused: limit out of range at 42\n",
     },
     Case {
         words: "ask\np.csv\nprice:int,qty:int,city:text\nSELECT SUM(price), SUM(qty) FROM t\n--reads\nprice,price,price,price,price\n",

@@ -28,65 +28,12 @@ returns-in_err-file-clause-refused g c =
     rw p.1 (query_file asked (g.K.Sink.state c.args.out.now) (sql.query_of c.in_ok-query.query) c.in_ok-query.ensures.query (g.P.Store.state c.args.planes.now) (g.P.Store.state c.open.new.store)
     c.in_err-file.field-0.0 p.0 c.in_err-file.ensures.refused p.2)
 
-pub returns-in_err-prepared-clause-refused : goal.returns-in_err-prepared-clause-refused
-returns-in_err-prepared-clause-refused g c =
-    let asked = query_of c.args.asked.now in
-    let query = sql.query_of c.in_ok-query.query in
-    let p = err_from_is_err_and c.from_residual-in_err-prepared.result c.from_residual-in_err-prepared.ensures.1 in
-    let why = c.in_err-prepared.field-0.0 in
-    rw (p.1, p.2) (query_plan asked (g.K.Sink.state c.args.out.now) query c.in_ok-query.ensures.query (g.P.Store.state c.args.planes.now) (g.P.Store.state c.open.new.store)
-    c.in_ok-file.file c.in_ok-file.ensures.opened why (subst (λ h. StopsPlanning (asked_with query asked.options h) why) c.head.ensures.head c.in_err-prepared.ensures.refused))
-
-pub returns-in_err-report_file-clause-refused : goal.returns-in_err-report_file-clause-refused
-returns-in_err-report_file-clause-refused g c =
-    let asked = query_of c.args.asked.now in
-    let query = sql.query_of c.in_ok-query.query in
-    let planes = g.P.Store.state c.args.planes.now in
-    let opened = g.P.Store.state c.open.new.store in
-    let last = g.P.Store.state c.report_file.new.planes in
-    let old = g.K.Sink.state c.args.out.now in
-    let new = g.K.Sink.state c.report_file.new.out in
-    let file = c.in_ok-file.file in
-    let made = c.in_ok-prepared.prepared in
-    let begun : Begins asked planes opened = record {
-      query = query;
-      is_text = c.in_ok-query.ensures.query;
-      file = file;
-      opens = c.in_ok-file.ensures.opened;
-      same = c.in_ok-file.ensures.same;
-      typed = made.engine.query;
-      plan = made.plan;
-      planned = subst (λ h. IsPlanned (asked_with query asked.options h) made.engine.query made.plan) c.head.ensures.head c.in_ok-prepared.ensures.planned;
-    } in
-    let named = c.valid_queries_name_columns.ensures file.head made.engine.query (subst (λ h. IsValid h made.engine.query) c.head.ensures.head c.in_ok-prepared.ensures.valid) in
-    let stop = c.in_err-report_file.field-0.0 in
-    let ends = subst (λ l. IfSome opened.held (λ bytes. EndsRounds (query_line l) file.head made.plan made.engine.query (bits_at file.head bytes) (plane_places file.head) (IsUnpadded file.head bytes) (StopsAfter file.head opened last)
-    (Err stop) old new (option_map laid opened.pieces) (option_map laid last.pieces))) (c.as_bytes.ensures.value ∙ c.in_ok-prepared.ensures.text) c.in_err-report_file.ensures.ends in
-    let p = err_from_is_err_and c.from_residual-in_err-report_file.result c.from_residual-in_err-report_file.ensures.1 in
-    rw p.1 (query_stop asked planes opened last old new begun c.rounds_are_certain.ensures named stop p.0 p.2 c.in_err-report_file.ensures.cause ends)
-
 pub returns-clause-done : goal.returns-clause-done
 returns-clause-done g c =
-    let asked = query_of c.args.asked.now in
-    let query = sql.query_of c.in_ok-query.query in
-    let planes = g.P.Store.state c.args.planes.now in
-    let opened = g.P.Store.state c.open.new.store in
-    let last = g.P.Store.state c.report_file.new.planes in
-    let old = g.K.Sink.state c.args.out.now in
-    let new = g.K.Sink.state c.report_file.new.out in
-    let file = c.in_ok-file.file in
-    let made = c.in_ok-prepared.prepared in
-    let begun : Begins asked planes opened = record {
-      query = query;
-      is_text = c.in_ok-query.ensures.query;
-      file = file;
-      opens = c.in_ok-file.ensures.opened;
-      same = c.in_ok-file.ensures.same;
-      typed = made.engine.query;
-      plan = made.plan;
-      planned = subst (λ h. IsPlanned (asked_with query asked.options h) made.engine.query made.plan) c.head.ensures.head c.in_ok-prepared.ensures.planned;
-    } in
-    let named = c.valid_queries_name_columns.ensures file.head made.engine.query (subst (λ h. IsValid h made.engine.query) c.head.ensures.head c.in_ok-prepared.ensures.valid) in
-    let ends = subst (λ l. IfSome opened.held (λ bytes. EndsRounds (query_line l) file.head made.plan made.engine.query (bits_at file.head bytes) (plane_places file.head) (IsUnpadded file.head bytes) (StopsAfter file.head opened last)
-    (Ok tt) old new (option_map laid opened.pieces) (option_map laid last.pieces))) (c.as_bytes.ensures.value ∙ c.in_ok-prepared.ensures.text) c.in_ok-report_file.ensures.ends in
-    query_done asked planes opened last old new begun c.rounds_are_certain.ensures named ends
+    c.answer_file.ensures.done (g.P.Store.state c.args.planes.now)
+    (record { is_text = c.in_ok-query.ensures.query; opens = c.in_ok-file.ensures.opened; same = c.in_ok-file.ensures.same })
+
+pub returns-clause-refused : goal.returns-clause-refused
+returns-clause-refused g c =
+    c.answer_file.ensures.refused (g.P.Store.state c.args.planes.now)
+    (record { is_text = c.in_ok-query.ensures.query; opens = c.in_ok-file.ensures.opened; same = c.in_ok-file.ensures.same })
