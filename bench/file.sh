@@ -5,24 +5,8 @@
 # they are in memory. Prints for a load its seconds, and for a query the milliseconds until its first block was there and until its end, each the least of
 # five runs; and peak kilobytes. The three answers have to be the same.
 here=$(CDPATH='' cd -- "$(dirname -- "$0")/.." && pwd) || exit 1
-folder=$(mktemp -d) || exit 1
-trap 'rm -rf "$folder"' EXIT
-schema=a:int,b:dec2,d:date,g:text
-"$here/daq" ask "$here/examples/p.csv" price:int "SELECT SUM(price) FROM t" >/dev/null || exit 1
-program=$here/crates/daq/out/daq
-cc -O2 -o "$folder/stopwatch" "$here/bench/stopwatch.c" || exit 1
+. "$here/bench/common.sh"
 cc -O3 -march=native -o "$folder/limit" "$here/bench/limit.c" || exit 1
-
-# The least milliseconds to so many lines of a command's output and to its end, and the most kilobytes, of five runs.
-least() {
-    for run in 1 2 3 4 5; do
-        "$folder/stopwatch" "$@" || exit 1
-    done | sort -n -k 2 | awk '
-        NR == 1 { end = $2; first = $1 }
-        $1 < first { first = $1 }
-        $3 > most { most = $3 }
-        END { if (NR < 5) exit 1; print first, end, most }'
-}
 
 # The seconds and the rate of a load of so many bytes, beside those of an import.
 print_loads() {
@@ -33,9 +17,7 @@ print_loads() {
 }
 
 measure() {
-    csv=$folder/t.csv planes=$folder/t.daq database=$folder/t.db
-    rm -f "$planes" "$database"
-    awk -v seed=1 -v rows="$1" -f "$here/bench/table.awk" >"$csv" || exit 1
+    make_table "$1"
     load=$("$folder/stopwatch" 1 "$folder/loaded" "$program" load "$csv" "$planes" "$schema") || exit 1
     import=$("$folder/stopwatch" 1 "$folder/imported" sqlite3 "$database" "CREATE TABLE t(a INTEGER, b REAL, d TEXT, g TEXT)" \
         ".mode csv" ".import --skip 1 $csv t") || exit 1
