@@ -1,0 +1,739 @@
+#!/usr/bin/env python3
+"""Reports of queries over small tables, worked out by the definitions alone, apart from the program.
+
+reports.py CSV SCHEMA SQL [OPTIONS]      prints the report (SQL in the form in which a report prints it)
+reports.py --compare DAQ [COUNT [SEED]]  makes tables and queries by chance, and compares what `DAQ ask` prints
+"""
+import csv
+import datetime
+import io
+import os
+import random
+import re
+import subprocess
+import sys
+import tempfile
+from itertools import product
+
+EPOCH = datetime.date(1970, 1, 1).toordinal()
+
+# ---- tables
+
+
+class Column:
+    def __init__(self, name, kind):
+        self.name, self.nullable = name, kind.endswith("?")
+        self.kind = kind.rstrip("?")
+        self.scale = int(self.kind[3:]) if self.kind.startswith("dec") else 0
+
+    def load(self, fields):
+        nulls = [self.nullable and f == "" for f in fields]
+        given = [f for f, null in zip(fields, nulls) if not null]
+        self.names = sorted(set(given), key=lambda n: n.encode()) if self.kind == "text" else []
+        values = [self.value(f) for f in given]
+        self.base, self.top = (min(values), max(values)) if values else (0, 0)
+        values = iter(values)
+        self.cells = [None if null else next(values) for null in nulls]
+        self.digits = (self.top - self.base).bit_length()
+        self.planes = self.digits + self.nullable
+        self.read = 0
+
+    def value(self, text):
+        if self.kind == "text":
+            return self.names.index(text)
+        if self.kind == "date":
+            return datetime.date.fromisoformat(text).toordinal() - EPOCH
+        return units(text, self.scale)
+
+    def code(self, row):
+        cell = self.cells[row]
+        if cell is None:
+            return 0
+        return (self.nullable << self.digits) + cell - self.base
+
+    def prefix(self, row):
+        return self.code(row) >> (self.planes - self.read)
+
+    def range_of(self, prefix):
+        """Whether null is possible, and the numbers that are, or None where no cell has the prefix."""
+        if self.nullable and self.read == 0:
+            return Range(True, self.base, self.top)
+        if self.nullable and prefix == 0:
+            return Range(True, None, None)
+        left = self.planes - self.read
+        first = (prefix << left) - (self.nullable << self.digits)
+        if not 0 <= first <= self.top - self.base:
+            return None
+        return Range(False, self.base + first, min(self.base + first + (1 << left) - 1, self.top))
+
+    def range(self, row):
+        return self.range_of(self.prefix(row))
+
+    def text(self, value):
+        if self.kind == "text":
+            return quoted(self.names[value]) if value < len(self.names) else "-"
+        if self.kind == "date":
+            return datetime.date.fromordinal(value + EPOCH).isoformat()
+        return scaled(value, self.scale)
+
+
+class Range:
+    def __init__(self, null, low, high):
+        self.null, self.low, self.high = null, low, high
+
+    def numbers(self):
+        return self.low is not None
+
+    def is_one(self):
+        return not self.numbers() if self.null else self.low == self.high
+
+
+def units(text, scale):
+    sign = -1 if text.startswith("-") else 1
+    whole, _, part = text.lstrip("+-").partition(".")
+    part = part.rstrip("0")
+    assert len(part) <= scale
+    return sign * int((whole or "0") + part.ljust(scale, "0"))
+
+
+def scaled(value, scale):
+    digits = str(abs(value)).rjust(scale + 1, "0")
+    sign = "-" if value < 0 else ""
+    return sign + (digits if scale == 0 else digits[:-scale] + "." + digits[-scale:])
+
+
+def quoted(text):
+    return "'" + text.replace("'", "''") + "'"
+
+
+def read_table(text, schema):
+    columns = [Column(*item.split(":")) for item in schema.split(",")]
+    records = [r for r in csv.reader(io.StringIO(text)) if r]
+    assert records[0] == [c.name for c in columns]
+    for i, column in enumerate(columns):
+        column.load([r[i] for r in records[1:]])
+    return columns, len(records) - 1
+
+
+# ---- queries
+
+TOKENS = re.compile(r"\s*('(?:[^']|'')*'|\"[^\"]+\"|[A-Za-z_]\w*|\d+(?:\.\d+)?|<>|<=|>=|[-(),*+=<>])")
+KINDS = ("COUNT", "SUM", "AVG", "MIN", "MAX")
+
+
+class Parser:
+    def __init__(self, sql, columns):
+        self.tokens, at = [], 0
+        while at < len(sql.rstrip()):
+            match = TOKENS.match(sql, at)
+            self.tokens.append(match.group(1))
+            at = match.end()
+        self.at, self.table, self.used = 0, {c.name: c for c in columns}, []
+
+    def peek(self, ahead=0):
+        return self.tokens[self.at + ahead] if self.at + ahead < len(self.tokens) else ""
+
+    def take(self, *wanted):
+        token = self.peek()
+        if wanted and token not in wanted:
+            return None
+        self.at += 1
+        return token
+
+    def expect(self, token):
+        assert self.take(token), (token, self.tokens[self.at:])
+
+    def column(self):
+        column = self.table[self.take().strip('"')]
+        if column not in self.used:
+            self.used.append(column)
+        return column
+
+    def number(self, scale=None):
+        sign = "-" if self.take("-") else ""
+        text = self.take()
+        if scale is None:
+            scale = len(text.partition(".")[2])
+            return units(sign + text, scale), scale
+        return units(sign + text, scale)
+
+    def expression(self):
+        left = self.term()
+        while self.peek() in ("+", "-"):
+            left = (self.take(), left, self.term())
+        return left
+
+    def term(self):
+        left = self.factor()
+        while self.peek() == "*":
+            left = (self.take(), left, self.factor())
+        return left
+
+    def factor(self):
+        if self.take("("):
+            inner = self.expression()
+            self.expect(")")
+            return inner
+        if self.peek() == "-" or self.peek()[0].isdigit():
+            return ("number",) + self.number()
+        return ("column", self.column())
+
+    def item(self):
+        kind = self.take(*KINDS)
+        if not kind:
+            self.column()
+            return None
+        self.expect("(")
+        argument = ("number", 0, 0) if self.take("*") else self.expression()
+        self.expect(")")
+        return kind, argument
+
+    def condition(self):
+        left = self.conjunction()
+        while self.take("OR"):
+            left = ("or", left, self.conjunction())
+        return left
+
+    def conjunction(self):
+        left = self.negation()
+        while self.take("AND"):
+            left = ("and", left, self.negation())
+        return left
+
+    def negation(self):
+        if self.take("NOT"):
+            return ("not", self.negation())
+        if self.take("("):
+            inner = self.condition()
+            self.expect(")")
+            return inner
+        return self.atom()
+
+    def literal(self, column):
+        if column.kind == "text":
+            return self.take()[1:-1].replace("''", "'")
+        if self.take("DATE"):
+            return datetime.date.fromisoformat(self.take()[1:-1]).toordinal() - EPOCH
+        return self.number(column.scale)
+
+    def atom(self):
+        column = self.column()
+        if self.take("IS"):
+            negated = self.take("NOT")
+            self.expect("NULL")
+            return ("not", ("null", column)) if negated else ("null", column)
+        negated = self.take("NOT")
+        if self.take("BETWEEN"):
+            low = self.literal(column)
+            self.expect("AND")
+            high = self.literal(column)
+            atom = ("test", column, lambda v: low <= v <= high)
+        elif self.take("IN"):
+            self.expect("(")
+            values = [self.literal(column)]
+            while self.take(","):
+                values.append(self.literal(column))
+            self.expect(")")
+            atom = ("test", column, lambda v: v in values)
+        else:
+            sign = self.take()
+            compare = COMPARISONS[sign]
+            if self.peek() in self.table or self.peek().startswith('"'):
+                return ("columns", column, compare, self.column())
+            value = self.literal(column)
+            return ("test", column, lambda v: compare(v, value))
+        return ("not", atom) if negated else atom
+
+    def query(self):
+        self.expect("SELECT")
+        items = []
+        if self.take("*") is None:
+            items.append(self.item())
+            while self.take(","):
+                items.append(self.item())
+        self.expect("FROM")
+        self.take()
+        query = Query([i for i in items if i])
+        if self.take("WHERE"):
+            query.condition = self.condition()
+        query.in_condition = columns_of(query.condition)
+        if self.take("GROUP"):
+            self.expect("BY")
+            query.groups = [self.column()]
+            while self.take(","):
+                column = self.column()
+                if column not in query.groups:
+                    query.groups.append(column)
+        if self.take("ORDER"):
+            self.expect("BY")
+            query.key = self.column()
+            query.down = self.take("ASC", "DESC") == "DESC"
+            self.expect("LIMIT")
+            query.limit = int(self.take())
+        assert self.at == len(self.tokens), self.tokens[self.at:]
+        query.columns = self.used
+        return query
+
+
+class Query:
+    def __init__(self, items):
+        self.items, self.condition, self.groups, self.key, self.limit = items, None, [], None, 0
+
+
+COMPARISONS = {
+    "=": lambda a, b: a == b,
+    "<>": lambda a, b: a != b,
+    "<": lambda a, b: a < b,
+    "<=": lambda a, b: a <= b,
+    ">": lambda a, b: a > b,
+    ">=": lambda a, b: a >= b,
+}
+
+
+def columns_of(condition):
+    if condition is None:
+        return []
+    if condition[0] == "columns":
+        return [condition[1], condition[3]]
+    if condition[0] in ("test", "null"):
+        return [condition[1]]
+    return [c for part in condition[1:] for c in columns_of(part)]
+
+
+# ---- what is known of a row
+
+NULL = None
+NOT = {True: False, False: True, NULL: NULL}
+
+
+def meaning(column, value):
+    """A number as a condition sees it: of texts the name. A rank without a name, where all are null, is behind all names."""
+    if column.kind != "text":
+        return value
+    return column.names[value] if value < len(column.names) else "\U0010ffff"
+
+
+def truths(condition, row):
+    """The truths of SQL that a condition may have: True, False, NULL."""
+    if condition is None:
+        return {True}
+    kind = condition[0]
+    if kind == "not":
+        return {NOT[t] for t in truths(condition[1], row)}
+    if kind in ("and", "or"):
+        # or is and with all truths exchanged
+        turn = NOT if kind == "or" else {t: t for t in NOT}
+        pairs = product(truths(condition[1], row), truths(condition[2], row))
+        return {turn[conjunction(turn[a], turn[b])] for a, b in pairs}
+    if kind == "null":
+        given = condition[1].range(row)
+        return ({True} if given.null else set()) | ({False} if given.numbers() else set())
+    if kind == "columns":
+        _, left, compare, right = condition
+        a, b = left.range(row), right.range(row)
+        scale = max(left.scale, right.scale)
+        found = {NULL} if a.null or b.null else set()
+        if a.numbers() and b.numbers():
+            up, down = 10 ** (scale - left.scale), 10 ** (scale - right.scale)
+            found |= {compare(x * up, y * down) for x in sample(a) for y in sample(b)}
+        return found
+    _, column, test = condition
+    given = column.range(row)
+    found = {NULL} if given.null else set()
+    if given.numbers():
+        found |= {test(meaning(column, v)) for v in range(given.low, given.high + 1)}
+    return found
+
+
+def sample(given):
+    return range(given.low, given.high + 1)
+
+
+def conjunction(a, b):
+    if a is False or b is False:
+        return False
+    return NULL if a is NULL or b is NULL else True
+
+
+def span(expression, row):
+    """The scale, the interval, and whether null is possible, and a number."""
+    if expression[0] == "number":
+        return expression[2], expression[1], expression[1], False, True
+    if expression[0] == "column":
+        column = expression[1]
+        given = column.range(row)
+        if not given.numbers():
+            return column.scale, column.base, column.base, True, False
+        return column.scale, given.low, given.high, given.null, True
+    sign, left, right = expression
+    ls, ll, lh, ln, lv = span(left, row)
+    rs, rl, rh, rn, rv = span(right, row)
+    if sign == "*":
+        corners = [a * b for a in (ll, lh) for b in (rl, rh)]
+        return ls + rs, min(corners), max(corners), ln or rn, lv and rv
+    scale = max(ls, rs)
+    ll, lh, rl, rh = (v * 10 ** (scale - s) for v, s in ((ll, ls), (lh, ls), (rl, rs), (rh, rs)))
+    if sign == "+":
+        return scale, ll + rl, lh + rh, ln or rn, lv and rv
+    return scale, ll - rh, lh - rl, ln or rn, lv and rv
+
+
+def scale_of(expression):
+    if expression[0] == "number":
+        return expression[2]
+    if expression[0] == "column":
+        return expression[1].scale
+    left, right = scale_of(expression[1]), scale_of(expression[2])
+    return left + right if expression[0] == "*" else max(left, right)
+
+
+# ---- bounds: (word, low, high), where the word says whether there may be no answer
+
+
+def least_sum(certain, others):
+    """Of the sums of all certain rows and some of the others, at least one row in all, the least."""
+    if certain or any(low <= 0 for low in others):
+        return sum(certain) + sum(low for low in others if low < 0)
+    return min(others)
+
+
+def bound(kind, pairs):
+    certain = [p for p in pairs if p[0]]
+    others = [p for p in pairs if not p[0]]
+    if kind == "COUNT":
+        return "never", len(certain), len(pairs)
+    if not pairs:
+        return "always", 0, 0
+    word = "never" if certain else "possibly"
+    lows, highs = [p[1] for p in pairs], [p[2] for p in pairs]
+    if kind == "MIN":
+        return word, min(lows), min(p[2] for p in certain) if certain else max(highs)
+    if kind == "MAX":
+        return word, max(p[1] for p in certain) if certain else min(lows), max(highs)
+    low = least_sum([p[1] for p in certain], [p[1] for p in others])
+    high = -least_sum([-p[2] for p in certain], [-p[2] for p in others])
+    if kind == "SUM":
+        return word, low, high
+    few, many = max(len(certain), 1), len(pairs)
+    return word, (low, many if low >= 0 else few), (high, few if high >= 0 else many)
+
+
+def is_near(given, width):
+    word, low, high = given
+    if word == "always":
+        return True
+    if word == "possibly":
+        return False
+    if isinstance(low, tuple):
+        return high[0] * low[1] - low[0] * high[1] <= width * low[1] * high[1]
+    return high - low <= width
+
+
+def interval(word, low, high, text):
+    if word == "always":
+        return "null"
+    ends = text(low) if low == high else "[%s, %s]" % (text(low), text(high))
+    return ends + (" or null" if word == "possibly" else "")
+
+
+# ---- rounds
+
+
+class Rounds:
+    def __init__(self, columns, rows, query, options):
+        self.table, self.rows, self.query, self.options = columns, rows, query, options
+
+    def truths(self):
+        found = [truths(self.query.condition, r) for r in range(self.rows)]
+        return [("T" if t == {True} else "U" if True in t else "F") for t in found]
+
+    def pairs(self, item, rows):
+        """The rows that may give a value; each with whether it surely counts."""
+        found = []
+        for r, certain in rows:
+            _, low, high, null, number = span(item[1], r)
+            if number:
+                found.append((certain and not null, low, high))
+        return found
+
+    def lines_of_items(self, rows):
+        """The lines, and whether all are narrow."""
+        lines, near = [], True
+        for place, item in enumerate(self.query.items):
+            given = bound(item[0], self.pairs(item, rows))
+            near = near and is_near(given, self.options["width"])
+            lines.append("%d %s" % (place + 1, interval(*given, text_of(item))))
+        return lines, near
+
+    def totals(self):
+        truth = self.truths()
+        return self.lines_of_items([(r, truth[r] == "T") for r in range(self.rows) if truth[r] != "F"])
+
+    def cells(self):
+        truth, groups, cells = self.truths(), self.query.groups, {}
+        for r in range(self.rows):
+            if truth[r] != "F":
+                cells.setdefault(tuple(c.prefix(r) for c in groups), []).append(r)
+        lines, narrow = [], True
+        for cell in sorted(cells):
+            ranges = [c.range_of(p) for c, p in zip(groups, cell)]
+            single = all(given.is_one() for given in ranges)
+            rows = [(r, single and truth[r] == "T") for r in cells[cell]]
+            present = any(certain for _, certain in rows)
+            keys = ", ".join(key_text(c, given) for c, given in zip(groups, ranges))
+            lines.append("group %s %s" % (keys, "present" if present else "possible"))
+            found, near = self.lines_of_items(rows)
+            lines += found
+            narrow = narrow and present and near
+        return lines, narrow
+
+    def ranking(self):
+        query, truth, key = self.query, self.truths(), self.query.key
+        far = float("inf")
+
+        def ends(r):
+            # places of the first and the last value: less where a value comes first, null last
+            given = key.range(r)
+            first, last = far, far
+            if given.numbers():
+                first, last = (-given.high, -given.low) if query.down else (given.low, given.high)
+            return (first, r), (far if given.null else last, r)
+
+        places = [ends(r) for r in range(self.rows)]
+        standing = []
+        for x in range(self.rows):
+            others = [y for y in range(self.rows) if y != x]
+            may = sum(truth[y] != "F" and places[y][0] < places[x][1] for y in others)
+            must = sum(truth[y] == "T" and places[y][1] < places[x][0] for y in others)
+            if truth[x] == "F" or must >= query.limit:
+                standing.append("excluded")
+            elif truth[x] == "T" and may < query.limit:
+                standing.append("certain")
+            else:
+                standing.append("possible")
+        certain, possible = standing.count("certain"), standing.count("possible")
+        lines = ["top %d certain %d possible %d" % (query.limit, certain, possible)]
+        for r, word in enumerate(standing):
+            if word == "certain" or word == "possible" and self.options["list"]:
+                given = key.range(r)
+                null = "never" if not given.null else "possibly" if given.numbers() else "always"
+                lines.append("row %d %s %s" % (r + 1, word, interval(null, given.low, given.high, key.text)))
+        return lines, possible == 0
+
+    def block(self):
+        if self.query.key:
+            return self.ranking()
+        return self.cells() if self.query.groups else self.totals()
+
+    def next_column(self, number):
+        columns, policy = self.query.columns, self.options["policy"]
+        unread = [c for c in columns if c.read < c.planes]
+        if self.options["reads"] is not None:
+            return next(c for c in columns if c.name == self.options["reads"][number])
+        if policy == "order":
+            return unread[0]
+        if policy == "filter":
+            filters = [c for c in unread if c in self.query.in_condition]
+            groups = [c for c in unread if c in self.query.groups and c not in self.query.in_condition]
+            if filters and "U" in self.truths():
+                unread = filters
+            elif groups:
+                unread = groups
+        return max(unread, key=lambda c: (c.planes - c.read, -columns.index(c)))
+
+    def ending(self, narrow, number):
+        if narrow:
+            return "end narrow"
+        if number == self.options["rounds"]:
+            return "end rounds"
+        if self.options["reads"] is not None and number == len(self.options["reads"]):
+            return "end reads"
+        return None
+
+    def step(self, column):
+        """Reads the next plane of a column."""
+        column.read += 1
+
+    def report(self, sql, lines):
+        """Appends the lines of the report."""
+        lines += ["query " + sql, "round 0"]
+        number = 0
+        while True:
+            found, narrow = self.block()
+            lines += found
+            ending = self.ending(narrow, number)
+            if ending:
+                lines.append(ending)
+                return
+            column = self.next_column(number)
+            self.step(column)
+            number += 1
+            lines.append("round %d %s %d/%d" % (number, column.name, column.read, column.planes))
+
+
+def text_of(item):
+    kind, argument = item
+    if kind in ("MIN", "MAX") and argument[0] == "column":
+        return argument[1].text
+    scale = 0 if kind == "COUNT" else scale_of(argument)
+    if kind == "AVG":
+        return lambda end: "%s/%d" % (scaled(end[0], scale), end[1])
+    return lambda end: scaled(end, scale)
+
+
+def key_text(column, given):
+    if not given.numbers():
+        return "null"
+    low, high = column.text(given.low), column.text(given.high)
+    return (low if given.low == given.high else low + ".." + high) + (" or null" if given.null else "")
+
+
+def parse_options(words):
+    options = {"width": 0, "rounds": None, "policy": "widest", "reads": None, "list": False}
+    words = list(words)
+    while words:
+        word = words.pop(0)[2:]
+        if word == "list":
+            options["list"] = True
+        elif word in ("width", "rounds"):
+            options[word] = int(words.pop(0))
+        else:
+            options[word] = words.pop(0).split(",") if word == "reads" else words.pop(0)
+    return options
+
+
+def report(text, schema, sql, words):
+    columns, rows = read_table(text, schema)
+    query = Parser(sql, columns).query()
+    lines = []
+    Rounds(columns, rows, query, parse_options(words)).report(sql, lines)
+    return "".join(line + "\n" for line in lines)
+
+
+# ---- by chance
+
+
+def some_table(chance):
+    rows = chance.choice([0, 1, 2, 3, 5, 8, 13])
+    kinds = [chance.choice(["int", "int", "dec1", "date", "text"]) + chance.choice(["", "", "?"]) for _ in range(chance.randint(2, 4))]
+    columns = list(zip("abcd", kinds))
+    lines = [",".join(name for name, _ in columns)]
+    for _ in range(rows):
+        fields = [some_field(chance, kind) for _, kind in columns]
+        lines.append(",".join(fields))
+    return "\n".join(lines) + "\n", ",".join("%s:%s" % c for c in columns), columns
+
+
+def some_field(chance, kind):
+    if kind.endswith("?") and chance.random() < 0.25:
+        return ""
+    if kind.startswith("int"):
+        return str(chance.randint(-3, 9))
+    if kind.startswith("dec"):
+        return scaled(chance.randint(-15, 25), 1)
+    if kind.startswith("date"):
+        return datetime.date.fromordinal(EPOCH + chance.randint(0, 40)).isoformat()
+    return chance.choice(["Bern", "Oslo", "Rome", "O'Hara", "Ulm"])
+
+
+def some_literal(chance, kind):
+    field = some_field(chance, kind.rstrip("?"))
+    if kind.startswith("date"):
+        return "DATE '%s'" % field
+    if kind.startswith("dec"):
+        return field.rstrip("0").rstrip(".")
+    return quoted(field) if kind.startswith("text") else field
+
+
+def some_atom(chance, columns):
+    name, kind = chance.choice(columns)
+    form = chance.randint(0, 9)
+    if form == 0:
+        return "%s IS %sNULL" % (name, chance.choice(["", "NOT "]))
+    if form == 1:
+        low, high = some_literal(chance, kind), some_literal(chance, kind)
+        return "%s %sBETWEEN %s AND %s" % (name, chance.choice(["", "NOT "]), low, high)
+    if form == 2:
+        values = ", ".join(some_literal(chance, kind) for _ in range(chance.randint(1, 3)))
+        return "%s %sIN (%s)" % (name, chance.choice(["", "NOT "]), values)
+    return "%s %s %s" % (name, chance.choice(list(COMPARISONS)), some_literal(chance, kind))
+
+
+def some_condition(chance, columns):
+    atoms = [some_atom(chance, columns) for _ in range(chance.choice([0, 1, 1, 2]))]
+    return " WHERE " + chance.choice([" AND ", " OR "]).join(atoms) if atoms else ""
+
+
+def some_items(chance, columns):
+    items = []
+    for _ in range(chance.randint(1, 3)):
+        name, kind = chance.choice(columns)
+        numbers = [n for n, k in columns if k[:3] in ("int", "dec")]
+        choice = ["COUNT(*)", "COUNT(%s)" % name, "MIN(%s)" % name, "MAX(%s)" % name]
+        if numbers:
+            number = chance.choice(numbers)
+            choice += ["SUM(%s)" % number, "AVG(%s)" % number, "SUM(%s * %s)" % (number, chance.choice(numbers)), "MAX(%s - 2)" % number]
+        items.append(chance.choice(choice))
+    return items
+
+
+def some_query(chance, columns):
+    where = some_condition(chance, columns)
+    form = chance.randint(0, 2)
+    if form == 0:
+        return "SELECT %s FROM t%s" % (", ".join(some_items(chance, columns)), where)
+    if form == 1:
+        groups = chance.sample([n for n, _ in columns], chance.randint(1, 2))
+        shown = chance.sample(groups, chance.randint(0, len(groups)))
+        return "SELECT %s FROM t%s GROUP BY %s" % (", ".join(shown + some_items(chance, columns)), where, ", ".join(groups))
+    down = chance.choice(["", " DESC"])
+    return "SELECT * FROM t%s ORDER BY %s%s LIMIT %d" % (where, chance.choice(columns)[0], down, chance.choice([1, 2, 3, 5, 1000]))
+
+
+def some_options(chance):
+    words = []
+    if chance.random() < 0.2:
+        words += ["--width", str(chance.randint(0, 6))]
+    if chance.random() < 0.2:
+        words += ["--rounds", str(chance.randint(0, 6))]
+    if chance.random() < 0.6:
+        words += ["--policy", chance.choice(["widest", "order", "filter"])]
+    if chance.random() < 0.5:
+        words += ["--list"]
+    return words
+
+
+def compare(daq, count, seed):
+    chance, wrong = random.Random(seed), 0
+    with tempfile.TemporaryDirectory() as folder:
+        path = os.path.join(folder, "t.csv")
+        for number in range(count):
+            text, schema, columns = some_table(chance)
+            sql, words = some_query(chance, columns), some_options(chance)
+            with open(path, "w") as file:
+                file.write(text)
+            told = subprocess.run([daq, "ask", path, schema, sql] + words, capture_output=True, text=True)
+            if told.returncode == 3 and "group of" in told.stderr:
+                continue
+            wanted = report(text, schema, sql, words)
+            if told.stdout != wanted or told.returncode != 0:
+                wrong += 1
+                print("differs (%d): %s\n%s%s %s\n--- wanted\n%s--- told (%d) %s\n%s" % (number, schema, text, sql, words, wanted, told.returncode, told.stderr, told.stdout))
+                if wrong == 3:
+                    break
+    print("%d reports compared, %d differ" % (count, wrong))
+    return 1 if wrong else 0
+
+
+def main(words):
+    if words[0] == "--compare":
+        count = int(words[2]) if len(words) > 2 else 500
+        seed = int(words[3]) if len(words) > 3 else 1
+        return compare(words[1], count, seed)
+    with open(words[0], newline="") as file:
+        sys.stdout.write(report(file.read(), words[1], words[2], words[3:]))
+    return 0
+
+
+if __name__ == "__main__":
+    sys.exit(main(sys.argv[1:]))
