@@ -13,7 +13,7 @@ use Rattle.query_model.specs.Bounds.{Pair, certain_count, low_share, high_share}
 use Rattle.query_model.specs.Laws.{SumsFit}
 use Rattle.query_model.specs.Validity.{IsSumKind}
 use Rattle.aggregates.specs.declared.tally.Tally.{Tally}
-use Rattle.aggregates.specs.Runnings.{Tallies, StandsFor, IsAdded}
+use Rattle.aggregates.specs.Runnings.{Tallies, StandsFor, IsAdded, IsSet}
 use Rattle.aggregates.specs.Tallies.{AreOrdered, MayGet, if_summed, tally_of}
 use Rattle.aggregates.proofs.Appending.{total-more}
 
@@ -136,6 +136,18 @@ pub stands_as : (kind : ItemKind) (n : ℕ) (xs : List Tally) (running : Tallies
 stands_as kind n xs running cell ps t e stands was =
     let here : StandsFor (seen kind n xs) cell ps = subst (λ r. StandsFor r cell ps) (sym e) stands in
     found_at n xs cell (tally_of kind ps) t here.kept was
+
+pub is_set : (kind : ItemKind) (n : ℕ) (xs : List Tally) (cell : ℕ) (tally : Tally) → cell < n → n ≤ length xs → IsSet (seen kind n xs) (seen kind n (set xs cell tally)) cell tally
+is_set kind n xs cell tally in_cells in_room =
+    let same : take n (set xs cell tally) ≡ set (take n xs) cell tally = take-set-lt n xs cell tally in_cells in
+    let taken : length (take n xs) ≡ min n (length xs) = length-take n xs in
+    record {
+      kind = refl;
+      room = length-set xs cell tally;
+      count = ap length same ∙ length-set (take n xs) cell tally;
+      others = λ other h. ap (λ ts. slice_get ts other) same ∙ set_elsewhere (take n xs) cell other tally h;
+      kept = ap (λ ts. slice_get ts cell) same ∙ set_at (take n xs) cell tally (omega arith);
+    }
 
 pub is_added : (kind : ItemKind) (n : ℕ) (xs : List Tally) (cell : ℕ) (old new : Tally) (p : Pair) → cell < n → cell < length xs → p.low ≤ℤ p.high → old ≡ get_or xs cell old →
     ((ps : List Pair) → old ≡ tally_of kind ps → new ≡ tally_of kind (ps ++ p ∷ [])) →

@@ -2,6 +2,7 @@
 use Rattle.std.proofs.Common.{◌≡◌, ℕ, ◌+◌, ◌-◌, ◌*◌, ◌%◌, ◌^◌, ◌<◌, ◌≤◌, ◌==◌, nat_lt, min, ℤ, pos, negsuc, ◌+ℤ◌, ◌≤ℤ◌, ◌<ℤ◌, int_lt, nat_abs, Bool, true, false, not, ◌&&◌, ◌||◌, cond, List, length, map, get_or, refl, ap, sym, ◌∙◌, arith}
 use Rattle.std.specs.List.{range_with_len}
 use Rattle.std.specs.Simd.Lanes.{zip2}
+use Rattle.std.proofs.lemmas.Bool.{false≢true}
 use Rattle.std.proofs.lemmas.Bool.Decides.{nat_tests}
 use Rattle.std.proofs.lemmas.Int.{ints}
 use Rattle.std.proofs.lemmas.List.{get_or-map, get_or_default, length-map, same_lists}
@@ -149,14 +150,32 @@ highs_above column within beyond level part h has_zero top part_is beyond_is lev
 
 -- ---- masks of all rows and of none
 
-none_left : (b : Bool) → (b && not b) ≡ (b && false)
-none_left true = refl
-none_left false = refl
+pub rows_left : (column : KnownColumn) → length (rows_where is_possible column) ≡ rows_of_column column
+rows_left column = length-map column.known.prefixes (is_possible column.ends column.known.read)
 
-pub taken_away : (within : List Bool) → zip2 (λ a b. a && not b) within within ≡ those_of within (λ row. false)
-taken_away within =
-    all_those (zip2 (λ a b. a && not b) within within) within (λ row. false) (length-zip2 (λ a b. a && not b) within within refl)
-    (λ k h. get_or-zip2 (λ a b. a && not b) within within k false false false h h ∙ none_left (get_or within k false))
+no_test : (out possible within : Bool) → (within ≡ true → possible ≡ true) → ((out && not possible) && within) ≡ (within && false)
+no_test true true true h = refl
+no_test false true true h = refl
+no_test out false true h = absurd (false≢true (h refl))
+no_test true true false h = refl
+no_test true false false h = refl
+no_test false possible false h = refl
+
+-- rows that surely have no value are none of a mask's that has none of them
+pub none_left : (column : KnownColumn) (within out possible : List Bool) → Counts column within → possible ≡ rows_where is_possible column → length out ≡ rows_of_column column →
+    zip2 (λ a b. a && b) (zip2 (λ a b. a && not b) out possible) within ≡ those_of within (λ row. false)
+none_left column within out possible h is long =
+    let ps = column.known.prefixes in
+    let test = is_possible column.ends column.known.read in
+    let possible_long : length possible ≡ length ps = ap length is ∙ rows_left column in
+    let taken = zip2 (λ a b. a && not b) out possible in
+    let taken_long : length taken ≡ length ps = length-zip2 (λ a b. a && not b) out possible (long ∙ sym possible_long) ∙ long in
+    all_those (zip2 (λ a b. a && b) taken within) within (λ row. false) (length-zip2 (λ a b. a && b) taken within (taken_long ∙ sym h.rows) ∙ taken_long ∙ sym h.rows) (λ k below.
+    let inside : k < length ps = omega (arith, below, h.rows) in
+    get_or-zip2 (λ a b. a && b) taken within k false false false (omega (arith, inside, taken_long)) below
+    ∙ ap (λ b. b && get_or within k false) (get_or-zip2 (λ a b. a && not b) out possible k false false false (omega (arith, inside, long)) (omega (arith, inside, possible_long))
+    ∙ ap (λ m. get_or out k false && not (get_or m k false)) is ∙ ap (λ b. get_or out k false && not b) (get_or-map test ps k 0 false inside))
+    ∙ no_test (get_or out k false) (test (get_or ps k 0)) (get_or within k false) (h.values k))
 
 same_test : (w a b : Bool) → (w ≡ true → a ≡ b) → (w && a) ≡ (w && b)
 same_test true a b e = e refl

@@ -1,9 +1,13 @@
 -- The extreme ends at a mask's rows are those of the rows whose numbers are extreme.
-use Rattle.std.proofs.Common.{◌≡◌, ℕ, zero, suc, ◌+◌, ◌-◌, ◌*◌, ◌^◌, ◌≤◌, min, ℤ, pos, ◌+ℤ◌, ◌≤ℤ◌, Bool, true, false, List, [], ◌∷◌, length, map, filter, get_or, Some, None, inl, inr, refl, ap, sym, subst, ◌∙◌, arith}
-use Rattle.std.specs.List.{range_with_len}
+use Rattle.std.proofs.Common.{◌≡◌, ℕ, zero, suc, ◌+◌, ◌-◌, ◌*◌, ◌^◌, ◌<◌, ◌≤◌, cond, count_by, min, ℤ, pos, ◌+ℤ◌, ◌≤ℤ◌, Bool, true, false, List, [], ◌∷◌, length, map, filter, get_or, Some, None, inl, inr, refl, ap, sym, subst, ◌∙◌, arith}
+use Rattle.std.specs.declared.option.Option.{Option}
+use Rattle.std.specs.Prelude.{IsNone}
+use Rattle.std.specs.List.{position, range_with_len}
 use Rattle.std.proofs.Math.Nat.{mul-le-mul_right}
 use Rattle.std.proofs.lemmas.Bool.{false≢true}
 use Rattle.std.proofs.lemmas.Int.{ints}
+use Rattle.std.proofs.lemmas.List.Quantifiers.{position-Some}
+use Rattle.std.proofs.lemmas.List.Sums.{sum_by-cons}
 use Rattle.daq_table.specs.Tables.{first_code, planes, spread}
 use Rattle.query_model.specs.declared.query.ItemKind.TheVariants.{Min, Max}
 use Rattle.query_model.specs.Answers.{answer, greatest, least}
@@ -13,12 +17,12 @@ use Rattle.aggregates.specs.declared.ends.End.{End}
 use Rattle.aggregates.specs.declared.ends.End.TheVariants.{Low, High}
 use Rattle.aggregates.specs.declared.extreme_rows.Extreme.{Extreme}
 use Rattle.aggregates.specs.declared.extreme_rows.Extreme.TheVariants.{Least, Greatest}
-use Rattle.aggregates.specs.ExtremeRows.{kind_of, number_at, IsExtreme}
+use Rattle.aggregates.specs.ExtremeRows.{kind_of, number_at, IsAsFar, IsExtreme, IsExtremeRow}
 use Rattle.aggregates.specs.Selections.{end_at, ends_in, has_row}
 use Rattle.aggregates.proofs.BlockWords.{row_within}
 use Rattle.aggregates.proofs.EndSums.{Counts, numbers}
 use Rattle.aggregates.proofs.MaskSums.{first_row}
-use Rattle.aggregates.proofs.NumberRows.{IsNumber}
+use Rattle.aggregates.proofs.NumberRows.{IsNumber, first_plane}
 
 -- ---- lists
 
@@ -100,3 +104,30 @@ extreme_there Greatest end column mask row h best =
 pub extreme_nowhere : (extreme : Extreme) (end : End) (column : KnownColumn) (mask : List Bool) → ((r : ℕ) → has_row mask r ≡ false) → answer (kind_of extreme) (ends_in end column mask) ≡ None
 extreme_nowhere Least end column mask each = ap (answer Min) (none_in (end_at end column) mask each)
 extreme_nowhere Greatest end column mask each = ap (answer Max) (none_in (end_at end column) mask each)
+
+-- ---- before any digit is read each row is extreme
+
+no_row : (mask : List Bool) → count_by (λ b. b) mask ≡ 0 → (r : ℕ) → has_row mask r ≡ false
+no_row [] none r = refl
+no_row (true ∷ mask) none r = absurd (omega (arith, none, sum_by-cons (λ b. cond {A = ℕ} b 1 0) true mask))
+no_row (false ∷ mask) none zero = refl
+no_row (false ∷ mask) none (suc r) = no_row mask (omega (arith, none, sum_by-cons (λ b. cond {A = ℕ} b 1 0) false mask)) r
+
+both_zero : (extreme : Extreme) (a b : ℕ) → a ≡ 0 → b ≡ 0 → IsAsFar extreme a b
+both_zero Least a b e f = omega (arith, e, f)
+both_zero Greatest a b e f = omega (arith, e, f)
+
+no_digit : (column : KnownColumn) (mask : List Bool) (r : ℕ) → Counts column mask → column.known.read - first_plane column.ends column.known.read ≡ 0 → has_row mask r ≡ true → number_at column r ≡ 0
+no_digit column mask r h none has =
+    let small : number_at column r < 2 ^ 0 = subst (λ k. number_at column r < 2 ^ k) none (numbers column mask h r (omega (arith, row_within mask r has, h.rows)) has).small in
+    omega (arith, small)
+
+pub extreme_unread : (extreme : Extreme) (column : KnownColumn) (mask : List Bool) (row : Option ℕ) → Counts column mask → column.known.read - first_plane column.ends column.known.read ≡ 0 →
+    row ≡ position (λ b. b) mask → (IsNone row → count_by (λ b. b) mask ≡ 0) → IsExtremeRow extreme column mask row
+extreme_unread extreme column mask None h none is empty = no_row mask (empty refl)
+extreme_unread extreme column mask (Some row) h none is empty =
+    let there = position-Some (λ b. b) mask row false (sym is) in
+    record {
+      has = there.1;
+      furthest = λ r has. both_zero extreme (number_at column row) (number_at column r) (no_digit column mask row h none there.1) (no_digit column mask r h none has);
+    }

@@ -1,12 +1,12 @@
 -- Numbers at the rows of a mask.
-use Rattle.std.proofs.Common.{◌≡◌, ℕ, zero, suc, ◌+◌, ◌*◌, ◌<◌, ◌≤◌, ℤ, pos, ◌+ℤ◌, ◌*ℤ◌, Bool, true, false, not, ◌&&◌, cond, List, [], ◌∷◌, length, map, filter, count_by, get_or, refl, ap, sym, ◌∙◌, arith}
+use Rattle.std.proofs.Common.{◌≡◌, ℕ, zero, suc, ◌+◌, ◌*◌, ◌<◌, ◌≤◌, ℤ, pos, ◌+ℤ◌, ◌*ℤ◌, Bool, true, false, not, ◌&&◌, ◌||◌, cond, List, [], ◌∷◌, length, map, filter, count_by, get_or, refl, ap, sym, ◌∙◌, arith}
 use Rattle.std.specs.List.{range_with_len}
 use Rattle.std.specs.Simd.Lanes.{zip2}
 use Rattle.std.proofs.lemmas.Int.{ints}
 use Rattle.std.proofs.lemmas.List.Sums.{sum_by-cons}
 use Rattle.std.proofs.Math.IntN.{suc_ℤ, *ℤ_comm, suc_ℤ-*ℤ}
 use Rattle.query_model.specs.Answers.{total}
-use Rattle.aggregates.specs.Selections.{sum_where}
+use Rattle.aggregates.specs.Selections.{rows_in, sum_where}
 
 -- a fact of the numbers at the mask's rows
 abbrev pub AtRows : List Bool → List ℕ → (ℕ → Type 0) → Type 0
@@ -183,3 +183,52 @@ count_both-le (b ∷ mask) (x ∷ bits) =
     either true true = omega arith
     either true false = omega arith
     either false x = omega arith
+
+-- ---- the rows of one mask, and those that only another has
+
+part_of : (u v w u' v' w' x y : ℤ) → u' ≡ (x +ℤ y) +ℤ u → v' ≡ x +ℤ v → w' ≡ y +ℤ w → u ≡ v +ℤ w → u' ≡ v' +ℤ w'
+part_of u v w u' v' w' x y all own other rest = omega (arith, ints, all, own, other, rest)
+
+-- a function's values at the first row, if a mask has it, and at the others
+first_value : (f : ℕ → ℤ) (b : Bool) (mask : List Bool) → total (map f (rows_in (b ∷ mask))) ≡ cond b (f 0) (pos 0) +ℤ total (map (λ r. f (suc r)) (rows_in mask))
+first_value f true mask = ap total (first_row f true mask)
+first_value f false mask = ap total (first_row f false mask) ∙ alone (total (map (λ r. f (suc r)) (rows_in mask)))
+  where
+    alone : (z : ℤ) → z ≡ pos 0 +ℤ z
+    alone z = omega (arith, ints)
+
+either_value : (z : ℤ) (a b : Bool) → cond (a || b) z (pos 0) ≡ cond b z (pos 0) +ℤ cond (a && not b) z (pos 0)
+either_value z true true = omega (arith, ints)
+either_value z true false = omega (arith, ints)
+either_value z false true = omega (arith, ints)
+either_value z false false = omega (arith, ints)
+
+pub total_apart : (f : ℕ → ℤ) (a b : List Bool) → length a ≡ length b →
+    total (map f (rows_in (zip2 (λ a b. a || b) a b))) ≡ total (map f (rows_in b)) +ℤ total (map f (rows_in (zip2 (λ a b. a && not b) a b)))
+total_apart f [] [] e = omega (arith, ints)
+total_apart f [] (y ∷ b) e = absurd (omega arith)
+total_apart f (x ∷ a) [] e = absurd (omega arith)
+total_apart f (x ∷ a) (y ∷ b) e =
+    part_of _ _ _ _ _ _ (cond y (f 0) (pos 0)) (cond (x && not y) (f 0) (pos 0))
+    (first_value f (x || y) (zip2 (λ a b. a || b) a b) ∙ ap (λ z. z +ℤ total (map (λ r. f (suc r)) (rows_in (zip2 (λ a b. a || b) a b)))) (either_value (f 0) x y))
+    (first_value f y b) (first_value f (x && not y) (zip2 (λ a b. a && not b) a b)) (total_apart (λ r. f (suc r)) a b (omega (arith, e)))
+
+pub count_apart : (a b : List Bool) → length a ≡ length b → count_by (λ b. b) (zip2 (λ a b. a || b) a b) ≡ count_by (λ b. b) b + count_by (λ b. b) (zip2 (λ a b. a && not b) a b)
+count_apart [] [] e = omega arith
+count_apart [] (y ∷ b) e = absurd (omega arith)
+count_apart (x ∷ a) [] e = absurd (omega arith)
+count_apart (x ∷ a) (y ∷ b) e =
+    omega (
+      arith,
+      count_apart a b (omega (arith, e)),
+      either x y,
+      sum_by-cons (λ b. cond {A = ℕ} b 1 0) (x || y) (zip2 (λ a b. a || b) a b),
+      sum_by-cons (λ b. cond {A = ℕ} b 1 0) y b,
+      sum_by-cons (λ b. cond {A = ℕ} b 1 0) (x && not y) (zip2 (λ a b. a && not b) a b),
+    )
+  where
+    either : (x y : Bool) → cond {A = ℕ} (x || y) 1 0 ≡ cond {A = ℕ} y 1 0 + cond {A = ℕ} (x && not y) 1 0
+    either true true = omega arith
+    either true false = omega arith
+    either false true = omega arith
+    either false false = omega arith

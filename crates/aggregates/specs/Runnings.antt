@@ -23,6 +23,14 @@ pub record IsBlank (running : Tallies) (kind : ItemKind) (room cells : ℕ) : Ty
   pub count : length running.cells ≡ cells
   pub blank : (cell : ℕ) → cell < cells → StandsFor running cell []
 
+-- this is kept of the cell, and all else is as it was
+pub record IsSet (old new : Tallies) (cell : ℕ) (tally : Tally) : Type 0 where
+  pub kind : new.kind ≡ old.kind
+  pub room : new.room ≡ old.room
+  pub count : length new.cells ≡ length old.cells
+  pub others : (other : ℕ) → other ≢ cell → slice_get new.cells other ≡ slice_get old.cells other
+  pub kept : slice_get new.cells cell ≡ Some tally
+
 -- the cell stands for a list that may get this pair too
 pub record MayAdd (running : Tallies) (cell : ℕ) (p : Pair) : Type 0 where
   pub pairs : List Pair

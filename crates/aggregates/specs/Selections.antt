@@ -1,10 +1,10 @@
 -- The rows of a mask, and the ends of the numbers that their values in a column may be.
-use Rattle.std.specs.Prelude.{ℕ, ◌+◌, ◌*◌, ◌≤◌, ℤ, Bool, false, cond, ◌&&◌, List, [], ◌∷◌, length, map, take, drop, slice_index_or, IsTrue}
+use Rattle.std.specs.Prelude.{◌≡◌, ℕ, ◌+◌, ◌-◌, ◌*◌, ◌^◌, ◌≤◌, ℤ, pos, negsuc, ◌≤ℤ◌, Bool, false, cond, ◌&&◌, List, [], ◌∷◌, length, map, take, drop, slice_index_or, IsTrue}
 use Rattle.std.specs.List.{filter, range_with_len}
 use Rattle.interval_calc.specs.Intervals.{Interval}
-use Rattle.daq_table.specs.Tables.{width}
+use Rattle.daq_table.specs.Tables.{planes, width}
 use Rattle.query_model.specs.Truths.{may_be_number}
-use Rattle.known_column.specs.Columns.{KnownColumn, range_at}
+use Rattle.known_column.specs.Columns.{KnownColumn, number_of, range_at}
 use Rattle.known_column.specs.RowBlocks.{IsKnownColumn}
 use Rattle.aggregates.specs.declared.ends.End.{End}
 use Rattle.aggregates.specs.declared.ends.End.TheVariants.{Low, High}
@@ -20,6 +20,11 @@ rows_in mask = filter (has_row mask) (range_with_len 0 (length mask))
 -- each row of the mask may have a value: it is not surely null
 abbrev pub MayHaveValues : KnownColumn → List Bool → Type 0
 MayHaveValues column mask = (row : ℕ) → IsTrue (has_row mask row) → IsTrue (may_be_number (range_at column row).null)
+
+-- some of a mask's rows
+pub record IsPartOf (some mask : List Bool) : Type 0 where
+  pub rows : length some ≡ length mask
+  pub nested : (row : ℕ) → IsTrue (has_row some row) → IsTrue (has_row mask row)
 
 -- one of an interval's ends
 abbrev pub end_of : End → Interval → ℤ
@@ -58,3 +63,13 @@ block_of block rows = take 512 (drop (512 * block) rows)
 pub record IsSound (column : KnownColumn) : Type 0 where
   pub known : IsKnownColumn column
   pub digits : width column.ends ≤ 64
+
+-- the digits that were read of the numbers at the mask's rows, added up as numbers: the sum, and that it is small
+pub record IsSumOfDigits (column : KnownColumn) (mask : List Bool) (sum : ℕ) : Type 0 where
+  pub adds : sum ≡ sum_where mask (map (number_of column.ends column.known.read) column.known.prefixes)
+  pub few : sum * 2 ^ (planes column.ends - column.known.read) ≤ 2 ^ 89
+  pub sound : IsSound column
+
+-- at most 2 ^ 92 in size, as each sum of 64-bit numbers at 2 ^ 24 rows: two of them can be added
+abbrev pub IsSmallSum : ℤ → Type 0
+IsSmallSum sum = (negsuc 4951760157141521099596496896 ≤ℤ sum) × (sum ≤ℤ pos 4951760157141521099596496896)

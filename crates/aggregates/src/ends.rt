@@ -5,13 +5,13 @@ ghost use Rattle.std.specs.Int.{w64};
 ghost use Rattle.query_model.specs.declared.query.ItemKind.TheVariants.{Min, Max};
 ghost use Rattle.query_model.specs.Answers.{answer, total};
 ghost use Rattle.known_column.specs.Columns.{range_at, rows_of_column};
-ghost use Rattle.aggregates.specs.ExtremeRows.{kind_of};
-ghost use Rattle.aggregates.specs.Selections.{end_at, ends_in, highs_in, lows_in, rows_in, those_of, MayHaveValues};
+ghost use Rattle.aggregates.specs.ExtremeRows.{kind_of, IsExtremeRow};
+ghost use Rattle.aggregates.specs.Selections.{end_at, ends_in, highs_in, lows_in, rows_in, those_of, IsPartOf, IsSmallSum, MayHaveValues};
 
 use crate::digits::number_planes;
-use crate::extreme_rows::{Extreme, extreme_row};
+use crate::extreme_rows::{Extreme, extreme_row, extreme_rows};
 use crate::signs::{highs_above_zero, lows_below_zero, select_none};
-use crate::sums::{add_highs, add_lows};
+use crate::sums::{SumSpan, add_ends, add_lows};
 use known_column::Known;
 use plane_kernels::Mask;
 
@@ -37,23 +37,41 @@ fn end_at(end: End, known: &Known, row: usize) -> i128
     }
 }
 
+// The end at an extreme row, if there is one.
+fn end_if(
+    end: End,
+    extreme: Extreme,
+    known: &Known,
+    mask: &Mask,
+    row: Option<usize>,
+) -> Option<i128>
+    requires rows { length mask.now ≡ rows_of_column known.now }
+    requires values { MayHaveValues known.now mask.now }
+    requires row { IsExtremeRow extreme known.now mask.now row }
+    ensures { result ≡ answer (kind_of extreme) (ends_in end known.now mask.now) }
+{
+    let _planes = number_planes(known);
+    match row {
+        Some(row) => Some(end_at(end, known, row)),
+        None => None,
+    }
+}
+
 // The end at the row whose number is least or greatest, or none where the mask has no row.
 fn extreme_end(end: End, extreme: Extreme, known: &Known, mask: &Mask) -> Option<i128>
     requires rows { length mask.now ≡ rows_of_column known.now }
     requires values { MayHaveValues known.now mask.now }
     ensures { result ≡ answer (kind_of extreme) (ends_in end known.now mask.now) }
 {
-    match extreme_row(extreme, known, mask) {
-        Some(row) => Some(end_at(end, known, row)),
-        None => None,
-    }
+    end_if(end, extreme, known, mask, extreme_row(extreme, known, mask))
 }
 
 /// The low ends at the mask's rows, added up.
 pub fn sum_lows(known: &Known, mask: &Mask) -> i128
     requires rows { length mask.now ≡ rows_of_column known.now }
     requires values { MayHaveValues known.now mask.now }
-    ensures { result ≡ total (lows_in known.now mask.now) }
+    ensures sum { result ≡ total (lows_in known.now mask.now) }
+    ensures few { IsSmallSum result }
 {
     add_lows(known, mask)
 }
@@ -62,9 +80,21 @@ pub fn sum_lows(known: &Known, mask: &Mask) -> i128
 pub fn sum_highs(known: &Known, mask: &Mask) -> i128
     requires rows { length mask.now ≡ rows_of_column known.now }
     requires values { MayHaveValues known.now mask.now }
-    ensures { result ≡ total (highs_in known.now mask.now) }
+    ensures sum { result ≡ total (highs_in known.now mask.now) }
+    ensures few { IsSmallSum result }
 {
-    add_highs(known, mask)
+    add_ends(known, mask).high
+}
+
+/// Both at once, which takes the time of one.
+pub fn sum_ends(known: &Known, mask: &Mask) -> SumSpan
+    requires rows { length mask.now ≡ rows_of_column known.now }
+    requires values { MayHaveValues known.now mask.now }
+    ensures low { result.low ≡ total (lows_in known.now mask.now) }
+    ensures high { result.high ≡ total (highs_in known.now mask.now) }
+    ensures few { IsSmallSum result.low × IsSmallSum result.high }
+{
+    add_ends(known, mask)
 }
 
 /// The least low end at the mask's rows, or none where it has no row.
@@ -77,26 +107,6 @@ pub fn least_low(known: &Known, mask: &Mask) -> Option<i128>
     extreme_end(End::Low, Extreme::Least, known, mask)
 }
 
-/// The greatest low end at the mask's rows, or none where it has no row.
-pub fn greatest_low(known: &Known, mask: &Mask) -> Option<i128>
-    requires rows { length mask.now ≡ rows_of_column known.now }
-    requires values { MayHaveValues known.now mask.now }
-    ensures greatest { result ≡ answer Max (lows_in known.now mask.now) }
-    ensures none { IsNone result ↔ (rows_in mask.now ≡ []) }
-{
-    extreme_end(End::Low, Extreme::Greatest, known, mask)
-}
-
-/// The least high end at the mask's rows, or none where it has no row.
-pub fn least_high(known: &Known, mask: &Mask) -> Option<i128>
-    requires rows { length mask.now ≡ rows_of_column known.now }
-    requires values { MayHaveValues known.now mask.now }
-    ensures least { result ≡ answer Min (highs_in known.now mask.now) }
-    ensures none { IsNone result ↔ (rows_in mask.now ≡ []) }
-{
-    extreme_end(End::High, Extreme::Least, known, mask)
-}
-
 /// The greatest high end at the mask's rows, or none where it has no row.
 pub fn greatest_high(known: &Known, mask: &Mask) -> Option<i128>
     requires rows { length mask.now ≡ rows_of_column known.now }
@@ -107,6 +117,43 @@ pub fn greatest_high(known: &Known, mask: &Mask) -> Option<i128>
     extreme_end(End::High, Extreme::Greatest, known, mask)
 }
 
+/// A low end and a high end, each at an extreme row of some rows, or none where there is no row.
+#[derive(Clone, Copy, Debug, PartialEq, Eq)]
+pub struct ExtremeSpan {
+    pub low: Option<i128>,
+    pub high: Option<i128>,
+}
+
+/// The least low end at the rows of a mask, and the least high end at some of its rows.
+pub fn least_ends(known: &Known, mask: &Mask, some: &Mask) -> ExtremeSpan
+    requires rows { length mask.now ≡ rows_of_column known.now }
+    requires values { MayHaveValues known.now mask.now }
+    requires some { IsPartOf some.now mask.now }
+    ensures low { result.low ≡ answer Min (lows_in known.now mask.now) }
+    ensures high { result.high ≡ answer Min (highs_in known.now some.now) }
+{
+    let rows = extreme_rows(Extreme::Least, known, mask, some);
+    ExtremeSpan {
+        low: end_if(End::Low, Extreme::Least, known, mask, rows.all),
+        high: end_if(End::High, Extreme::Least, known, some, rows.some),
+    }
+}
+
+/// The greatest low end at some of the rows of a mask, and the greatest high end at all its rows.
+pub fn greatest_ends(known: &Known, mask: &Mask, some: &Mask) -> ExtremeSpan
+    requires rows { length mask.now ≡ rows_of_column known.now }
+    requires values { MayHaveValues known.now mask.now }
+    requires some { IsPartOf some.now mask.now }
+    ensures low { result.low ≡ answer Max (lows_in known.now some.now) }
+    ensures high { result.high ≡ answer Max (highs_in known.now mask.now) }
+{
+    let rows = extreme_rows(Extreme::Greatest, known, mask, some);
+    ExtremeSpan {
+        low: end_if(End::Low, Extreme::Greatest, known, some, rows.some),
+        high: end_if(End::High, Extreme::Greatest, known, mask, rows.all),
+    }
+}
+
 /// Selects the rows of a mask whose low end is below 0.
 pub fn negative_lows(known: &Known, within: &Mask, out: &mut Mask)
     requires within { length within.now ≡ rows_of_column known.now }
@@ -115,7 +162,7 @@ pub fn negative_lows(known: &Known, within: &Mask, out: &mut Mask)
     ensures { out.new ≡ those_of within.now (λ row. int_lt (range_at known.now row).numbers.low (pos 0)) }
 {
     if known.base() >= 0 {
-        select_none(within, out);
+        select_none(known, within, out);
     } else if known.top() < 0 {
         let _planes = number_planes(known);
         out.copy_from(within);
@@ -132,7 +179,7 @@ pub fn positive_highs(known: &Known, within: &Mask, out: &mut Mask)
     ensures { out.new ≡ those_of within.now (λ row. int_lt (pos 0) (range_at known.now row).numbers.high) }
 {
     if known.top() <= 0 {
-        select_none(within, out);
+        select_none(known, within, out);
     } else if known.base() > 0 {
         out.copy_from(within);
     } else {

@@ -3,7 +3,7 @@
 ghost use Rattle.std.specs.Prelude.{◌≡◌, ◌<◌, ◌+◌, ◌*◌, length};
 ghost use Rattle.known_column.specs.Columns.{rows_of_column};
 ghost use Rattle.aggregates.specs.ExtremeRows.{is_ahead, is_further, AreBlockRows, AreZero, IsBestAmong, IsExtremeDigit, IsExtremeRow, IsNarrowed};
-ghost use Rattle.aggregates.specs.Selections.{IsSound, MayHaveValues};
+ghost use Rattle.aggregates.specs.Selections.{IsPartOf, IsSound, MayHaveValues};
 
 use crate::block_words::{first_place, is_empty};
 use crate::digits::number_planes;
@@ -111,7 +111,10 @@ pub(crate) fn extreme_row(extreme: Extreme, known: &Known, mask: &Mask) -> Optio
     ensures row { IsExtremeRow extreme known.now mask.now result }
     ensures sound { IsSound known.now }
 {
-    let _planes = number_planes(known);
+    let (from, to) = number_planes(known);
+    if from == to {
+        return mask.first_one();
+    }
     let mut best = None;
     for block in 0..mask.rows().div_ceil(512) {
         best = extreme_so_far(extreme, known, mask, block, best);
@@ -120,4 +123,28 @@ pub(crate) fn extreme_row(extreme: Extreme, known: &Known, mask: &Mask) -> Optio
         Some(candidate) => Some(candidate.row),
         None => None,
     }
+}
+
+// The extreme row of a mask, and that of some of its rows.
+#[derive(Clone, Copy)]
+pub(crate) struct ExtremeRows {
+    pub(crate) all: Option<usize>,
+    pub(crate) some: Option<usize>,
+}
+
+// Both: one row, where the extreme row of all is among the some.
+pub(crate) fn extreme_rows(extreme: Extreme, known: &Known, mask: &Mask, some: &Mask) -> ExtremeRows
+    requires rows { length mask.now ≡ rows_of_column known.now }
+    requires values { MayHaveValues known.now mask.now }
+    requires some { IsPartOf some.now mask.now }
+    ensures all { IsExtremeRow extreme known.now mask.now result.all }
+    ensures some { IsExtremeRow extreme known.now some.now result.some }
+{
+    let all = extreme_row(extreme, known, mask);
+    let some = match all {
+        Some(row) if some.get(row) => all,
+        Some(_) => extreme_row(extreme, known, some),
+        None => None,
+    };
+    ExtremeRows { all, some }
 }

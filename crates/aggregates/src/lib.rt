@@ -12,10 +12,12 @@ mod sums;
 mod tally;
 
 pub use ends::{
-    greatest_high, greatest_low, least_high, least_low, negative_lows, positive_highs, sum_highs,
-    sum_lows,
+    ExtremeSpan, greatest_ends, greatest_high, least_ends, least_low, negative_lows,
+    positive_highs, sum_ends, sum_highs, sum_lows,
 };
 pub use running::Running;
+pub use sums::SumSpan;
+pub use tally::Tally;
 
 #[cfg(test)]
 mod block_tests;

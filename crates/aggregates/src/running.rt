@@ -5,7 +5,7 @@ ghost use Rattle.query_model.specs.declared.query.ItemKind.TheVariants.{Avg};
 ghost use Rattle.query_model.specs.Bounds.{average_bound_of, bound_of, fractions_of, Pair};
 ghost use Rattle.aggregates.specs.BlockPairs.{pairs_in, AreAllAdded, MayAddAll};
 ghost use Rattle.aggregates.specs.Tallies.{pair_with};
-ghost use Rattle.aggregates.specs.Runnings.{IsAdded, IsBlank, MayAdd, StandsFor};
+ghost use Rattle.aggregates.specs.Runnings.{IsAdded, IsBlank, IsSet, MayAdd, StandsFor};
 
 use crate::tally::Tally;
 use interval_calc::Interval;
@@ -64,13 +64,21 @@ impl Running {
         self.cells = cells;
     }
 
+    /// Makes a cell stand for each list of which this tally is.
+    pub fn set(&mut self, cell: u32, tally: Tally)
+        requires { cell < length self.old.cells }
+        ensures { IsSet self.old self.new cell tally }
+    {
+        self.tallies[cell as usize] = tally;
+    }
+
     /// Adds a row to a cell.
     pub fn add(&mut self, cell: u32, certain: bool, span: Interval)
         requires { MayAdd self.old cell (pair_with certain span) }
         ensures { IsAdded self.old self.new cell (pair_with certain span) }
     {
         let cell = cell as usize;
-        self.tallies[cell] = self.tallies[cell].with(self.kind, certain, span);
+        self.tallies[cell].add(self.kind, certain, span);
     }
 
     /// Adds the rows of a block to a cell, at most 64. Bit r of a word is that of row r, whose span stands in place r: the row may count where
@@ -81,7 +89,7 @@ impl Running {
         ensures { AreAllAdded self.old self.new cell (pairs_in may must spans.now) }
     {
         let cell = cell as usize;
-        self.tallies[cell] = self.tallies[cell].with_block(self.kind, may, must, spans);
+        self.tallies[cell].add_block(self.kind, may, must, spans);
     }
 
     /// The bound of an item that is no average.

@@ -25,13 +25,16 @@ fn ends_above(base: i64, unread: u8) -> bool
     u128::from(base.unsigned_abs()) % (1u128 << unread) + 1 < 1u128 << unread
 }
 
-// Selects no row.
-pub(crate) fn select_none(within: &Mask, out: &mut Mask)
-    requires { length out.old ≡ length within.now }
+// Selects no row: those that surely have no value, of a mask that has none of them. In a column that is never null no word is touched.
+pub(crate) fn select_none(known: &Known, within: &Mask, out: &mut Mask)
+    requires within { length within.now ≡ rows_of_column known.now }
+    requires values { MayHaveValues known.now within.now }
+    requires out { length out.old ≡ rows_of_column known.now }
     ensures { out.new ≡ those_of within.now (λ row. false) }
 {
-    out.copy_from(within);
-    out.and_not_into(within);
+    let _planes = number_planes(known);
+    out.and_not_into(known.possible());
+    out.and_into(within);
 }
 
 // Adds the rows of a mask, if so told.

@@ -2,9 +2,8 @@
 
 ghost use Rattle.std.specs.Prelude.{◌≡◌, ◌≤◌, ◌<◌, ◌+◌, ◌-◌, ◌*◌, ◌^◌, ◌%◌, ◌*ℤ◌, ◌-ℤ◌, nat_abs, ◌+ℤ◌, ◌≤ℤ◌, negsuc, pos, length, map};
 ghost use Rattle.query_model.specs.Answers.{total};
-ghost use Rattle.daq_table.specs.Tables.{planes};
 ghost use Rattle.known_column.specs.Columns.{number_of, rows_of_column};
-ghost use Rattle.aggregates.specs.Selections.{IsSound, MayHaveValues, block_of, highs_in, lows_in, sum_where};
+ghost use Rattle.aggregates.specs.Selections.{IsSmallSum, IsSound, IsSumOfDigits, MayHaveValues, block_of, highs_in, lows_in, sum_where};
 
 use crate::block_words::{count_both, is_empty};
 use crate::digits::number_planes;
@@ -55,9 +54,7 @@ fn sum_block(known: &Known, mask: &Mask, block: usize) -> u128
 fn sum_by_blocks(known: &Known, mask: &Mask) -> u128
     requires rows { length mask.now ≡ rows_of_column known.now }
     requires values { MayHaveValues known.now mask.now }
-    ensures sum { result ≡ sum_where mask.now (map (number_of known.now.ends known.now.known.read) known.now.known.prefixes) }
-    ensures few { result * 2 ^ (planes known.now.ends - known.now.known.read) ≤ 2 ^ 89 }
-    ensures sound { IsSound known.now }
+    ensures { IsSumOfDigits known.now mask.now result }
 {
     let _planes = number_planes(known);
     let _rows = known.rows();
@@ -72,9 +69,7 @@ fn sum_by_blocks(known: &Known, mask: &Mask) -> u128
 fn sum_by_planes(known: &Known, mask: &Mask) -> u128
     requires rows { length mask.now ≡ rows_of_column known.now }
     requires values { MayHaveValues known.now mask.now }
-    ensures sum { result ≡ sum_where mask.now (map (number_of known.now.ends known.now.known.read) known.now.known.prefixes) }
-    ensures few { result * 2 ^ (planes known.now.ends - known.now.known.read) ≤ 2 ^ 89 }
-    ensures sound { IsSound known.now }
+    ensures { IsSumOfDigits known.now mask.now result }
 {
     let (from, to) = number_planes(known);
     let mut sum = 0;
@@ -92,19 +87,21 @@ fn is_dense(mask: &Mask) -> bool {
         if !is_empty(&mask.block(block)) {
             used += 1;
         }
+        if used > blocks / 2 {
+            return true;
+        }
     }
-    used > blocks / 2
+    false
 }
 
-// The same, as is faster.
+// The same, in the way that is faster.
 fn sum_numbers(known: &Known, mask: &Mask) -> u128
     requires rows { length mask.now ≡ rows_of_column known.now }
     requires values { MayHaveValues known.now mask.now }
-    ensures sum { result ≡ sum_where mask.now (map (number_of known.now.ends known.now.known.read) known.now.known.prefixes) }
-    ensures few { result * 2 ^ (planes known.now.ends - known.now.known.read) ≤ 2 ^ 89 }
-    ensures sound { IsSound known.now }
+    ensures { IsSumOfDigits known.now mask.now result }
 {
-    if is_dense(mask) {
+    let (from, to) = number_planes(known);
+    if from == to || is_dense(mask) {
         sum_by_planes(known, mask)
     } else {
         sum_by_blocks(known, mask)
@@ -153,18 +150,30 @@ fn many_times(count: u64, span: u128) -> u128
     u128::from(count) * span
 }
 
-// The high ends at the mask's rows, added up.
-pub(crate) fn add_highs(known: &Known, mask: &Mask) -> i128
+/// The ends at some rows, added up.
+#[derive(Clone, Copy, Debug, PartialEq, Eq)]
+pub struct SumSpan {
+    pub low: i128,
+    pub high: i128,
+}
+
+// Both ends at the mask's rows, added up. Their digits are added once: a high end lies above its low end by what is not read.
+pub(crate) fn add_ends(known: &Known, mask: &Mask) -> SumSpan
     requires rows { length mask.now ≡ rows_of_column known.now }
     requires values { MayHaveValues known.now mask.now }
-    ensures { result ≡ total (highs_in known.now mask.now) }
+    ensures low { result.low ≡ total (lows_in known.now mask.now) }
+    ensures high { result.high ≡ total (highs_in known.now mask.now) }
+    ensures few { IsSmallSum result.low × IsSmallSum result.high }
 {
-    let lows = add_lows(known, mask);
+    let low = add_lows(known, mask);
     let unread = known.unread();
     let _rows = known.rows();
     let at_top = mask.count_and(known.at_top());
     let others = mask.count() - at_top;
     let wide = many_times(at_top, top_span(known.base(), known.top(), unread))
         + many_times(others, block_span(unread));
-    lows + wide as i128
+    SumSpan {
+        low,
+        high: low + wide as i128,
+    }
 }

@@ -1,4 +1,4 @@
-// What is kept of a list of rows that may count, and the bound that follows from it.
+//! What is kept of a list of rows that may count, and the bound that follows from it.
 ghost use Rattle.std.specs.Prelude.{◌≡◌, ◌<◌, ◌≤◌, ℕ, ℤ, pos, length, ◌+ℤ◌, ◌≤ℤ◌, List, [], ◌∷◌, ◌++◌, cond, if◌then◌else◌, int_le, FitsSigned};
 ghost use Rattle.std.specs.Int.{w128};
 ghost use Rattle.query_model.specs.declared.query.ItemKind.TheVariants.{Count, Min, Sum};
@@ -12,18 +12,26 @@ use crate::extremes::{greater, lesser};
 use interval_calc::{Fraction, Interval};
 use query_model::{AverageBound, Bound, ItemKind, Nullity};
 
-// Counts, sums and ends of a list of pairs: how many rows count for certain and how many may count, and as far as the item's kind
-// needs them, their ends, and what they add to the least and to the greatest sum.
+/// What is kept of a list of pairs: how many rows count for certain and how many may count, and as far as the item's kind needs them,
+/// their ends, and what they add to the least and to the greatest sum.
 #[derive(Clone, Copy)]
-pub(crate) struct Tally {
-    certain: u64,
-    all: u64,
-    least_low: Option<i128>,
-    greatest_high: Option<i128>,
-    least_certain_high: Option<i128>,
-    greatest_certain_low: Option<i128>,
-    low_sum: i128,
-    high_sum: i128,
+pub struct Tally {
+    /// The rows that count for certain.
+    pub certain: u64,
+    /// The rows that may count.
+    pub all: u64,
+    /// The least low end, where there is a row.
+    pub least_low: Option<i128>,
+    /// The greatest high end.
+    pub greatest_high: Option<i128>,
+    /// The least high end of the rows that count for certain, where there is one.
+    pub least_certain_high: Option<i128>,
+    /// The greatest low end of these.
+    pub greatest_certain_low: Option<i128>,
+    /// What the rows add to the least sum: one that may not count only what lowers it.
+    pub low_sum: i128,
+    /// What they add to the greatest sum.
+    pub high_sum: i128,
 }
 
 // What a row adds to the least sum: one that may not count only what lowers it.
@@ -69,8 +77,8 @@ fn quotient(sum: i128, most: u64, least: u64) -> Fraction
 }
 
 impl Tally {
-    // That of no pairs.
-    pub(crate) fn none() -> Tally
+    /// That of no pairs.
+    pub fn none() -> Tally
         ensures { (kind : ItemKind) → result ≡ tally_of kind [] }
     {
         Tally {
@@ -85,89 +93,74 @@ impl Tally {
         }
     }
 
-    // That of the pairs of a count, with one more.
-    fn counted(self, certain: bool) -> Tally
-        requires few { self.all < 16777216 }
-        requires few_certain { self.certain < 16777216 }
-        ensures { (ps : List Pair) (span : Interval) → self ≡ tally_of Count ps → result ≡ tally_of Count (ps ++ pair_with certain span ∷ []) }
+    // Adds a pair to those of a count.
+    fn add_count(&mut self, certain: bool)
+        requires few { self.old.all < 16777216 }
+        requires few_certain { self.old.certain < 16777216 }
+        ensures { (ps : List Pair) (span : Interval) → self.old ≡ tally_of Count ps → self.new ≡ tally_of Count (ps ++ pair_with certain span ∷ []) }
     {
-        Tally {
-            all: self.all + 1,
-            certain: self.certain + one_if(certain),
-            ..self
+        self.all += 1;
+        self.certain += one_if(certain);
+    }
+
+    // Adds a pair to those of a sum.
+    fn add_sum(&mut self, certain: bool, span: Interval)
+        requires few { self.old.all < 16777216 }
+        requires few_certain { self.old.certain < 16777216 }
+        requires low { FitsSigned w128 (self.old.low_sum +ℤ low_share (pair_with certain span)) }
+        requires high { FitsSigned w128 (self.old.high_sum +ℤ high_share (pair_with certain span)) }
+        ensures { (ps : List Pair) → self.old ≡ tally_of Sum ps → self.new ≡ tally_of Sum (ps ++ pair_with certain span ∷ []) }
+    {
+        self.all += 1;
+        self.certain += one_if(certain);
+        self.least_low = Some(lesser(self.least_low, span.lo));
+        self.greatest_high = Some(greater(self.greatest_high, span.hi));
+        self.low_sum += low_share(certain, span);
+        self.high_sum += high_share(certain, span);
+    }
+
+    // Adds a pair to those of a least or greatest value.
+    fn add_end(&mut self, certain: bool, span: Interval)
+        requires few { self.old.all < 16777216 }
+        requires few_certain { self.old.certain < 16777216 }
+        ensures { (ps : List Pair) → self.old ≡ tally_of Min ps → self.new ≡ tally_of Min (ps ++ pair_with certain span ∷ []) }
+    {
+        self.all += 1;
+        self.least_low = Some(lesser(self.least_low, span.lo));
+        self.greatest_high = Some(greater(self.greatest_high, span.hi));
+        if certain {
+            self.certain += 1;
+            self.least_certain_high = Some(lesser(self.least_certain_high, span.hi));
+            self.greatest_certain_low = Some(greater(self.greatest_certain_low, span.lo));
         }
     }
 
-    // That of the pairs of a sum, with one more.
-    fn summed(self, certain: bool, span: Interval) -> Tally
-        requires few { self.all < 16777216 }
-        requires few_certain { self.certain < 16777216 }
-        requires low { FitsSigned w128 (self.low_sum +ℤ low_share (pair_with certain span)) }
-        requires high { FitsSigned w128 (self.high_sum +ℤ high_share (pair_with certain span)) }
-        ensures { (ps : List Pair) → self ≡ tally_of Sum ps → result ≡ tally_of Sum (ps ++ pair_with certain span ∷ []) }
-    {
-        Tally {
-            all: self.all + 1,
-            certain: self.certain + one_if(certain),
-            least_low: Some(lesser(self.least_low, span.lo)),
-            greatest_high: Some(greater(self.greatest_high, span.hi)),
-            low_sum: self.low_sum + low_share(certain, span),
-            high_sum: self.high_sum + high_share(certain, span),
-            ..self
-        }
-    }
-
-    // That of the pairs of a least or greatest value, with one more.
-    fn ended(self, certain: bool, span: Interval) -> Tally
-        requires few { self.all < 16777216 }
-        requires few_certain { self.certain < 16777216 }
-        ensures { (ps : List Pair) → self ≡ tally_of Min ps → result ≡ tally_of Min (ps ++ pair_with certain span ∷ []) }
-    {
-        let next = Tally {
-            all: self.all + 1,
-            least_low: Some(lesser(self.least_low, span.lo)),
-            greatest_high: Some(greater(self.greatest_high, span.hi)),
-            ..self
-        };
-        if !certain {
-            return next;
-        }
-        Tally {
-            certain: self.certain + 1,
-            least_certain_high: Some(lesser(self.least_certain_high, span.hi)),
-            greatest_certain_low: Some(greater(self.greatest_certain_low, span.lo)),
-            ..next
-        }
-    }
-
-    // That of the pairs with one more at their end.
-    pub(crate) fn with(self, kind: ItemKind, certain: bool, span: Interval) -> Tally
-        requires few { self.all < 16777216 }
-        requires few_certain { self.certain < 16777216 }
-        requires low { IsSumKind kind → FitsSigned w128 (self.low_sum +ℤ low_share (pair_with certain span)) }
-        requires high { IsSumKind kind → FitsSigned w128 (self.high_sum +ℤ high_share (pair_with certain span)) }
-        ensures { (ps : List Pair) → self ≡ tally_of kind ps → result ≡ tally_of kind (ps ++ pair_with certain span ∷ []) }
+    // Adds a pair at the end of the others.
+    pub(crate) fn add(&mut self, kind: ItemKind, certain: bool, span: Interval)
+        requires few { self.old.all < 16777216 }
+        requires few_certain { self.old.certain < 16777216 }
+        requires low { IsSumKind kind → FitsSigned w128 (self.old.low_sum +ℤ low_share (pair_with certain span)) }
+        requires high { IsSumKind kind → FitsSigned w128 (self.old.high_sum +ℤ high_share (pair_with certain span)) }
+        ensures { (ps : List Pair) → self.old ≡ tally_of kind ps → self.new ≡ tally_of kind (ps ++ pair_with certain span ∷ []) }
     {
         match kind {
-            ItemKind::Count => self.counted(certain),
-            ItemKind::Sum | ItemKind::Avg => self.summed(certain, span),
-            ItemKind::Min | ItemKind::Max => self.ended(certain, span),
+            ItemKind::Count => self.add_count(certain),
+            ItemKind::Sum | ItemKind::Avg => self.add_sum(certain, span),
+            ItemKind::Min | ItemKind::Max => self.add_end(certain, span),
         }
     }
 
-    // That of the pairs with those of a block's rows at their end.
-    pub(crate) fn with_block(self, kind: ItemKind, may: u64, must: u64, spans: &[Interval]) -> Tally
+    // Adds those of a block's rows at the end of the others.
+    pub(crate) fn add_block(&mut self, kind: ItemKind, may: u64, must: u64, spans: &[Interval])
         requires few { length spans.now ≤ 64 }
-        requires room { HasRoom kind self (pairs_in may must spans.now) }
-        ensures { (ps : List Pair) → self ≡ tally_of kind ps → result ≡ tally_of kind (ps ++ pairs_in may must spans.now) }
+        requires room { HasRoom kind self.old (pairs_in may must spans.now) }
+        ensures { (ps : List Pair) → self.old ≡ tally_of kind ps → self.new ≡ tally_of kind (ps ++ pairs_in may must spans.now) }
     {
-        let mut tally = self;
         for row in 0..spans.len() {
             if has_bit(may, row) {
-                tally = tally.with(kind, has_bit(must, row), spans[row]);
+                self.add(kind, has_bit(must, row), spans[row]);
             }
         }
-        tally
     }
 
     // Whether no row counts.

@@ -358,12 +358,9 @@ pub(super) fn extremes(
     chosen: &[usize],
 ) -> Result<[Option<i128>; 4], AllocError> {
     let mask = rows_of(alloc, known, chosen)?;
-    Ok([
-        least_low(known, &mask),
-        greatest_low(known, &mask),
-        least_high(known, &mask),
-        greatest_high(known, &mask),
-    ])
+    let least = least_ends(known, &mask, &mask);
+    let greatest = greatest_ends(known, &mask, &mask);
+    Ok([least.low, greatest.low, least.high, greatest.high])
 }
 
 // The first and the number of some rows whose low is below 0, and of those whose high is above 0.

@@ -31,12 +31,22 @@ pub(crate) struct TruthMasks {
 }
 
 /// What is known of a condition at each row: a list of truths, with masks of its atoms that follow the columns.
-#[derive(Drop)]
 pub struct Filter {
     truths: TruthMasks,
     masks: Vec<AtomMasks>,
     // The rows at which it is not known whether the condition holds, counted.
     unknown: u64,
+}
+
+// A call of its own: a derived drop is proved anew wherever one is let go.
+impl Drop for Filter {
+    fn drop(self) {
+        let Filter {
+            truths: _,
+            masks: _,
+            unknown: _,
+        } = self;
+    }
 }
 
 impl Model for Filter {

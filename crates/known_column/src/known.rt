@@ -24,13 +24,25 @@ pub struct OverTop {
 }
 
 /// For each row of a column the digits that were read, as one number, its prefix. They are kept as the planes that they came in.
-#[derive(Drop)]
 pub struct Known {
     ends: Ends,
     width: u8,
     read: u8,
     planes: Vec<Plane>,
     marks: Marks,
+}
+
+// A call of its own: a derived drop is proved anew wherever one is let go.
+impl Drop for Known {
+    fn drop(self) {
+        let Known {
+            ends: _,
+            width: _,
+            read: _,
+            planes: _,
+            marks: _,
+        } = self;
+    }
 }
 
 impl Model for Known {

@@ -15,8 +15,3 @@ pub use known::{Known, OverTop};
 pub use known_columns::KnownColumns;
 pub use known_rows::KnownRows;
 pub use row_block::{RowBlock, blocks_have_their_rows};
-
-#[cfg(test)]
-mod block_tests;
-#[cfg(test)]
-mod tests;

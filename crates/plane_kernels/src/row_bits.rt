@@ -25,9 +25,15 @@ pub(crate) enum State {
 }
 
 // What masks and planes are made of.
-#[derive(Drop)]
 pub struct RowBits {
     state: State,
+}
+
+// A call of its own: a derived drop is proved anew wherever one is let go.
+impl Drop for RowBits {
+    fn drop(self) {
+        let RowBits { state: _ } = self;
+    }
 }
 
 impl Model for RowBits {

@@ -30,6 +30,7 @@ use Rattle.round_engine.specs.declared.groups.Groups.{Groups}
 use Rattle.round_engine.specs.CellAnswers.{AreGroups, HoldGroups, HasRoom, HaveCells, IsParted, StandBelow, StandBeside, StandForCells, StandForEach, StandForOthers, TellSingle, moves_rows, most_cells}
 use Rattle.round_engine.specs.Cells.{cells_in}
 use Rattle.round_engine.specs.Moves.{AreMoved, is_marked, is_moved}
+use Rattle.round_engine.specs.OneCell.{HoldMasks}
 use Rattle.round_engine.specs.Stages.{IsOpenQuery, IsOpenShape, IsOpenStage, Stage, stepped}
 use Rattle.round_engine.proofs.CellRows.{groups_within}
 use Rattle.round_engine.proofs.Kept.{item_of}
@@ -309,12 +310,13 @@ written new rest n same = ap (λ k. take k (new ++ rest)) (sym same) ∙ take-ap
 
 -- parted further, with room for the rest
 pub parted_holds : (before stage : Stage) (c : ℕ) (bits : List Bool) (groups : Groups) (parted : Groups) → stage ≡ stepped before c bits → AreGroups before groups →
-    IsParted (stepped before c bits) parted.cells parted.single.items → parted.presence ≡ groups.presence → parted.runnings ≡ groups.runnings → HoldGroups stage parted
-parted_holds before stage c bits groups parted read are is presence runnings = subst (λ (s : Stage). HoldGroups s parted) (sym read) (record {
+    IsParted (stepped before c bits) parted.cells parted.single.items → parted.presence ≡ groups.presence → parted.runnings ≡ groups.runnings → parted.masks ≡ groups.masks → HoldGroups stage parted
+parted_holds before stage c bits groups parted read are is presence runnings masks = subst (λ (s : Stage). HoldGroups s parted) (sym read) (record {
   grouped = are.grouped;
   parted = is;
   presence = subst (HasRoom (stepped before c bits) every_row) (sym presence) (record { kind = are.presence.has_room.kind; room = are.presence.has_room.room });
   items = subst (λ (v : Vec Tallies Global). HaveCells before.query.items (most_cells before) v.items) (sym runnings) (room_of before groups.runnings.items are.items);
+  masks = subst (HoldMasks before.frame.rows) (sym masks) are.masks;
 })
 
 -- a column that moves no rows is no group column

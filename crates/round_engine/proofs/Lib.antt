@@ -22,4 +22,5 @@ pub mod DeclaredKeys
 pub mod CellRows
 pub mod CellPairs
 pub mod CellKept
+pub mod OneCell
 pub mod CellNarrow

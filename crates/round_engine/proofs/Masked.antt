@@ -123,7 +123,7 @@ module _ (query : Query) (item : Aggregate) (columns : KnownTable) (plain : quer
       ))
 
   -- a mask of the filter, as a test of the rows
-  tested : (f : Truth → Bool) (mask : List Bool) (truths : List Truth) → mask ≡ map f truths → truths ≡ truths_under query.pred columns → mask ≡ map (λ r. f (truth_at query.pred columns r)) (range_with_len 0 columns.frame.rows)
+  pub tested : (f : Truth → Bool) (mask : List Bool) (truths : List Truth) → mask ≡ map f truths → truths ≡ truths_under query.pred columns → mask ≡ map (λ r. f (truth_at query.pred columns r)) (range_with_len 0 columns.frame.rows)
   tested f mask truths is judged = is ∙ ap (map f) judged ∙ map-map f (truth_at query.pred columns) (range_with_len 0 columns.frame.rows)
 
   -- a mask of the column, at a row

@@ -42,7 +42,7 @@ narrowed mask narrow test long each =
 pub count_rows : (mask : List Bool) → count_by (λ b. b) mask ≡ length (rows_in mask)
 count_rows mask = ap (count_by (λ b. b)) (fill_by_all (has_row mask) mask (length mask) false refl (λ k below. refl)) ∙ count-tested (has_row mask) 0 (length mask)
 
-no_element : (rs : List ℕ) → length rs ≡ 0 → rs ≡ []
+pub no_element : (rs : List ℕ) → length rs ≡ 0 → rs ≡ []
 no_element [] e = refl
 no_element (r ∷ rs) e = absurd (omega (arith, e))
 

@@ -34,7 +34,7 @@ one_told : (certain all : Bool) (span : Interval) (f : ℕ → Pair) (r : ℕ) (
 one_told certain true span f r rs is = ap (λ p. p ∷ map f rs) (sym is)
 one_told certain false span f r rs is = refl
 
-pairs_told : (give : ℕ → Option Pair) (certain all : ℕ → Bool) (span : ℕ → Interval) (a n : ℕ) → ((r : ℕ) → a ≤ r → r < a + n → give r ≡ told_pair (certain r) (all r) (span r)) →
+pub pairs_told : (give : ℕ → Option Pair) (certain all : ℕ → Bool) (span : ℕ → Interval) (a n : ℕ) → ((r : ℕ) → a ≤ r → r < a + n → give r ≡ told_pair (certain r) (all r) (span r)) →
     filter_map give (range_with_len a n) ≡ map (pair_told certain span) (filter all (range_with_len a n))
 pairs_told give certain all span a zero told = refl
 pairs_told give certain all span a (suc n) told =

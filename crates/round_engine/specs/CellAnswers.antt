@@ -20,6 +20,7 @@ use Rattle.round_engine.specs.declared.groups.Groups.{Groups}
 use Rattle.round_engine.specs.Cells.{cells_in}
 use Rattle.round_engine.specs.Moves.{is_marked}
 use Rattle.round_engine.specs.Narrowness.{FitsNarrow}
+use Rattle.round_engine.specs.OneCell.{HoldMasks}
 use Rattle.round_engine.specs.Stages.{IsGrouped, IsOpenStage, Stage, stepped}
 use Rattle.round_engine.specs.Totals.{AreEach}
 
@@ -94,6 +95,7 @@ pub record AreGroups (stage : Stage) (groups : Groups) : Type 0 where
   pub parted : IsParted stage groups.cells groups.single.items
   pub presence : StandForCells stage every_row groups.presence
   pub items : StandForEach stage groups.runnings.items
+  pub masks : HoldMasks stage.frame.rows groups.masks
 
 -- the rows are parted, and there is room for all else
 pub record HoldGroups (stage : Stage) (groups : Groups) : Type 0 where
@@ -101,6 +103,7 @@ pub record HoldGroups (stage : Stage) (groups : Groups) : Type 0 where
   pub parted : IsParted stage groups.cells groups.single.items
   pub presence : HasRoom stage every_row groups.presence
   pub items : HaveCells stage.query.items (most_cells stage) groups.runnings.items
+  pub masks : HoldMasks stage.frame.rows groups.masks
 
 -- they were the answers before the next plane of a column was read
 pub record WereGroups (stage : Stage) (column : ℕ) (bits : List Bool) (groups : Groups) : Type 0 where

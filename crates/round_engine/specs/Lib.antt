@@ -7,6 +7,7 @@ pub mod Moves
 pub mod Counts
 pub mod Selected
 pub mod Totals
+pub mod OneCell
 pub mod CellAnswers
 pub mod Rankings
 pub mod Engines

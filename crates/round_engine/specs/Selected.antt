@@ -29,7 +29,7 @@ pub record HasRows (rows : ℕ) (selection : Selection) : Type 0 where
 -- all masks are of so many rows
 pub record HaveRows (rows : ℕ) (masks : RowMasks) : Type 0 where
   pub selection : HasRows rows masks.selection
-  pub added : length masks.added ≡ rows
+  pub others : length masks.others ≡ rows
 
 -- rows of a column that may have values, and among them those that surely count
 pub record IsSelection (column : KnownColumn) (selection : Selection) : Type 0 where

@@ -1,7 +1,9 @@
 // Bounds of a bare column's items, from the rows that give a value, by masks and planes.
 
 ghost use Rattle.std.specs.Prelude.{◌≡◌, ◌<◌, pos, int_le, if◌then◌else◌, length, count_by, IsFalse, IsTrue};
+ghost use Rattle.aggregates.specs.Selections.{highs_in, lows_in, IsSmallSum};
 ghost use Rattle.known_column.specs.Columns.{KnownColumn, rows_of_column};
+ghost use Rattle.query_model.specs.Answers.{answer, total};
 ghost use Rattle.query_model.specs.declared.query.ItemKind.TheVariants.{Count, Max, Min, Sum};
 ghost use Rattle.query_model.specs.Bounds.{average_bound_of, bound_of, fractions_of, greatest_sum, high_of_least, least_sum, low_of_greatest, nullity_of};
 ghost use Rattle.round_engine.specs.Selected.{IsSelection, pairs_in};
@@ -10,8 +12,8 @@ ghost use Rattle.round_engine.specs.Totals.{IsBoundOf};
 use crate::item_bound::ItemBound;
 use crate::selection::Selected;
 use aggregates::{
-    greatest_high, greatest_low, least_high, least_low, negative_lows, positive_highs, sum_highs,
-    sum_lows,
+    greatest_ends, greatest_high, least_ends, least_low, negative_lows, positive_highs, sum_ends,
+    sum_highs, sum_lows,
 };
 use interval_calc::Fraction;
 use known_column::Known;
@@ -64,23 +66,25 @@ impl Selected<'_> {
         }
     }
 
-    // The greatest that the least value can be.
-    fn high_of_least(&self, known: &Known) -> i128
-        requires { IsSelection known.now self.now }
+    // The greatest that the least value can be, where this is the least high end at the rows that surely count.
+    fn high_of_least(&self, known: &Known, certain: Option<i128>) -> i128
+        requires selection { IsSelection known.now self.now }
+        requires certain { certain ≡ answer Min (highs_in known.now self.now.must) }
         ensures { result ≡ high_of_least (pairs_in known.now self.now) }
     {
-        match least_high(known, self.must) {
+        match certain {
             Some(high) => high,
             None => greatest_high(known, self.may).unwrap_or(0),
         }
     }
 
-    // The least that the greatest value can be.
-    fn low_of_greatest(&self, known: &Known) -> i128
-        requires { IsSelection known.now self.now }
+    // The least that the greatest value can be, where this is the greatest low end at the rows that surely count.
+    fn low_of_greatest(&self, known: &Known, certain: Option<i128>) -> i128
+        requires selection { IsSelection known.now self.now }
+        requires certain { certain ≡ answer Max (lows_in known.now self.now.must) }
         ensures { result ≡ low_of_greatest (pairs_in known.now self.now) }
     {
-        match greatest_low(known, self.must) {
+        match certain {
             Some(low) => low,
             None => least_low(known, self.may).unwrap_or(0),
         }
@@ -91,10 +95,11 @@ impl Selected<'_> {
         requires { IsSelection known.now self.now }
         ensures { result ≡ bound_of Min (pairs_in known.now self.now) }
     {
+        let ends = least_ends(known, self.may, self.must);
         Bound {
             null: self.nullity(),
-            lo: least_low(known, self.may).unwrap_or(0),
-            hi: self.high_of_least(known),
+            lo: ends.low.unwrap_or(0),
+            hi: self.high_of_least(known, ends.high),
         }
     }
 
@@ -103,89 +108,103 @@ impl Selected<'_> {
         requires { IsSelection known.now self.now }
         ensures { result ≡ bound_of Max (pairs_in known.now self.now) }
     {
+        let ends = greatest_ends(known, self.may, self.must);
         Bound {
             null: self.nullity(),
-            lo: self.low_of_greatest(known),
-            hi: greatest_high(known, self.may).unwrap_or(0),
+            lo: self.low_of_greatest(known, ends.low),
+            hi: ends.high.unwrap_or(0),
         }
     }
 
-    // The least sum: of the rows that surely count and those that lower it. Where there are none, the least value stands alone.
-    fn least_sum(&self, known: &Known, added: &mut Mask) -> i128
+    // The least sum: of the rows that surely count, whose low ends come to this, and of the others that lower it. Where there are
+    // none, the least value stands alone.
+    fn least_sum(&self, known: &Known, certain: i128, others: &mut Mask) -> i128
         requires selection { IsSelection known.now self.now }
-        requires room { length added.old ≡ rows_of_column known.now }
-        ensures room { length added.new ≡ rows_of_column known.now }
+        requires certain { certain ≡ total (lows_in known.now self.now.must) }
+        requires small { IsSmallSum certain }
+        requires room { length others.old ≡ rows_of_column known.now }
+        ensures room { length others.new ≡ rows_of_column known.now }
         ensures sum { result ≡ least_sum (pairs_in known.now self.now) }
     {
-        negative_lows(known, self.may, added);
-        added.or_into(self.must);
-        if has_rows(added) {
-            sum_lows(known, added)
+        negative_lows(known, self.may, others);
+        others.and_not_into(self.must);
+        if has_rows(others) {
+            certain + sum_lows(known, others)
+        } else if has_rows(self.must) {
+            certain
         } else {
             least_low(known, self.may).unwrap_or(0)
         }
     }
 
     // The greatest sum, in the same way.
-    fn greatest_sum(&self, known: &Known, added: &mut Mask) -> i128
+    fn greatest_sum(&self, known: &Known, certain: i128, others: &mut Mask) -> i128
         requires selection { IsSelection known.now self.now }
-        requires room { length added.old ≡ rows_of_column known.now }
-        ensures room { length added.new ≡ rows_of_column known.now }
+        requires certain { certain ≡ total (highs_in known.now self.now.must) }
+        requires small { IsSmallSum certain }
+        requires room { length others.old ≡ rows_of_column known.now }
+        ensures room { length others.new ≡ rows_of_column known.now }
         ensures sum { result ≡ greatest_sum (pairs_in known.now self.now) }
     {
-        positive_highs(known, self.may, added);
-        added.or_into(self.must);
-        if has_rows(added) {
-            sum_highs(known, added)
+        positive_highs(known, self.may, others);
+        others.and_not_into(self.must);
+        if has_rows(others) {
+            certain + sum_highs(known, others)
+        } else if has_rows(self.must) {
+            certain
         } else {
             greatest_high(known, self.may).unwrap_or(0)
         }
     }
 
     // The bound of the sum.
-    fn sum(&self, known: &Known, added: &mut Mask) -> Bound
+    fn sum(&self, known: &Known, others: &mut Mask) -> Bound
         requires selection { IsSelection known.now self.now }
-        requires room { length added.old ≡ rows_of_column known.now }
-        ensures room { length added.new ≡ rows_of_column known.now }
+        requires room { length others.old ≡ rows_of_column known.now }
+        ensures room { length others.new ≡ rows_of_column known.now }
         ensures bound { result ≡ bound_of Sum (pairs_in known.now self.now) }
     {
+        let certain = sum_ends(known, self.must);
         Bound {
             null: self.nullity(),
-            lo: self.least_sum(known, added),
-            hi: self.greatest_sum(known, added),
+            lo: self.least_sum(known, certain.low, others),
+            hi: self.greatest_sum(known, certain.high, others),
         }
     }
 
     // The bound of the average: a sum that is not negative is divided by as many rows as may count for the low end, and by as few
     // as surely count for the high end.
-    fn average(&self, known: &Known, added: &mut Mask) -> AverageBound
+    fn average(&self, known: &Known, others: &mut Mask) -> AverageBound
         requires selection { IsSelection known.now self.now }
-        requires room { length added.old ≡ rows_of_column known.now }
-        ensures room { length added.new ≡ rows_of_column known.now }
+        requires room { length others.old ≡ rows_of_column known.now }
+        ensures room { length others.new ≡ rows_of_column known.now }
         ensures bound { fractions_of result ≡ average_bound_of (pairs_in known.now self.now) }
     {
         let most = self.may.count().max(1);
         let fewest = self.must.count().max(1);
+        let certain = sum_ends(known, self.must);
+        let low = self.least_sum(known, certain.low, others);
+        let high = self.greatest_sum(known, certain.high, others);
         AverageBound {
             null: self.nullity(),
-            lo: quotient(self.least_sum(known, added), most, fewest),
-            hi: quotient(self.greatest_sum(known, added), fewest, most),
+            lo: quotient(low, most, fewest),
+            hi: quotient(high, fewest, most),
         }
     }
 
     // The bound of an item of this kind.
-    pub(crate) fn bound(&self, kind: ItemKind, known: &Known, added: &mut Mask) -> ItemBound
+    pub(crate) fn bound(&self, kind: ItemKind, known: &Known, others: &mut Mask) -> ItemBound
         requires selection { IsSelection known.now self.now }
-        requires room { length added.old ≡ rows_of_column known.now }
-        ensures room { length added.new ≡ rows_of_column known.now }
+        requires room { length others.old ≡ rows_of_column known.now }
+        ensures room { length others.new ≡ rows_of_column known.now }
         ensures bound { IsBoundOf kind (pairs_in known.now self.now) result }
     {
         match kind {
             ItemKind::Count => ItemBound::Numbers(self.count()),
-            ItemKind::Sum => ItemBound::Numbers(self.sum(known, added)),
+            ItemKind::Sum => ItemBound::Numbers(self.sum(known, others)),
             ItemKind::Min => ItemBound::Numbers(self.least(known)),
             ItemKind::Max => ItemBound::Numbers(self.greatest(known)),
-            ItemKind::Avg => ItemBound::Fractions(self.average(known, added)),
+            ItemKind::Avg => ItemBound::Fractions(self.average(known, others)),
         }
     }
 }

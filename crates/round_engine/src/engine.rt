@@ -16,10 +16,16 @@ use std::marker::Model;
 
 /// A query, and what is known of its columns after some of their planes. What its items come to is kept along, so that a
 /// plane changes it in place and takes no memory.
-#[derive(Drop)]
 pub struct Engine {
     pub(crate) query: TypedQuery,
     pub(crate) state: State,
+}
+
+// A call of its own: a derived drop is proved anew wherever an engine is let go.
+impl Drop for Engine {
+    fn drop(self) {
+        let Engine { query: _, state: _ } = self;
+    }
 }
 
 impl Model for Engine {

@@ -5,22 +5,25 @@ ghost use Rattle.kleene_filter.specs.Filters.{truths_under};
 ghost use Rattle.known_column.specs.KnownTables.{unread_table};
 ghost use Rattle.query_model.specs.declared.query.ItemKind.TheVariants.{Avg};
 ghost use Rattle.query_model.specs.Bounds.{fractions_of};
-ghost use Rattle.round_engine.specs.CellAnswers.{AreGroups, AreSomeGroups, HasCell, HasItem, HoldGroups, IsParted, StandForEach, StandForOthers, WereGroups};
+ghost use Rattle.round_engine.specs.CellAnswers.{AreGroups, AreSomeGroups, HasCell, HasItem, HasRoom, HoldGroups, IsParted, StandForCells, StandForEach, StandForOthers, WereGroups};
 ghost use Rattle.row_groups.specs.Partition.{is_legal_cell, ranges_in, ranges_of_cell};
 ghost use Rattle.round_engine.specs.Cells.{absence_in_cell, average_in_cell, bound_in_cell, cells_in, parts_in};
 ghost use Rattle.round_engine.specs.Engines.{stage_of};
-ghost use Rattle.round_engine.specs.Stages.{IsGrouped, IsOpenStage, Stage};
+ghost use Rattle.round_engine.specs.OneCell.{HoldMasks};
+ghost use Rattle.round_engine.specs.Stages.{IsGrouped, IsOpenItem, IsOpenStage, Stage};
 
 use crate::cell_filling::fill_cells;
 use crate::cell_room::{every_row, most_cells, open_cells, open_each};
 use crate::group_columns::is_group;
 use crate::moved::{moved_items, moves_rows};
+use crate::one_cell::CellMasks;
 use crate::one_key::tell_single;
+use crate::totals::is_by_masks;
 use aggregates::Running;
 use kleene_filter::Filter;
 use known_column::{KnownColumns, RowBlock};
 use plane_kernels::Plane;
-use query_model::{AverageBound, Bound, ItemKind, Nullity, TypedQuery};
+use query_model::{AverageBound, Bound, Item, ItemKind, Nullity, TypedQuery};
 use row_groups::{
     CellKeys, Cells, cells_tell_keys, opening_stands, others_leave_cells, refining_stands,
 };
@@ -33,9 +36,41 @@ pub(crate) struct Groups {
     single: Vec<bool>,
     presence: Running,
     pub(crate) runnings: Vec<Running>,
+    masks: CellMasks,
 }
 
-// Adds all rows of each marked item anew, each to the cell that it is in.
+// Adds all rows to an item: by masks where these tell it of one cell that has all rows, else each row to the cell that it is in.
+fn fill_item(
+    query: &TypedQuery,
+    item: &Item,
+    columns: &KnownColumns,
+    filter: &Filter,
+    block: &mut RowBlock,
+    cells: &Cells,
+    single: &[bool],
+    masks: &mut CellMasks,
+    running: &mut Running,
+)
+    requires open_stage { IsOpenStage (stage_of query.now columns.now) }
+    requires open_item { IsOpenItem columns.now.frame item.now }
+    requires judged { filter.now.truths ≡ truths_under query.now.pred columns.now }
+    requires same { block.old.frame.columns ≡ columns.now.frame.columns }
+    requires parted { IsParted (stage_of query.now columns.now) cells.now single.now }
+    requires masks { HoldMasks columns.now.frame.rows masks.old }
+    requires room { HasRoom (stage_of query.now columns.now) item.now running.old }
+    ensures same { block.new.frame.columns ≡ columns.now.frame.columns }
+    ensures masks { HoldMasks columns.now.frame.rows masks.new }
+    ensures stand { StandForCells (stage_of query.now columns.now) item.now running.new }
+{
+    cells_tell_keys();
+    if cells.count() == 1 && is_by_masks(item, columns) {
+        masks.fill(query, item, columns, filter, single[0], running);
+    } else {
+        fill_cells(query, item, columns, filter, block, cells, single, running);
+    }
+}
+
+// Adds all rows of each marked item anew.
 fn fill_each(
     query: &TypedQuery,
     columns: &KnownColumns,
@@ -44,20 +79,23 @@ fn fill_each(
     cells: &Cells,
     single: &[bool],
     marks: &[bool; 16],
+    masks: &mut CellMasks,
     runnings: &mut [Running],
 )
     requires open_stage { IsOpenStage (stage_of query.now columns.now) }
     requires judged { filter.now.truths ≡ truths_under query.now.pred columns.now }
     requires same { block.old.frame.columns ≡ columns.now.frame.columns }
     requires parted { IsParted (stage_of query.now columns.now) cells.now single.now }
+    requires masks { HoldMasks columns.now.frame.rows masks.old }
     requires others { StandForOthers (stage_of query.now columns.now) marks.now runnings.old }
     ensures same { block.new.frame.columns ≡ columns.now.frame.columns }
+    ensures masks { HoldMasks columns.now.frame.rows masks.new }
     ensures stand { StandForEach (stage_of query.now columns.now) runnings.new }
 {
     for i in 0..runnings.len() {
         if marks[i] {
             let item = &query.items.as_slice()[i];
-            fill_cells(
+            fill_item(
                 query,
                 item,
                 columns,
@@ -65,6 +103,7 @@ fn fill_each(
                 block,
                 cells,
                 single,
+                masks,
                 &mut runnings[i],
             );
         }
@@ -91,11 +130,13 @@ impl Groups {
         tell_single(&cells, &mut single);
         let presence = Running::open(alloc, ItemKind::Count, most)?;
         let runnings = open_each(alloc, query, most)?;
+        let masks = CellMasks::open(alloc, columns.rows())?;
         Ok(Groups {
             cells,
             single,
             presence,
             runnings,
+            masks,
         })
     }
 
@@ -114,7 +155,7 @@ impl Groups {
         ensures same { block.new.frame.columns ≡ columns.now.frame.columns }
         ensures answers { AreGroups (stage_of query.now columns.now) self.new }
     {
-        fill_cells(
+        fill_item(
             query,
             &every_row(),
             columns,
@@ -122,6 +163,7 @@ impl Groups {
             block,
             &self.cells,
             &self.single,
+            &mut self.masks,
             &mut self.presence,
         );
         let all = [true; 16];
@@ -133,6 +175,7 @@ impl Groups {
             &self.cells,
             &self.single,
             &all,
+            &mut self.masks,
             &mut self.runnings,
         );
     }
@@ -185,6 +228,7 @@ impl Groups {
                 &self.cells,
                 &self.single,
                 &moved,
+                &mut self.masks,
                 &mut self.runnings,
             );
         }

@@ -5,6 +5,7 @@ mod answers;
 mod cell_filling;
 mod cell_narrowness;
 mod cell_room;
+mod cell_tally;
 mod cells;
 mod column_bounds;
 mod counts;
@@ -14,8 +15,10 @@ mod group_columns;
 mod groups;
 mod item_bound;
 mod laws;
+mod lent;
 mod moved;
 mod narrowness;
+mod one_cell;
 mod one_key;
 mod progress;
 mod ranking;
@@ -29,10 +32,3 @@ mod totals;
 
 pub use engine::Engine;
 pub use laws::orders_agree;
-
-#[cfg(test)]
-mod null_tests;
-#[cfg(test)]
-mod signed_tests;
-#[cfg(test)]
-mod tests;

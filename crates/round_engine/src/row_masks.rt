@@ -17,11 +17,11 @@ use plane_kernels::Mask;
 use query_model::{Item, TypedQuery};
 use std::alloc::{AllocError, Global};
 
-// Room for the rows that give a value, and for those whose ends are added up.
+// Room for the rows that give a value, and for those of them that may move a sum.
 #[derive(Drop)]
 pub(crate) struct RowMasks {
     selection: Selection,
-    added: Mask,
+    others: Mask,
 }
 
 impl RowMasks {
@@ -30,8 +30,8 @@ impl RowMasks {
         ensures { IfOk result (HaveRows rows) }
     {
         let selection = Selection::open(alloc, rows)?;
-        let added = Mask::none(alloc, rows)?;
-        Ok(RowMasks { selection, added })
+        let others = Mask::none(alloc, rows)?;
+        Ok(RowMasks { selection, others })
     }
 
     // The bound of an item over a bare column.
@@ -57,9 +57,9 @@ impl RowMasks {
             self.selection.select(filter, known);
             self.selection
                 .lend()
-                .bound(item.kind, known, &mut self.added)
+                .bound(item.kind, known, &mut self.others)
         } else {
-            select_all(filter, known).bound(item.kind, known, &mut self.added)
+            select_all(filter, known).bound(item.kind, known, &mut self.others)
         }
     }
 }

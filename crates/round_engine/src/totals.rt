@@ -55,7 +55,7 @@ fn is_column(expr: &Expr) -> bool
 }
 
 // Whether masks tell the bound of an item.
-fn is_by_masks(item: &Item, columns: &KnownColumns) -> bool
+pub(crate) fn is_by_masks(item: &Item, columns: &KnownColumns) -> bool
     requires { IsOpenItem columns.now.frame item.now }
     ensures { result ≡ is_by_masks columns.now.frame item.now }
 {

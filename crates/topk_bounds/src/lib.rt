@@ -11,6 +11,3 @@ mod top;
 
 pub use laws::{searches_go_on, standings_stand};
 pub use top::TopK;
-
-#[cfg(test)]
-mod tests;

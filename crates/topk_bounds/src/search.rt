@@ -14,11 +14,21 @@ use std::alloc::{AllocError, Global};
 
 // A cut of the rows, and how many planes of the sort key were followed to it. Where fewer rows are counted than are wanted, no
 // plane is followed, and all rows are in its level.
-#[derive(Drop)]
 pub struct Search {
     pub(crate) cut: Cut,
     pub(crate) share: Share,
     pub(crate) read: u8,
+}
+
+// A call of its own: a derived drop is proved anew wherever one is let go.
+impl Drop for Search {
+    fn drop(self) {
+        let Search {
+            cut: _,
+            share: _,
+            read: _,
+        } = self;
+    }
 }
 
 impl Search {

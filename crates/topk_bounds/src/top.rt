@@ -15,7 +15,6 @@ use std::alloc::{AllocError, Global};
 use std::marker::Model;
 
 /// What is known of whether each row is among the first of the rows that pass, so many as are asked for.
-#[derive(Drop)]
 pub struct TopK {
     limit: u64,
     down: bool,
@@ -23,6 +22,20 @@ pub struct TopK {
     may: Search,
     certain: Mask,
     possible: Mask,
+}
+
+// A call of its own: a derived drop is proved anew wherever one is let go.
+impl Drop for TopK {
+    fn drop(self) {
+        let TopK {
+            limit: _,
+            down: _,
+            must: _,
+            may: _,
+            certain: _,
+            possible: _,
+        } = self;
+    }
 }
 
 impl Model for TopK {

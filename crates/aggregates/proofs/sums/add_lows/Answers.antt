@@ -30,6 +30,6 @@ returns-clause-sum c =
     let base : to_z w64 (of_z w64 c.base.result) ≡ column.ends.base = omega (arith, ints, c.base.ensures) in
     whole ∙ c.multiples.ensures.sum ∙ ap (λ b. (b *ℤ pos c.count.result) +ℤ pos (c.sum_numbers-numbers.result * 2 ^ c.unread-unread.result)) base
     ∙ ap (λ n. (column.ends.base *ℤ pos n) +ℤ pos (c.sum_numbers-numbers.result * 2 ^ c.unread-unread.result)) c.count.ensures
-    ∙ ap (λ n. (column.ends.base *ℤ pos (count_by (λ b. b) mask)) +ℤ pos (n * 2 ^ c.unread-unread.result)) c.sum_numbers-numbers.ensures.sum
+    ∙ ap (λ n. (column.ends.base *ℤ pos (count_by (λ b. b) mask)) +ℤ pos (n * 2 ^ c.unread-unread.result)) c.sum_numbers-numbers.ensures.adds
     ∙ ap (λ k. (column.ends.base *ℤ pos (count_by (λ b. b) mask)) +ℤ pos (sum_where mask (map (number_in column) column.known.prefixes) * 2 ^ k)) d
     ∙ sym (lows column mask counts)

@@ -14,17 +14,12 @@ loop-block-preserved c =
       omega (arith, c.loop-block.invariant.1, c.sum_block-sum.ensures.few),
     )
 
-pub returns-clause-sum : goal.returns-clause-sum
-returns-clause-sum c =
-    let column = c.args.known.now in
-    c.loop-block.invariant.0 ∙ all_blocks c.args.mask.now column.known.prefixes (number_of column.ends column.known.read) c.loop-block.block c.requires.rows (omega arith)
-
-pub returns-clause-few : goal.returns-clause-few
-returns-clause-few c =
+pub returns : goal.returns
+returns c =
     let column = c.args.known.now in
     let mask = c.args.mask.now in
     let counts : Counts column mask = record { sound = c.number_planes-planes.ensures.sound; rows = c.requires.rows; values = c.requires.values } in
     let d = planes column.ends - column.known.read in
     let is = c.loop-block.invariant.0 ∙ all_blocks mask column.known.prefixes (number_of column.ends column.known.read) c.loop-block.block c.requires.rows (omega arith) in
     let fits : c.loop-block.sum * 2 ^ d ≤ 309485009821345068724781056 = subst (λ s. s * 2 ^ d ≤ 309485009821345068724781056) (sym is) (sum_fits column mask counts) in
-    omega (arith, fits)
+    record { adds = is; few = omega (arith, fits); sound = c.number_planes-planes.ensures.sound }

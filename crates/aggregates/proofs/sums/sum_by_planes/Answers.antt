@@ -34,17 +34,11 @@ loop-j-preserved c =
     c.from.ensures ∙ c.count_plane.ensures ∙ ap (λ l. count_by (λ b. b) (zip2 (λ a b. a && b) mask l)) c.plane.ensures in
     ap (λ s. 2 * s + c.from.result) c.loop-j.invariant ∙ ap (λ n. 2 * sum_short column mask (column.known.read - c.loop-j.j) + n) bits ∙ sym further
 
-pub returns-clause-sum : goal.returns-clause-sum
-returns-clause-sum c =
-    let column = c.args.known.now in
-    let known = counts column c.args.mask.now c.number_planes-from.ensures.sound c.requires.rows c.requires.values in
-    c.loop-j.invariant ∙ short_end column c.args.mask.now (column.known.read - c.loop-j.j) known (omega (arith, c.loop-j.auto, c.loop-j-test.false, c.number_planes-from.ensures.to))
-
-pub returns-clause-few : goal.returns-clause-few
-returns-clause-few c =
+pub returns : goal.returns
+returns c =
     let column = c.args.known.now in
     let known = counts column c.args.mask.now c.number_planes-from.ensures.sound c.requires.rows c.requires.values in
     let d = planes column.ends - column.known.read in
     let is = c.loop-j.invariant ∙ short_end column c.args.mask.now (column.known.read - c.loop-j.j) known (omega (arith, c.loop-j.auto, c.loop-j-test.false, c.number_planes-from.ensures.to)) in
     let fits : c.loop-j.sum * 2 ^ d ≤ 309485009821345068724781056 = subst (λ s. s * 2 ^ d ≤ 309485009821345068724781056) (sym is) (sum_fits column c.args.mask.now known) in
-    omega (arith, fits)
+    record { adds = is; few = omega (arith, fits); sound = c.number_planes-from.ensures.sound }

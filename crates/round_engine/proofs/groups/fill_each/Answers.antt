@@ -10,10 +10,10 @@ use Rattle.round_engine.proofs.groups.fill_each.Goals as goal
 use Rattle.round_engine.proofs.groups.fill_each.Goals.{then-marks-i, else-marks-i}
 
 pub loop-i-init : goal.loop-i-init
-loop-i-init c = record { same = c.requires.same; walk = walk_start _ _ c.args.query.now.items c.args.runnings.now c.requires.others }
+loop-i-init c = record { same = c.requires.same; masks = c.requires.masks; walk = walk_start _ _ c.args.query.now.items c.args.runnings.now c.requires.others }
 
-pub fill_cells-requires-clause-room : goal.fill_cells-requires-clause-room
-fill_cells-requires-clause-room c =
+pub fill_item-requires-clause-room : goal.fill_item-requires-clause-room
+fill_item-requires-clause-room c =
     let walk = c.loop-i.invariant.walk in
     let i = c.loop-i.i in
     let items = c.args.query.now.items in
@@ -32,10 +32,11 @@ loop-i-preserved c =
           (let item = w.index-as_slice-i.result in
           let inside : i < length items = omega (arith, walk.count, c.requires.others.count) in
           let there : slice_get items i ≡ Some item = read_there items w.as_slice.result.now i item inside (w.as_slice.ensures ∙ ap (λ (q : Query). q.items) c.query.view_is) w.index-as_slice-i.is in
-          rw (w.runnings-is, w.block-is) (record { same = w.fill_cells.ensures.same; walk = walk_set _ _ items c.loop-i.runnings i item w.fill_cells.new.running there w.fill_cells.ensures.stand walk }))
+          rw (w.runnings-is, w.masks-is, w.block-is) (record { same = w.fill_item.ensures.same; masks = w.fill_item.ensures.masks; walk = walk_set _ _ items c.loop-i.runnings i item w.fill_item.new.running there w.fill_item.ensures.stand walk }))
       | else-marks-i w ↦
-          rw (w.runnings-is, w.block-is) (record {
+          rw (w.runnings-is, w.masks-is, w.block-is) (record {
             same = c.loop-i.invariant.same;
+            masks = c.loop-i.invariant.masks;
             walk = walk_keep _ _ items c.loop-i.runnings i (λ item running at before. before.stands (λ marked. false≢true (sym w.if-marks-i.false ∙ marked))) walk;
           })
     ]

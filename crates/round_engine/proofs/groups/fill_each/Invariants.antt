@@ -2,12 +2,14 @@ use Rattle.std.proofs.Common.{◌≡◌}
 use Rattle.round_engine.specs.CellAnswers.{StandBeside, StandForCells}
 use Rattle.round_engine.specs.Engines.{stage_of}
 use Rattle.round_engine.specs.Moves.{is_marked}
+use Rattle.round_engine.specs.OneCell.{HoldMasks}
 use Rattle.round_engine.proofs.Walks.{Walks}
 use Rattle.round_engine.proofs.groups.fill_each.Given as goal
 
 abbrev pub invariant-loop-i : goal.invariant-loop-i
 invariant-loop-i l = record {
   same : l.block.frame.columns ≡ l.columns.frame.columns;
+  masks : HoldMasks l.columns.frame.rows l.masks;
   walk :
       Walks (λ i item running. StandBeside (is_marked l.marks i) (stage_of l.query l.columns) item running)
       (λ i item running. StandForCells (stage_of l.query l.columns) item running)

@@ -6,14 +6,14 @@ use Rattle.aggregates.proofs.Adding.{seen, stands_as, stands_within}
 use Rattle.aggregates.proofs.BlockAdding.{are_added, ordered_rows}
 use Rattle.aggregates.proofs.running.Running.add_block.Goals as goal
 
-pub with_block-requires-clause-room : goal.with_block-requires-clause-room
-with_block-requires-clause-room c =
+pub add_block-requires-clause-room : goal.add_block-requires-clause-room
+add_block-requires-clause-room c =
     let ps = c.requires.room.pairs in
     let inside = c.self.inside in
     let qs = pairs_in c.args.may c.args.must c.args.spans.now in
     record {
       pairs = ps;
-      kept = stands_as inside.kind inside.cells inside.tallies.items c.args.self.now c.args.cell ps c.index.result.now c.self.view_is c.requires.room.stands c.index.ensures;
+      kept = stands_as inside.kind inside.cells inside.tallies.items c.args.self.now c.args.cell ps c.index_mut.result.now c.self.view_is c.requires.room.stands c.index_mut.ensures.value;
       ordered = c.requires.room.stands.ordered;
       may_get = subst (λ (r : Tallies). MayGetAll r.kind ps qs) (sym c.self.view_is) c.requires.room.may_get;
     }
@@ -30,6 +30,6 @@ returns c =
     let inside = c.self.inside in
     let qs = pairs_in c.args.may c.args.must c.args.spans.now in
     let within = stands_within inside.kind inside.cells inside.tallies.items c.args.self.now c.args.cell c.requires.room.pairs c.self.view_is c.requires.room.stands in
-    subst (λ (r : Tallies). AreAllAdded r (seen inside.kind inside.cells (set inside.tallies.items c.args.cell c.with_block.result)) c.args.cell qs) c.self.view_is
-    (are_added inside.kind inside.cells inside.tallies.items c.args.cell c.index.result.now c.with_block.result qs within.0 within.1
-    (ordered_rows c.args.may c.args.must c.args.spans.now (range_with_len 0 (length c.args.spans.now))) c.index.ensures c.with_block.ensures)
+    subst (λ (r : Tallies). AreAllAdded r (seen inside.kind inside.cells (set inside.tallies.items c.args.cell c.add_block.new.self)) c.args.cell qs) c.self.view_is
+    (are_added inside.kind inside.cells inside.tallies.items c.args.cell c.index_mut.result.now c.add_block.new.self qs within.0 within.1
+    (ordered_rows c.args.may c.args.must c.args.spans.now (range_with_len 0 (length c.args.spans.now))) c.index_mut.ensures.value c.add_block.ensures)

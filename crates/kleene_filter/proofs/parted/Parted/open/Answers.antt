@@ -28,10 +28,9 @@ returns c =
       between = c.requires.between;
       code = c.code_of.ensures ∙ ap (λ n. code column.ends (cell_with n column.ends)) fits;
       less = c.in_ok-none.ensures ∙ ap (λ n. replicate n false) c.rows-2.ensures.rows ∙ starts_where (is_less v) false column c.requires.unread c.requires.known (ap (nat_lt 0) own);
-      equal = c.equal.view_is ∙ c.in_ok-equal.ensures ∙ ap (λ n. replicate n true) c.rows.ensures.rows
+      equal = c.in_ok-equal.ensures ∙ ap (λ n. replicate n true) c.rows.ensures.rows
           ∙ starts_where (is_level v) true column c.requires.unread c.requires.known (ap (λ m. 0 == m) own);
       greater = c.in_ok-none-2.ensures ∙ ap (λ n. replicate n false) c.rows-3.ensures.rows
           ∙ starts_where (is_greater v) false column c.requires.unread c.requires.known (ap (λ m. nat_lt m 0) own);
-      at_equal = subst (λ l. IsTruthAt column (λ x. compares op x v) l c.truth_at_equal-at_equal.result) (sym c.equal.view_is)
-          (subst (λ n. IsTruthAt column (λ x. compares op x n) c.in_ok-equal.equal c.truth_at_equal-at_equal.result) fits c.truth_at_equal-at_equal.ensures);
+      at_equal = subst (λ n. IsTruthAt column (λ x. compares op x n) c.in_ok-equal.equal c.truth_at_equal-at_equal.result) fits c.truth_at_equal-at_equal.ensures;
     }

@@ -43,4 +43,5 @@ returns-else-moves_rows-clause-answers c =
       presence = subst (λ (s : Stage). StandForCells s every_row c.args.self.now.presence) (sym stood.read)
           (stand_still stood.before c.args.column c.args.plane.now every_row c.args.self.now.presence stay refl stood.answered.presence);
       items = subst (StandForEach (stage_of c.args.query.now c.args.columns.now)) (sym same) c.fill_each.ensures.stand;
+      masks = c.fill_each.ensures.masks;
     }

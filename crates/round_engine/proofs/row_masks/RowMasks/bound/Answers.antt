@@ -34,7 +34,7 @@ returns-then-nullable-clause-room c =
     let is : IsSelection c.column-known.result.now c.select.new.self =
     selection_is c.args.query.now c.args.item.now c.args.columns.now c.requires.plain c.args.filter.now.truths c.requires.judged c.column-known.result.now c.args.column c.requires.column
     c.column-known.ensures.column c.column-known.ensures.rows c.select.new.self c.select.ensures.may c.select.ensures.must in
-    record { selection = subst (λ n. HasRows n c.select.new.self) c.column-known.ensures.rows is.rows; added = c.bound.ensures.room ∙ c.column-known.ensures.rows }
+    record { selection = subst (λ n. HasRows n c.select.new.self) c.column-known.ensures.rows is.rows; others = c.bound.ensures.room ∙ c.column-known.ensures.rows }
 
 pub returns-then-nullable-clause-bound : goal.returns-then-nullable-clause-bound
 returns-then-nullable-clause-bound c =
