@@ -1,0 +1,11 @@
+pub mod Passing
+pub mod Choices
+pub mod Rows
+pub mod Reaching
+pub mod ClipBounds
+pub mod Certain
+pub mod ClippedEnds
+pub mod ClippedSums
+pub mod Counting
+pub mod Moves
+pub mod Engines

@@ -1,0 +1,97 @@
+-- The numbers that a condition lets through for a column, where that is a range which an atom alone tells.
+use Rattle.std.specs.Prelude.{ℕ, ℤ, pos, negsuc, ◌+ℤ◌, ◌-ℤ◌, ◌≤ℤ◌, int_lt, Bool, true, false, ◌&&◌, ◌==◌, if◌then◌else◌}
+use Rattle.std.specs.declared.option.Option.{Option}
+use Rattle.std.specs.declared.option.Option.TheVariants.{Some, None}
+use Rattle.std.specs.List.{count_by}
+use Rattle.std.specs.Option.{option_or}
+use Rattle.query_model.specs.declared.query.Atom.{Atom}
+use Rattle.query_model.specs.declared.query.Atom.TheVariants.{Compare, CompareColumns, Between, OneOf, IsNull}
+use Rattle.query_model.specs.declared.query.Comparison.{Comparison}
+use Rattle.query_model.specs.declared.query.Comparison.TheVariants.{Eq, Ne, Lt, Le, Gt, Ge}
+use Rattle.query_model.specs.declared.query.ItemKind.{ItemKind}
+use Rattle.query_model.specs.declared.query.ItemKind.TheVariants.{Count, Sum, Min, Max, Avg}
+use Rattle.query_model.specs.declared.query.Shape.{Shape}
+use Rattle.query_model.specs.declared.query.Shape.TheVariants.{Plain, Grouped, Top}
+use Rattle.query_model.specs.Meaning.{columns_of_pred}
+use Rattle.query_model.specs.Queries.{Aggregate, Condition, All, Single, Both, Either, Negation, Query, Term, Column, Literal, Add, Sub, Mul}
+use Rattle.clip_bounds.specs.declared.clip.Clip.{Clip}
+
+-- ---- the range of an atom
+
+-- an end that is open: the least and the greatest number of 64 bits, which no column passes
+abbrev pub least_number : ℤ
+least_number = negsuc 9223372036854775807
+
+abbrev pub greatest_number : ℤ
+greatest_number = pos 9223372036854775807
+
+-- a number that a column may have
+abbrev pub IsLong : ℤ → Type 0
+IsLong x = (least_number ≤ℤ x) × (x ≤ℤ greatest_number)
+
+-- the numbers next to another. The least and the greatest number of 128 bits stand for themselves: a column has no number below, or above
+abbrev pub before : ℤ → ℤ
+before v = if int_lt (negsuc 170141183460469231731687303715884105727) v then v -ℤ pos 1 else v
+
+abbrev pub behind : ℤ → ℤ
+behind v = if int_lt v (pos 170141183460469231731687303715884105727) then v +ℤ pos 1 else v
+
+-- the numbers that a comparison with a number lets through; of "not equal" they are no range
+abbrev pub clip_of_comparison : ℕ → Comparison → ℤ → Option Clip
+clip_of_comparison c Eq v = Some (record { column = c; low = v; high = v })
+clip_of_comparison c Ne v = None
+clip_of_comparison c Lt v = Some (record { column = c; low = least_number; high = before v })
+clip_of_comparison c Le v = Some (record { column = c; low = least_number; high = v })
+clip_of_comparison c Gt v = Some (record { column = c; low = behind v; high = greatest_number })
+clip_of_comparison c Ge v = Some (record { column = c; low = v; high = greatest_number })
+
+abbrev pub clip_of_atom : Atom → Option Clip
+clip_of_atom (Compare c op v) = clip_of_comparison c op v
+clip_of_atom (CompareColumns l op r) = None
+clip_of_atom (Between c low high) = Some (record { column = c; low = low; high = high })
+clip_of_atom (OneOf c values) = None
+clip_of_atom (IsNull c) = None
+
+-- ---- the range of an item's column
+
+-- the clip, if it is one of the column
+abbrev pub if_of : ℕ → Option Clip → Option Clip
+if_of c None = None
+if_of c (Some clip) = if clip.column == c then Some clip else None
+
+-- a clip of the column that holds wherever the condition does: of the condition itself, or of an operand of its top ANDs
+abbrev pub clip_in : Condition → ℕ → Option Clip
+clip_in All c = None
+clip_in (Single atom) c = if_of c (clip_of_atom atom)
+clip_in (Both a b) c = option_or (clip_in a c) (clip_in b c)
+clip_in (Either a b) c = None
+clip_in (Negation a) c = None
+
+-- the column stands in the condition once
+abbrev pub stands_once : Condition → ℕ → Bool
+stands_once pred c = count_by (λ d. d == c) (columns_of_pred pred) == 1
+
+abbrev pub clip_of_argument : Condition → Term → Option Clip
+clip_of_argument pred (Column c) = if stands_once pred c then clip_in pred c else None
+clip_of_argument pred (Literal n) = None
+clip_of_argument pred (Add a b) = None
+clip_of_argument pred (Sub a b) = None
+clip_of_argument pred (Mul a b) = None
+
+-- sums and extremes are clipped; a count has no values, and an average is not monotone in the number of its rows
+abbrev pub is_clipped_kind : ItemKind → Bool
+is_clipped_kind Count = false
+is_clipped_kind Sum = true
+is_clipped_kind Min = true
+is_clipped_kind Max = true
+is_clipped_kind Avg = false
+
+abbrev pub is_plain : Shape → Bool
+is_plain Plain = true
+is_plain (Grouped columns) = false
+is_plain (Top key down limit) = false
+
+-- the numbers that the condition lets through for the item's column: in a query without groups and order, for the sum or an extreme of a bare column
+-- that stands once in the condition, and there in such an atom
+abbrev pub clip_of : Query → Aggregate → Option Clip
+clip_of query item = if is_plain query.shape && is_clipped_kind item.kind then clip_of_argument query.pred item.arg else None

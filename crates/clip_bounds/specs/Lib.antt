@@ -1,0 +1,5 @@
+pub mod Clips
+pub mod Clipped
+pub mod ClipLaws
+pub mod Levels
+pub mod Sums
