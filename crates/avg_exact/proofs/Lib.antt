@@ -1,0 +1,11 @@
+pub mod Fractions
+pub mod Gains
+pub mod Cuts
+pub mod BestChoices
+pub mod HighEnds
+pub mod ListEnds
+pub mod Worlds
+pub mod Certain
+pub mod RowPasses
+pub mod Searches
+pub mod Assembled

@@ -1,0 +1,4 @@
+pub mod ExactAverages
+pub mod Promises
+pub mod Laws
+pub mod Passes
