@@ -5,7 +5,7 @@ use Rattle.std.proofs.Common.{◌≡◌, ◌≢◌, ℕ, zero, suc, ◌+◌, ◌
 use Rattle.std.specs.Option.{option_map_or}
 use Rattle.std.specs.Str.{bytes_eq}
 use Rattle.std.proofs.lemmas.Slice.Eq.{bytes_eq-Decides}
-use Rattle.command_line.specs.Commands.{ReadOrder, widest, in_order, filter_first, IsPolicy, IsNumber, Given, Gives, no_more, more_width, more_rounds, more_policy, more_reads, more_list, Options, Command, ask, query, load, info, upgrade, demo, IsCommand, AreOptions, nothing_given, options_given, most_seed, most_rows, most_width, most_rounds}
+use Rattle.command_line.specs.Commands.{ReadOrder, widest, in_order, filter_first, IsPolicy, IsNumber, Given, Gives, no_more, more_width, more_rounds, more_policy, more_reads, more_list, more_clip, more_exact, Options, Command, ask, query, load, info, upgrade, demo, IsCommand, AreOptions, nothing_given, options_given, most_seed, most_rows, most_width, most_rounds}
 use Rattle.command_line.specs.Reading.{Next, name, word, number, policy, option, done, after, after_ask, after_query, after_load, after_info, after_upgrade, after_demo, after_name, after_flag, behind, is_free, flag_of, flag_text, at_end, answer, number_of, policy_of}
 use Rattle.command_line.proofs.Numbers.{number_is}
 
@@ -133,7 +133,9 @@ flag_is w =
     (if_cases P (bytes_eq w (codes "--rounds")) _ _ (λ t. same_bytes w _ t)
     (if_cases P (bytes_eq w (codes "--policy")) _ _ (λ t. same_bytes w _ t)
     (if_cases P (bytes_eq w (codes "--reads")) _ _ (λ t. same_bytes w _ t)
-    (if_cases P (bytes_eq w (codes "--list")) _ _ (λ t. same_bytes w _ t) tt))))
+    (if_cases P (bytes_eq w (codes "--list")) _ _ (λ t. same_bytes w _ t)
+    (if_cases P (bytes_eq w (codes "--clip")) _ _ (λ t. same_bytes w _ t)
+    (if_cases P (bytes_eq w (codes "--exact-avg")) _ _ (λ t. same_bytes w _ t) tt))))))
 
 free_some : (b : Bool) (x : Next) (at : ℕ) (ws : List (List ℕ)) (c : Command) →
     option_map_or (λ next. answer next (at + 1) ws) (if b then Some x else None) (Err (at + 1)) ≡ Ok c →
@@ -194,6 +196,12 @@ read_flag n k ih g at w ws c f.Reads h same free e =
 read_flag n k ih g at w ws c f.List h same free e =
     let b = ih _ (at + 1) ws c (omega arith) e in
     record { end = b.end; gives = subst (λ v. Gives g (v ∷ ws) b.end) (sym same) (more_list (not_set g.list free) b.gives); same = b.same }
+read_flag n k ih g at w ws c f.Clip h same free e =
+    let b = ih _ (at + 1) ws c (omega arith) e in
+    record { end = b.end; gives = subst (λ v. Gives g (v ∷ ws) b.end) (sym same) (more_clip (not_set g.clip free) b.gives); same = b.same }
+read_flag n k ih g at w ws c f.Exact h same free e =
+    let b = ih _ (at + 1) ws c (omega arith) e in
+    record { end = b.end; gives = subst (λ v. Gives g (v ∷ ws) b.end) (sym same) (more_exact (not_set g.exact free) b.gives); same = b.same }
 
 read_option : (n : ℕ) (k : Options → Command) → ReadBelow n k →
     (g : Given) (at : ℕ) (w : List ℕ) (ws : List (List ℕ)) (c : Command) (o : Option Flag) → length (w ∷ ws) ≤ suc n →

@@ -56,6 +56,8 @@ text_of_flag f.Rounds = refl
 text_of_flag f.Policy = refl
 text_of_flag f.Reads = refl
 text_of_flag f.List = refl
+text_of_flag f.Clip = refl
+text_of_flag f.Exact = refl
 
 -- the name of an option that was not given yet
 pub after_free : (g : Given) (k : Options → Command) (flag : Flag) → is_free flag g ≡ true →

@@ -1,7 +1,7 @@
 -- Each command of the grammar is read whole.
 use Rattle.command_line.specs.declared.reader.Flag.TheVariants as f
 use Rattle.std.proofs.Common.{◌≡◌, ℕ, ◌+◌, Some, Ok, List, option_map, refl, sym, ap, ◌∙◌, codes}
-use Rattle.command_line.specs.Commands.{ReadOrder, widest, in_order, filter_first, reads, IsPolicy, Given, Gives, no_more, more_width, more_rounds, more_policy, more_reads, more_list, Options, Command, ask, query, load, info, upgrade, demo, IsCommand, options_given, most_seed, most_rows, most_width, most_rounds}
+use Rattle.command_line.specs.Commands.{ReadOrder, widest, in_order, filter_first, reads, IsPolicy, Given, Gives, no_more, more_width, more_rounds, more_policy, more_reads, more_list, more_clip, more_exact, Options, Command, ask, query, load, info, upgrade, demo, IsCommand, options_given, most_seed, most_rows, most_width, most_rounds}
 use Rattle.command_line.specs.Reading.{name, option, done, after_ask, after_query, after_load, after_info, after_upgrade, after_demo, after_name, answer, policy_of}
 use Rattle.command_line.proofs.Numbers.{number_some}
 use Rattle.command_line.proofs.Steps.{answer-none, answer-step, after_free, is_none_at, not_at}
@@ -34,6 +34,10 @@ options_whole (more_reads {g} {h} {names} {words} unset more) k at =
     ∙ options_whole more k (at + 1 + 1)
 options_whole (more_list {g} {h} {words} unset more) k at =
     answer-step _ _ at _ _ (after_free g k f.List (not_at g.list unset)) ∙ options_whole more k (at + 1)
+options_whole (more_clip {g} {h} {words} unset more) k at =
+    answer-step _ _ at _ _ (after_free g k f.Clip (not_at g.clip unset)) ∙ options_whole more k (at + 1)
+options_whole (more_exact {g} {h} {words} unset more) k at =
+    answer-step _ _ at _ _ (after_free g k f.Exact (not_at g.exact unset)) ∙ options_whole more k (at + 1)
 
 pub after_name_ask : after_name (codes "ask") ≡ Some after_ask
 unfolding after_name

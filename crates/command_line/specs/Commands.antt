@@ -16,6 +16,8 @@ pub record Options : Type 0 where
   pub rounds : Option ℕ
   pub order : ReadOrder
   pub list : Bool
+  pub clip : Bool
+  pub exact : Bool
 
 -- what follows the word `ask`
 pub record Ask : Type 0 where
@@ -95,6 +97,8 @@ pub record Given : Type 0 where
   pub rounds : Option ℕ
   pub order : Option ReadOrder
   pub list : Bool
+  pub clip : Bool
+  pub exact : Bool
 
 -- {option}, each option giving what was not given before; --policy and --reads both give the order
 pub data Gives : Given → List (List ℕ) → Given → Type 0 where
@@ -109,13 +113,24 @@ pub data Gives : Given → List (List ℕ) → Given → Type 0 where
       Gives (record g { order = Some (reads names) }) words h → Gives g (codes "--reads" ∷ names ∷ words) h
   more_list : {g h : Given} {words : List (List ℕ)} → g.list ≡ false →
       Gives (record g { list = true }) words h → Gives g (codes "--list" ∷ words) h
+  more_clip : {g h : Given} {words : List (List ℕ)} → g.clip ≡ false →
+      Gives (record g { clip = true }) words h → Gives g (codes "--clip" ∷ words) h
+  more_exact : {g h : Given} {words : List (List ℕ)} → g.exact ≡ false →
+      Gives (record g { exact = true }) words h → Gives g (codes "--exact-avg" ∷ words) h
 
 abbrev pub nothing_given : Given
-nothing_given = record { width = None; rounds = None; order = None; list = false }
+nothing_given = record { width = None; rounds = None; order = None; list = false; clip = false; exact = false }
 
--- what is not given is width 0, no number of rounds, the widest column first, and no list
+-- what is not given is width 0, no number of rounds, the widest column first, no list, no clipped bounds and no exact averages
 abbrev pub options_given : Given → Options
-options_given g = record { width = unwrap_or g.width 0; rounds = g.rounds; order = unwrap_or g.order widest; list = g.list }
+options_given g = record {
+  width = unwrap_or g.width 0;
+  rounds = g.rounds;
+  order = unwrap_or g.order widest;
+  list = g.list;
+  clip = g.clip;
+  exact = g.exact;
+}
 
 -- the words are options, and say this
 pub record AreOptions (words : List (List ℕ)) (options : Options) : Type 0 where

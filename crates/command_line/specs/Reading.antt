@@ -70,6 +70,8 @@ flag_text f.Rounds = codes "--rounds"
 flag_text f.Policy = codes "--policy"
 flag_text f.Reads = codes "--reads"
 flag_text f.List = codes "--list"
+flag_text f.Clip = codes "--clip"
+flag_text f.Exact = codes "--exact-avg"
 
 unfoldable pub flag_of : List ℕ → Option Flag
 flag_of w =
@@ -77,7 +79,9 @@ flag_of w =
     else (if bytes_eq w (codes "--rounds") then Some f.Rounds
     else (if bytes_eq w (codes "--policy") then Some f.Policy
     else (if bytes_eq w (codes "--reads") then Some f.Reads
-    else (if bytes_eq w (codes "--list") then Some f.List else None))))
+    else (if bytes_eq w (codes "--list") then Some f.List
+    else (if bytes_eq w (codes "--clip") then Some f.Clip
+    else (if bytes_eq w (codes "--exact-avg") then Some f.Exact else None))))))
 
 -- what it gives was not given yet
 abbrev pub is_free : Flag → Given → Bool
@@ -86,6 +90,8 @@ is_free f.Rounds g = is_none g.rounds
 is_free f.Policy g = is_none g.order
 is_free f.Reads g = is_none g.order
 is_free f.List g = not g.list
+is_free f.Clip g = not g.clip
+is_free f.Exact g = not g.exact
 
 -- what comes behind it
 abbrev pub behind : Flag → Given → (Options → Command) → Next
@@ -94,6 +100,8 @@ behind f.Rounds g k = number most_rounds (λ n. option (record g { rounds = Some
 behind f.Policy g k = policy (λ p. option (record g { order = Some p }) k)
 behind f.Reads g k = word (λ names. option (record g { order = Some (reads names) }) k)
 behind f.List g k = option (record g { list = true }) k
+behind f.Clip g k = option (record g { clip = true }) k
+behind f.Exact g k = option (record g { exact = true }) k
 
 abbrev pub after_flag : Given → (Options → Command) → Option Flag → Option Next
 after_flag g k None = None

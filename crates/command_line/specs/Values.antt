@@ -21,7 +21,8 @@ order_of FilterFirst = spec.filter_first
 order_of (Reads names) = spec.reads names.now
 
 abbrev pub options_of : Options → spec.Options
-options_of o = record { width = o.width; rounds = o.rounds; order = order_of o.order; list = o.list }
+options_of o =
+    record { width = o.width; rounds = o.rounds; order = order_of o.order; list = o.list; clip = o.clip; exact = o.exact }
 
 abbrev pub ask_of : Ask → spec.Ask
 ask_of a = record { csv = a.csv.now; schema = a.schema.now; sql = a.sql.now; options = options_of a.options }
@@ -50,4 +51,5 @@ command_of (c.Upgrade u) = spec.upgrade (upgrade_of u)
 command_of (c.Demo d) = spec.demo (demo_of d)
 
 abbrev pub given_of : Given → spec.Given
-given_of g = record { width = g.width; rounds = g.rounds; order = option_map order_of g.order; list = g.list }
+given_of g =
+    record { width = g.width; rounds = g.rounds; order = option_map order_of g.order; list = g.list; clip = g.clip; exact = g.exact }

@@ -32,6 +32,10 @@ pub struct Options<'a> {
     pub order: ReadOrder<'a>,
     /// Whether each row of a ranking is listed.
     pub list: bool,
+    /// Whether the bounds of aggregates over clipped columns are shown.
+    pub clip: bool,
+    /// Whether the exact extremes of averages are shown.
+    pub exact: bool,
 }
 
 /// `ask`: a query over a CSV.

@@ -24,6 +24,8 @@ pub(crate) enum Flag {
     Policy,
     Reads,
     List,
+    Clip,
+    Exact,
 }
 
 // What the options so far give.
@@ -33,6 +35,8 @@ pub(crate) struct Given<'a> {
     rounds: Option<u32>,
     order: Option<ReadOrder<'a>>,
     list: bool,
+    clip: bool,
+    exact: bool,
 }
 
 // The words from a place on.
@@ -81,6 +85,8 @@ fn flag_of(word: &str) -> Option<Flag>
         "--policy" => Some(Flag::Policy),
         "--reads" => Some(Flag::Reads),
         "--list" => Some(Flag::List),
+        "--clip" => Some(Flag::Clip),
+        "--exact-avg" => Some(Flag::Exact),
         _ => None,
     }
 }
@@ -107,6 +113,8 @@ impl<'a> Given<'a> {
             rounds: None,
             order: None,
             list: false,
+            clip: false,
+            exact: false,
         }
     }
 
@@ -119,6 +127,8 @@ impl<'a> Given<'a> {
             Flag::Rounds => self.rounds.is_none(),
             Flag::Policy | Flag::Reads => self.order.is_none(),
             Flag::List => !self.list,
+            Flag::Clip => !self.clip,
+            Flag::Exact => !self.exact,
         }
     }
 
@@ -131,6 +141,8 @@ impl<'a> Given<'a> {
             rounds: self.rounds,
             order: self.order.unwrap_or(ReadOrder::Widest),
             list: self.list,
+            clip: self.clip,
+            exact: self.exact,
         }
     }
 }
@@ -236,6 +248,8 @@ impl<'a> Reader<'a> {
             Flag::Policy => given.order = Some(self.policy()?),
             Flag::Reads => given.order = Some(ReadOrder::Reads(self.word()?)),
             Flag::List => given.list = true,
+            Flag::Clip => given.clip = true,
+            Flag::Exact => given.exact = true,
         }
         Ok(())
     }

@@ -14,7 +14,7 @@ fn words_of(alloc: Global, line: &str) -> Result<Words, AllocError> {
 }
 
 // Words that are no command, and the place where they go wrong.
-const WRONG: [(&str, usize); 31] = [
+const WRONG: [(&str, usize); 36] = [
     ("", 1),
     ("sum p.csv s q", 1),
     ("Ask p.csv s q", 1),
@@ -30,6 +30,8 @@ const WRONG: [(&str, usize); 31] = [
     ("ask p.csv s q --width 9223372036854775808", 6),
     ("ask p.csv s q --rounds 4294967296", 6),
     ("ask p.csv s q --width 1 --width 2", 7),
+    ("ask p.csv s q --clip --list --clip", 7),
+    ("ask p.csv s q --exact", 5),
     ("ask p.csv s q --policy first", 6),
     ("ask p.csv s q --policy order --reads price", 7),
     ("ask p.csv s q --reads price --policy order", 7),
@@ -37,13 +39,16 @@ const WRONG: [(&str, usize); 31] = [
     ("demo 1 18446744073709551616 q", 3),
     ("demo 1 5", 4),
     ("demo 1 5 q --list p", 6),
+    ("demo 1 5 q --exact-avg 1", 6),
     ("query p.daq", 3),
     ("query p.daq q more", 4),
     ("query p.daq q --rounds 1 --rounds 2", 6),
+    ("query p.daq q --exact-avg --exact-avg", 5),
     ("load p.csv p.daq", 4),
     ("load p.csv p.daq s --list", 5),
     ("info", 2),
     ("info p.daq --list", 3),
+    ("upgrade p.daq q.daq --clip", 4),
     ("upgrade p.daq", 3),
     ("upgrade p.daq q.daq r.daq", 4),
 ];
@@ -61,13 +66,15 @@ fn words_that_are_no_command_go_wrong_at_a_word(rt: HostRuntime) -> Result<(), F
 fn a_query_over_a_csv(rt: HostRuntime) -> Result<(), Fail> {
     let words = words_of(
         rt.alloc(),
-        "ask --list s q --rounds 007 --reads a,b --width 9223372036854775807",
+        "ask --list s q --rounds 007 --reads a,b --clip --width 9223372036854775807",
     )?;
     let options = Options {
         width: 9_223_372_036_854_775_807,
         rounds: Some(7),
         order: ReadOrder::Reads("a,b"),
         list: false,
+        clip: true,
+        exact: false,
     };
     let ask = Ask {
         csv: "--list",
@@ -83,13 +90,15 @@ fn a_query_over_a_csv(rt: HostRuntime) -> Result<(), Fail> {
 fn a_query_over_a_generated_table(rt: HostRuntime) -> Result<(), Fail> {
     let words = words_of(
         rt.alloc(),
-        "demo 18446744073709551615 0 q --list --policy filter",
+        "demo 18446744073709551615 0 q --exact-avg --list --policy filter",
     )?;
     let options = Options {
         width: 0,
         rounds: None,
         order: ReadOrder::FilterFirst,
         list: true,
+        clip: false,
+        exact: true,
     };
     let demo = Demo {
         seed: 18_446_744_073_709_551_615,
@@ -108,10 +117,12 @@ fn commands_over_plane_files(rt: HostRuntime) -> Result<(), Fail> {
         rounds: Some(3),
         order: ReadOrder::Widest,
         list: false,
+        clip: true,
+        exact: true,
     };
     let commands = [
         (
-            "query p.daq q --rounds 3",
+            "query p.daq q --exact-avg --rounds 3 --clip",
             Command::Query(Query {
                 file: "p.daq",
                 sql: "q",

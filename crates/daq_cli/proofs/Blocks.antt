@@ -59,8 +59,8 @@ module _ (head : Head) (plan : Plan) (query : TypedQuery) (bits : Planes) where
 
   pub block_before : (reads more : List ℕ) (round : ℕ) → round ≤ length reads → block_of head plan query bits (reads ++ more) round ≡ block_of head plan query bits reads round
   block_before reads more round h =
-      ap (λ s. block_text head plan.list s round (column_read (reads ++ more) round)) (same_before query (frame_of head) bits reads more round h)
-      ∙ ap (block_text head plan.list (stage_after query (frame_of head) bits reads round) round) (column_before reads more round h)
+      ap (λ s. block_text head plan.list plan.extras s round (column_read (reads ++ more) round)) (same_before query (frame_of head) bits reads more round h)
+      ∙ ap (block_text head plan.list plan.extras (stage_after query (frame_of head) bits reads round) round) (column_before reads more round h)
 
   pub blocks_before : (reads more : List ℕ) (n : ℕ) → n ≤ length reads + 1 → blocks_below head plan query bits (reads ++ more) n ≡ blocks_below head plan query bits reads n
   unfolding blocks_below

@@ -19,7 +19,7 @@ use Rattle.query_model.specs.declared.query.TypedQuery.{TypedQuery}
 use Rattle.sql_print.specs.Printed.{printed}
 use Rattle.sql_text.specs.Answer.{IsText}
 use Rattle.sql_text.specs.Tree as sql
-use Rattle.table_rounds.specs.Headline.{RoundsAreCertain}
+use Rattle.table_rounds.specs.Headline.{AreOfLongs, RoundsAreCertain}
 use Rattle.table_rounds.specs.Rounds.{AreRounds, Planes}
 use Rattle.table_rounds.specs.Sources.{Causes, OfPlanes, Places, StopsAt}
 use Rattle.table_rounds.specs.declared.reading.StepFault.{StepFault}
@@ -86,7 +86,7 @@ module _ (words : line.Query) (out : SinkState) where
 -- ---- the rounds
 
 module _ (words : line.Query) (planes opened planes' : StoreState) (out out' : SinkState) (begun : Begins words planes opened)
-    (certain : RoundsAreCertain) (named : NamesColumns begun.typed (frame_of begun.file.head)) where
+    (certain : RoundsAreCertain) (named : NamesColumns begun.typed (frame_of begun.file.head)) (longs : AreOfLongs (frame_of begun.file.head)) where
   abbrev Ends : Result (Unit {0}) (Stop PlaneFault) → List ℕ → Type 0
   Ends result bytes =
       EndsRounds (query_line (printed begun.query)) begun.file.head begun.plan begun.typed (bits_at begun.file.head bytes) (plane_places begun.file.head) (IsUnpadded begun.file.head bytes) (StopsAfter begun.file.head opened planes') result out out'
@@ -94,7 +94,7 @@ module _ (words : line.Query) (planes opened planes' : StoreState) (out out' : S
 
   headline : (bytes reads : List ℕ) → AreRounds begun.plan begun.typed (frame_of begun.file.head) (bits_at begun.file.head bytes) reads →
       AreCertainOf begun.typed (frame_of begun.file.head) (bits_at begun.file.head bytes) reads
-  headline bytes reads rounds = λ cells has. certain begun.plan begun.typed (frame_of begun.file.head) (bits_at begun.file.head bytes) reads cells named rounds has
+  headline bytes reads rounds = λ cells has. certain begun.plan begun.typed (frame_of begun.file.head) (bits_at begun.file.head bytes) reads cells named longs rounds has
 
   -- what the opened store told the store told before
   told_before : (P Q : List ℕ → Type 0) → ((bytes : List ℕ) → P bytes → Q bytes) → IfSome opened.held P → IfSome planes.held Q

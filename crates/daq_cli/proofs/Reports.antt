@@ -43,7 +43,8 @@ module _ (lists : reads_laws.AnswersAreOne) (options : Options) (head : Head) (t
       let width = p.width ∙ sym r.width in
       let most = p.most ∙ sym r.most in
       let list = p.list ∙ sym r.list in
-      λ i. record { policy = policy i; width = width i; most = most i; list = list i }
+      let extras = p.extras ∙ sym r.extras in
+      λ i. record { policy = policy i; width = width i; most = most i; list = list i; extras = extras i }
 
 module _ (law : Laws) (question : Question) where
   pub one_report : (a b : List ℕ) → IsReport question a → IsReport question b → a ≡ b

@@ -55,11 +55,11 @@ module _ (plan : Plan) (head : Head) (query : TypedQuery) (bits : Planes) (place
 
   -- the block that is written is the round's
   pub block_is : RoundsAreCounted → (stage : Stage) (last : Option ℕ) (old now : SinkState) (from to : Option (List ℕ)) (done : ℕ) →
-      (r : Reached plan head query bits places shows stage last old now from to) → done ≡ planes_read stage.known → block_text head plan.list stage done last ≡ block_of head plan query bits r.reads (length r.reads)
+      (r : Reached plan head query bits places shows stage last old now from to) → done ≡ planes_read stage.known → block_text head plan.list plan.extras stage done last ≡ block_of head plan query bits r.reads (length r.reads)
   block_is counted stage last old now from to done r is =
       let round = length r.reads in
       let n : done ≡ round = is ∙ counted plan query (frame_of head) bits r.reads stage r.after in
-      ap (λ k. block_text head plan.list stage k last) n ∙ ap (block_text head plan.list stage round) r.last_is ∙ ap (λ s. block_text head plan.list s round (column_read r.reads round)) r.after.known
+      ap (λ k. block_text head plan.list plan.extras stage k last) n ∙ ap (block_text head plan.list plan.extras stage round) r.last_is ∙ ap (λ s. block_text head plan.list plan.extras s round (column_read r.reads round)) r.after.known
 
   -- with its block written and the next plane read, the rounds have come one further
   pub next_reached : (stage new : Stage) (last : Option ℕ) (c : ℕ) (old mid now : SinkState) (from at to : Option (List ℕ)) → (r : Reached plan head query bits places shows stage last old mid from at) →

@@ -1,6 +1,6 @@
 -- The width of a command's options is below 2 ^ 63.
 use Rattle.std.proofs.Common.{ℕ, ◌≤◌, List, Option, Some, None, IfSome, unwrap_or, zero-le}
-use Rattle.command_line.specs.Commands.{Ask, Demo, Given, Gives, IsCommand, Query, ask, demo, query, most_width, no_more, more_width, more_rounds, more_policy, more_reads, more_list}
+use Rattle.command_line.specs.Commands.{Ask, Demo, Given, Gives, IsCommand, Query, ask, demo, query, most_width, no_more, more_width, more_rounds, more_policy, more_reads, more_list, more_clip, more_exact}
 
 abbrev IsSmall : Given → Type 0
 IsSmall g = IfSome g.width (λ n. n ≤ most_width)
@@ -12,6 +12,8 @@ small_given (more_rounds none number rest) s = small_given rest s
 small_given (more_policy none is rest) s = small_given rest s
 small_given (more_reads none rest) s = small_given rest s
 small_given (more_list none rest) s = small_given rest s
+small_given (more_clip none rest) s = small_given rest s
+small_given (more_exact none rest) s = small_given rest s
 
 small_width : (width : Option ℕ) → IfSome width (λ n. n ≤ most_width) → unwrap_or width 0 ≤ most_width
 small_width None s = zero-le

@@ -5,6 +5,7 @@ use Rattle.daq_table.specs.Tables.{Contents, frame_of}
 use Rattle.daq_table.specs.declared.table_head.Head.{Head}
 use Rattle.outer_world.specs.Device.{SinkState}
 use Rattle.outer_world.specs.Whole.{Writes}
+use Rattle.plane_schedule.specs.declared.policy.Extras.{Extras}
 use Rattle.plane_schedule.specs.declared.policy.Plan.{Plan}
 use Rattle.plane_schedule.specs.declared.policy.Policy.{Policy}
 use Rattle.plane_schedule.specs.declared.policy.Policy.TheVariants as p
@@ -78,12 +79,17 @@ pub record RefusesOrder (order : ReadOrder) (typed : TypedQuery) (head : Head) (
   pub listed : order ≡ reads names
   pub faulty : lists.Refuses names typed head fault
 
+-- the lines that the options add to a block
+abbrev pub extras_of : Options → Extras
+extras_of options = record { clip = options.clip; exact = options.exact }
+
 -- the plan of the options
 pub record IsPlanOf (options : Options) (typed : TypedQuery) (head : Head) (plan : Plan) : Type 0 where
   pub policy : IsPolicyOf options.order typed head plan.policy
   pub width : plan.width ≡ options.width
   pub most : plan.most ≡ options.rounds
   pub list : plan.list ≡ options.list
+  pub extras : plan.extras ≡ extras_of options
 
 -- the query is typed so, and there is such a plan of the options
 pub record IsPlanned (asked : Asked) (typed : TypedQuery) (plan : Plan) : Type 0 where

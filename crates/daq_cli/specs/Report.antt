@@ -23,7 +23,7 @@ use Rattle.daq_cli.specs.declared.stop.Stop.TheVariants.{Failed, Step}
 -- the block of a round by the plan, where the rounds read these columns
 abbrev pub block_of : Head → Plan → TypedQuery → Planes → List ℕ → ℕ → List ℕ
 block_of head plan query bits reads round =
-    block_text head plan.list (stage_after query (frame_of head) bits reads round) round (column_read reads round)
+    block_text head plan.list plan.extras (stage_after query (frame_of head) bits reads round) round (column_read reads round)
 
 -- the blocks of the rounds below a number
 unfoldable pub blocks_below : Head → Plan → TypedQuery → Planes → List ℕ → ℕ → List ℕ

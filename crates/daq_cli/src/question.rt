@@ -20,7 +20,7 @@ use daq_table::{Head, Table};
 use outer_world::Sink;
 use plane_kernels::Plane;
 use plane_reads::{ReadsFault, answers_are_one, check_reads};
-use plane_schedule::{Plan, Policy};
+use plane_schedule::{Extras, Plan, Policy};
 use query_model::TypedQuery;
 use round_engine::Engine;
 use sql_print::{print, reads_back};
@@ -81,16 +81,31 @@ fn plan_of(
         width: options.width,
         most: options.rounds,
         list: options.list,
+        extras: Extras {
+            clip: options.clip,
+            exact: options.exact,
+        },
     })
 }
 
 // A question that may be answered: the printed form of its query, its plan, the query in progress, and room for a plane.
-#[derive(Drop)]
 pub(crate) struct Prepared {
     pub(crate) sql: String,
     pub(crate) plan: Plan,
     pub(crate) engine: Engine,
     pub(crate) plane: Plane,
+}
+
+// A call of its own: a derived drop is proved anew wherever a question is let go.
+impl Drop for Prepared {
+    fn drop(self) {
+        let Prepared {
+            sql: _,
+            plan: _,
+            engine: _,
+            plane: _,
+        } = self;
+    }
 }
 
 // What the report of the query takes, over a table with that head. No memory is taken after this.
@@ -145,13 +160,14 @@ pub(crate) fn answer<K: Sink>(
     typed_queries_are_valid();
     answers_are_one();
     rounds_are_one();
-    let prepared = prepare(alloc, query, options, table.head())?;
-    let Prepared {
-        sql,
-        plan,
-        mut engine,
-        mut plane,
-    } = prepared;
-    report_table(sql.as_bytes(), &plan, &mut engine, table, &mut plane, out)?;
+    let mut prepared = prepare(alloc, query, options, table.head())?;
+    report_table(
+        prepared.sql.as_bytes(),
+        &prepared.plan,
+        &mut prepared.engine,
+        table,
+        &mut prepared.plane,
+        out,
+    )?;
     Ok(())
 }

@@ -24,8 +24,8 @@ use plane_schedule::{
 use query_model::valid_queries_name_columns;
 use round_engine::Engine;
 use table_rounds::{
-    PlaneSource, StepFault, ending, read_next, rounds_are_certain, rounds_are_counted,
-    rounds_begin, rounds_have_an_end, tables_are_taken,
+    PlaneSource, StepFault, ending, heads_are_of_longs, read_next, rounds_are_certain,
+    rounds_are_counted, rounds_begin, rounds_have_an_end, tables_are_taken,
 };
 
 // Writes the line of the query with that printed form.
@@ -82,6 +82,7 @@ fn write_rounds<S: PlaneSource, F: Fn(&Progress) -> usize, K: Sink>(
             engine.progress().done,
             last,
             plan.list,
+            plan.extras,
             out,
         )?;
         match ended {
@@ -203,7 +204,8 @@ pub(crate) fn report_table<K: Sink>(
     tables_are_taken();
     valid_queries_name_columns();
     // The head's clause says that the cells fit it.
-    let _told = table.head();
+    let told = table.head();
+    heads_are_of_longs(told);
     let mut source = table;
     match write_report(sql, plan, engine, &mut source, plane, out) {
         Ok(()) => Ok(()),

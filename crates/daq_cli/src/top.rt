@@ -80,6 +80,3 @@ pub fn run<S: Source, P: Store, K: Sink>(
         Err(why) => refuse(&why, &mut world.err),
     }
 }
-
-#[cfg(test)]
-mod tests;

@@ -9,6 +9,7 @@ use Rattle.daq_table.specs.ValueTexts.{HeadHasTexts}
 use Rattle.daq_table.specs.Tables.{Frame, ends_at, ends_of, frame_of, no_ends}
 use Rattle.query_model.specs.Meaning.{ReadsBelow}
 use Rattle.query_model.specs.Validity.{FaceOf, FitsHead, declared_range}
+use Rattle.query_model.specs.declared.bounds.AverageBound as averages
 use Rattle.query_model.specs.declared.bounds.Bound.{Bound}
 use Rattle.query_model.specs.declared.bounds.Nullity.{Nullity}
 use Rattle.query_model.specs.declared.bounds.Nullity.TheVariants.{Never, Possibly, Always}
@@ -22,7 +23,7 @@ use Rattle.query_model.specs.declared.query.TypedQuery.{TypedQuery}
 use Rattle.round_engine.specs.Promises.{IsShownWithin}
 use Rattle.round_engine.specs.Stages.{IsOpenItem, IsOpenQuery}
 use Rattle.daq_report.specs.Intervals.{column_of}
-use Rattle.daq_report.specs.Ends.{CanShow, CanShowBound, CanShowEnds, HasNumber, IfShown, IsThere}
+use Rattle.daq_report.specs.Ends.{CanShow, CanShowAny, CanShowAverage, CanShowBound, CanShowEnds, HasNumber, IfShown, IsThere}
 
 -- ---- the columns of the query
 
@@ -141,3 +142,15 @@ pub bound_shows : (head : Head) (query : TypedQuery) (part : Frame) (place : ℕ
 bound_shows head query part place item bound fits texts opened there shown =
     let own = open_at part query.items place item opened.items there in
     by_face head query part item.kind item.arg item.face bound fits texts own.face (subst (λ n. ReadsBelow n item.arg) opened.columns own.columns) shown
+
+-- where each number can be shown, so can an average
+pub any_average_shows : (head : Head) (query : TypedQuery) (face : Face) (bound : averages.AverageBound) → CanShowAny head query face → CanShowAverage head query face bound
+any_average_shows head query face bound any =
+    if_shown bound.null (CanShowEnds head query face bound.lo.num bound.hi.num) (λ some. record { low_end = any bound.lo.num; high_end = any bound.hi.num })
+
+-- an average's face shows each number
+pub number_face_shows : (head : Head) (query : TypedQuery) (part : Frame) (place : ℕ) (item : Item) → IsOpenQuery query part → slice_get query.items place ≡ Some item → item.kind ≡ Avg → CanShowAny head query item.face
+number_face_shows head query part place item opened there kind =
+    let own = open_at part query.items place item opened.items there in
+    let face : FaceOf Avg item.arg item.face = subst (λ k. FaceOf k item.arg item.face) kind own.face in
+    λ value. subst (λ (f : Face). CanShow head query f value) (sym face.2) face.1

@@ -1,11 +1,11 @@
 -- The parts of the keys of a cell.
-use Rattle.std.proofs.Common.{◌≡◌, ◌≢◌, ◌↔◌, ℕ, zero, suc, ◌+◌, ◌%◌, ◌^◌, ◌<◌, Bool, true, false, List, [], ◌∷◌, length, map, sum, take, slice_get, Option, None, Some, IfSome, IsTrue, refl, sym, ap, subst, ◌∙◌, arith}
+use Rattle.std.proofs.Common.{◌≡◌, ◌≢◌, ℕ, zero, suc, ◌%◌, ◌^◌, ◌<◌, Bool, true, false, List, [], ◌∷◌, length, map, sum, take, slice_get, Option, None, Some, IfSome, IsTrue, refl, sym, ap, subst, ◌∙◌, arith}
 use Rattle.std.proofs.lemmas.Bool.{false≢true}
 use Rattle.std.proofs.lemmas.List.{length-map}
 use Rattle.std.specs.List.{AllByRecursion}
 use Rattle.std.specs.Simd.Lanes.{zip2}
-use Rattle.interval_calc.specs.Intervals.{Interval, Within}
-use Rattle.daq_table.specs.Tables.{Frame, ends_at, rows_of}
+use Rattle.interval_calc.specs.Intervals.{Interval}
+use Rattle.daq_table.specs.Tables.{Frame, rows_of}
 use Rattle.daq_table.specs.ValueTexts.{HeadHasTexts}
 use Rattle.daq_table.specs.declared.head.ColumnHead.{ColumnHead}
 use Rattle.daq_table.specs.declared.table_head.Head.{Head}
@@ -15,7 +15,7 @@ use Rattle.query_model.specs.Groups.{AreLegal, cell_of, counts_of, parts_of}
 use Rattle.query_model.specs.Knowledge.{IsKnowledge}
 use Rattle.query_model.specs.Laws.{IllegalCellsAreEmpty}
 use Rattle.query_model.specs.Truths.{Range}
-use Rattle.query_model.specs.Validity.{FitsHead, declared_range}
+use Rattle.query_model.specs.Validity.{FitsHead}
 use Rattle.query_model.specs.declared.bounds.Nullity.TheVariants.{Always}
 use Rattle.query_model.specs.declared.query.TypedQuery.{TypedQuery}
 use Rattle.row_groups.specs.Partition.{CellsTellKeys, RowCells, counts_of_parts, is_legal_cell, range_for, ranges_of_cell}
@@ -23,11 +23,10 @@ use Rattle.row_groups.specs.declared.part.GroupPart.{GroupPart}
 use Rattle.row_groups.specs.declared.prefix.PartRange.{PartRange}
 use Rattle.round_engine.specs.Cells.{AreDeclared, absence_in_cell, parts_in}
 use Rattle.round_engine.specs.Stages.{Stage}
-use Rattle.daq_report.specs.Ends.{CanShow, CanShowKey, CanShowSpan, HasNumber, IsThere}
+use Rattle.daq_report.specs.Ends.{CanShowKey, CanShowSpan, HasNumber, IsThere}
 use Rattle.daq_report.specs.Groups.{part_text}
 use Rattle.daq_report.specs.Intervals.{column_of}
 use Rattle.daq_report.proofs.Faces.{number_shows}
-use Rattle.query_model.specs.declared.query.Face.TheVariants.{OfColumn}
 
 -- ---- cells that a row may be in
 

@@ -1,9 +1,8 @@
 -- Rows that a word of a mask does not have.
-use Rattle.std.proofs.Common.{◌≡◌, ◌≢◌, ℕ, zero, suc, ◌+◌, ◌-◌, ◌*◌, ◌/◌, ◌%◌, ◌<◌, ◌≤◌, min, Bool, true, false, not, nat_eq, List, [], ◌∷◌, ◌++◌, inl, inr, length, map, take, drop, get_or, refl, sym, ap, subst, ◌∙◌, arith}
+use Rattle.std.proofs.Common.{◌≡◌, ℕ, zero, suc, ◌+◌, ◌-◌, ◌*◌, ◌<◌, ◌≤◌, min, Bool, true, false, not, nat_eq, List, [], ◌++◌, inl, inr, length, map, take, drop, get_or, refl, sym, ap, ◌∙◌, arith}
 use Rattle.std.proofs.lemmas.Bool.{cases_Bool, eqb-true, false≢true, true≢false}
 use Rattle.std.proofs.lemmas.List.{get_or-drop, get_or-take}
 use Rattle.std.proofs.lemmas.List.FromFn.{get_or-map-range_with_len, length-map-range_with_len}
-use Rattle.std.specs.List.{flat_map, range_with_len}
 use Rattle.daq_table.specs.Tables.{rows_of}
 use Rattle.daq_table.specs.declared.table_head.Head.{Head}
 use Rattle.plane_kernels.specs.Rows.{bits_of}

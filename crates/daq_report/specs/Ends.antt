@@ -47,6 +47,10 @@ pub record CanShowEnds (head : Head) (query : TypedQuery) (face : Face) (low hig
   pub low_end : CanShow head query face low
   pub high_end : CanShow head query face high
 
+-- each number can be shown
+abbrev pub CanShowAny : Head → TypedQuery → Face → Type 0
+CanShowAny head query face = (value : ℤ) → CanShow head query face value
+
 -- where there may be an answer, the ends are shown
 abbrev pub IfShown : Nullity → Type 0 → Type 0
 IfShown Never P = P

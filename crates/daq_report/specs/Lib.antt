@@ -1,5 +1,6 @@
 pub mod Blocks
 pub mod Ends
+pub mod Extras
 pub mod Groups
 pub mod Intervals
 pub mod Items

@@ -13,17 +13,24 @@ use crate::round_line::written_round;
 use crate::scope::Scope;
 use daq_table::Head;
 use outer_world::{Failed, Sink, write_whole};
+use plane_schedule::Extras;
 use query_model::Shape;
 use round_engine::Engine;
 
 // Writes the lines of the query's form.
-fn write_form<K: Sink>(engine: &Engine, head: &Head, list: bool, out: &mut K) -> Result<(), Failed>
+fn write_form<K: Sink>(
+    engine: &Engine,
+    head: &Head,
+    list: bool,
+    extras: Extras,
+    out: &mut K,
+) -> Result<(), Failed>
     requires fits { FitsHead engine.now.query engine.now.frame head.now }
     requires texts { HeadHasTexts head.now }
-    ensures { Writes result (K.state out.old) (K.state out.new) (form_text head.now list engine.now engine.now.query.shape) }
+    ensures { Writes result (K.state out.old) (K.state out.new) (form_text head.now list extras engine.now engine.now.query.shape) }
 {
     match &engine.query().shape {
-        Shape::Plain => write_items(engine, head, Scope::AllRows, out),
+        Shape::Plain => write_items(engine, head, Scope::AllRows(extras), out),
         Shape::Grouped(columns) => write_groups(engine, head, columns.as_slice(), out),
         Shape::Top { key, limit, .. } => write_ranking(engine, head, *key, *limit, list, out),
     }
@@ -31,7 +38,7 @@ fn write_form<K: Sink>(engine: &Engine, head: &Head, list: bool, out: &mut K) ->
 
 /// Appends the block of a round: its number, where it is not the first the column that was read in it (by its number in the query),
 /// and the lines of the query's form: one for each item, or those of each group, or the first rows in an order, with `list` those too
-/// of which it is not known yet. Takes no memory; all was handed over before `Ok`, and a part of the block, from its front, where a
+/// of which it is not known yet. Items over all rows have with `extras` more lines. Takes no memory; all was handed over before `Ok`, and a part of the block, from its front, where a
 /// write failed.
 pub fn write_block<K: Sink>(
     engine: &Engine,
@@ -39,13 +46,14 @@ pub fn write_block<K: Sink>(
     round: u32,
     last: Option<usize>,
     list: bool,
+    extras: Extras,
     out: &mut K,
 ) -> Result<(), Failed>
     requires fits { FitsHead engine.now.query engine.now.frame head.now }
     requires texts { HeadHasTexts head.now }
     requires last { IfSome last (λ c. c < length engine.now.query.columns) }
-    ensures { Writes result (K.state out.old) (K.state out.new) (block_text head.now list engine.now round last) }
+    ensures { Writes result (K.state out.old) (K.state out.new) (block_text head.now list extras engine.now round last) }
 {
     write_whole(out, written_round(engine, head, round, last).bytes())?;
-    write_form(engine, head, list, out)
+    write_form(engine, head, list, extras, out)
 }

@@ -2,6 +2,7 @@
 #![tactic(auto)]
 
 mod block;
+mod extras;
 mod groups;
 mod intervals;
 mod items;
@@ -12,6 +13,3 @@ mod scope;
 mod texts;
 
 pub use block::write_block;
-
-#[cfg(test)]
-mod tests;

@@ -6,13 +6,14 @@ ghost use Rattle.query_model.specs.declared.query.ItemKind.TheVariants.{Avg};
 ghost use Rattle.round_engine.specs.Promises.{IsShownWithin};
 ghost use Rattle.daq_report.specs.Items.{IsScope, average_in, bound_in};
 
+use plane_schedule::Extras;
 use query_model::{AverageBound, Bound};
 use round_engine::Engine;
 
-// All rows, or those of each key of a cell.
+// All rows, with these lines besides, or those of each key of a cell.
 #[derive(Clone, Copy)]
 pub(crate) enum Scope {
-    AllRows,
+    AllRows(Extras),
     InCell(u32),
 }
 
@@ -26,7 +27,7 @@ impl Scope {
         ensures shown { IfSome (slice_get engine.now.query.items item) (λ i. IsShownWithin engine.now.frame i.face result) }
     {
         match self {
-            Scope::AllRows => engine.plain(item),
+            Scope::AllRows(_) => engine.plain(item),
             Scope::InCell(cell) => engine.cell_bound(cell, item),
         }
     }
@@ -39,7 +40,7 @@ impl Scope {
         ensures { IfSome (slice_get engine.now.query.items item) (λ i. fractions_of result ≡ average_in engine.now self i) }
     {
         match self {
-            Scope::AllRows => engine.average(item),
+            Scope::AllRows(_) => engine.average(item),
             Scope::InCell(cell) => engine.cell_average(cell, item),
         }
     }

@@ -6,6 +6,7 @@ use Rattle.std.specs.List.{AllByRecursion}
 use Rattle.daq_table.specs.Tables.{Frame, ends_at, planes}
 use Rattle.plane_schedule.specs.declared.policy.Ending.{Ending}
 use Rattle.plane_schedule.specs.declared.policy.Ending.TheVariants.{Narrow, Rounds, Reads}
+use Rattle.plane_schedule.specs.declared.policy.Extras.{Extras}
 use Rattle.plane_schedule.specs.declared.policy.Plan.{Plan}
 use Rattle.plane_schedule.specs.declared.policy.Policy.{Policy}
 use Rattle.plane_schedule.specs.declared.policy.Policy.TheVariants.{Widest, InOrder, FilterFirst, Listed}
@@ -45,6 +46,10 @@ first_ending false false false = None
 abbrev pub ending_of : Plan → Bool → ℕ → Option Ending
 ending_of plan narrow round = first_ending narrow (is_most plan.most round) (is_list_end plan.policy round)
 
+-- no line besides those of the items' bounds
+abbrev pub no_extras : Extras
+no_extras = record { clip = false; exact = false }
+
 -- each time the widest column, until each answer is one number
 abbrev pub widest_plan : Plan
-widest_plan = record { policy = Widest; width = 0; most = None; list = false }
+widest_plan = record { policy = Widest; width = 0; most = None; list = false; extras = no_extras }

@@ -10,7 +10,7 @@ mod progress;
 pub use chooser::Chooser;
 pub use laws::{choices_are_one, policies_choose};
 pub use policies::{filter_first, in_order, listed, widest};
-pub use policy::{Ending, Plan, Policy};
+pub use policy::{Ending, Extras, Plan, Policy};
 pub use progress::{Progress, Role};
 
 #[cfg(test)]

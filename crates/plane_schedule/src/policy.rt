@@ -1,7 +1,7 @@
 //! Plans of rounds: by which policy columns are read, and how far.
 
 ghost use Rattle.std.specs.Prelude.{◌≡◌};
-ghost use Rattle.plane_schedule.specs.Plans.{ending_of, is_list_end, is_most, widest_plan};
+ghost use Rattle.plane_schedule.specs.Plans.{ending_of, is_list_end, is_most, no_extras, widest_plan};
 
 use query_model::Columns;
 
@@ -18,14 +18,22 @@ pub enum Policy {
     Listed(Columns),
 }
 
+/// Which lines a block has besides those of the items' bounds: their clipped bounds, and the exact extremes of averages.
+#[derive(Clone, Copy, Debug, PartialEq, Eq)]
+pub struct Extras {
+    pub clip: bool,
+    pub exact: bool,
+}
+
 /// A policy, how far apart the ends of a narrow bound may be, and the number of the last round that is wanted, if any. And whether
-/// of rows in an order those are listed too that only may be among the first.
+/// of rows in an order those are listed too that only may be among the first, and which lines a block has besides.
 #[derive(Drop, Debug)]
 pub struct Plan {
     pub policy: Policy,
     pub width: u64,
     pub most: Option<u32>,
     pub list: bool,
+    pub extras: Extras,
 }
 
 /// Why a round is the last: it is narrow, or the last that is wanted, or the list of columns is at its end.
@@ -48,8 +56,20 @@ impl Policy {
     }
 }
 
+impl Extras {
+    /// No line besides.
+    pub fn none() -> Extras
+        ensures { result ≡ no_extras }
+    {
+        Extras {
+            clip: false,
+            exact: false,
+        }
+    }
+}
+
 impl Plan {
-    /// Each time the widest column, until each answer is one number.
+    /// Each time the widest column, until each answer is one number, and no line besides those of the items' bounds.
     pub fn widest() -> Plan
         ensures { result ≡ widest_plan }
     {
@@ -58,6 +78,7 @@ impl Plan {
             width: 0,
             most: None,
             list: false,
+            extras: Extras::none(),
         }
     }
 

@@ -170,6 +170,7 @@ fn first_ending_is_told(rt: HostRuntime) -> Result<(), AllocError> {
         width: 0,
         most: Some(2),
         list: false,
+        extras: Extras::none(),
     };
     assert_eq!(rt; plan.ending(false, 1), None);
     assert_eq!(rt; plan.ending(true, 2), Some(Ending::Narrow));

@@ -1,5 +1,5 @@
 -- The bounds of rounds are certain, of each table that has the planes read.
-use Rattle.std.proofs.Common.{◌≡◌, ℕ, ◌+◌, ◌<◌, ◌≤◌, Bool, List, length, get_or, sym, ap, ◌∙◌, subst, arith}
+use Rattle.std.proofs.Common.{◌≡◌, ℕ, ◌+◌, ◌<◌, ◌≤◌, Bool, Some, List, length, get_or, sym, ap, ◌∙◌, subst, arith}
 use Rattle.daq_table.specs.Tables.{Cells, Frame, IsTable}
 use Rattle.plane_schedule.specs.declared.policy.Plan.{Plan}
 use Rattle.query_model.specs.Answers.{Key, every_row}
@@ -12,11 +12,16 @@ use Rattle.query_model.specs.declared.query.Item.{Item}
 use Rattle.query_model.specs.declared.query.TypedQuery.{TypedQuery}
 use Rattle.round_engine.specs.Promises.{IsCertain, IsCertainKey, IsCertainStanding, LiesWithin, StandingsStay}
 use Rattle.round_engine.specs.Stages.{Stage}
-use Rattle.table_rounds.specs.Headline.{AreCertain, IsCertainValue, RoundsAreCertain, stage_of}
+use Rattle.avg_exact.specs.Laws.{ExactAveragesAreCertain, ExactAveragesNest}
+use Rattle.clip_bounds.specs.Clips.{clip_of}
+use Rattle.clip_bounds.specs.ClipLaws.{ClipsAreCertain, ClipsNest}
+use Rattle.clip_bounds.specs.declared.clip.Clip.{Clip}
+use Rattle.table_rounds.specs.Headline.{AreCertain, AreOfLongs, ClipLiesWithin, ExactLiesWithin, IsCertainValue, RoundsAreCertain, stage_of}
 use Rattle.table_rounds.specs.Rounds.{AreRounds, counts_after, stage_after, stage_with}
 use Rattle.table_rounds.proofs.Agreeing.{table_tells}
 use Rattle.table_rounds.proofs.Counts.{next_counts}
 use Rattle.table_rounds.proofs.Keys.{CellLaws, has_cell}
+use Rattle.table_rounds.proofs.LongNumbers.{long_part}
 use Rattle.table_rounds.proofs.OfTables.{same_rounds}
 use Rattle.table_rounds.proofs.Reached.{chosen_column, chosen_unread, columns_of_part, few_rounds, has_plane, is_part, part_of, reads_after}
 
@@ -38,8 +43,13 @@ pub record Laws : Type 0 where
   pub contain_averages : AverageBoundsContainOnTables
   pub exact_averages : AverageBoundsBecomeExactOnTables
   pub nest_averages : AverageBoundsNest
+  pub clips : ClipsAreCertain
+  pub nest_clips : ClipsNest
+  pub exact_ends : ExactAveragesAreCertain
+  pub nest_exact_ends : ExactAveragesNest
 
-module _ (law : Laws) (plan : Plan) (query : TypedQuery) (frame : Frame) (cells : Cells) (named : NamesColumns query frame) (table : IsTable frame cells) where
+module _ (law : Laws) (plan : Plan) (query : TypedQuery) (frame : Frame) (cells : Cells) (named : NamesColumns query frame)
+    (longs : AreOfLongs frame) (table : IsTable frame cells) where
   -- what is told under a knowledge
   abbrev at : Knowledge → Stage
   at known = record { query = query; frame = part_of query frame; known = known }
@@ -129,6 +139,22 @@ module _ (law : Laws) (plan : Plan) (query : TypedQuery) (frame : Frame) (cells 
         average = λ _. law.nest_averages query item key part known more.column more.bits more.knowledge more.can;
       })
 
+  -- so do a clipped bound, and the exact ends of an average
+  clip_is_nested : (reads : List ℕ) (round : ℕ) → OneMore reads round → (item : Item) (clip : Clip) → clip_of query item ≡ Some clip →
+      ClipLiesWithin (stage_of query frame cells reads round) (stage_of query frame cells reads (round + 1)) item clip
+  clip_is_nested reads round more item clip has =
+      let part = part_of query frame in
+      let known = (stage_of query frame cells reads round).known in
+      subst (λ s. ClipLiesWithin (stage_of query frame cells reads round) s item clip) (sym more.next)
+      (law.nest_clips query item clip part known more.column more.bits has (long_part query frame named longs clip.column) more.knowledge more.can)
+
+  average_is_nested : (reads : List ℕ) (round : ℕ) → OneMore reads round → (item : Item) →
+      ExactLiesWithin (stage_of query frame cells reads round) (stage_of query frame cells reads (round + 1)) item
+  average_is_nested reads round more item =
+      let known = (stage_of query frame cells reads round).known in
+      subst (λ s. ExactLiesWithin (stage_of query frame cells reads round) s item) (sym more.next)
+      (law.nest_exact_ends query item (part_of query frame) known more.column more.bits more.knowledge more.can)
+
   -- certain and excluded rows stay so
   standings_stay : (reads : List ℕ) (round : ℕ) → OneMore reads round →
       StandingsStay (stage_of query frame cells reads round) (stage_of query frame cells reads (round + 1))
@@ -142,6 +168,13 @@ module _ (law : Laws) (plan : Plan) (query : TypedQuery) (frame : Frame) (cells 
     values = λ round h row column row_in column_in. value_is_certain (stage_of query frame cells reads round).known row column (rounds.legal round h) row_in column_in;
     certain = λ round h key is i item there. item_is_certain (stage_of query frame cells reads round).known item key (rounds.legal round h);
     nested = λ round h key is i item there. item_is_nested reads round (one_more reads rounds round h) item key;
+    clips = λ round h i item clip is.
+        law.clips (stage_of query frame cells reads round) item clip frame is.clipped (is_part query frame named)
+        (long_part query frame named longs clip.column) (rounds.legal round h);
+    clips_nested = λ round h i item clip is. clip_is_nested reads round (one_more reads rounds round h) item clip is.clipped;
+    averages = λ round h i item is.
+        law.exact_ends (stage_of query frame cells reads round) item frame (is_part query frame named) (rounds.legal round h);
+    averages_nested = λ round h i item is. average_is_nested reads round (one_more reads rounds round h) item;
     results = λ round h key is. key_is_certain (stage_of query frame cells reads round).known key (rounds.legal round h);
     in_cells = λ round h key is. has_cell law.cells (stage_of query frame cells reads round) (rounds.legal round h) key is;
     standings = λ top round h row row_in. standing_is_certain (stage_of query frame cells reads round).known row (rounds.legal round h) row_in;
@@ -150,5 +183,5 @@ module _ (law : Laws) (plan : Plan) (query : TypedQuery) (frame : Frame) (cells 
   }
 
 pub rounds_are_certain : Laws → RoundsAreCertain
-rounds_are_certain law plan query frame bits reads cells named rounds has =
-    are_certain law plan query frame cells named has.table reads (same_rounds query frame bits reads cells has plan rounds)
+rounds_are_certain law plan query frame bits reads cells named longs rounds has =
+    are_certain law plan query frame cells named longs has.table reads (same_rounds query frame bits reads cells has plan rounds)

@@ -9,6 +9,7 @@ pub mod Going
 pub mod Agreeing
 pub mod OfTables
 pub mod Keys
+pub mod LongNumbers
 pub mod Certain
 pub mod One
 pub mod Taking

@@ -4,11 +4,18 @@ use Rattle.std.specs.declared.option.Option.TheVariants.{Some}
 use Rattle.std.specs.List.{sum}
 use Rattle.daq_table.specs.Tables.{Cells, Frame, IsTable, frame_of, planes, row_of}
 use Rattle.daq_table.specs.declared.table_head.Head.{Head}
+use Rattle.avg_exact.specs.ExactAverages.{ends_of}
+use Rattle.avg_exact.specs.Promises.{IsCertainExact, exact_at}
+use Rattle.clip_bounds.specs.Clips.{clip_of}
+use Rattle.clip_bounds.specs.Clipped.{IsCertainClip, clipped_in}
+use Rattle.clip_bounds.specs.ClipLaws.{IsOfLongs}
+use Rattle.clip_bounds.specs.declared.clip.Clip.{Clip}
 use Rattle.plane_schedule.specs.Choices.{HasUnread}
 use Rattle.plane_schedule.specs.Plans.{IsReadable}
 use Rattle.plane_schedule.specs.declared.policy.Plan.{Plan}
 use Rattle.plane_schedule.specs.declared.policy.Policy.TheVariants.{Listed}
 use Rattle.query_model.specs.Answers.{Key, groups_of}
+use Rattle.query_model.specs.Bounds.{IsNested, IsNestedAverage}
 use Rattle.query_model.specs.Groups.{IsKey}
 use Rattle.query_model.specs.Knowledge.{AreCounts, IsAllRead, IsKnowledge, plane_of, ranges_of}
 use Rattle.query_model.specs.Projection.{projected, projected_frame}
@@ -16,6 +23,8 @@ use Rattle.query_model.specs.Truths.{IsIn}
 use Rattle.query_model.specs.Validity.{IsTop}
 use Rattle.query_model.specs.Worlds.{AgreesWith, NamesColumns}
 use Rattle.query_model.specs.declared.query.Item.{Item}
+use Rattle.query_model.specs.declared.query.ItemKind.TheVariants.{Avg}
+use Rattle.query_model.specs.declared.query.Shape.TheVariants.{Plain}
 use Rattle.query_model.specs.declared.query.TypedQuery.{TypedQuery}
 use Rattle.round_engine.specs.Cells.{HasCell}
 use Rattle.round_engine.specs.Narrowness.{is_narrow}
@@ -42,6 +51,28 @@ IsCertainValue stage frame row column =
     (world : Cells) → AgreesWith stage.query frame stage.known world →
     IsIn (ranges_of stage.frame stage.known row column) (row_of stage.frame (projected stage.query world) row column)
 
+-- the numbers of each column are of 64 bits, as those of every head are
+abbrev pub AreOfLongs : Frame → Type 0
+AreOfLongs frame = (c : ℕ) → c < length frame.columns → IsOfLongs frame c
+
+-- an item of the query, whose column the condition clips so
+pub record IsClippedItem (query : TypedQuery) (i : ℕ) (item : Item) (clip : Clip) : Type 0 where
+  pub there : slice_get query.items i ≡ Some item
+  pub clipped : clip_of query item ≡ Some clip
+
+-- an average of a query without groups
+pub record IsPlainAverage (query : TypedQuery) (i : ℕ) (item : Item) : Type 0 where
+  pub plain : query.shape ≡ Plain
+  pub there : slice_get query.items i ≡ Some item
+  pub average : item.kind ≡ Avg
+
+-- the clipped bound of an item, and the exact ends of an average, lie within those before
+abbrev pub ClipLiesWithin : Stage → Stage → Item → Clip → Type 0
+ClipLiesWithin old new item clip = IsNested (clipped_in old item clip) (clipped_in new item clip)
+
+abbrev pub ExactLiesWithin : Stage → Stage → Item → Type 0
+ExactLiesWithin old new item = IsNestedAverage (ends_of (exact_at old item)) (ends_of (exact_at new item))
+
 -- what holds of each round over a table, up to the last
 pub record AreCertain (query : TypedQuery) (frame : Frame) (cells : Cells) (reads : List ℕ) : Type 0 where
   -- the table itself is among those that agree with what is known
@@ -57,6 +88,20 @@ pub record AreCertain (query : TypedQuery) (frame : Frame) (cells : Cells) (read
   pub nested : (round : ℕ) → round < length reads → (key : Key) → IsKeyOn query frame key →
       (i : ℕ) (item : Item) → slice_get query.items i ≡ Some item →
       LiesWithin (stage_of query frame cells reads round) (stage_of query frame cells reads (round + 1)) item key
+  -- where the condition clips an item's column, the clipped bound too admits the answer on every table that agrees; where no column
+  -- stands in the condition twice it is as narrow as it can be; and where all planes are read, its ends are the answer
+  pub clips : (round : ℕ) → round ≤ length reads → (i : ℕ) (item : Item) (clip : Clip) → IsClippedItem query i item clip →
+      IsCertainClip (stage_of query frame cells reads round) item clip frame
+  -- each clipped bound lies within the one before
+  pub clips_nested : (round : ℕ) → round < length reads → (i : ℕ) (item : Item) (clip : Clip) → IsClippedItem query i item clip →
+      ClipLiesWithin (stage_of query frame cells reads round) (stage_of query frame cells reads (round + 1)) item clip
+  -- the exact ends of an average admit it on every table that agrees; where the item reads no column twice they are as narrow as they
+  -- can be; and where all planes are read, they are the average
+  pub averages : (round : ℕ) → round ≤ length reads → (i : ℕ) (item : Item) → IsPlainAverage query i item →
+      IsCertainExact (stage_of query frame cells reads round) item frame
+  -- they lie within those before
+  pub averages_nested : (round : ℕ) → round < length reads → (i : ℕ) (item : Item) → IsPlainAverage query i item →
+      ExactLiesWithin (stage_of query frame cells reads round) (stage_of query frame cells reads (round + 1)) item
   -- a key is said to be in the result only where it is in that of each table that agrees, and to be missing only where it is in none
   pub results : (round : ℕ) → round ≤ length reads → (key : Key) → IsKeyOn query frame key →
       IsCertainKey (stage_of query frame cells reads round) key frame
@@ -147,7 +192,7 @@ TablesAreTaken =
 abbrev pub RoundsAreCertain : Type 0
 RoundsAreCertain =
     (plan : Plan) (query : TypedQuery) (frame : Frame) (bits : Planes) (reads : List ℕ) (cells : Cells) → NamesColumns query frame →
-    AreRounds plan query frame bits reads → HasPlanes query frame bits (counts_after query reads (length reads)) cells →
+    AreOfLongs frame → AreRounds plan query frame bits reads → HasPlanes query frame bits (counts_after query reads (length reads)) cells →
     AreCertain query frame cells reads
 
 -- each round but the first reads one plane, so their number is that of the planes read

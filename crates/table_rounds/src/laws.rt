@@ -2,6 +2,8 @@
 
 ghost use Rattle.table_rounds.specs.Headline.{FullStagesAreNarrow, LegalPlanesHaveTables, ListsAreRead, PlanesTellStages, RoundsAreCertain, RoundsAreCounted, RoundsAreOfTables, RoundsAreOne, RoundsBegin, RoundsHaveAnEnd, RoundsHavePlanes, RoundsHaveTables, TablesAreTaken, TablesTellStages};
 
+use avg_exact::{exact_averages_are_certain, exact_averages_nest};
+use clip_bounds::{clips_are_certain, clips_nest};
 use plane_schedule::{choices_are_one, policies_choose};
 use query_model::{
     average_bounds_become_exact_on_tables, average_bounds_contain_on_tables, average_bounds_nest,
@@ -94,8 +96,8 @@ pub fn tables_are_taken()
 
 /// In each round each table that has the planes read agrees with what is known; each value lies in its range; for each key each bound admits the answer on every table
 /// that does, is as narrow as it can be where its item reads no column twice and is no average, and lies within the one before; with all
-/// planes read its ends are the answer. A key that is said to be in the result is, and so is a row that is said to be among the first.
-/// There are no more reads than planes.
+/// planes read its ends are the answer. So it is with a bound that the condition clips, and the exact ends of an average. A key that is
+/// said to be in the result is, and so is a row that is said to be among the first. There are no more reads than planes.
 pub fn rounds_are_certain()
     ensures { RoundsAreCertain }
 {
@@ -119,6 +121,10 @@ pub fn rounds_are_certain()
     standings_are_right_on_tables();
     standings_become_exact();
     standings_nest();
+    clips_are_certain();
+    clips_nest();
+    exact_averages_are_certain();
+    exact_averages_nest();
 }
 
 /// Each round but the first reads one plane.

@@ -4,6 +4,7 @@
 
 mod cutting;
 mod laws;
+mod longs;
 mod reading;
 mod source;
 
@@ -13,8 +14,6 @@ pub use laws::{
     rounds_have_an_end, rounds_have_planes, rounds_have_tables, tables_are_taken,
     tables_tell_stages,
 };
+pub use longs::heads_are_of_longs;
 pub use reading::{StepFault, ending, read_next};
 pub use source::PlaneSource;
-
-#[cfg(test)]
-mod tests;

@@ -14,7 +14,7 @@ ghost use Rattle.sql_text.specs.Tree as sql;
 ghost use Rattle.daq_cli.specs.Report.{HasStopCause};
 ghost use Rattle.daq_cli.specs.commands.Query.{EndsFile, HasOpened, Queries, QueryCause, StopsAfter};
 
-use crate::question::{Prepared, prepare, read_query};
+use crate::question::{prepare, read_query};
 use crate::refusal::Refusal;
 use crate::report::write_report;
 use crate::stop::Stop;
@@ -28,7 +28,7 @@ use query_model::valid_queries_name_columns;
 use round_engine::Engine;
 use sql_text::Tree;
 use std::alloc::Global;
-use table_rounds::rounds_are_certain;
+use table_rounds::{heads_are_of_longs, rounds_are_certain};
 
 // Writes the report of a query with that printed form over a file, on which it was opened. The planes of its rounds are read, each
 // before its block.
@@ -107,20 +107,16 @@ fn answer_file<P: Store, K: Sink>(
 {
     rounds_are_certain();
     valid_queries_name_columns();
-    let prepared = prepare(alloc, query, &asked.options, file.head())?;
-    let Prepared {
-        sql,
-        plan,
-        mut engine,
-        mut plane,
-    } = prepared;
+    let head = file.head();
+    heads_are_of_longs(head);
+    let mut prepared = prepare(alloc, query, &asked.options, head)?;
     report_file(
-        sql.as_bytes(),
-        &plan,
-        &mut engine,
+        prepared.sql.as_bytes(),
+        &prepared.plan,
+        &mut prepared.engine,
         file,
         planes,
-        &mut plane,
+        &mut prepared.plane,
         out,
     )?;
     Ok(())

@@ -47,7 +47,7 @@ returns-in_err-write_block-clause-ends g c =
     let head_is = c.head.ensures.head ∙ ap (λ t. t.head) c.rounds.invariant.told in
     rw (p.1, p.2) (if_some told.bits _ _
     (λ bits reached. block_in_part plan told.head query bits places shows c.rounds.engine c.rounds.last _ _ _ _ _ reached
-    (subst (Writes partly _ _) (ap (λ h. block_text h plan.list c.rounds.engine c.progress.result.done c.rounds.last) head_is
+    (subst (Writes partly _ _) (ap (λ h. block_text h plan.list plan.extras c.rounds.engine c.progress.result.done c.rounds.last) head_is
     ∙ block_is plan told.head query bits places shows c.rounds_are_counted.ensures c.rounds.engine c.rounds.last _ _ _ _ c.progress.result.done reached c.progress.ensures.done) (as_partly _ _ _ _ c.in_err-write_block.ensures)))
     c.rounds.invariant.reached)
 
@@ -62,7 +62,7 @@ returns-in_err-write_ending-in-Some-clause-ends g c =
     let head_is = c.head.ensures.head ∙ ap (λ t. t.head) c.rounds.invariant.told in
     rw (p.1, p.2) (if_some told.bits _ _
     (λ bits reached. line_in_part plan told.head query bits places shows c.rounds.engine c.rounds.last c.in-Some.why _ _ _ _ _ _ reached
-    (subst (Writes whole _ _) (ap (λ h. block_text h plan.list c.rounds.engine c.progress.result.done c.rounds.last) head_is
+    (subst (Writes whole _ _) (ap (λ h. block_text h plan.list plan.extras c.rounds.engine c.progress.result.done c.rounds.last) head_is
     ∙ block_is plan told.head query bits places shows c.rounds_are_counted.ensures c.rounds.engine c.rounds.last _ _ _ _ c.progress.result.done reached c.progress.ensures.done) (as_whole _ _ _ _ c.in_ok-write_block.ensures))
     (sym c.in-Some.ensures.ending) (as_partly _ _ _ _ c.in_err-write_ending-in-Some.ensures))
     c.rounds.invariant.reached)
@@ -90,7 +90,7 @@ returns-in_err-read_next-in-None-clause-ends g c =
     rw (p.1, p.2) (if_both told.bits (λ bits. Reached plan told.head query bits places shows engine c.rounds.last (g.K.Sink.state c.args.out.now) (g.K.Sink.state c.rounds.out) (g.S.PlaneSource.handed c.args.source.now) at)
     (λ bits. (reads : List ℕ) → IsAfter plan engine.query (frame_of told.head) bits reads engine → (handed : List ℕ) × StopsAt plan engine.query (frame_of told.head) bits places fails reads fault handed × Appends at to handed) _
     (λ bits reached step. stopped plan told.head query bits places shows causes engine.query c.rounds.invariant.query engine c.rounds.last fault _ _ _ _ _ _ reached
-    (subst (Writes whole _ _) (ap (λ h. block_text h plan.list engine c.progress.result.done c.rounds.last) head_is
+    (subst (Writes whole _ _) (ap (λ h. block_text h plan.list plan.extras engine c.progress.result.done c.rounds.last) head_is
     ∙ block_is plan told.head query bits places shows c.rounds_are_counted.ensures engine c.rounds.last _ _ _ _ c.progress.result.done reached c.progress.ensures.done) (as_whole _ _ _ _ c.in_ok-write_block.ensures))
     going (λ reads after.
     let (handed, stops, grown) = step reads after in
@@ -109,7 +109,7 @@ returns-in-Some-clause-ends g c =
     let head_is = c.head.ensures.head ∙ ap (λ t. t.head) c.rounds.invariant.told in
     if_some told.bits _ _
     (λ bits reached. all_written plan told.head query bits places shows c.rounds.engine c.rounds.last c.in-Some.why _ _ _ _ _ _ reached
-    (subst (Writes whole _ _) (ap (λ h. block_text h plan.list c.rounds.engine c.progress.result.done c.rounds.last) head_is
+    (subst (Writes whole _ _) (ap (λ h. block_text h plan.list plan.extras c.rounds.engine c.progress.result.done c.rounds.last) head_is
     ∙ block_is plan told.head query bits places shows c.rounds_are_counted.ensures c.rounds.engine c.rounds.last _ _ _ _ c.progress.result.done reached c.progress.ensures.done) (as_whole _ _ _ _ c.in_ok-write_block.ensures))
     (sym c.in-Some.ensures.ending) (as_whole _ _ _ _ c.in_ok-write_ending-in-Some.ensures))
     c.rounds.invariant.reached
@@ -135,7 +135,7 @@ rounds-preserved g c =
       reached = if_both told.bits (λ bits. Reached plan told.head query bits places shows engine c.rounds.last (g.K.Sink.state c.args.out.now) (g.K.Sink.state c.rounds.out) (g.S.PlaneSource.handed c.args.source.now) (g.S.PlaneSource.handed c.rounds.source))
           (λ bits. (reads : List ℕ) → IsAfter plan engine.query (frame_of told.head) bits reads engine → IsAfter plan engine.query (frame_of told.head) bits (reads ++ column ∷ []) new) _
           (λ bits reached step. read_further plan told.head query bits places shows engine.query c.rounds.invariant.query engine new c.rounds.last column _ _ _ _ _ _ reached
-          (subst (Writes whole _ _) (ap (λ h. block_text h plan.list engine c.progress.result.done c.rounds.last) head_is
+          (subst (Writes whole _ _) (ap (λ h. block_text h plan.list plan.extras engine c.progress.result.done c.rounds.last) head_is
           ∙ block_is plan told.head query bits places shows c.rounds_are_counted.ensures engine c.rounds.last _ _ _ _ c.progress.result.done reached c.progress.ensures.done) (as_whole _ _ _ _ c.in_ok-write_block.ensures))
           step inside
           (subst (λ ps. Appends (g.S.PlaneSource.handed c.rounds.source) (g.S.PlaneSource.handed c.read_next.new.source) (next_places ps engine column)) c.rounds.invariant.places c.in_ok-read_next-in-None.ensures.handed)

@@ -1,12 +1,10 @@
 -- The keys, what is known of them, and the items.
-use Rattle.std.proofs.Common.{◌≡◌, ◌<◌, List, ℕ, ◌++◌, ◌∙◌, ap, codes, length, map, subst, sym}
-use Rattle.std.specs.List.{AllByRecursion}
+use Rattle.std.proofs.Common.{List, ℕ, ◌++◌, ◌∙◌, ap, codes, length, map, subst, sym}
 use Rattle.outer_world.proofs.Writes.{writes_both, writes_cut}
 use Rattle.outer_world.specs.Whole.{Writes}
 use Rattle.query_model.specs.Answers.{groups_of}
 use Rattle.query_model.specs.Truths.{Range}
 use Rattle.query_model.specs.Validity.{IsValidShape}
-use Rattle.query_model.specs.declared.query.Shape.{Shape}
 use Rattle.query_model.specs.declared.query.TypedQuery.{TypedQuery}
 use Rattle.row_groups.specs.Partition.{range_for, ranges_in, ranges_of_cell}
 use Rattle.round_engine.specs.Cells.{AreDeclared, parts_in}

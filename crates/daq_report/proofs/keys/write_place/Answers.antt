@@ -1,5 +1,5 @@
 -- Behind the first place a comma, and then the part.
-use Rattle.std.proofs.Common.{◌≡◌, ◌≢◌, ◌∙◌, ℕ, zero, suc, List, Ok, Option, codes, refl, ap, sym, subst}
+use Rattle.std.proofs.Common.{◌≢◌, ◌∙◌, ℕ, zero, suc, List, Ok, Option, codes, ap, sym, subst}
 use Rattle.std.specs.declared.result.Result.{Result}
 use Rattle.outer_world.proofs.Writes.{writes_both}
 use Rattle.outer_world.specs.Device.{SinkState}

@@ -1,5 +1,5 @@
 -- A word of 0 has no row.
-use Rattle.std.proofs.Common.{◌≡◌, ◌<◌, ◌*◌, ◌-◌, ◌∙◌, min, false, subst, sym}
+use Rattle.std.proofs.Common.{◌<◌, ◌*◌, ◌-◌, ◌∙◌, min, subst, sym}
 use Rattle.std.proofs.lemmas.Bool.{false≢true}
 use Rattle.topk_bounds.specs.Standings.{is_certain, is_possible}
 use Rattle.daq_report.specs.Rankings.{standing_at}

@@ -1,5 +1,5 @@
 -- The front, where the sort key lies, and the line's end.
-use Rattle.std.proofs.Common.{◌≡◌, List, ℕ, ◌++◌, ◌∙◌, ap, codes, subst, sym}
+use Rattle.std.proofs.Common.{List, ℕ, ◌++◌, ◌∙◌, ap, codes, subst, sym}
 use Rattle.outer_world.proofs.Writes.{writes_both, writes_cut}
 use Rattle.outer_world.specs.Whole.{Writes}
 use Rattle.query_model.specs.Knowledge.{ranges_of}

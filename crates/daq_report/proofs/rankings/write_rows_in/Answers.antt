@@ -1,5 +1,5 @@
 -- The rows of the block are written in order; where none is shown there is nothing to write.
-use Rattle.std.proofs.Common.{◌≡◌, ◌<◌, ◌≤◌, ℕ, ◌+◌, ◌*◌, ◌-◌, min, List, [], Ok, arith, subst, sym, ◌∙◌, refl}
+use Rattle.std.proofs.Common.{◌≡◌, ◌<◌, ℕ, ◌+◌, ◌*◌, ◌-◌, min, List, [], Ok, arith, subst, sym, ◌∙◌, refl}
 use Rattle.std.proofs.KnownBytes.{Appends-nil}
 use Rattle.outer_world.specs.Device.{SinkState}
 use Rattle.outer_world.specs.declared.device.Failed.{Failed}

@@ -26,4 +26,8 @@ returns c = rounds_are_certain
       contain_averages = c.average_bounds_contain_on_tables.ensures;
       exact_averages = c.average_bounds_become_exact_on_tables.ensures;
       nest_averages = c.average_bounds_nest.ensures;
+      clips = c.clips_are_certain.ensures;
+      nest_clips = c.clips_nest.ensures;
+      exact_ends = c.exact_averages_are_certain.ensures;
+      nest_exact_ends = c.exact_averages_nest.ensures;
     })

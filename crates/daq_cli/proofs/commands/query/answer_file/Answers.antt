@@ -2,11 +2,13 @@
 use Rattle.std.proofs.Common.{◌∙◌, subst, IfSome, Ok, Err, option_map}
 use Rattle.std.proofs.lemmas.Result.{err_from_is_err_and}
 use Rattle.command_line.specs.Values.{query_of}
+use Rattle.daq_table.specs.Tables.{frame_of}
 use Rattle.file_rounds.specs.Told.{IsUnpadded, bits_at}
 use Rattle.outer_world.specs.Whole.{laid}
 use Rattle.plane_file.specs.Places.{plane_places}
 use Rattle.query_model.specs.Validity.{IsValid}
 use Rattle.sql_text.specs.Tree as sql
+use Rattle.table_rounds.specs.Headline.{AreOfLongs}
 use Rattle.daq_cli.specs.Questions.{IsPlanned, StopsPlanning, asked_with}
 use Rattle.daq_cli.specs.Report.{EndsRounds, query_line}
 use Rattle.daq_cli.specs.commands.Query.{Begins, StopsAfter}
@@ -21,7 +23,7 @@ returns-in_err-prepared-clause-refused g c first has =
     let p = err_from_is_err_and c.from_residual.result c.from_residual.ensures.1 in
     let why = c.in_err-prepared.field-0.0 in
     rw (p.1, p.2) (query_plan asked (g.K.Sink.state c.args.out.now) query has.is_text first (g.P.Store.state c.args.planes.now)
-    c.args.file.now has.opens why (subst (λ h. StopsPlanning (asked_with query asked.options h) why) c.head.ensures.head c.in_err-prepared.ensures.refused))
+    c.args.file.now has.opens why (subst (λ h. StopsPlanning (asked_with query asked.options h) why) c.head-head.ensures.head c.in_err-prepared.ensures.refused))
 
 pub returns-in_err-report_file-clause-refused : goal.returns-in_err-report_file-clause-refused
 returns-in_err-report_file-clause-refused g c first has =
@@ -42,14 +44,15 @@ returns-in_err-report_file-clause-refused g c first has =
       same = has.same;
       typed = made.engine.query;
       plan = made.plan;
-      planned = subst (λ h. IsPlanned (asked_with query asked.options h) made.engine.query made.plan) c.head.ensures.head c.in_ok-prepared.ensures.planned;
+      planned = subst (λ h. IsPlanned (asked_with query asked.options h) made.engine.query made.plan) c.head-head.ensures.head c.in_ok-prepared.ensures.planned;
     } in
-    let named = c.valid_queries_name_columns.ensures file.head made.engine.query (subst (λ h. IsValid h made.engine.query) c.head.ensures.head c.in_ok-prepared.ensures.valid) in
+    let named = c.valid_queries_name_columns.ensures file.head made.engine.query (subst (λ h. IsValid h made.engine.query) c.head-head.ensures.head c.in_ok-prepared.ensures.valid) in
+    let longs = subst (λ h. AreOfLongs (frame_of h)) c.head-head.ensures.head c.heads_are_of_longs.ensures in
     let stop = c.in_err-report_file.field-0.0 in
     let ends = subst (λ l. IfSome opened.held (λ bytes. EndsRounds (query_line l) file.head made.plan made.engine.query (bits_at file.head bytes) (plane_places file.head) (IsUnpadded file.head bytes) (StopsAfter file.head opened last)
     (Err stop) old new (option_map laid opened.pieces) (option_map laid last.pieces))) (c.as_bytes.ensures.value ∙ c.in_ok-prepared.ensures.text) c.in_err-report_file.ensures.ends in
     let p = err_from_is_err_and c.from_residual-in_err-report_file.result c.from_residual-in_err-report_file.ensures.1 in
-    rw p.1 (query_stop asked planes opened last old new begun c.rounds_are_certain.ensures named stop p.0 p.2 c.in_err-report_file.ensures.cause ends)
+    rw p.1 (query_stop asked planes opened last old new begun c.rounds_are_certain.ensures named longs stop p.0 p.2 c.in_err-report_file.ensures.cause ends)
 
 pub returns-clause-done : goal.returns-clause-done
 returns-clause-done g c first has =
@@ -70,9 +73,10 @@ returns-clause-done g c first has =
       same = has.same;
       typed = made.engine.query;
       plan = made.plan;
-      planned = subst (λ h. IsPlanned (asked_with query asked.options h) made.engine.query made.plan) c.head.ensures.head c.in_ok-prepared.ensures.planned;
+      planned = subst (λ h. IsPlanned (asked_with query asked.options h) made.engine.query made.plan) c.head-head.ensures.head c.in_ok-prepared.ensures.planned;
     } in
-    let named = c.valid_queries_name_columns.ensures file.head made.engine.query (subst (λ h. IsValid h made.engine.query) c.head.ensures.head c.in_ok-prepared.ensures.valid) in
+    let named = c.valid_queries_name_columns.ensures file.head made.engine.query (subst (λ h. IsValid h made.engine.query) c.head-head.ensures.head c.in_ok-prepared.ensures.valid) in
+    let longs = subst (λ h. AreOfLongs (frame_of h)) c.head-head.ensures.head c.heads_are_of_longs.ensures in
     let ends = subst (λ l. IfSome opened.held (λ bytes. EndsRounds (query_line l) file.head made.plan made.engine.query (bits_at file.head bytes) (plane_places file.head) (IsUnpadded file.head bytes) (StopsAfter file.head opened last)
     (Ok tt) old new (option_map laid opened.pieces) (option_map laid last.pieces))) (c.as_bytes.ensures.value ∙ c.in_ok-prepared.ensures.text) c.in_ok-report_file.ensures.ends in
-    query_done asked planes opened last old new begun c.rounds_are_certain.ensures named ends
+    query_done asked planes opened last old new begun c.rounds_are_certain.ensures named longs ends
