@@ -11,16 +11,12 @@ mod limits;
 mod lines;
 mod loading;
 mod marks;
-#[cfg(test)]
-mod null_tests;
 mod place;
 mod plain_cells;
 mod raised;
 mod ranks;
 mod reading;
 mod record;
-#[cfg(test)]
-mod tests;
 mod texts;
 mod values;
 

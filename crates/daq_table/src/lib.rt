@@ -17,8 +17,6 @@ mod schema_fault;
 mod schema_items;
 mod table;
 mod table_head;
-#[cfg(test)]
-mod tests;
 mod values;
 
 pub use buffer::{NoRoom, TextBuf};

@@ -33,4 +33,3 @@ pub mod TableSteps
 pub mod WholeTable
 pub mod FileFaults
 pub mod SomeTable
-pub mod SmallTable

@@ -36,10 +36,3 @@ pub use table_fault::ReadTable;
 pub use table_reading::read_table;
 pub use write_fault::WriteFile;
 pub use writing::write;
-
-#[cfg(test)]
-mod table_tests;
-#[cfg(test)]
-mod tests;
-#[cfg(test)]
-mod writing_tests;

@@ -10,17 +10,12 @@ mod expressions;
 #[cfg(test)]
 mod extremes;
 #[cfg(test)]
-mod groups;
-#[cfg(test)]
 mod large;
 #[cfg(test)]
 mod nulls;
 #[cfg(test)]
 mod plans;
-#[cfg(test)]
-mod rankings;
-#[cfg(test)]
-mod sheets;
+pub mod sheets;
 #[cfg(test)]
 mod sums;
 #[cfg(test)]

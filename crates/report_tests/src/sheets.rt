@@ -9,116 +9,123 @@ use std::alloc::{AllocError, Global};
 
 /// A CSV and its schema.
 #[derive(Clone, Copy)]
-pub(crate) struct Sheet {
-    pub(crate) csv: &'static str,
-    pub(crate) schema: &'static str,
+pub struct Sheet {
+    pub csv: &'static str,
+    pub schema: &'static str,
 }
 
 /// A query over a sheet, and its whole report.
 #[derive(Clone, Copy)]
-pub(crate) struct Case {
-    pub(crate) sheet: Sheet,
-    pub(crate) sql: &'static str,
-    pub(crate) report: &'static str,
+pub struct Case {
+    pub sheet: Sheet,
+    pub sql: &'static str,
+    pub report: &'static str,
 }
 
 /// A query over a sheet, with options parted by blanks, and its whole report.
 #[derive(Clone, Copy)]
-pub(crate) struct Planned {
-    pub(crate) sheet: Sheet,
-    pub(crate) sql: &'static str,
-    pub(crate) words: &'static str,
-    pub(crate) report: &'static str,
+pub struct Planned {
+    pub sheet: Sheet,
+    pub sql: &'static str,
+    pub words: &'static str,
+    pub report: &'static str,
 }
 
 /// Six rows of all kinds.
-pub(crate) const SHOP: Sheet = Sheet {
+pub const SHOP: Sheet = Sheet {
     csv: "price,qty,cost,day,city\n5,2,1.50,2024-02-28,Oslo\n9,1,-0.25,2024-03-01,Rome\n12,4,3.00,2024-02-29,Oslo\n3,3,0.10,2023-12-31,Bern\n-4,0,-2.75,2024-03-01,O'Hara\n7,4,2.25,2024-01-15,Rome\n",
     schema: "price:int,qty:int,cost:dec2,day:date,city:text",
 };
 
 /// The same columns without a row.
-pub(crate) const EMPTY: Sheet = Sheet {
+pub const EMPTY: Sheet = Sheet {
     csv: "price,qty,cost,day,city\n",
     schema: "price:int,qty:int,cost:dec2,day:date,city:text",
 };
 
 /// Numbers that are mostly negative.
-pub(crate) const LOSS: Sheet = Sheet {
+pub const LOSS: Sheet = Sheet {
     csv: "gain,fee\n-7,-0.5\n-3,0.5\n-12,-1.5\n-3,-0.25\n",
     schema: "gain:int,fee:dec3",
 };
 
 /// Three equal rows, whose columns have no plane.
-pub(crate) const SAME: Sheet = Sheet {
+pub const SAME: Sheet = Sheet {
     csv: "n,word,day\n4,a,1999-12-31\n4,a,1999-12-31\n4,a,1999-12-31\n",
     schema: "n:int,word:text,day:date",
 };
 
 /// Four rows of whole numbers and a text.
-pub(crate) const TOWNS: Sheet = Sheet {
+pub const TOWNS: Sheet = Sheet {
     csv: "price,qty,city\n5,2,Oslo\n9,1,Rome\n12,4,Oslo\n3,3,Bern\n",
     schema: "price:int,qty:int,city:text",
 };
 
 /// The same columns without a row.
-pub(crate) const NOBODY: Sheet = Sheet {
+pub const NOBODY: Sheet = Sheet {
     csv: "price,qty,city\n",
     schema: "price:int,qty:int,city:text",
 };
 
 /// One number twice.
-pub(crate) const SEVENS: Sheet = Sheet {
+pub const SEVENS: Sheet = Sheet {
     csv: "v\n7\n7\n",
     schema: "v:int",
 };
 
 /// Two numbers.
-pub(crate) const PAIR: Sheet = Sheet {
+pub const PAIR: Sheet = Sheet {
     csv: "v\n3\n11\n",
     schema: "v:int",
 };
 
 /// Three rows of two numbers, each null once.
-pub(crate) const HOLES: Sheet = Sheet {
+pub const HOLES: Sheet = Sheet {
     csv: "v,w\n5,1\n,2\n9,\n",
     schema: "v:int?,w:int?",
 };
 
 /// Six rows of all kinds, of which each column but one has nulls.
-pub(crate) const GAPS: Sheet = Sheet {
+pub const GAPS: Sheet = Sheet {
     csv: "price,qty,cost,day,city\n5,2,1.50,2024-02-28,Oslo\n,1,-0.25,,Rome\n12,4,,2024-02-29,\n3,3,0.10,2023-12-31,Bern\n,0,,,O'Hara\n7,4,2.25,2024-01-15,\n",
     schema: "price:int?,qty:int,cost:dec2?,day:date?,city:text?",
 };
 
 /// Columns of nulls alone.
-pub(crate) const VOID: Sheet = Sheet {
+pub const VOID: Sheet = Sheet {
     csv: "n,a,b,c,d\n1,,,,\n2,,,,\n4,,,,\n",
     schema: "n:int,a:int?,b:dec1?,c:date?,d:text?",
 };
 
 /// No row.
-pub(crate) const BARE: Sheet = Sheet {
+pub const BARE: Sheet = Sheet {
     csv: "v,w\n",
     schema: "v:int?,w:text?",
 };
 
 /// Five keys of 16 binary digits.
-pub(crate) const WIDE: Sheet = Sheet {
+pub const WIDE: Sheet = Sheet {
     csv: "key,n\n0,1\n65535,2\n40000,3\n40001,4\n7,5\n",
     schema: "key:int,n:int",
 };
 
 /// A number twice, behind a lesser one.
-pub(crate) const TIES: Sheet = Sheet {
+pub const TIES: Sheet = Sheet {
     csv: "v\n5\n8\n8\n",
     schema: "v:int",
 };
 
-type MemWorld = World<MemSource, MemStore, MemSink>;
+/// Numbers of both signs.
+pub const WAVES: Sheet = Sheet {
+    csv: "n,m\n-8,1\n5,2\n-1,3\n6,1\n-8,2\n",
+    schema: "n:int,m:int",
+};
+
+/// Devices in memory.
+pub type MemWorld = World<MemSource, MemStore, MemSink>;
 
 /// Devices that work: the input gives the bytes in pieces of up to that length, and the output has room for so many.
-pub(crate) fn world_of(
+pub fn world_of(
     alloc: Global,
     csv: Vec<u8>,
     piece: usize,
@@ -137,11 +144,7 @@ pub(crate) fn world_of(
 }
 
 /// How the command of these words, one a line, ends in the world.
-pub(crate) fn ended(
-    alloc: Global,
-    lines: &str,
-    world: &mut MemWorld,
-) -> Result<Status, AllocError> {
+pub fn ended(alloc: Global, lines: &str, world: &mut MemWorld) -> Result<Status, AllocError> {
     let mut words = Words::new(alloc);
     for word in lines.lines() {
         words.push(word)?;
@@ -150,7 +153,7 @@ pub(crate) fn ended(
 }
 
 /// How the query over the table of that schema ends in the world.
-pub(crate) fn asked(
+pub fn asked(
     alloc: Global,
     schema: &str,
     sql: &str,
@@ -172,7 +175,7 @@ fn is_reported(alloc: Global, case: &Case) -> Result<bool, AllocError> {
 }
 
 /// Whether each query has its report.
-pub(crate) fn are_reported(alloc: Global, cases: &[Case]) -> Result<bool, AllocError> {
+pub fn are_reported(alloc: Global, cases: &[Case]) -> Result<bool, AllocError> {
     for case in cases {
         if !is_reported(alloc, case)? {
             return Ok(false);
@@ -197,7 +200,7 @@ fn is_planned(alloc: Global, case: &Planned) -> Result<bool, AllocError> {
 }
 
 /// Whether each query has its report.
-pub(crate) fn are_planned(alloc: Global, cases: &[Planned]) -> Result<bool, AllocError> {
+pub fn are_planned(alloc: Global, cases: &[Planned]) -> Result<bool, AllocError> {
     for case in cases {
         if !is_planned(alloc, case)? {
             return Ok(false);

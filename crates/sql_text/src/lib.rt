@@ -8,8 +8,6 @@ mod look;
 mod predicate;
 mod query;
 mod reading;
-#[cfg(test)]
-mod tests;
 mod tree;
 
 pub use fault::SqlFault;

@@ -13,8 +13,6 @@ mod scale;
 mod shape;
 mod spot;
 mod table;
-#[cfg(test)]
-mod tests;
 mod typing;
 mod value;
 

@@ -9,8 +9,6 @@ mod fault;
 mod making;
 mod names;
 mod rows;
-#[cfg(test)]
-mod tests;
 
 pub use exactness::{heads_have_texts, seeds_have_tables, tables_are_one};
 pub use fault::GenFault;
