@@ -147,7 +147,7 @@ impl FileSink {
         }
     }
 
-    /// The file at a path, which is made or emptied at the first write.
+    /// The file at a path, which is made or emptied where its first byte is written.
     pub fn named(rt: &HostRuntime, path: &str) -> Result<FileSink, AllocError> {
         Ok(FileSink {
             target: Target::Named(rt.clone()?, String::from_str(rt.alloc(), path)?),
@@ -176,13 +176,14 @@ impl Sink for FileSink {
     ghost state = { λ s. record { written = None; faults = s.faults.count } };
 
     fn write(&mut self, piece: &[u8]) -> Result<usize, Failed> {
-        if self.target.open().is_err() {
+        if !piece.is_empty() && self.target.open().is_err() {
             return Err(self.faults.add());
         }
         match &mut self.target {
             Target::Out(out) => self.faults.after_write(piece, out.write(piece)),
             Target::Err(err) => self.faults.after_write(piece, err.write(piece)),
             Target::File(file) => self.faults.after_write(piece, file.write(piece)),
+            Target::Named(..) if piece.is_empty() => Ok(0),
             Target::Closed | Target::Named(..) => Err(self.faults.add()),
         }
     }
@@ -191,6 +192,7 @@ impl Sink for FileSink {
 #[cfg(test)]
 mod tests {
     use super::*;
+    use std::test::Fail;
 
     #[test]
     fn no_file_and_a_directory_fail_at_each_read(rt: HostRuntime) {
@@ -237,5 +239,15 @@ mod tests {
         let mut nowhere = FileSink::closed();
         assert_eq!(rt; nowhere.write(b"one\n"), Err(Failed));
         assert_eq!(rt; nowhere.faults.count, 1);
+    }
+
+    #[test]
+    fn a_piece_without_a_byte_makes_no_file(rt: HostRuntime) -> Result<(), Fail> {
+        let mut sink = FileSink::named(&rt, "no such folder/made")?;
+        assert_eq!(rt; sink.write(b""), Ok(0));
+        assert_eq!(rt; sink.faults.count, 0);
+        assert_eq!(rt; sink.write(b"one"), Err(Failed));
+        assert_eq!(rt; sink.faults.count, 1);
+        Ok(())
     }
 }

@@ -9,13 +9,16 @@ use daq_cli::{Status, World, code, run};
 use files::{FileSink, FileSource, FileStore, hold_standard_places};
 use std::alloc::{AllocError, Global};
 use std::env;
+use std::io::ErrorKind;
 use std::process::ExitCode;
 
 // The words of the command line, without the program's name; none where one of them is no text.
 fn read_words(rt: &HostRuntime, alloc: Global) -> Result<Option<Words>, AllocError> {
     let mut words = Words::new(alloc);
-    let Ok(args) = env::args(rt) else {
-        return Ok(None);
+    let args = match env::args(rt) {
+        Ok(args) => args,
+        Err(error) if error.kind() == ErrorKind::OutOfMemory => return Err(AllocError),
+        Err(_) => return Ok(None),
     };
     for word in args.skip(1) {
         words.push(word.as_str())?;
