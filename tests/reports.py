@@ -13,6 +13,7 @@ import re
 import subprocess
 import sys
 import tempfile
+from fractions import Fraction
 from itertools import product
 
 EPOCH = datetime.date(1970, 1, 1).toordinal()
@@ -227,21 +228,21 @@ class Parser:
             low = self.literal(column)
             self.expect("AND")
             high = self.literal(column)
-            atom = ("test", column, lambda v: low <= v <= high)
+            atom = ("test", column, lambda v: low <= v <= high, (floor(column, low), ceiling(column, high)))
         elif self.take("IN"):
             self.expect("(")
             values = [self.literal(column)]
             while self.take(","):
                 values.append(self.literal(column))
             self.expect(")")
-            atom = ("test", column, lambda v: v in values)
+            atom = ("test", column, lambda v: v in values, None)
         else:
             sign = self.take()
             compare = COMPARISONS[sign]
             if self.peek() in self.table or self.peek().startswith('"'):
                 return ("columns", column, compare, self.column())
             value = self.literal(column)
-            return ("test", column, lambda v: compare(v, value))
+            return ("test", column, lambda v: compare(v, value), let_through(column, sign, value))
         return ("not", atom) if negated else atom
 
     def query(self):
@@ -288,6 +289,49 @@ COMPARISONS = {
     ">": lambda a, b: a > b,
     ">=": lambda a, b: a >= b,
 }
+
+
+# ---- which numbers a comparison lets through: of texts these are ranks
+
+
+def floor(column, value):
+    """The least number that is not below the value."""
+    return sum(name < value for name in column.names) if column.kind == "text" else value
+
+
+def ceiling(column, value):
+    """The greatest number that is not above the value."""
+    return sum(name <= value for name in column.names) - 1 if column.kind == "text" else value
+
+
+def let_through(column, sign, value):
+    """The least and the greatest number that it lets through, None where that end is open; for <> nothing."""
+    return {
+        "=": (floor(column, value), ceiling(column, value)),
+        "<>": None,
+        "<": (None, floor(column, value) - 1),
+        "<=": (None, ceiling(column, value)),
+        ">": (ceiling(column, value) + 1, None),
+        ">=": (floor(column, value), None),
+    }[sign]
+
+
+def operands(condition):
+    """The operands of the topmost ANDs."""
+    if condition is not None and condition[0] == "and":
+        return operands(condition[1]) + operands(condition[2])
+    return [condition]
+
+
+def clip_of(query, item):
+    """The numbers to which the condition clips the item's argument, if it does."""
+    kind, argument = item
+    if kind not in ("SUM", "MIN", "MAX") or argument[0] != "column" or query.in_condition.count(argument[1]) != 1:
+        return None
+    for part in operands(query.condition):
+        if part is not None and part[0] == "test" and part[1] is argument[1]:
+            return part[3]
+    return None
 
 
 def columns_of(condition):
@@ -337,7 +381,7 @@ def truths(condition, row):
             up, down = 10 ** (scale - left.scale), 10 ** (scale - right.scale)
             found |= {compare(x * up, y * down) for x in sample(a) for y in sample(b)}
         return found
-    _, column, test = condition
+    _, column, test, _ = condition
     given = column.range(row)
     found = {NULL} if given.null else set()
     if given.numbers():
@@ -418,6 +462,43 @@ def bound(kind, pairs):
     return word, (low, many if low >= 0 else few), (high, few if high >= 0 else many)
 
 
+def clipped(pairs, low, high):
+    """The pairs, each with its ends within the two numbers."""
+    def within(end):
+        return end if low is None or end >= low else low
+
+    def below(end):
+        return end if high is None or end <= high else high
+
+    return [(certain, within(l), below(h)) for certain, l, h in pairs]
+
+
+def best_choice(pairs):
+    """Of the choices of uncertain rows whose high is at least a cut, at least one row in all, that of the greatest average of highs,
+    of several that with the fewest rows: sum, number of rows, how many are chosen, and the cut."""
+    certain = [p[2] for p in pairs if p[0]]
+    others = [p[2] for p in pairs if not p[0]]
+    choices = [[h for h in others if h >= cut] for cut in sorted(set(others))] + ([[]] if certain else [])
+    best = max(choices, key=lambda chosen: (Fraction(sum(certain + chosen), len(certain + chosen)), -len(chosen)))
+    return sum(certain + best), len(certain + best), len(best), min(best, default=None)
+
+
+def exact_lines(pairs, text, cut_text):
+    """What is told of the least and the greatest average that there may be."""
+    if not pairs:
+        return ["exact null"]
+    top = best_choice(pairs)
+    turned = best_choice([(certain, -high, -low) for certain, low, high in pairs])
+    low = (-turned[0], turned[1])
+    word = "never" if any(p[0] for p in pairs) else "possibly"
+    of = sum(not p[0] for p in pairs)
+    return [
+        "exact " + interval(word, low, top[:2], text),
+        "low takes %d of %d" % (turned[2], of) + (" at most " + cut_text(-turned[3]) if turned[2] else ""),
+        "high takes %d of %d" % (top[2], of) + (" at least " + cut_text(top[3]) if top[2] else ""),
+    ]
+
+
 def is_near(given, width):
     word, low, high = given
     if word == "always":
@@ -463,7 +544,19 @@ class Rounds:
             given = bound(item[0], self.pairs(item, rows))
             near = near and is_near(given, self.options["width"])
             lines.append("%d %s" % (place + 1, interval(*given, text_of(item))))
+            if not self.query.groups:
+                lines += ["%d %s" % (place + 1, line) for line in self.further_lines(item, self.pairs(item, rows))]
         return lines, near
+
+    def further_lines(self, item, pairs):
+        """What --clip and --exact-avg add behind the line of an item."""
+        clip = clip_of(self.query, item)
+        if self.options["clip"] and clip is not None:
+            return ["clip " + interval(*bound(item[0], clipped(pairs, *clip)), text_of(item))]
+        if self.options["exact-avg"] and item[0] == "AVG":
+            scale = scale_of(item[1])
+            return exact_lines(pairs, text_of(item), lambda cut: scaled(cut, scale))
+        return []
 
     def totals(self):
         truth = self.truths()
@@ -589,12 +682,13 @@ def key_text(column, given):
 
 
 def parse_options(words):
-    options = {"width": 0, "rounds": None, "policy": "widest", "reads": None, "list": False}
+    options = {"width": 0, "rounds": None, "policy": "widest", "reads": None}
+    options.update(dict.fromkeys(("list", "clip", "exact-avg"), False))
     words = list(words)
     while words:
         word = words.pop(0)[2:]
-        if word == "list":
-            options["list"] = True
+        if word in ("list", "clip", "exact-avg"):
+            options[word] = True
         elif word in ("width", "rounds"):
             options[word] = int(words.pop(0))
         else:
@@ -698,8 +792,7 @@ def some_options(chance):
         words += ["--rounds", str(chance.randint(0, 6))]
     if chance.random() < 0.6:
         words += ["--policy", chance.choice(["widest", "order", "filter"])]
-    if chance.random() < 0.5:
-        words += ["--list"]
+    words += ["--" + word for word in ("list", "clip", "exact-avg") if chance.random() < 0.5]
     return words
 
 
