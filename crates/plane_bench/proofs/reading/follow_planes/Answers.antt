@@ -1,9 +1,10 @@
 -- The filter follows each plane of the one column.
-use Rattle.std.proofs.Common.{false, length, subst, sym, ap, ◌∙◌}
+use Rattle.std.proofs.Common.{◌≡◌, arith, false, length, subst, sym, ap, ◌∙◌}
 use Rattle.std.proofs.lemmas.List.{length-replicate}
 use Rattle.daq_table.specs.Tables.{ends_at}
 use Rattle.query_model.specs.Queries.{condition_of}
 use Rattle.kleene_filter.specs.Filters.{StandsFor}
+use Rattle.plane_bench.specs.Planes.{truths_after}
 use Rattle.plane_bench.proofs.Steps.{nothing_read}
 use Rattle.plane_bench.proofs.reading.follow_planes.Goals as goal
 
@@ -24,3 +25,6 @@ refresh-requires-clause-stood c = record {
   could = c.read_next.ensures.legal;
   taken = c.read_next.ensures.taken;
 }
+
+pub returns : goal.returns
+returns c = subst (λ n. c.loop.filter.truths ≡ truths_after (condition_of c.args.pred.now) (ends_at c.args.columns.frame 0) c.args.cells.now n) (omega (arith, c.loop-test.false)) c.loop.invariant.filter.truths
