@@ -1,5 +1,5 @@
 -- Counts, sums and ends of a list with one element more.
-use Rattle.std.proofs.Common.{◌≡◌, ℕ, ◌+◌, ℤ, ◌+ℤ◌, true, false, List, [], ◌∷◌, ◌++◌, length, map, filter, refl, ap, sym, ◌∙◌, arith, Option, Some, None, inl, inr, cond, length-append, append-nil}
+use Rattle.std.proofs.Common.{◌≡◌, ℕ, ◌+◌, ℤ, ◌+ℤ◌, true, false, List, [], ◌∷◌, ◌++◌, ◌==◌, length, map, filter, refl, ap, sym, ◌∙◌, arith, Option, Some, None, inl, inr, cond, if◌then◌else◌, length-append, append-nil}
 use Rattle.std.specs.Int.{int_min, int_max}
 use Rattle.std.proofs.lemmas.Bool.{cases_Bool}
 use Rattle.std.proofs.lemmas.Int.{ints, clamps}
@@ -99,6 +99,23 @@ least_certain-more ps p n r m t same e is = ap Some same ∙ e ∙ ap (λ x. ans
 
 pub greatest_certain-more : (ps : List Pair) (p : Pair) (n r m : ℤ) → p.certain ≡ true → m ≡ r → Some r ≡ answer Max (certain_lows ps ++ n ∷ []) → n ≡ p.low → Some m ≡ answer Max (certain_lows (ps ++ p ∷ []))
 greatest_certain-more ps p n r m t same e is = ap Some same ∙ e ∙ ap (λ x. answer Max (certain_lows ps ++ x ∷ [])) is ∙ ap (answer Max) (sym (lows-certain ps p t))
+
+-- the ends of a sum, which are kept while no row counts for certain
+
+pub if_none : (certain : ℕ) (end : Option ℤ) → certain ≡ 0 → (if certain == 0 then end else None) ≡ end
+if_none certain end is = rw is refl
+
+pub low_end-more : (ps : List Pair) (p : Pair) (n : ℤ) (certain : ℕ) (end : Option ℤ) → certain ≡ certain_count (ps ++ p ∷ []) → end ≡ (if certain == 0 then answer Min (lows ps ++ n ∷ []) else None) → n ≡ p.low →
+    end ≡ (if certain_count (ps ++ p ∷ []) == 0 then answer Min (lows (ps ++ p ∷ [])) else None)
+low_end-more ps p n certain end same is number =
+    is ∙ ap (λ k. if k == 0 then answer Min (lows ps ++ n ∷ []) else None) same
+    ∙ ap (λ xs. if certain_count (ps ++ p ∷ []) == 0 then answer Min xs else None) (ap (λ m. lows ps ++ m ∷ []) number ∙ sym (map-more (λ (q : Pair). q.low) ps p))
+
+pub high_end-more : (ps : List Pair) (p : Pair) (n : ℤ) (certain : ℕ) (end : Option ℤ) → certain ≡ certain_count (ps ++ p ∷ []) → end ≡ (if certain == 0 then answer Max (highs ps ++ n ∷ []) else None) → n ≡ p.high →
+    end ≡ (if certain_count (ps ++ p ∷ []) == 0 then answer Max (highs (ps ++ p ∷ [])) else None)
+high_end-more ps p n certain end same is number =
+    is ∙ ap (λ k. if k == 0 then answer Max (highs ps ++ n ∷ []) else None) same
+    ∙ ap (λ xs. if certain_count (ps ++ p ∷ []) == 0 then answer Max xs else None) (ap (λ m. highs ps ++ m ∷ []) number ∙ sym (map-more (λ (q : Pair). q.high) ps p))
 
 -- ---- what is kept
 

@@ -1,5 +1,5 @@
 -- What is kept of a list of pairs. The bound of the list can be told from it, and it can be told of the list with one pair more.
-use Rattle.std.specs.Prelude.{◌<◌, ℤ, pos, ◌≤ℤ◌, Bool, List, [], ◌∷◌, ◌++◌, length, map}
+use Rattle.std.specs.Prelude.{ℕ, ◌<◌, ◌==◌, if◌then◌else◌, ℤ, pos, ◌≤ℤ◌, Bool, List, [], ◌∷◌, ◌++◌, length, map}
 use Rattle.std.specs.declared.option.Option.{Option}
 use Rattle.std.specs.declared.option.Option.TheVariants.{None}
 use Rattle.interval_calc.specs.declared.Interval as code
@@ -28,13 +28,13 @@ if_summed Min sum = pos 0
 if_summed Max sum = pos 0
 if_summed Avg sum = sum
 
--- ends are kept for all items but counts
-abbrev pub if_ended : ItemKind → Option ℤ → Option ℤ
-if_ended Count end = None
-if_ended Sum end = end
-if_ended Min end = end
-if_ended Max end = end
-if_ended Avg end = end
+-- ends are kept for least and greatest values, and for a sum while no row counts for certain: then alone may it be the value of one row
+abbrev pub if_ended : ItemKind → ℕ → Option ℤ → Option ℤ
+if_ended Count certain end = None
+if_ended Sum certain end = if certain == 0 then end else None
+if_ended Min certain end = end
+if_ended Max certain end = end
+if_ended Avg certain end = if certain == 0 then end else None
 
 -- those of certain rows for least and greatest values alone
 abbrev pub if_extreme : ItemKind → Option ℤ → Option ℤ
@@ -49,8 +49,8 @@ abbrev pub tally_of : ItemKind → List Pair → Tally
 tally_of kind ps = record {
   certain = certain_count ps;
   all = length ps;
-  least_low = if_ended kind (answer Min (lows ps));
-  greatest_high = if_ended kind (answer Max (highs ps));
+  least_low = if_ended kind (certain_count ps) (answer Min (lows ps));
+  greatest_high = if_ended kind (certain_count ps) (answer Max (highs ps));
   least_certain_high = if_extreme kind (answer Min (certain_highs ps));
   greatest_certain_low = if_extreme kind (answer Max (certain_lows ps));
   low_sum = if_summed kind (total (map low_share ps));

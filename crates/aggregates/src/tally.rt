@@ -8,7 +8,7 @@ ghost use Rattle.plane_kernels.specs.Rows.{digit_at};
 ghost use Rattle.aggregates.specs.BlockPairs.{pairs_in, HasRoom};
 ghost use Rattle.aggregates.specs.Tallies.{pair_with, tally_of};
 
-use crate::extremes::{greater, lesser};
+use crate::extremes::{greater, greater_if, lesser, lesser_if};
 use interval_calc::{Fraction, Interval};
 use query_model::{AverageBound, Bound, ItemKind, Nullity};
 
@@ -20,9 +20,9 @@ pub struct Tally {
     pub certain: u64,
     /// The rows that may count.
     pub all: u64,
-    /// The least low end, where there is a row.
+    /// The least low end, where there is a row. For a sum it is kept only while no row counts for certain.
     pub least_low: Option<i128>,
-    /// The greatest high end.
+    /// The greatest high end, in the same way.
     pub greatest_high: Option<i128>,
     /// The least high end of the rows that count for certain, where there is one.
     pub least_certain_high: Option<i128>,
@@ -113,8 +113,9 @@ impl Tally {
     {
         self.all += 1;
         self.certain += one_if(certain);
-        self.least_low = Some(lesser(self.least_low, span.lo));
-        self.greatest_high = Some(greater(self.greatest_high, span.hi));
+        let ended = self.certain == 0;
+        self.least_low = lesser_if(ended, self.least_low, span.lo);
+        self.greatest_high = greater_if(ended, self.greatest_high, span.hi);
         self.low_sum += low_share(certain, span);
         self.high_sum += high_share(certain, span);
     }

@@ -20,9 +20,6 @@ use query_model::Pred;
 use std::alloc::{AllocError, Global};
 use std::marker::Model;
 
-// So many comparisons and listed numbers keep masks, where BETWEEN is two comparisons. What passes them is judged row by row.
-const LIMIT: usize = 64;
-
 // The rows at which a condition holds for certain, and those at which it may hold.
 #[derive(Drop)]
 pub(crate) struct TruthMasks {
@@ -245,19 +242,20 @@ fn open_truths(
     Ok(truths)
 }
 
-// How many comparisons and listed numbers more may keep masks.
-fn room_beside(masks: &[AtomMasks]) -> usize {
+// How many comparisons and listed numbers more may keep masks, where in all so many may.
+fn room_beside(masks: &[AtomMasks], most: usize) -> usize {
     let kept = masks
         .iter()
         .fold(0, |kept: usize, own| kept.saturating_add(own.count()));
-    LIMIT.saturating_sub(kept)
+    most.saturating_sub(kept)
 }
 
-// Adds the masks of each atom of the condition.
+// Adds the masks of each atom of the condition, as long as so many suffice.
 fn open_each(
     alloc: Global,
     pred: &Pred,
     columns: &KnownColumns,
+    most: usize,
     masks: &mut Vec<AtomMasks>,
 ) -> Result<(), AllocError>
     requires columns { PredReadsBelow (length columns.now.frame.columns) (condition_of pred.now) }
@@ -267,15 +265,15 @@ fn open_each(
     match pred {
         Pred::All => Ok(()),
         Pred::Atom(atom) => {
-            let room = room_beside(masks);
+            let room = room_beside(masks, most);
             masks.push(AtomMasks::open(alloc, atom, columns, room)?)?;
             Ok(())
         }
         Pred::And(a, b) | Pred::Or(a, b) => {
-            open_each(alloc, a, columns, masks)?;
-            open_each(alloc, b, columns, masks)
+            open_each(alloc, a, columns, most, masks)?;
+            open_each(alloc, b, columns, most, masks)
         }
-        Pred::Not(a) => open_each(alloc, a, columns, masks),
+        Pred::Not(a) => open_each(alloc, a, columns, most, masks),
     }
 }
 
@@ -291,13 +289,15 @@ fn follow_each(masks: &mut Vec<AtomMasks>, columns: &KnownColumns, column: usize
 }
 
 impl Filter {
-    /// The filter of the condition over columns of which planes may be read. Their rows are read through the block. All
+    /// The filter of the condition over columns of which planes may be read. Their rows are read through the block. So many
+    /// comparisons and listed numbers keep masks, where BETWEEN is two comparisons; what passes them is judged row by row. All
     /// room is taken here.
     pub fn open(
         alloc: Global,
         pred: &Pred,
         columns: &KnownColumns,
         block: &mut RowBlock,
+        most: usize,
     ) -> Result<Filter, AllocError>
         requires columns { PredReadsBelow (length columns.now.frame.columns) (condition_of pred.now) }
         requires block { block.old.frame.columns ≡ columns.now.frame.columns }
@@ -306,7 +306,7 @@ impl Filter {
     {
         let _rows = columns.rows();
         let mut masks = Vec::new(alloc);
-        open_each(alloc, pred, columns, &mut masks)?;
+        open_each(alloc, pred, columns, most, &mut masks)?;
         let truths = open_truths(alloc, pred, &masks, columns, block)?;
         let unknown = truths.unknown();
         Ok(Filter {

@@ -118,7 +118,7 @@ fn followed(
     let mut plane = Plane::blank(alloc, 4)?;
     let mut columns = columns(alloc, nullable)?;
     let mut block = RowBlock::open(alloc, &columns)?;
-    let mut filter = Filter::open(alloc, pred, &columns, &mut block)?;
+    let mut filter = Filter::open(alloc, pred, &columns, &mut block, 64)?;
     Ok(three_steps(
         &mut filter,
         pred,

@@ -23,4 +23,5 @@ pub mod CellRows
 pub mod CellPairs
 pub mod CellKept
 pub mod OneCell
+pub mod FewCells
 pub mod CellNarrow

@@ -127,7 +127,7 @@ module _ (query : Query) (item : Aggregate) (columns : KnownTable) (plain : quer
   tested f mask truths is judged = is ∙ ap (map f) judged ∙ map-map f (truth_at query.pred columns) (range_with_len 0 columns.frame.rows)
 
   -- a mask of the column, at a row
-  marked : (test : Ends → ℕ → ℕ → Bool) (known : KnownColumn) (c : ℕ) (mask : List Bool) → known ≡ column_at columns c → mask ≡ rows_where test known → rows_of_column known ≡ columns.frame.rows →
+  pub marked : (test : Ends → ℕ → ℕ → Bool) (known : KnownColumn) (c : ℕ) (mask : List Bool) → known ≡ column_at columns c → mask ≡ rows_where test known → rows_of_column known ≡ columns.frame.rows →
       (length mask ≡ columns.frame.rows) × ((k : ℕ) → k < columns.frame.rows → get_or mask k false ≡ test (ends_at columns.frame c) (known_at columns.known c).read (prefix_at columns.known c k))
   marked test known c mask there is rows = (
     ap length is ∙ length-map known.known.prefixes (test known.ends known.known.read) ∙ rows,

@@ -62,7 +62,7 @@ is_alone stage cells single parted k tell one = record {
 
 -- ---- a row's pair
 
-by_key : (t : Truth) (one : Bool) (n : Nullity) (span : Interval) →
+pub by_key : (t : Truth) (one : Bool) (n : Nullity) (span : Interval) →
     pair_unless_false (and_of (and_of t (if one then True else Unknown)) (truth_of_number n)) span ≡ told_pair (cond one (is_certain t && not (may_be_null n)) false) (is_possible t && may_be_number n) span
 by_key False one n span = refl
 by_key Unknown true Never span = refl
@@ -79,7 +79,7 @@ by_key True false Possibly span = refl
 by_key True false Always span = refl
 
 -- the same where the argument is never null
-by_key_alone : (t : Truth) (one : Bool) (span : Interval) → pair_unless_false (and_of (and_of t (if one then True else Unknown)) (truth_of_number Never)) span ≡ told_pair (cond one (is_certain t) false) (is_possible t) span
+pub by_key_alone : (t : Truth) (one : Bool) (span : Interval) → pair_unless_false (and_of (and_of t (if one then True else Unknown)) (truth_of_number Never)) span ≡ told_pair (cond one (is_certain t) false) (is_possible t) span
 by_key_alone False one span = refl
 by_key_alone Unknown true span = refl
 by_key_alone Unknown false span = refl
@@ -101,11 +101,11 @@ none_passes [] = refl
 none_passes (r ∷ rs) = none_passes rs
 
 -- the rows of a mask, or none of them
-tested_if : (one : Bool) (test : ℕ → Bool) (mask : List Bool) (n : ℕ) → mask ≡ map test (range_with_len 0 n) → (if one then mask else replicate n false) ≡ map (λ r. cond one (test r) false) (range_with_len 0 n)
+pub tested_if : (one : Bool) (test : ℕ → Bool) (mask : List Bool) (n : ℕ) → mask ≡ map test (range_with_len 0 n) → (if one then mask else replicate n false) ≡ map (λ r. cond one (test r) false) (range_with_len 0 n)
 tested_if true test mask n is = is
 tested_if false test mask n is = none_tested 0 n
 
-counted_if : (one : Bool) (test : ℕ → Bool) (mask : List Bool) (n : ℕ) → mask ≡ map test (range_with_len 0 n) → (if one then count_by (λ b. b) mask else 0) ≡ length (filter (λ r. cond one (test r) false) (range_with_len 0 n))
+pub counted_if : (one : Bool) (test : ℕ → Bool) (mask : List Bool) (n : ℕ) → mask ≡ map test (range_with_len 0 n) → (if one then count_by (λ b. b) mask else 0) ≡ length (filter (λ r. cond one (test r) false) (range_with_len 0 n))
 counted_if true test mask n is = ap (count_by (λ b. b)) is ∙ count-tested test 0 n
 counted_if false test mask n is = sym (none_passes (range_with_len 0 n))
 

@@ -34,7 +34,7 @@ fn quotient(sum: i128, most: u64, least: u64) -> Fraction
 }
 
 // Whether a mask has rows.
-fn has_rows(mask: &Mask) -> bool
+pub(crate) fn has_rows(mask: &Mask) -> bool
     ensures some { IsTrue result → 0 < count_by (λ b. b) mask.now }
     ensures none { IsFalse result → count_by (λ b. b) mask.now ≡ 0 }
 {

@@ -14,6 +14,9 @@ use query_model::{TypedQuery, average_bounds_nest, bounds_nest, standings_nest};
 use std::alloc::{AllocError, Global};
 use std::marker::Model;
 
+// So many comparisons and listed numbers of a condition keep masks where nothing else is said.
+const MASKS: usize = 64;
+
 /// A query, and what is known of its columns after some of their planes. What its items come to is kept along, so that a
 /// plane changes it in place and takes no memory.
 pub struct Engine {
@@ -49,7 +52,21 @@ impl Engine {
         requires valid { IsValid head.now query }
         ensures { IfOk result (λ engine. engine ≡ opened query head.now) }
     {
-        match State::open(alloc, &query, head) {
+        Engine::open_within(alloc, query, head, MASKS)
+    }
+
+    /// The same, where so many comparisons and listed numbers of the condition keep masks, and what passes them is judged row by row.
+    /// Only memory and time hang on it.
+    pub fn open_within(
+        alloc: Global,
+        query: TypedQuery,
+        head: &Head,
+        masks: usize,
+    ) -> Result<Engine, AllocError>
+        requires valid { IsValid head.now query }
+        ensures { IfOk result (λ engine. engine ≡ opened query head.now) }
+    {
+        match State::open(alloc, &query, head, masks) {
             Ok(state) => Ok(Engine { query, state }),
             Err(error) => Err(error),
         }

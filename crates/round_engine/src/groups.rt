@@ -39,7 +39,11 @@ pub(crate) struct Groups {
     masks: CellMasks,
 }
 
-// Adds all rows to an item: by masks where these tell it of one cell that has all rows, else each row to the cell that it is in.
+// So many cells are told one after the other by masks. Only how fast they are told hangs on it.
+const FEW_CELLS: u32 = 8;
+
+// Adds all rows to an item: by masks where these tell it of one cell that has all rows, or of each of few, else each row to the cell
+// that it is in.
 fn fill_item(
     query: &TypedQuery,
     item: &Item,
@@ -65,6 +69,8 @@ fn fill_item(
     cells_tell_keys();
     if cells.count() == 1 && is_by_masks(item, columns) {
         masks.fill(query, item, columns, filter, single[0], running);
+    } else if cells.count() <= FEW_CELLS && is_by_masks(item, columns) {
+        masks.fill_parts(query, item, columns, filter, cells, single, running);
     } else {
         fill_cells(query, item, columns, filter, block, cells, single, running);
     }

@@ -10,6 +10,7 @@ mod cells;
 mod column_bounds;
 mod counts;
 mod engine;
+mod few_cells;
 mod filling;
 mod group_columns;
 mod groups;

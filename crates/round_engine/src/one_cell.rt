@@ -20,17 +20,18 @@ use plane_kernels::Mask;
 use query_model::{Expr, Item, TypedQuery};
 use std::alloc::{AllocError, Global};
 
-// Room for the rows that give a value, and for those whose ends are added up; and a mask of no row.
+// Room for the rows of a cell, for those of them that give a value, and for those whose ends are added up; and a mask of no row.
 #[derive(Drop)]
 pub(crate) struct CellMasks {
-    selection: Selection,
-    added: Mask,
-    none: Mask,
+    pub(crate) within: Mask,
+    pub(crate) selection: Selection,
+    pub(crate) added: Mask,
+    pub(crate) none: Mask,
 }
 
 impl<'a> Selected<'a> {
     // The same rows, of which, unless so told, none surely counts.
-    fn certain_if(self, certain: bool, none: &'a Mask) -> Selected<'a>
+    pub(crate) fn certain_if(self, certain: bool, none: &'a Mask) -> Selected<'a>
         ensures may { result.may ≡ self.entry.may }
         ensures must { result.must ≡ (if certain then self.entry.must else none.now) }
     {
@@ -75,6 +76,7 @@ impl CellMasks {
         ensures { IfOk result (HoldMasks rows) }
     {
         Ok(CellMasks {
+            within: Mask::none(alloc, rows)?,
             selection: Selection::open(alloc, rows)?,
             added: Mask::none(alloc, rows)?,
             none: Mask::none(alloc, rows)?,

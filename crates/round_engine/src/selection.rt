@@ -71,6 +71,23 @@ impl Selection {
         self.must.copy_from(filter.must());
         self.must.and_into(known.sure());
     }
+
+    // Selects those of some rows at which a condition holds and a column has a value.
+    pub(crate) fn select_within(&mut self, within: &Mask, filter: &Filter, known: &Known)
+        requires room { HasRows (rows_of_column known.now) self.old }
+        requires within { length within.now ≡ rows_of_column known.now }
+        requires rows { length filter.now.truths ≡ rows_of_column known.now }
+        ensures may { self.new.may ≡ zip2 (λ a b. a && b) (zip2 (λ a b. a && b) within.now (map is_possible filter.now.truths)) (rows_where column.is_possible known.now) }
+        ensures must { self.new.must ≡ zip2 (λ a b. a && b) (zip2 (λ a b. a && b) within.now (map is_certain filter.now.truths)) (rows_where is_sure known.now) }
+    {
+        self.may.copy_from(within);
+        self.may.and_into(filter.may());
+        self.may.and_into(known.possible());
+        self.must.copy_from(within);
+        self.must.and_into(filter.must());
+        self.must.and_into(known.sure());
+    }
+
     // Lends them.
     pub(crate) fn lend(&self) -> Selected<'_>
         ensures { result ≡ self.now }

@@ -30,8 +30,13 @@ pub(crate) struct State {
 }
 
 impl State {
-    // Nothing is read of the query's columns, in a table with that head.
-    pub(crate) fn open(alloc: Global, query: &TypedQuery, head: &Head) -> Result<State, AllocError>
+    // Nothing is read of the query's columns, in a table with that head. So many comparisons and listed numbers keep masks.
+    pub(crate) fn open(
+        alloc: Global,
+        query: &TypedQuery,
+        head: &Head,
+        masks: usize,
+    ) -> Result<State, AllocError>
         requires valid { IsValid head.now query.now }
         ensures kept { IfOk result (IsEngine query.now) }
         ensures unread { IfOk result (λ state. state.columns ≡ unread_table (projected_frame query.now (frame_of head.now))) }
@@ -39,7 +44,7 @@ impl State {
         start_is_knowledge();
         let columns = KnownColumns::open(alloc, query.columns.as_slice(), head)?;
         let mut block = RowBlock::open(alloc, &columns)?;
-        let filter = Filter::open(alloc, &query.pred, &columns, &mut block)?;
+        let filter = Filter::open(alloc, &query.pred, &columns, &mut block, masks)?;
         let mut answers = Answers::open(alloc, query, &columns)?;
         answers.fill(query, &columns, &filter, &mut block);
         Ok(State {

@@ -1,6 +1,6 @@
 //! The cells of rows.
 
-ghost use Rattle.std.specs.Prelude.{◌≡◌, ◌≤◌, ◌<◌, ◌^◌, ◌*◌, All, IsTrue, length, sum, map, take, drop, slice_get};
+ghost use Rattle.std.specs.Prelude.{◌≡◌, ◌≤◌, ◌<◌, ◌^◌, ◌*◌, ◌==◌, All, IsTrue, length, sum, map, take, drop, slice_get};
 ghost use Rattle.std.specs.Prelude.{IfOk, IfSome, IsSome, Some, ◌↔◌};
 ghost use Rattle.std.specs.Simd.Lanes.{zip2};
 ghost use Rattle.daq_table.specs.Tables.{no_ends, planes};
@@ -12,8 +12,9 @@ use crate::cell_keys::CellKeys;
 use crate::keys::read_keys;
 use crate::part::GroupPart;
 use crate::parts::{count_digits, first_cells, raise, unread_parts};
+use crate::picking::equal_bits;
 use daq_table::Ends;
-use plane_kernels::Plane;
+use plane_kernels::{Mask, Plane};
 use std::alloc::{AllocError, Global};
 use std::marker::Model;
 
@@ -94,6 +95,16 @@ impl Cells {
     {
         let rest = &self.cells[64 * block..];
         &rest[..rest.len().min(64)]
+    }
+
+    /// Makes a mask the rows of a cell.
+    pub fn select(&self, cell: u32, rows: &mut Mask)
+        requires { length rows.old ≡ length self.now.cells }
+        ensures { rows.new ≡ map (λ c. c == cell) self.now.cells }
+    {
+        for block in 0..self.cells.len().div_ceil(64) {
+            rows.set_word(block, equal_bits(self.block(block), cell));
+        }
     }
 
     /// How many cells there are.

@@ -8,6 +8,7 @@ mod keys;
 mod laws;
 mod part;
 mod parts;
+mod picking;
 mod planes;
 mod prefix;
 

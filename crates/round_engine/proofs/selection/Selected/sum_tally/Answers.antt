@@ -1,28 +1,44 @@
-use Rattle.std.proofs.Common.{◌≡◌, to_z, of_z, ap, sym, ◌∙◌, arith}
+use Rattle.std.proofs.Common.{◌≡◌, ◌==◌, if◌then◌else◌, None, to_z, of_z, ap, sym, subst, ◌∙◌, arith}
 use Rattle.std.specs.Int.{w128}
 use Rattle.std.proofs.lemmas.Int.{ints}
 use Rattle.query_model.specs.declared.query.ItemKind.TheVariants.{Max, Min}
-use Rattle.query_model.specs.Answers.{answer}
+use Rattle.query_model.specs.Answers.{answer, total}
+use Rattle.query_model.specs.Bounds.{highs, lows}
 use Rattle.aggregates.specs.declared.tally.Tally.{Tally}
-use Rattle.aggregates.specs.Selections.{highs_in, lows_in}
+use Rattle.aggregates.specs.Selections.{MayHaveValues, highs_in, lows_in}
 use Rattle.aggregates.proofs.Appending.{same_tally}
-use Rattle.round_engine.proofs.SelectedBounds.{highs_are, lows_are}
+use Rattle.round_engine.specs.Selected.{pairs_in}
+use Rattle.round_engine.proofs.SelectedBounds.{must_values}
 use Rattle.round_engine.proofs.selection.Selected.sum_tally.Goals as goal
+
+pub sum_ends-sums-requires-clause-values : goal.sum_ends-sums-requires-clause-values
+sum_ends-sums-requires-clause-values c = subst (λ s. MayHaveValues c.args.known.now s.must) (sym c.self.view_is) (must_values c.args.known.now c.args.self.now c.requires.selection)
+
+pub low_shares-requires-clause-certain : goal.low_shares-requires-clause-certain
+low_shares-requires-clause-certain c =
+    let same : to_z w128 (of_z w128 c.sum_ends-sums.result.low) ≡ c.sum_ends-sums.result.low = omega (arith, ints, c.sum_ends-sums.ensures.few.0) in
+    same ∙ c.sum_ends-sums.ensures.low ∙ ap (λ s. total (lows_in c.args.known.now s.must)) c.self.view_is
+
+pub high_shares-requires-clause-certain : goal.high_shares-requires-clause-certain
+high_shares-requires-clause-certain c =
+    let same : to_z w128 (of_z w128 c.sum_ends-sums.result.high) ≡ c.sum_ends-sums.result.high = omega (arith, ints, c.sum_ends-sums.ensures.few.1) in
+    same ∙ c.sum_ends-sums.ensures.high ∙ ap (λ s. total (highs_in c.args.known.now s.must)) c.self.view_is
 
 pub returns-clause-tally : goal.returns-clause-tally
 returns-clause-tally c =
     let column = c.args.known.now in
     let selection = c.args.self.now in
     let is = c.requires.selection in
-    let counts = c.count_tally.ensures column is in
-    let low : to_z w128 (of_z w128 c.low_shares-low_sum.result) ≡ c.low_shares-low_sum.result = omega (arith, ints) in
-    let high : to_z w128 (of_z w128 c.high_shares-high_sum.result) ≡ c.high_shares-high_sum.result = omega (arith, ints) in
+    let counts = c.count_tally-counts.ensures column is in
+    let certain = ap (λ (t : Tally). t.certain) counts in
+    let low : to_z w128 (of_z w128 c.low_shares.result) ≡ c.low_shares.result = omega (arith, ints) in
+    let high : to_z w128 (of_z w128 c.high_shares.result) ≡ c.high_shares.result = omega (arith, ints) in
     sym (same_tally _ _ _ _ _ _ _ _ _
-    (ap (λ (t : Tally). t.certain) counts)
+    certain
     (ap (λ (t : Tally). t.all) counts)
-    (c.least_low.ensures.least ∙ ap (λ s. answer Min (lows_in column s.may)) c.self.view_is ∙ ap (answer Min) (lows_are column selection is))
-    (c.greatest_high.ensures.greatest ∙ ap (λ s. answer Max (highs_in column s.may)) c.self.view_is ∙ ap (answer Max) (highs_are column selection is))
+    (c.low_if_none.ensures ∙ ap (λ n. if n == 0 then answer Min (lows (pairs_in column selection)) else None) certain)
+    (c.high_if_none.ensures ∙ ap (λ n. if n == 0 then answer Max (highs (pairs_in column selection)) else None) certain)
     (ap (λ (t : Tally). t.least_certain_high) counts)
     (ap (λ (t : Tally). t.greatest_certain_low) counts)
-    (low ∙ c.low_shares-low_sum.ensures.sum)
-    (high ∙ c.high_shares-high_sum.ensures.sum))
+    (low ∙ c.low_shares.ensures.sum)
+    (high ∙ c.high_shares.ensures.sum))
