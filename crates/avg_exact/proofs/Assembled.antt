@@ -10,7 +10,8 @@ use Rattle.query_model.specs.Bounds.{Pair, nullity_of, pair_of, pairs}
 use Rattle.query_model.specs.Knowledge.{ranges_of}
 use Rattle.round_engine.specs.Stages.{Stage}
 use Rattle.avg_exact.specs.declared.passes.End.TheVariants.{Low, High}
-use Rattle.avg_exact.specs.ExactAverages.{Choice, ExactAverage, exact_of, fraction_of, high_end, low_end, negated, negated_choice}
+use Rattle.avg_exact.specs.ExactAverages.{Choice, Cut, ExactAverage, IsCutOf, exact_of, fraction_of, high_end, low_end, negated, negated_choice, negative}
+use Rattle.avg_exact.proofs.HighEnds.{high_cut_of}
 use Rattle.avg_exact.specs.Passes.{all_rows, item_at, seen, uncertain_count}
 
 -- the rows of an item
@@ -91,3 +92,11 @@ assembled ps null low high n low_sum high_sum low_rows high_rows e l h u ls lr h
       low_cut = low.cut;
       high_cut = high.cut;
     }
+
+-- so has the low end
+pub low_cut_of : (ps : List Pair) → IsCutOf (low_end ps).cut (low_end ps).taken
+low_cut_of ps = turned (high_end (map negated ps)).cut (high_end (map negated ps)).taken (high_cut_of (map negated ps))
+  where
+    turned : (c : Cut) (n : ℕ) → IsCutOf c n → IsCutOf (option_map negative c) n
+    turned None n h = h
+    turned (Some x) n h = h

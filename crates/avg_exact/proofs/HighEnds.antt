@@ -6,7 +6,7 @@ use Rattle.query_model.specs.Answers.{total}
 use Rattle.query_model.specs.Bounds.{Pair, highs, some_certain}
 use Rattle.query_model.specs.Laws.{AreOutcomes, present}
 use Rattle.query_model.proofs.Integers.{times_pos}
-use Rattle.avg_exact.specs.ExactAverages.{Choice, Cut, IsAllowed, IsHighEnd, IsReached, best_of, choice_of, cuts_of, high_end, rows_counted, rows_taken, takes}
+use Rattle.avg_exact.specs.ExactAverages.{Choice, Cut, IsAllowed, IsCutOf, IsHighEnd, IsReached, best_of, choice_of, cuts_of, high_end, rows_counted, rows_taken, takes}
 use Rattle.avg_exact.proofs.Fractions.{times_suc}
 use Rattle.avg_exact.proofs.Gains.{HasPair, exchange, exchange_strictly, filter_same, gain, gain-is, is_above, outcomes_gain, subset_counts_strictly, with_certain}
 use Rattle.avg_exact.proofs.Cuts.{HasCut, IsLeastUp, IsTried, IsUpward, any_of, counts_some, cut_is_tried, found_any, le_holds, le_is, least_is_reached, least_up, least_up-is, lt_holds, lt_is, not_lt, row_of_cut, some_counted, some_cut, takes-least, takes_more, takes_not_below, takes_own, tried_is_cut}
@@ -323,3 +323,14 @@ greatest_is_high_end ps h t none most =
         let is = row.3 in
         let taken = takes_more fewer.row k h (omega (arith, ints)) fewer.taken in
         true≢false (sym taken ∙ fewer.left)
+
+-- the high end has a cut exactly where it takes rows
+pub high_cut_of : (ps : List Pair) → IsCutOf (high_end ps).cut (high_end ps).taken
+high_cut_of [] = refl
+high_cut_of (p ∷ ps) =
+    let best = best_cut p ps in
+    subst (λ (e : Choice). IsCutOf e.cut e.taken) (sym best.1.best) (by_cut best.0 best.1.tried)
+  where
+    by_cut : (c : Cut) → IsTried (p ∷ ps) c → IsCutOf c (choice_of (p ∷ ps) c).taken
+    by_cut None t = ap length (none_counted (takes None) (p ∷ ps) (λ q has. refl))
+    by_cut (Some h) t = takes_rows (p ∷ ps) h t

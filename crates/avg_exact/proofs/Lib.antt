@@ -9,3 +9,12 @@ pub mod Certain
 pub mod RowPasses
 pub mod Searches
 pub mod Assembled
+pub mod BlockRows
+pub mod RowLists
+pub mod Reaching
+pub mod NumberReach
+pub mod Measured
+pub mod Distances
+pub mod ColumnPairs
+pub mod FurthestRows
+pub mod ColumnEnds

@@ -196,7 +196,7 @@ no_rows_left stage item end r e =
 abbrev pub together : Tally → Tally → Tally
 together t u = record { sum = t.sum +ℤ u.sum; rows = t.rows + u.rows; taken = t.taken + u.taken }
 
-same_tally : (a b : Tally) → a.sum ≡ b.sum → a.rows ≡ b.rows → a.taken ≡ b.taken → a ≡ b
+pub same_tally : (a b : Tally) → a.sum ≡ b.sum → a.rows ≡ b.rows → a.taken ≡ b.taken → a ≡ b
 same_tally a b s r t = grind (arith, s, r, t)
 
 nothing_left : (t : Tally) (over : Option Fraction) → together t (tally_of over []) ≡ t

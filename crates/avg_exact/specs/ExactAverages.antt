@@ -139,6 +139,11 @@ exact_average_of exact = record {
   high_cut = exact.high_cut;
 }
 
+-- a cut is there exactly where rows are taken
+abbrev pub IsCutOf : Cut → ℕ → Type 0
+IsCutOf None taken = taken ≡ 0
+IsCutOf (Some h) taken = 1 ≤ taken
+
 -- ---- the ends by their properties
 
 -- the cut of a choice is the high of an uncertain row

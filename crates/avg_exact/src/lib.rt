@@ -2,10 +2,16 @@
 #![tactic(auto)]
 
 mod average;
+mod block;
 mod exact;
+mod furthest;
 mod laws;
 mod passes;
+mod planes;
 mod search;
+mod sums;
+mod thresholds;
+mod ways;
 
 pub use average::exact_average;
 pub use exact::Exact;

@@ -3,9 +3,11 @@
 ghost use Rattle.std.specs.Prelude.{◌≡◌, ◌≤◌, ◌<◌, ◌^◌, ◌-ℤ◌, pos, nat_abs};
 ghost use Rattle.std.specs.declared.option.Option.TheVariants.{None, Some};
 ghost use Rattle.avg_exact.specs.ExactAverages.{high_end, negated_choice};
+ghost use Rattle.avg_exact.specs.Ways.{IsWay};
 ghost use Rattle.avg_exact.specs.Passes.{all_rows, choice_shown, greatest_high, tally_of, CanTurn, IsAveraged};
 
-use crate::passes::{End, Tally, count_above, greatest, least_above};
+use crate::passes::{End, Tally};
+use crate::ways::{Way, count_above, greatest, least_above};
 use interval_calc::Fraction;
 use round_engine::Engine;
 
@@ -58,18 +60,19 @@ fn mean(tally: Tally) -> Fraction
 }
 
 // Where a row is certain: the uncertain rows that do not lie above the average of the others are dropped, until none is.
-fn search(engine: &Engine, item: usize, end: End, certain: Tally) -> Choice
+fn search(engine: &Engine, item: usize, way: Way, end: End, certain: Tally) -> Choice
     requires averaged { IsAveraged engine.now item }
+    requires way { IsWay engine.now item way }
     requires certain { certain ≡ tally_of None (all_rows engine.now item end) }
     requires some { 1 ≤ certain.rows }
     ensures best { choice_shown result ≡ high_end (all_rows engine.now item end) }
     ensures turns { CanTurn result }
 {
     let mut over = mean(certain);
-    let mut best = count_above(engine, item, end, Some(over));
+    let mut best = count_above(engine, item, way, end, Some(over));
     loop {
         let average = mean(best);
-        let next = count_above(engine, item, end, Some(average));
+        let next = count_above(engine, item, way, end, Some(average));
         if next.taken == best.taken {
             break;
         }
@@ -77,7 +80,7 @@ fn search(engine: &Engine, item: usize, end: End, certain: Tally) -> Choice
         best = next;
     }
     Choice {
-        cut: least_above(engine, item, end, over),
+        cut: least_above(engine, item, way, end, over),
         sum: best.sum,
         rows: best.rows,
         taken: best.taken,
@@ -97,15 +100,16 @@ fn just_below(value: i128) -> Fraction
 }
 
 // Where none is: the rows of the greatest value.
-fn take_greatest(engine: &Engine, item: usize, end: End, value: i128) -> Choice
+fn take_greatest(engine: &Engine, item: usize, way: Way, end: End, value: i128) -> Choice
     requires averaged { IsAveraged engine.now item }
+    requires way { IsWay engine.now item way }
     requires uncertain { (tally_of None (all_rows engine.now item end)).rows ≡ 0 }
     requires greatest { greatest_high (all_rows engine.now item end) ≡ Some value }
     requires small { nat_abs value < 2 ^ 127 }
     ensures best { choice_shown result ≡ high_end (all_rows engine.now item end) }
     ensures turns { CanTurn result }
 {
-    let tally = count_above(engine, item, end, Some(just_below(value)));
+    let tally = count_above(engine, item, way, end, Some(just_below(value)));
     Choice {
         cut: Some(value),
         sum: tally.sum,
@@ -115,17 +119,18 @@ fn take_greatest(engine: &Engine, item: usize, end: End, value: i128) -> Choice
 }
 
 /// The choice of the greatest average, and of those the one that takes the fewest rows. Where no row may count it is the average 0 / 1.
-pub(crate) fn best_choice(engine: &Engine, item: usize, end: End) -> Choice
+pub(crate) fn best_choice(engine: &Engine, item: usize, way: Way, end: End) -> Choice
     requires averaged { IsAveraged engine.now item }
+    requires way { IsWay engine.now item way }
     ensures best { choice_shown result ≡ high_end (all_rows engine.now item end) }
     ensures turns { CanTurn result }
 {
-    let certain = count_above(engine, item, end, None);
+    let certain = count_above(engine, item, way, end, None);
     if certain.rows > 0 {
-        return search(engine, item, end, certain);
+        return search(engine, item, way, end, certain);
     }
-    match greatest(engine, item, end) {
-        Some(value) => take_greatest(engine, item, end, value),
+    match greatest(engine, item, way, end) {
+        Some(value) => take_greatest(engine, item, way, end, value),
         None => Choice {
             cut: None,
             sum: 0,

@@ -127,13 +127,19 @@ fn follow(alloc: Global, engine: &mut Engine, planes: usize) -> Result<(), Alloc
     Ok(())
 }
 
-// The engine of the query after so many planes.
-fn engine_after(alloc: Global, pred: Pred, planes: usize) -> Result<Engine, AllocError>
+// The engine of the query after so many planes, where so many comparisons keep masks.
+fn engine_after(
+    alloc: Global,
+    pred: Pred,
+    planes: usize,
+    masks: usize,
+) -> Result<Engine, AllocError>
     requires columns { PredReadsBelow 2 (condition_of pred) }
     requires compared { (head : Head) (query : Query) → CanCompareIn head query (condition_of pred) }
     ensures { IfOk result (λ engine. engine.frame.rows ≡ 3) }
 {
-    let mut engine = Engine::open(alloc, null_query(alloc, pred)?, &null_head(alloc)?)?;
+    let query = null_query(alloc, pred)?;
+    let mut engine = Engine::open_within(alloc, query, &null_head(alloc)?, masks)?;
     follow(alloc, &mut engine, planes)?;
     Ok(engine)
 }
@@ -159,12 +165,17 @@ fn item_at(engine: &Engine, item: usize) -> Told
     }
 }
 
-// What is told of the four items after so many planes.
-fn told_after(alloc: Global, pred: Pred, planes: usize) -> Result<[Told; 4], AllocError>
+// What is told of the four items then.
+fn told_after(
+    alloc: Global,
+    pred: Pred,
+    planes: usize,
+    masks: usize,
+) -> Result<[Told; 4], AllocError>
     requires columns { PredReadsBelow 2 (condition_of pred) }
     requires compared { (head : Head) (query : Query) → CanCompareIn head query (condition_of pred) }
 {
-    let engine = engine_after(alloc, pred, planes)?;
+    let engine = engine_after(alloc, pred, planes, masks)?;
     Ok([
         item_at(&engine, 0),
         item_at(&engine, 1),
@@ -226,7 +237,7 @@ fn null_is_left_out(rt: HostRuntime) -> Result<(), Fail> {
     ] {
         let want = wanted(planes, count, sum, sum_of_both);
         assert_eq!(rt;
-            told_after(rt.alloc(), Pred::All, planes)?,
+            told_after(rt.alloc(), Pred::All, planes, 64)?,
             want,
             "{planes} planes"
         );
@@ -238,9 +249,9 @@ fn null_is_left_out(rt: HostRuntime) -> Result<(), Fail> {
 #[test]
 fn null_rows_have_no_value(rt: HostRuntime) -> Result<(), Fail> {
     let alloc = rt.alloc();
-    let unread = told_after(alloc, Pred::Atom(Atom::IsNull { column: 0 }), 0)?;
+    let unread = told_after(alloc, Pred::Atom(Atom::IsNull { column: 0 }), 0, 64)?;
     assert_eq!(rt; unread[0], never(0, 3, Nullity::Never));
-    let read = told_after(alloc, Pred::Atom(Atom::IsNull { column: 0 }), 1)?;
+    let read = told_after(alloc, Pred::Atom(Atom::IsNull { column: 0 }), 1, 64)?;
     assert_eq!(rt; read[0], never(1, 1, Nullity::Never));
     assert_eq!(rt; read[1], never(0, 0, Nullity::Always));
     Ok(())
@@ -259,23 +270,25 @@ fn not_above_seven(alloc: Global) -> Result<Pred, AllocError>
 }
 
 // The number of rows at which NOT v > 7 holds, after so many planes.
-fn count_not_above_seven(alloc: Global, planes: usize) -> Result<Told, AllocError> {
-    let told = told_after(alloc, not_above_seven(alloc)?, planes)?;
+fn count_not_above_seven(alloc: Global, planes: usize, masks: usize) -> Result<Told, AllocError> {
+    let told = told_after(alloc, not_above_seven(alloc)?, planes, masks)?;
     Ok(told[0])
 }
 
+// By a mask of the comparison, and row by row where it keeps none.
 #[test]
 fn null_is_not_above_and_not_below(rt: HostRuntime) -> Result<(), Fail> {
     for (planes, lo, hi) in [(0, 0, 3), (1, 0, 2), (2, 0, 1), (3, 1, 1)] {
         let want = never(lo, hi, Nullity::Never);
-        assert_eq!(rt; count_not_above_seven(rt.alloc(), planes)?, want);
+        assert_eq!(rt; count_not_above_seven(rt.alloc(), planes, 64)?, want);
+        assert_eq!(rt; count_not_above_seven(rt.alloc(), planes, 0)?, want);
     }
     Ok(())
 }
 
 // The planes that v refuses, told one by one: digits behind null, after the plane that tells null.
 fn refused(alloc: Global) -> Result<[Option<OverTop>; 2], AllocError> {
-    let mut engine = engine_after(alloc, Pred::All, 1)?;
+    let mut engine = engine_after(alloc, Pred::All, 1, 64)?;
     let behind_null = step(alloc, &mut engine, 0, [0, 1, 1])?;
     Ok([behind_null, step(alloc, &mut engine, 0, [0, 0, 1])?])
 }

@@ -1,13 +1,14 @@
-use Rattle.std.proofs.Common.{◌≡◌, [], ap, ◌∙◌}
+use Rattle.std.proofs.Common.{◌≡◌, [], subst, sym, ap, ◌∙◌}
 use Rattle.daq_table.specs.declared.table_head.Head.{Head}
 use Rattle.daq_table.specs.Tables.{frame_of}
 use Rattle.query_model.specs.Bounds.{AverageBound, average_under, fractions_of}
 use Rattle.query_model.specs.Validity.{FitsHead}
 use Rattle.avg_exact.specs.declared.exact.Exact.{Exact}
-use Rattle.avg_exact.specs.ExactAverages.{exact_average_of, exact_under, high_end}
+use Rattle.avg_exact.specs.ExactAverages.{Choice, IsCutOf, exact_average_of, exact_under, high_end}
 use Rattle.avg_exact.specs.Passes.{choice_shown, item_at, uncertain_count}
 use Rattle.avg_exact.specs.Promises.{IsCertainExact}
-use Rattle.avg_exact.proofs.Assembled.{assembled, for_item, high_rows, low_choice, pairs_at}
+use Rattle.avg_exact.proofs.Assembled.{assembled, for_item, high_rows, low_choice, low_cut_of, pairs_at}
+use Rattle.avg_exact.proofs.HighEnds.{high_cut_of}
 use Rattle.avg_exact.proofs.Certain.{exact_is_certain}
 use Rattle.avg_exact.proofs.ListEnds.{average_word}
 use Rattle.avg_exact.proofs.RowPasses.{of_item}
@@ -43,3 +44,13 @@ returns-clause-certain c =
     let stage = c.args.engine.now in
     for_item stage c.args.item (λ i. (head : Head) → FitsHead stage.query stage.frame head → IsCertainExact stage i (frame_of head)) c.requires.item
     (λ head fits. exact_is_certain stage (item_at stage c.args.item) head c.query-open.ensures.knowledge fits)
+
+pub returns-clause-cuts : goal.returns-clause-cuts
+returns-clause-cuts c =
+    let stage = c.args.engine.now in
+    let ps = pairs_at stage c.args.item in
+    let low = low_choice stage c.args.item (choice_shown c.negated-low.result) (choice_shown c.best_choice.result) c.negated-low.ensures.choice c.best_choice.ensures.best in
+    let high = c.best_choice-high.ensures.best ∙ ap high_end (high_rows stage c.args.item) in (
+      subst (λ (e : Choice). IsCutOf e.cut e.taken) (sym low) (low_cut_of ps),
+      subst (λ (e : Choice). IsCutOf e.cut e.taken) (sym high) (high_cut_of ps),
+    )
