@@ -1,0 +1,11 @@
+pub mod Awaiting
+pub mod Handing
+pub mod Alone
+pub mod Keeping
+pub mod Counting
+pub mod Found
+pub mod Telling
+pub mod Opening
+pub mod Stepping
+pub mod Progressing
+pub mod Columns

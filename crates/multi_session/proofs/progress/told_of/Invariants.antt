@@ -1,0 +1,6 @@
+use Rattle.multi_session.specs.Members.{stages_of}
+use Rattle.multi_session.specs.Sessions.{TellsColumns}
+use Rattle.multi_session.proofs.progress.told_of.Given as goal
+
+abbrev pub invariant-loop-column : goal.invariant-loop-column
+invariant-loop-column l = TellsColumns l.width l.places (stages_of l.members) l.column l.unread l.role

@@ -1,0 +1,4 @@
+pub mod Sessions
+pub mod Alone
+pub mod Limits
+pub mod Members

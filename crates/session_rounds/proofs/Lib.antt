@@ -1,0 +1,15 @@
+pub mod Judging
+pub mod Lists
+pub mod Named
+pub mod Own
+pub mod Standing
+pub mod Begun
+pub mod Alone
+pub mod Outlooks
+pub mod Fitting
+pub mod Taking
+pub mod Going
+pub mod One
+pub mod Told
+pub mod Short
+pub mod End
