@@ -23,6 +23,7 @@ pub mod Runs
 pub mod Widths
 pub mod Blocks
 pub mod Rounds
+pub mod SomePlanes
 pub mod Loops
 pub mod Tables
 pub mod Signed

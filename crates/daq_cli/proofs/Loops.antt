@@ -52,7 +52,7 @@ cause_after causes (Err (Step fault)) old mid new before cause = cause
 -- ---- a line before the rounds
 
 module _ (line : List ℕ) (head : Head) (plan : Plan) (query : TypedQuery) (bits : Planes) (places : Places) (shows : OfPlanes) where
-  fails_after : (reads : List ℕ) (old mid new : SinkState) → Writes whole old mid line → FailsInLast [] head plan query bits reads mid new → FailsInLast line head plan query bits reads old new
+  pub fails_after : (reads : List ℕ) (old mid new : SinkState) → Writes whole old mid line → FailsInLast [] head plan query bits reads mid new → FailsInLast line head plan query bits reads old new
   fails_after [] old mid new first fails = writes_both tt partly old mid new line (rounds_text head plan query bits []) first fails
   fails_after (c ∷ reads) old mid new first (next, begun, last) = (next, writes_both tt whole old mid next line (blocks_below head plan query bits (c ∷ reads) (length (c ∷ reads))) first begun, last)
 

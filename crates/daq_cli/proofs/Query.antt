@@ -135,9 +135,9 @@ module _ (law : StepsAreExact) (q : line.Query) (planes planes' : StoreState) (o
   query_shown why other (at_question query file is_text opens p o) (inl r) = absurd ((law.sql q.sql).apart query other is_text r)
   query_shown why other (at_question query file is_text opens p o) (inr (bytes, told, r)) =
       inl ((law.report q bytes).same why other (inl (inr (query, is_text, inr (file, opened_told planes planes' bytes told file opens, p)))) r)
-  query_shown why other (at_write opened begun rose cut) shows = inr (inr (inr ((opened, begun), rose, refl)))
-  query_shown why other (at_plane opened begun stop is cause stopped) (inl r) = absurd ((law.sql q.sql).apart begun.query other begun.is_text r)
-  query_shown why other (at_plane opened begun stop is cause stopped) (inr (bytes, told, r)) = by (plane_told opened begun stop why bytes told is stopped)
+  query_shown why other (at_write opened begun rose written cut) shows = inr (inr (inr ((opened, begun), rose, refl)))
+  query_shown why other (at_plane opened begun stop is cause written stopped) (inl r) = absurd ((law.sql q.sql).apart begun.query other begun.is_text r)
+  query_shown why other (at_plane opened begun stop is cause written stopped) (inr (bytes, told, r)) = by (plane_told opened begun stop why bytes told is stopped)
     where
       by : (report_step q bytes).shows why ⊎ Rose planes.faults planes'.faults → (why ≡ other) ⊎ (why ≡ NoMemory) ⊎ Rose planes.faults planes'.faults ⊎ Fails why
       by (inl shown) = inl ((law.report q bytes).same why other shown r)
@@ -156,8 +156,8 @@ module _ (law : StepsAreExact) (q : line.Query) (planes planes' : StoreState) (o
       by (inr (inr rose)) = inr (inl rose)
   query_accepted why text (at_question query file is_text opens p o) (bytes, told, accepts) =
       absurd ((law.report q bytes).apart text why accepts (inl (inr (query, is_text, inr (file, opened_told planes planes' bytes told file opens, p)))))
-  query_accepted why text (at_write opened begun rose cut) accepts = inr (inr rose)
-  query_accepted why text (at_plane opened begun stop is cause stopped) (bytes, told, accepts) = by (plane_told opened begun stop why bytes told is stopped)
+  query_accepted why text (at_write opened begun rose written cut) accepts = inr (inr rose)
+  query_accepted why text (at_plane opened begun stop is cause written stopped) (bytes, told, accepts) = by (plane_told opened begun stop why bytes told is stopped)
     where
       by : (report_step q bytes).shows why ⊎ Rose planes.faults planes'.faults → (why ≡ NoMemory) ⊎ Rose planes.faults planes'.faults ⊎ Rose out.faults out'.faults
       by (inl shown) = absurd ((law.report q bytes).apart text why accepts shown)
@@ -170,6 +170,6 @@ pub query_unwritten : (q : line.Query) (planes planes' : StoreState) (out out' :
 query_unwritten q planes planes' out out' why (at_words p s o) = inl o
 query_unwritten q planes planes' out out' why (at_file query is_text stop o) = inl o
 query_unwritten q planes planes' out out' why (at_question query file is_text opens p o) = inl o
-query_unwritten q planes planes' out out' why (at_write opened begun rose cut) = inr (inr refl)
-query_unwritten q planes planes' out out' why (at_plane opened begun fault is cause stopped) = inr (inl (opened, begun))
+query_unwritten q planes planes' out out' why (at_write opened begun rose written cut) = inr (inr refl)
+query_unwritten q planes planes' out out' why (at_plane opened begun fault is cause written stopped) = inr (inl (opened, begun))
 query_unwritten q planes planes' out out' why (no_memory few read o) = inl o

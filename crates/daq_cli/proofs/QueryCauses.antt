@@ -26,7 +26,7 @@ use Rattle.table_rounds.specs.declared.reading.StepFault.{StepFault}
 use Rattle.table_rounds.specs.declared.reading.StepFault.TheVariants.{Source, OverTop}
 use Rattle.daq_cli.specs.Faults as of
 use Rattle.daq_cli.specs.Questions.{ShowsText, StopsPlanning, asked_with}
-use Rattle.daq_cli.specs.Report.{CausesAfter, EndsRounds, HasStopCause, query_line}
+use Rattle.daq_cli.specs.Report.{CausesAfter, EndsOverSome, EndsRounds, HasStopCause, query_line}
 use Rattle.daq_cli.specs.commands.Query.{AreCertainOf, Begins, Queries, QueryCause, StopsAfter, at_words, at_file, at_question, at_write, at_plane, no_memory}
 use Rattle.daq_cli.specs.declared.refusal.Refusal.{Refusal}
 use Rattle.daq_cli.specs.declared.refusal.Refusal.TheVariants.{NoMemory}
@@ -92,6 +92,10 @@ module _ (words : line.Query) (planes opened planes' : StoreState) (out out' : S
       EndsRounds (query_line (printed begun.query)) begun.file.head begun.plan begun.typed (bits_at begun.file.head bytes) (plane_places begun.file.head) (IsUnpadded begun.file.head bytes) (StopsAfter begun.file.head opened planes') result out out'
       (option_map laid opened.pieces) (option_map laid planes'.pieces)
 
+  -- what was written, told or not
+  abbrev Written : Result (Unit {0}) (Stop PlaneFault) → Type 0
+  Written result = EndsOverSome (query_line (printed begun.query)) begun.file.head begun.plan begun.typed result out out'
+
   headline : (bytes reads : List ℕ) → AreRounds begun.plan begun.typed (frame_of begun.file.head) (bits_at begun.file.head bytes) reads →
       AreCertainOf begun.typed (frame_of begun.file.head) (bits_at begun.file.head bytes) reads
   headline bytes reads rounds = λ cells has. certain begun.plan begun.typed (frame_of begun.file.head) (bits_at begun.file.head bytes) reads cells named longs rounds has
@@ -104,10 +108,11 @@ module _ (words : line.Query) (planes opened planes' : StoreState) (out out' : S
       by None p = tt
       by (Some bytes) p = f bytes p
 
-  pub query_done : IfSome opened.held (Ends (Ok tt)) → Queries words planes planes' out out'
-  query_done ends = record {
+  pub query_done : Written (Ok tt) → IfSome opened.held (Ends (Ok tt)) → Queries words planes planes' out out'
+  query_done written ends = record {
     opened = opened;
     begun = begun;
+    written = written;
     completed = told_before _ _ (λ bytes rounds. record { rounds = rounds; headline = headline bytes rounds.reads rounds.rounds.rounds }) ends;
   }
 
@@ -117,11 +122,11 @@ module _ (words : line.Query) (planes opened planes' : StoreState) (out out' : S
   stop_rounds bytes causes (Source error) reads handed (next, followed, failed, rest) = followed.rounds
   stop_rounds bytes causes (OverTop column plane row) reads handed (refused, all) = refused.followed.rounds
 
-  pub query_stop : (stop : Stop PlaneFault) (why : Refusal) → why ≡ of.stop stop → HasStopCause (StopsAfter begun.file.head opened planes') (Err stop) out out' → IfSome opened.held (Ends (Err stop)) →
+  pub query_stop : (stop : Stop PlaneFault) (why : Refusal) → why ≡ of.stop stop → HasStopCause (StopsAfter begun.file.head opened planes') (Err stop) out out' → Written (Err stop) → IfSome opened.held (Ends (Err stop)) →
       QueryCause words planes planes' out out' why
-  query_stop Failed why is cause ends =
+  query_stop Failed why is cause written ends =
       subst (QueryCause words planes planes' out out') (sym is)
-      (at_write opened begun cause (told_before _ _ (λ bytes rounds. record { rounds = rounds; headline = headline bytes rounds.reads rounds.rounds }) ends))
-  query_stop (Step fault) why is cause ends =
-      at_plane opened begun fault is cause
+      (at_write opened begun cause written (told_before _ _ (λ bytes rounds. record { rounds = rounds; headline = headline bytes rounds.reads rounds.rounds }) ends))
+  query_stop (Step fault) why is cause written ends =
+      at_plane opened begun fault is cause written
       (told_before _ _ (λ bytes rounds. record { rounds = rounds; headline = headline bytes rounds.reads (stop_rounds bytes (StopsAfter begun.file.head opened planes' rounds.at) fault rounds.reads rounds.more rounds.stop) }) ends)

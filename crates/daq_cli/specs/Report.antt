@@ -1,5 +1,5 @@
 -- The text of a report: the query, a block for each round, and why the rounds ended.
-use Rattle.std.specs.Prelude.{◌≡◌, ℕ, zero, suc, Ok, Err, IfSome, List, [], ◌∷◌, ◌++◌, length, codes}
+use Rattle.std.specs.Prelude.{◌≡◌, ℕ, zero, suc, Ok, Err, IfSome, IsSome, IsNone, List, [], ◌∷◌, ◌++◌, length, codes}
 use Rattle.std.specs.Io.KnownBytes.{Appends}
 use Rattle.std.specs.declared.option.Option.{Option}
 use Rattle.std.specs.declared.option.Option.TheVariants.{Some, None}
@@ -139,3 +139,26 @@ HasStopCause causes (Ok done) old new = Unit {0}
 HasStopCause causes (Err Failed) old new = Rose old.faults new.faults
 HasStopCause causes (Err (Step fault)) old new =
     OnFailed fault (λ error. (at : Option (List ℕ)) × (column : ℕ) × (number : ℕ) × causes at column number error)
+
+-- rounds over some planes, which come to this, were written behind a line
+pub record WritesOverSome (line : List ℕ) (head : Head) (plan : Plan) (query : TypedQuery) (come : Option Ending → Type 0)
+    (old new : SinkState) : Type 0 where
+  pub bits : Planes
+  pub reads : List ℕ
+  pub rounds : AreRounds plan query (frame_of head) bits reads
+  pub come_to : come (ending_at plan (stage_after query (frame_of head) bits reads (length reads)))
+  pub written : Writes whole old new (line ++ rounds_text head plan query bits reads)
+
+-- a write failed in the last of rounds over some planes
+pub record FailsOverSome (line : List ℕ) (head : Head) (plan : Plan) (query : TypedQuery) (old new : SinkState) : Type 0 where
+  pub bits : Planes
+  pub reads : List ℕ
+  pub rounds : AreRounds plan query (frame_of head) bits reads
+  pub written : FailsInLast line head plan query bits reads old new
+
+-- what was written is of rounds over some planes: of all; or a write failed in the last; or they go on, but the next plane is not taken
+abbrev pub EndsOverSome : {E : Type 0} → List ℕ → Head → Plan → TypedQuery → Result (Unit {0}) (Stop E)
+    → SinkState → SinkState → Type 0
+EndsOverSome line head plan query (Ok done) old new = WritesOverSome line head plan query IsSome old new
+EndsOverSome line head plan query (Err Failed) old new = FailsOverSome line head plan query old new
+EndsOverSome line head plan query (Err (Step fault)) old new = WritesOverSome line head plan query IsNone old new

@@ -8,7 +8,7 @@ ghost use Rattle.plane_schedule.specs.Plans.{IsReadable};
 ghost use Rattle.query_model.specs.Validity.{IsValid};
 ghost use Rattle.round_engine.specs.Stages.{opened};
 ghost use Rattle.daq_cli.specs.Questions.{ReportsRounds};
-ghost use Rattle.daq_cli.specs.Report.{EndsTold, FailsSince, HasStopCause, ending_line, query_line};
+ghost use Rattle.daq_cli.specs.Report.{EndsOverSome, EndsTold, FailsSince, HasStopCause, ending_line, query_line};
 ghost use Rattle.daq_cli.specs.Worlds.{partly, whole};
 ghost use Rattle.sql_print.specs.Printed.{printed};
 ghost use Rattle.sql_text.specs.Tree.{Query};
@@ -19,13 +19,14 @@ use daq_table::Table;
 use outer_world::{Failed, Sink, write_pieces, write_whole};
 use plane_kernels::Plane;
 use plane_schedule::{
-    Chooser, Ending, Plan, Policy, Progress, filter_first, in_order, listed, widest,
+    Chooser, Ending, Plan, Policy, Progress, filter_first, in_order, listed, policies_choose,
+    widest,
 };
 use query_model::valid_queries_name_columns;
 use round_engine::Engine;
 use table_rounds::{
     PlaneSource, StepFault, ending, heads_are_of_longs, read_next, rounds_are_certain,
-    rounds_are_counted, rounds_begin, rounds_have_an_end, tables_are_taken,
+    rounds_are_counted, rounds_begin, rounds_have_an_end, rounds_have_planes, tables_are_taken,
 };
 
 // Writes the line of the query with that printed form.
@@ -67,12 +68,15 @@ fn write_rounds<S: PlaneSource, F: Fn(&Progress) -> usize, K: Sink>(
     requires follows { Follows F.Fn chooser.now.choose plan.now.policy }
     ensures since { S.since source.old source.new }
     ensures cause { HasStopCause (FailsSince S.handed S.since S.fails source.old source.new) result (K.state out.old) (K.state out.new) }
+    ensures written { EndsOverSome [] (S.told source.old).head plan.now engine.old.query result (K.state out.old) (K.state out.new) }
     ensures ends { EndsTold [] plan.now engine.old.query (S.told source.old) (S.places source.old) (S.shows source.old)
         (FailsSince S.handed S.since S.fails source.old source.new) result
         (K.state out.old) (K.state out.new) (S.handed source.old) (S.handed source.new) }
 {
     rounds_begin();
     rounds_are_counted();
+    rounds_have_planes();
+    policies_choose();
     let mut last = None;
     'rounds: loop {
         let ended = ending(engine, plan);
@@ -90,7 +94,11 @@ fn write_rounds<S: PlaneSource, F: Fn(&Progress) -> usize, K: Sink>(
                 write_ending(why, out)?;
                 return Ok(());
             }
-            None => last = Some(read_next(engine, source, chooser, plane)?),
+            None => {
+                last = Some(read_next(engine, source, chooser, plane)?);
+                // The query's clause says that what is known is a knowledge.
+                let _query = engine.query();
+            }
         }
     }
 }
@@ -112,6 +120,7 @@ fn write_planned<S: PlaneSource, K: Sink>(
     requires ready { S.is_ready source.old }
     ensures since { S.since source.old source.new }
     ensures cause { HasStopCause (FailsSince S.handed S.since S.fails source.old source.new) result (K.state out.old) (K.state out.new) }
+    ensures written { EndsOverSome [] (S.told source.old).head plan.now engine.old.query result (K.state out.old) (K.state out.new) }
     ensures ends { EndsTold [] plan.now engine.old.query (S.told source.old) (S.places source.old) (S.shows source.old)
         (FailsSince S.handed S.since S.fails source.old source.new) result
         (K.state out.old) (K.state out.new) (S.handed source.old) (S.handed source.new) }
@@ -170,6 +179,8 @@ pub(crate) fn write_report<S: PlaneSource, K: Sink>(
     requires ready { S.is_ready source.old }
     ensures since { S.since source.old source.new }
     ensures cause { HasStopCause (FailsSince S.handed S.since S.fails source.old source.new) result (K.state out.old) (K.state out.new) }
+    ensures written { EndsOverSome (query_line sql.now) (S.told source.old).head plan.now engine.old.query result
+        (K.state out.old) (K.state out.new) }
     ensures ends { EndsTold (query_line sql.now) plan.now engine.old.query (S.told source.old) (S.places source.old) (S.shows source.old)
         (FailsSince S.handed S.since S.fails source.old source.new) result
         (K.state out.old) (K.state out.new) (S.handed source.old) (S.handed source.new) }

@@ -1,5 +1,5 @@
 -- `query`: a question to the table whose planes a file holds. Its head is read, and then the planes of the rounds, and nothing else.
-use Rattle.std.specs.Prelude.{◌≡◌, ◌⊎◌, ℕ, ◌≤◌, List, IfSome, length, option_map, Some}
+use Rattle.std.specs.Prelude.{◌≡◌, ◌⊎◌, ℕ, ◌≤◌, List, IfSome, IsSome, IsNone, length, option_map, Some}
 use Rattle.std.specs.declared.option.Option.{Option}
 use Rattle.std.specs.declared.option.Option.TheVariants.{None}
 use Rattle.std.specs.declared.result.Result.{Result}
@@ -27,7 +27,7 @@ use Rattle.table_rounds.specs.declared.reading.StepFault.{StepFault}
 use Rattle.daq_cli.specs.Faults as of
 use Rattle.daq_cli.specs.Files.{StopsOpening, file_step}
 use Rattle.daq_cli.specs.Questions.{Asked, IsAnswerable, IsPlanned, ShowsQuestion, asked_with, sql_step}
-use Rattle.daq_cli.specs.Report.{CausesAfter, EndsRounds, Fails, Finishes, Stops, query_line, report}
+use Rattle.daq_cli.specs.Report.{CausesAfter, EndsRounds, Fails, FailsOverSome, Finishes, Stops, WritesOverSome, query_line, report}
 use Rattle.daq_cli.specs.Steps.{Step, then}
 use Rattle.daq_cli.specs.declared.refusal.Refusal.{Refusal}
 use Rattle.daq_cli.specs.declared.refusal.Refusal.TheVariants.{PadBits, OverTop, WriteFault, NoMemory}
@@ -141,10 +141,11 @@ module _ (words : line.Query) (planes opened planes' : StoreState) (out out' : S
         (option_map laid opened.pieces) (option_map laid planes'.pieces)
     pub headline : AreCertainOf begun.typed (frame_of begun.file.head) (bits_at begun.file.head bytes) rounds.reads
 
--- a `query` was done
+-- a `query` was done. Told or not, the report is that of all rounds over some planes
 pub record Queries (words : line.Query) (planes planes' : StoreState) (out out' : SinkState) : Type 0 where
   pub opened : StoreState
   pub begun : Begins words planes opened
+  pub written : WritesOverSome (query_line (printed begun.query)) begun.file.head begun.plan begun.typed IsSome out out'
   pub completed : IfSome planes.held (Completed words planes opened planes' out out' begun)
 
 -- why a plane behind the opening is not read, told or not
@@ -152,7 +153,8 @@ abbrev pub PlaneCause : Head → StoreState → StoreState → StepFault PlaneFa
 PlaneCause head opened last fault =
     OnFailed fault (λ error. (at : Option (List ℕ)) × (column : ℕ) × (number : ℕ) × StopsAfter head opened last at column number error)
 
--- why a `query` stops. Before its first round nothing was written
+-- why a `query` stops. Before its first round nothing was written; from then on, told or not, rounds over some planes, and in a failed
+-- write a part of the last
 pub data QueryCause (words : line.Query) (planes planes' : StoreState) (out out' : SinkState) : Refusal → Type 0 where
   at_words : {why : Refusal} → (sql_step words.sql).shows why → planes' ≡ planes → out' ≡ out → QueryCause words planes planes' out out' why
   at_file : {why : Refusal} (query : sql.Query) → IsText words.sql query → StopsOpening planes planes' why → out' ≡ out →
@@ -160,9 +162,11 @@ pub data QueryCause (words : line.Query) (planes planes' : StoreState) (out out'
   at_question : {why : Refusal} (query : sql.Query) (file : Opened) → IsText words.sql query → Opens planes planes' file →
       ShowsQuestion (asked_with query words.options file.head) why → out' ≡ out → QueryCause words planes planes' out out' why
   at_write : (opened : StoreState) (begun : Begins words planes opened) → Rose out.faults out'.faults →
+      FailsOverSome (query_line (printed begun.query)) begun.file.head begun.plan begun.typed out out' →
       IfSome planes.held (CutOff words planes opened planes' out out' begun) → QueryCause words planes planes' out out' WriteFault
   at_plane : {why : Refusal} (opened : StoreState) (begun : Begins words planes opened) (fault : StepFault PlaneFault) → why ≡ of.step fault →
       PlaneCause begun.file.head opened planes' fault →
+      WritesOverSome (query_line (printed begun.query)) begun.file.head begun.plan begun.typed IsNone out out' →
       IfSome planes.held (λ bytes. Stopped words planes opened planes' out out' begun bytes fault) → QueryCause words planes planes' out out' why
   no_memory : length words.sql ≤ 4096 → (planes' ≡ planes ⊎ ((file : Opened) × Opens planes planes' file)) → out' ≡ out →
       QueryCause words planes planes' out out' NoMemory

@@ -11,7 +11,7 @@ ghost use Rattle.round_engine.specs.Stages.{opened};
 ghost use Rattle.sql_print.specs.Printed.{printed};
 ghost use Rattle.sql_text.specs.Answer.{IsText};
 ghost use Rattle.sql_text.specs.Tree as sql;
-ghost use Rattle.daq_cli.specs.Report.{HasStopCause};
+ghost use Rattle.daq_cli.specs.Report.{EndsOverSome, HasStopCause, query_line};
 ghost use Rattle.daq_cli.specs.commands.Query.{EndsFile, HasOpened, Queries, QueryCause, StopsAfter};
 
 use crate::question::{prepare, read_query};
@@ -50,6 +50,8 @@ fn report_planes<P: Store, K: Sink>(
     ensures same { HoldsSame (P.state source.old.store.now) (P.state source.new.store.now) }
     ensures cause { HasStopCause (StopsAfter source.old.file.now.head (P.state source.old.store.now) (P.state source.new.store.now)) result
         (K.state out.old) (K.state out.new) }
+    ensures written { EndsOverSome (query_line sql.now) source.old.file.now.head plan.now engine.old.query result
+        (K.state out.old) (K.state out.new) }
     ensures ends { EndsFile sql.now plan.now engine.old.query source.old.file.now.head result
         (P.state source.old.store.now) (P.state source.new.store.now) (K.state out.old) (K.state out.new) }
 {
@@ -76,6 +78,8 @@ fn report_file<P: Store, K: Sink>(
     requires readable { IsReadable plan.now.policy engine.old.frame }
     ensures same { HoldsSame (P.state planes.old) (P.state planes.new) }
     ensures cause { HasStopCause (StopsAfter file.now.head (P.state planes.old) (P.state planes.new)) result
+        (K.state out.old) (K.state out.new) }
+    ensures written { EndsOverSome (query_line sql.now) file.now.head plan.now engine.old.query result
         (K.state out.old) (K.state out.new) }
     ensures ends { EndsFile sql.now plan.now engine.old.query file.now.head result
         (P.state planes.old) (P.state planes.new) (K.state out.old) (K.state out.new) }

@@ -13,6 +13,7 @@ use Rattle.daq_cli.specs.Worlds.{partly, whole}
 use Rattle.daq_cli.proofs.Loops.{all_some, as_partly, as_whole, if_both, if_some, rose_later}
 use Rattle.daq_cli.specs.Report.{FailsSince}
 use Rattle.daq_cli.proofs.Rounds.{Reached, all_written, block_in_part, block_is, cause_since, first_reached, line_in_part, read_further, refused_before, stopped, stops_since}
+use Rattle.daq_cli.proofs.SomePlanes.{block_part_some, first_some, line_part_some, next_some, stopped_some, written_some}
 use Rattle.daq_cli.proofs.report.write_rounds.Goals as goal
 
 pub rounds-init : goal.rounds-init
@@ -25,6 +26,7 @@ rounds-init g c =
     record {
       reached = all_some told.bits _ (λ bits. first_reached plan told.head query bits places shows c.args.engine.now (g.K.Sink.state c.args.out.now) (g.S.PlaneSource.handed c.args.source.now)
           (subst (λ s. IsAfter plan query (frame_of told.head) bits [] s) (sym c.requires.opened) (c.rounds_begin.ensures plan query told.head bits)));
+      some = first_some plan told.head query c.args.engine.now (g.K.Sink.state c.args.out.now) c.rounds_begin.ensures c.requires.opened;
       told = refl;
       ready = c.requires.ready;
       since = g.met.S.PlaneSource.since_itself c.args.source.now;
@@ -131,6 +133,7 @@ rounds-preserved g c =
     let next : IsNextRound plan told engine new column =
     subst (λ t. IsNextRound plan t engine new column) c.rounds.invariant.told (c.in_ok-read_next-in-None.ensures.next plan c.requires.follows readable going) in
     let inside = subst (λ f. column < length f.columns) frame_is c.in_ok-read_next-in-None.ensures.unread.column in
+    let below = subst (λ n. column < n) (columns_of_part query (frame_of told.head)) inside in
     record {
       reached = if_both told.bits (λ bits. Reached plan told.head query bits places shows engine c.rounds.last (g.K.Sink.state c.args.out.now) (g.K.Sink.state c.rounds.out) (g.S.PlaneSource.handed c.args.source.now) (g.S.PlaneSource.handed c.rounds.source))
           (λ bits. (reads : List ℕ) → IsAfter plan engine.query (frame_of told.head) bits reads engine → IsAfter plan engine.query (frame_of told.head) bits (reads ++ column ∷ []) new) _
@@ -141,6 +144,10 @@ rounds-preserved g c =
           (subst (λ ps. Appends (g.S.PlaneSource.handed c.rounds.source) (g.S.PlaneSource.handed c.read_next.new.source) (next_places ps engine column)) c.rounds.invariant.places c.in_ok-read_next-in-None.ensures.handed)
           (g.met.S.PlaneSource.shows_before c.args.source.now c.rounds.source _ _ c.rounds.invariant.since c.in_ok-read_next-in-None.ensures.shown))
           c.rounds.invariant.reached next;
+      some = next_some plan told.head query c.rounds_are_counted.ensures engine c.rounds.last _ _ _ _ _ (record { head_is = head_is; done_is = c.progress.ensures.done }) c.rounds.invariant.some
+          (as_whole _ _ _ _ c.in_ok-write_block.ensures) going c.rounds_have_planes.ensures c.policies_choose.ensures c.requires.valid.distinct
+          (subst (IsReadable plan.policy) (ap (λ s. s.frame) c.requires.opened) c.requires.readable) new column c.read_next.new.plane (c.in_ok-read_next-in-None.ensures.chosen plan.policy c.requires.follows)
+          below c.query-query.ensures.knowledge c.in_ok-read_next-in-None.ensures.taken;
       told = c.read_next.ensures.told ∙ c.rounds.invariant.told;
       ready = c.read_next.ensures.ready;
       since = g.met.S.PlaneSource.since_both c.args.source.now c.rounds.source c.read_next.new.source c.rounds.invariant.since c.read_next.ensures.since;
@@ -149,7 +156,7 @@ rounds-preserved g c =
       query = c.read_next.ensures.query ∙ c.rounds.invariant.query;
       frame = c.read_next.ensures.frame ∙ c.rounds.invariant.frame;
       rows = c.read_next.ensures.rows ∙ c.rounds.invariant.rows;
-      last = subst (λ n. column < n) (columns_of_part query (frame_of told.head)) inside;
+      last = below;
     }
 
 -- ---- whatever is told
@@ -175,3 +182,39 @@ returns-in_err-read_next-in-None-clause-cause g c =
 pub returns-in_err-read_next-in-None-clause-since : goal.returns-in_err-read_next-in-None-clause-since
 returns-in_err-read_next-in-None-clause-since g c =
     g.met.S.PlaneSource.since_both c.args.source.now c.rounds.source c.read_next.new.source c.rounds.invariant.since c.read_next.ensures.since
+
+-- ---- what was written
+
+pub returns-in_err-write_block-clause-written : goal.returns-in_err-write_block-clause-written
+returns-in_err-write_block-clause-written g c =
+    let told = g.S.PlaneSource.told c.args.source.now in
+    let p = err_from_is_err_and c.from_residual.result c.from_residual.ensures.1 in
+    let head_is = c.head.ensures.head ∙ ap (λ t. t.head) c.rounds.invariant.told in
+    rw (p.1, p.2) (block_part_some c.args.plan.now told.head c.args.engine.now.query c.rounds_are_counted.ensures c.rounds.engine c.rounds.last _ _ _ _ _
+    (record { head_is = head_is; done_is = c.progress.ensures.done }) c.rounds.invariant.some (as_partly _ _ _ _ c.in_err-write_block.ensures))
+
+pub returns-in_err-write_ending-in-Some-clause-written : goal.returns-in_err-write_ending-in-Some-clause-written
+returns-in_err-write_ending-in-Some-clause-written g c =
+    let told = g.S.PlaneSource.told c.args.source.now in
+    let p = err_from_is_err_and c.from_residual-in_err-write_ending-in-Some.result c.from_residual-in_err-write_ending-in-Some.ensures.1 in
+    let head_is = c.head.ensures.head ∙ ap (λ t. t.head) c.rounds.invariant.told in
+    rw (p.1, p.2) (line_part_some c.args.plan.now told.head c.args.engine.now.query c.rounds_are_counted.ensures c.rounds.engine c.rounds.last _ _ _ _ _
+    (record { head_is = head_is; done_is = c.progress.ensures.done }) c.rounds.invariant.some (as_whole _ _ _ _ c.in_ok-write_block.ensures) c.in-Some.why _ (sym c.in-Some.ensures.ending)
+    (as_partly _ _ _ _ c.in_err-write_ending-in-Some.ensures))
+
+pub returns-in_err-read_next-in-None-clause-written : goal.returns-in_err-read_next-in-None-clause-written
+returns-in_err-read_next-in-None-clause-written g c =
+    let told = g.S.PlaneSource.told c.args.source.now in
+    let p = err_from_is_err_and c.from_residual-in_err-read_next-in-None.result c.from_residual-in_err-read_next-in-None.ensures.1 in
+    let head_is = c.head.ensures.head ∙ ap (λ t. t.head) c.rounds.invariant.told in
+    let going : IsNone (ending_at c.args.plan.now c.rounds.engine) = subst IsNone c.in-None.ensures.ending refl in
+    rw (p.1, p.2) (stopped_some c.args.plan.now told.head c.args.engine.now.query c.rounds_are_counted.ensures c.rounds.engine c.rounds.last _ _ _ _ _
+    (record { head_is = head_is; done_is = c.progress.ensures.done }) c.rounds.invariant.some (as_whole _ _ _ _ c.in_ok-write_block.ensures) going)
+
+pub returns-in-Some-clause-written : goal.returns-in-Some-clause-written
+returns-in-Some-clause-written g c =
+    let told = g.S.PlaneSource.told c.args.source.now in
+    let head_is = c.head.ensures.head ∙ ap (λ t. t.head) c.rounds.invariant.told in
+    written_some c.args.plan.now told.head c.args.engine.now.query c.rounds_are_counted.ensures c.rounds.engine c.rounds.last _ _ _ _ _
+    (record { head_is = head_is; done_is = c.progress.ensures.done }) c.rounds.invariant.some (as_whole _ _ _ _ c.in_ok-write_block.ensures) c.in-Some.why _ (sym c.in-Some.ensures.ending)
+    (as_whole _ _ _ _ c.in_ok-write_ending-in-Some.ensures)

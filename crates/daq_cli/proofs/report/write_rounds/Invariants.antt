@@ -1,6 +1,7 @@
 use Rattle.std.proofs.Common.{◌≡◌, ◌<◌, ◌≤◌, length, IfSome}
 use Rattle.table_rounds.specs.Rounds.{unread_planes}
 use Rattle.daq_cli.proofs.Rounds.{Reached}
+use Rattle.daq_cli.proofs.SomePlanes.{ReachedSome}
 use Rattle.daq_cli.proofs.report.write_rounds.Given as goal
 
 abbrev pub invariant-rounds : goal.invariant-rounds
@@ -11,6 +12,7 @@ invariant-rounds g l =
     record {
       reached : IfSome told.bits (λ bits. Reached l.plan told.head l.initial.engine.query bits places shows l.engine l.last
           (g.K.Sink.state l.initial.out) (g.K.Sink.state l.out) (g.S.PlaneSource.handed l.initial.source) (g.S.PlaneSource.handed l.source));
+      some : ReachedSome l.plan told.head l.initial.engine.query l.engine l.last (g.K.Sink.state l.initial.out) (g.K.Sink.state l.out);
       told : g.S.PlaneSource.told l.source ≡ told;
       ready : g.S.PlaneSource.is_ready l.source;
       since : g.S.PlaneSource.since l.initial.source l.source;

@@ -1,5 +1,5 @@
 -- Why each step of a `query` stops it, and what it comes to.
-use Rattle.std.proofs.Common.{◌∙◌, subst, IfSome, Ok, Err, option_map}
+use Rattle.std.proofs.Common.{◌∙◌, subst, IfSome, IsSome, Ok, Err, option_map}
 use Rattle.std.proofs.lemmas.Result.{err_from_is_err_and}
 use Rattle.command_line.specs.Values.{query_of}
 use Rattle.daq_table.specs.Tables.{frame_of}
@@ -10,7 +10,7 @@ use Rattle.query_model.specs.Validity.{IsValid}
 use Rattle.sql_text.specs.Tree as sql
 use Rattle.table_rounds.specs.Headline.{AreOfLongs}
 use Rattle.daq_cli.specs.Questions.{IsPlanned, StopsPlanning, asked_with}
-use Rattle.daq_cli.specs.Report.{EndsRounds, query_line}
+use Rattle.daq_cli.specs.Report.{EndsOverSome, EndsRounds, WritesOverSome, query_line}
 use Rattle.daq_cli.specs.commands.Query.{Begins, StopsAfter}
 use Rattle.daq_cli.proofs.Causes.{text_shown}
 use Rattle.daq_cli.proofs.QueryCauses.{query_done, query_file, query_plan, query_stop, query_text}
@@ -51,8 +51,9 @@ returns-in_err-report_file-clause-refused g c first has =
     let stop = c.in_err-report_file.field-0.0 in
     let ends = subst (λ l. IfSome opened.held (λ bytes. EndsRounds (query_line l) file.head made.plan made.engine.query (bits_at file.head bytes) (plane_places file.head) (IsUnpadded file.head bytes) (StopsAfter file.head opened last)
     (Err stop) old new (option_map laid opened.pieces) (option_map laid last.pieces))) (c.as_bytes.ensures.value ∙ c.in_ok-prepared.ensures.text) c.in_err-report_file.ensures.ends in
+    let written = subst (λ l. EndsOverSome (query_line l) file.head made.plan made.engine.query (Err stop) old new) (c.as_bytes.ensures.value ∙ c.in_ok-prepared.ensures.text) c.in_err-report_file.ensures.written in
     let p = err_from_is_err_and c.from_residual-in_err-report_file.result c.from_residual-in_err-report_file.ensures.1 in
-    rw p.1 (query_stop asked planes opened last old new begun c.rounds_are_certain.ensures named longs stop p.0 p.2 c.in_err-report_file.ensures.cause ends)
+    rw p.1 (query_stop asked planes opened last old new begun c.rounds_are_certain.ensures named longs stop p.0 p.2 c.in_err-report_file.ensures.cause written ends)
 
 pub returns-clause-done : goal.returns-clause-done
 returns-clause-done g c first has =
@@ -79,4 +80,5 @@ returns-clause-done g c first has =
     let longs = subst (λ h. AreOfLongs (frame_of h)) c.head-head.ensures.head c.heads_are_of_longs.ensures in
     let ends = subst (λ l. IfSome opened.held (λ bytes. EndsRounds (query_line l) file.head made.plan made.engine.query (bits_at file.head bytes) (plane_places file.head) (IsUnpadded file.head bytes) (StopsAfter file.head opened last)
     (Ok tt) old new (option_map laid opened.pieces) (option_map laid last.pieces))) (c.as_bytes.ensures.value ∙ c.in_ok-prepared.ensures.text) c.in_ok-report_file.ensures.ends in
-    query_done asked planes opened last old new begun c.rounds_are_certain.ensures named longs ends
+    let written = subst (λ l. WritesOverSome (query_line l) file.head made.plan made.engine.query IsSome old new) (c.as_bytes.ensures.value ∙ c.in_ok-prepared.ensures.text) c.in_ok-report_file.ensures.written in
+    query_done asked planes opened last old new begun c.rounds_are_certain.ensures named longs written ends
