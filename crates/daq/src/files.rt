@@ -1,15 +1,15 @@
 //! The devices over files and the standard streams. They tell no content, and count their faults.
 
-ghost use Rattle.std.specs.Prelude.{None};
+ghost use Rattle.std.specs.Prelude.{◌≡◌, ◌≤◌, IfOk, None, length};
 
 use crate::faults::Faults;
 use outer_world::{Failed, Sink, Source, Store};
 use std::alloc::AllocError;
 use std::fs::File;
-use std::io::{Read, Write};
+use std::io::{BufWriter, Read, Write};
 use std::os::unix::fs::FileExt;
 use std::rt::{Stderr, Stdout};
-use std::{fs, io};
+use std::{fs, io, mem};
 
 /// Takes the places of those standard streams that are closed, as long as it is held: so no file that is opened later does,
 /// and a write to such a stream fails.
@@ -113,7 +113,8 @@ impl Store for FileStore {
 #[derive(Drop)]
 enum Target {
     Closed,
-    Out(Stdout),
+    // What has no line break yet is kept.
+    Out(BufWriter<Stdout>),
     Err(Stderr),
     // The path of a file that is not made yet.
     Named(HostRuntime, String),
@@ -155,12 +156,12 @@ impl FileSink {
         })
     }
 
-    /// Standard output.
-    pub fn out(rt: &HostRuntime) -> FileSink {
-        FileSink {
-            target: Target::Out(rt.stdout()),
+    /// Standard output, to which each line is handed over at its end.
+    pub fn out(rt: &HostRuntime) -> io::Result<FileSink> {
+        Ok(FileSink {
+            target: Target::Out(BufWriter::new(rt.alloc(), rt.stdout())?),
             faults: Faults::none(),
-        }
+        })
     }
 
     /// Standard error.
@@ -168,6 +169,28 @@ impl FileSink {
         FileSink {
             target: Target::Err(rt.stderr()),
             faults: Faults::none(),
+        }
+    }
+}
+
+// Hands over what is kept where the piece ends a line.
+fn write_lines<W: Write + Drop>(out: &mut BufWriter<W>, piece: &[u8]) -> io::Result<usize>
+    ensures { IfOk result (λ taken. taken ≤ length piece.now) }
+{
+    let taken = out.write(piece)?;
+    if taken == piece.len() && piece.ends_with(b"\n") {
+        out.flush()?;
+    }
+    Ok(taken)
+}
+
+impl FileSink {
+    // Lets go of standard output and of what is kept, so that nothing of it is written any more.
+    fn close(&mut self)
+        ensures { self.new.faults ≡ self.old.faults }
+    {
+        if let Target::Out(out) = mem::replace(&mut self.target, Target::Closed) {
+            let _kept = out.into_parts();
         }
     }
 }
@@ -180,7 +203,13 @@ impl Sink for FileSink {
             return Err(self.faults.add());
         }
         match &mut self.target {
-            Target::Out(out) => self.faults.after_write(piece, out.write(piece)),
+            Target::Out(out) => {
+                let answer = self.faults.after_write(piece, write_lines(out, piece));
+                if answer.is_err() {
+                    self.close();
+                }
+                answer
+            }
             Target::Err(err) => self.faults.after_write(piece, err.write(piece)),
             Target::File(file) => self.faults.after_write(piece, file.write(piece)),
             Target::Named(..) if piece.is_empty() => Ok(0),
@@ -233,12 +262,14 @@ mod tests {
     }
 
     #[test]
-    fn a_stream_takes_a_piece_and_nowhere_takes_none(rt: HostRuntime) {
-        let mut out = FileSink::out(&rt);
-        assert_eq!(rt; out.write(b"one\n"), Ok(4));
+    fn a_stream_takes_a_piece_and_nowhere_takes_none(rt: HostRuntime) -> Result<(), Fail> {
+        let mut out = FileSink::out(&rt)?;
+        assert_eq!(rt; out.write(b"one"), Ok(3));
+        assert_eq!(rt; out.write(b"\n"), Ok(1));
         let mut nowhere = FileSink::closed();
         assert_eq!(rt; nowhere.write(b"one\n"), Err(Failed));
         assert_eq!(rt; nowhere.faults.count, 1);
+        Ok(())
     }
 
     #[test]

@@ -36,7 +36,7 @@ fn world_of(
         side: FileSource::closed(),
         planes: FileStore::closed(),
         made: FileSink::closed(),
-        out: FileSink::out(rt),
+        out: FileSink::out(rt).map_err(|_| AllocError)?,
         err: FileSink::err(rt),
     };
     match Command::parse(words) {
