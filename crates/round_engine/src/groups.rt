@@ -40,7 +40,7 @@ pub(crate) struct Groups {
 }
 
 // So many cells are told one after the other by masks. Only how fast they are told hangs on it.
-const FEW_CELLS: u32 = 8;
+const FEW_CELLS: u32 = 16;
 
 // Adds all rows to an item: by masks where these tell it of one cell that has all rows, or of each of few, else each row to the cell
 // that it is in.

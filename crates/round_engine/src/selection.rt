@@ -77,8 +77,10 @@ impl Selection {
         requires room { HasRows (rows_of_column known.now) self.old }
         requires within { length within.now ≡ rows_of_column known.now }
         requires rows { length filter.now.truths ≡ rows_of_column known.now }
-        ensures may { self.new.may ≡ zip2 (λ a b. a && b) (zip2 (λ a b. a && b) within.now (map is_possible filter.now.truths)) (rows_where column.is_possible known.now) }
-        ensures must { self.new.must ≡ zip2 (λ a b. a && b) (zip2 (λ a b. a && b) within.now (map is_certain filter.now.truths)) (rows_where is_sure known.now) }
+        ensures may { self.new.may ≡ zip2 (λ a b. a && b) (zip2 (λ a b. a && b) within.now (map is_possible filter.now.truths))
+            (rows_where column.is_possible known.now) }
+        ensures must { self.new.must ≡ zip2 (λ a b. a && b) (zip2 (λ a b. a && b) within.now (map is_certain filter.now.truths))
+            (rows_where is_sure known.now) }
     {
         self.may.copy_from(within);
         self.may.and_into(filter.may());

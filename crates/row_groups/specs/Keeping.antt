@@ -1,6 +1,6 @@
 -- What is kept of cells, and what is done to one of them.
-use Rattle.std.specs.Prelude.{ℕ, ◌+◌, ◌*◌, ◌/◌, ◌%◌, ◌^◌, ◌<◌, ◌≤◌, ◌==◌, Bool, cond, if◌then◌else◌}
-use Rattle.std.specs.Prelude.{List, [], ◌∷◌, length, sum}
+use Rattle.std.specs.Prelude.{◌≡◌, ℕ, ◌+◌, ◌*◌, ◌/◌, ◌%◌, ◌^◌, ◌<◌, ◌≤◌, ◌==◌, Bool, cond, if◌then◌else◌}
+use Rattle.std.specs.Prelude.{List, [], ◌∷◌, length, map, replicate, sum, get_or}
 use Rattle.std.specs.List.{All}
 use Rattle.daq_table.specs.Tables.{planes}
 use Rattle.row_groups.specs.declared.part.GroupPart.{GroupPart}
@@ -17,6 +17,24 @@ pub record AreKept (parts : List GroupPart) (cells : List ℕ) : Type 0 where
   pub read : AreParts parts
   pub planes : sum (planes_of_parts parts) ≤ 16
   pub rows : All (λ cell. cell < 2 ^ digits_of parts) cells
+
+-- the first masks have the rows of as many cells
+abbrev pub HaveCells : ℕ → List ℕ → List (List Bool) → Type 0
+HaveCells count cells masks = (cell : ℕ) → cell < count → get_or masks cell [] ≡ map (λ c. c == cell) cells
+
+-- all rows are in the first cell
+abbrev pub AreFirst : ℕ → List (List Bool) → Type 0
+AreFirst rows masks = (cell : ℕ) → cell < length masks → get_or masks cell [] ≡ replicate rows (cell == 0)
+
+-- each mask is of so many rows
+abbrev pub HaveRows : ℕ → List (List Bool) → Type 0
+HaveRows rows masks = (place : ℕ) → place < length masks → length (get_or masks place []) ≡ rows
+
+-- the cells, and the masks of the first of them, which have their rows where there are no more cells than masks
+pub record AreHeld (parts : List GroupPart) (cells : List ℕ) (masks : List (List Bool)) : Type 0 where
+  pub kept : AreKept parts cells
+  pub long : HaveRows (length cells) masks
+  pub told : 2 ^ digits_of parts ≤ length masks → HaveCells (2 ^ digits_of parts) cells masks
 
 -- the digits of a cell that stand behind those of the column
 abbrev pub digits_behind : List GroupPart → ℕ → ℕ

@@ -11,8 +11,8 @@ use crate::bits::insert_plane;
 use crate::cell_keys::CellKeys;
 use crate::keys::read_keys;
 use crate::part::GroupPart;
-use crate::parts::{count_digits, first_cells, raise, unread_parts};
-use crate::picking::equal_bits;
+use crate::parts::{count_digits, first_cells, numbers_of, raise, unread_parts};
+use crate::picking::{block_of, first_masks, select_first, select_rows};
 use daq_table::Ends;
 use plane_kernels::{Mask, Plane};
 use std::alloc::{AllocError, Global};
@@ -22,24 +22,30 @@ use std::marker::Model;
 pub struct Cells {
     parts: Vec<GroupPart>,
     cells: Vec<u16>,
+    // The rows of each cell, while there are no more cells than masks.
+    masks: Vec<Mask>,
 }
 
 // A call of its own: a derived drop is proved anew wherever one is let go.
 impl Drop for Cells {
     fn drop(self) {
-        let Cells { parts: _, cells: _ } = self;
+        let Cells {
+            parts: _,
+            cells: _,
+            masks: _,
+        } = self;
     }
 }
 
 impl Model for Cells {
-    ghost use Rattle.row_groups.specs.Keeping.{AreKept};
+    ghost use Rattle.row_groups.specs.Keeping.{AreHeld};
     ghost use Rattle.row_groups.specs.Partition.{RowCells};
 
     ghost Value = { RowCells };
 
     ghost view = { λ c. record { parts = c.parts.items; cells = c.cells.items } };
 
-    ghost invariant = { λ c. AreKept c.parts.items c.cells.items };
+    ghost invariant = { λ c. AreHeld c.parts.items c.cells.items c.masks.items };
 }
 
 impl Cells {
@@ -58,7 +64,12 @@ impl Cells {
     {
         let parts = unread_parts(alloc, columns, ends)?;
         let cells = first_cells(alloc, rows)?;
-        Ok(Cells { parts, cells })
+        let masks = first_masks(alloc, rows)?;
+        Ok(Cells {
+            parts,
+            cells,
+            masks,
+        })
     }
 
     /// The number of rows.
@@ -77,6 +88,7 @@ impl Cells {
         let digits = count_digits(&self.parts);
         let shift = raise(&mut self.parts, column);
         insert_plane(&mut self.cells, plane, shift, digits);
+        select_first(&self.cells, numbers_of(digits + 1), &mut self.masks);
     }
 
     /// The cell that a row is in.
@@ -93,8 +105,7 @@ impl Cells {
         requires { 64 * block < length self.now.cells }
         ensures { result.now ≡ take 64 (drop (64 * block) self.now.cells) }
     {
-        let rest = &self.cells[64 * block..];
-        &rest[..rest.len().min(64)]
+        block_of(&self.cells, block)
     }
 
     /// Makes a mask the rows of a cell.
@@ -102,8 +113,10 @@ impl Cells {
         requires { length rows.old ≡ length self.now.cells }
         ensures { rows.new ≡ map (λ c. c == cell) self.now.cells }
     {
-        for block in 0..self.cells.len().div_ceil(64) {
-            rows.set_word(block, equal_bits(self.block(block), cell));
+        if self.count() as usize <= self.masks.len() && cell < self.count() {
+            rows.copy_from(&self.masks[cell as usize]);
+        } else {
+            select_rows(&self.cells, cell, rows);
         }
     }
 
@@ -111,7 +124,7 @@ impl Cells {
     pub fn count(&self) -> u32
         ensures { result ≡ 2 ^ digits_of self.now.parts }
     {
-        1 << count_digits(&self.parts)
+        numbers_of(count_digits(&self.parts))
     }
 
     /// What the keys of a cell may be, or none where one of its parts is the prefix of no cell: such a cell has no rows.

@@ -1,6 +1,6 @@
 //! Group columns one after the other.
 
-ghost use Rattle.std.specs.Prelude.{◌≡◌, ◌≤◌, ◌<◌, ◌+◌, ◌==◌, All, IsTrue, IfOk};
+ghost use Rattle.std.specs.Prelude.{◌≡◌, ◌≤◌, ◌<◌, ◌+◌, ◌^◌, ◌==◌, All, IsTrue, IfOk};
 ghost use Rattle.std.specs.Prelude.{length, map, replicate, sum, slice_index_or};
 ghost use Rattle.daq_table.specs.Tables.{no_ends, planes as planes_of, spread};
 ghost use Rattle.query_model.specs.Knowledge.{is_legal, null_with, range_of};
@@ -60,4 +60,12 @@ pub(crate) fn raise(parts: &mut [GroupPart], column: u8) -> u8
         }
     }
     0
+}
+
+// How many numbers have so many digits.
+pub(crate) fn numbers_of(digits: u8) -> u32
+    requires { digits ≤ 16 }
+    ensures { result ≡ 2 ^ digits }
+{
+    1 << digits
 }

@@ -1,32 +1,13 @@
-use Rattle.std.proofs.Common.{◌≡◌, ◌+◌, ◌-◌, ◌*◌, ◌<◌, ◌==◌, ℕ, Bool, min, length, length-drop, map, take, drop, sym, ap, subst, ◌∙◌, arith}
-use Rattle.std.proofs.lemmas.List.{length-take-le}
-use Rattle.std.proofs.lemmas.Simd.{length-put_chunk}
-use Rattle.plane_kernels.specs.Rows.{bits_of}
-use Rattle.plane_kernels.proofs.RowLemmas.{length-bits_of}
+use Rattle.std.proofs.Common.{◌≡◌, ◌<◌, ◌==◌, ℕ, [], length, map, get_or, refl, sym, ap, ◌∙◌, arith}
+use Rattle.std.proofs.lemmas.Option.{get_or_from_slice_get, slice_get_read}
 use Rattle.row_groups.specs.Partition.{RowCells}
-use Rattle.row_groups.proofs.Equals.{block_long, block_more}
 use Rattle.row_groups.proofs.cells.Cells.select.Goals as goal
 
-pub equal_bits-requires : goal.equal_bits-requires
-equal_bits-requires c = omega (arith, block_long (64 * c.loop-block.block) c.args.self.now.cells, ap length c.block.ensures)
-
-pub loop-block-preserved : goal.loop-block-preserved
-loop-block-preserved c =
-    let f : ℕ → Bool = λ n. n == c.args.cell in
-    let cells = c.args.self.now.cells in
-    let at = 64 * c.loop-block.block in
-    let rows = c.loop-block.rows in
-    let long = c.loop-block.invariant.long in
-    let kept = ap (λ (w : RowCells). length w.cells) c.self.view_is in
-    let below : at < length cells = omega (arith, kept, c.loop-block-test.true, c.len.ensures, c.div_ceil-block-end.ensures) in
-    let from : min at (length cells) ≡ at = omega (arith, below) in
-    let count : length c.block.result.now ≡ min 64 (length rows - at) = omega (arith, ap length c.block.ensures, block_long at cells, long) in
-    let bits = bits_of (min 64 (length rows - at)) c.equal_bits.result in
-    let is : bits ≡ map f (take 64 (drop at cells)) = ap (λ k. bits_of k c.equal_bits.result) (sym count) ∙ c.equal_bits.ensures ∙ ap (map f) c.block.ensures in
-    record {
-      long = ap length c.set_word.ensures ∙ length-put_chunk at rows bits ∙ long;
-      done =
-          ap (take (min (64 * (c.loop-block.block + 1)) (length cells))) c.set_word.ensures
-          ∙ block_more f cells rows bits at _ long (subst (λ n. take n rows ≡ map f (take n cells)) from c.loop-block.invariant.done) (omega (arith, below)) is
-          (length-bits_of (min 64 (length rows - at)) c.equal_bits.result ∙ ap (λ n. min 64 (n - at)) long) (omega arith);
-    }
+pub copy_from-requires : goal.copy_from-requires
+copy_from-requires c =
+    let masks = c.self.inside.masks.items in
+    let cells = ap (λ (r : RowCells). length r.cells) c.self.view_is in
+    let within : c.args.cell < length masks = omega arith in
+    let there : get_or masks c.args.cell [] ≡ c.index.result.now = get_or_from_slice_get masks c.args.cell c.index.result.now [] (slice_get_read masks _ c.args.cell c.index.result.now refl within c.index.ensures) in
+    let long = c.self.invariant.long c.args.cell within in
+    ap length (sym there) ∙ omega (arith, cells, long, c.requires)
