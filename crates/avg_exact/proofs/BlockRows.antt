@@ -1,5 +1,5 @@
 -- Operations on eight words as operations on their rows.
-use Rattle.std.proofs.Common.{◌≡◌, ℕ, ◌+◌, ◌-◌, ◌*◌, ◌<◌, ◌≤◌, min, Bool, List, [], ◌∷◌, ◌++◌, length, map, count_by, sum_by, refl, arith, ap, sym, subst, ◌∙◌}
+use Rattle.std.proofs.Common.{◌≡◌, ℕ, ◌-◌, min, Bool, List, [], ◌∷◌, ◌++◌, length, map, count_by, sum_by, refl, arith, ap, sym, subst, ◌∙◌}
 use Rattle.std.specs.Int.Count.{ones}
 use Rattle.std.specs.Simd.Lanes.{zip2}
 use Rattle.std.proofs.lemmas.Simd.{length-zip2}

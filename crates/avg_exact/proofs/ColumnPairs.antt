@@ -1,14 +1,14 @@
 -- The pairs of an average over a bare column, by lists of its rows.
-use Rattle.std.proofs.Common.{◌≡◌, ℕ, zero, suc, ◌+◌, ◌-◌, ◌*◌, ◌^◌, ◌<◌, ◌≤◌, nat_le, min, ℤ, pos, ◌+ℤ◌, ◌≤ℤ◌, Bool, true, false, cond, not, ◌&&◌, ◌||◌, List, [], ◌∷◌, length, map, filter, get_or, count_by, Option, Some, None, inl, inr, refl, arith, subst, sym, ap, ◌∙◌}
+use Rattle.std.proofs.Common.{◌≡◌, ℕ, zero, suc, ◌+◌, ◌<◌, ◌≤◌, nat_le, ℤ, pos, ◌+ℤ◌, Bool, true, false, cond, not, ◌&&◌, ◌||◌, List, [], ◌∷◌, length, map, filter, get_or, count_by, Option, Some, None, refl, arith, subst, sym, ap, ◌∙◌}
 use Rattle.std.specs.List.{cons_option, filter_map, range_with_len}
 use Rattle.std.specs.Option.{option_map}
 use Rattle.std.specs.Simd.Lanes.{zip2}
-use Rattle.std.proofs.lemmas.Bool.{cases_Bool, cond_both, false≢true, true≢false}
+use Rattle.std.proofs.lemmas.Bool.{true≢false}
 use Rattle.std.proofs.lemmas.Bool.Decides.{nat_tests}
 use Rattle.std.proofs.lemmas.Int.{ints}
 use Rattle.std.proofs.lemmas.List.{length-map}
 use Rattle.std.proofs.lemmas.List.FromFn.{get_or-map-range_with_len}
-use Rattle.std.proofs.lemmas.Simd.{get_or-zip2, length-zip2}
+use Rattle.std.proofs.lemmas.Simd.{get_or-zip2}
 use Rattle.interval_calc.specs.Intervals.{Interval}
 use Rattle.interval_calc.specs.declared.Fraction.{Fraction}
 use Rattle.query_model.specs.declared.bounds.Nullity.{Nullity}
@@ -16,7 +16,7 @@ use Rattle.query_model.specs.declared.bounds.Nullity.TheVariants.{Never, Possibl
 use Rattle.query_model.specs.declared.bounds.Truth.{Truth}
 use Rattle.query_model.specs.declared.bounds.Truth.TheVariants.{False, Unknown, True}
 use Rattle.query_model.specs.Answers.{total}
-use Rattle.query_model.specs.Bounds.{Pair, highs, pair_of, pair_unless_false}
+use Rattle.query_model.specs.Bounds.{Pair, highs, pair_unless_false}
 use Rattle.query_model.specs.Knowledge.{range_of, ranges_of}
 use Rattle.query_model.specs.Truths.{and_of, may_be_number, truth_of, truth_of_number}
 use Rattle.known_column.specs.Columns.{number_of}
@@ -26,9 +26,8 @@ use Rattle.round_engine.proofs.Rows.{count_rows}
 use Rattle.avg_exact.specs.declared.passes.End.{End}
 use Rattle.avg_exact.specs.declared.passes.End.TheVariants.{Low, High}
 use Rattle.avg_exact.specs.declared.passes.Tally.{Tally}
-use Rattle.avg_exact.specs.declared.planes.Part.{Part}
 use Rattle.avg_exact.specs.declared.planes.Part.TheVariants.{Certain, Reached}
-use Rattle.avg_exact.specs.Blocks.{IsOverColumn, IsThreshold, IsValued, column_of, is_sure_row, is_unsure_row, lies_above, part_rows, reached_rows, reaches, rows_with, value_in}
+use Rattle.avg_exact.specs.Blocks.{IsOverColumn, IsThreshold, IsValued, column_of, is_sure_row, is_unsure_row, lies_above, part_rows, reaches, rows_with, value_in}
 use Rattle.avg_exact.specs.ExactAverages.{negative}
 use Rattle.avg_exact.specs.Measures.{end_total}
 use Rattle.avg_exact.specs.Passes.{all_rows, end_value, is_counted, is_taken, seen, seen_at, tally_of, uncertain_count}
@@ -187,6 +186,7 @@ module _ (stage : Stage) (item c : ℕ) (over : IsOverColumn stage item c) (end 
       and_false : (b : Bool) → (b && false) ≡ false
       and_false true = refl
       and_false false = refl
+
       no_highs : (ps : List Pair) → highs ps ≡ [] → ps ≡ []
       no_highs [] e = refl
       no_highs (p ∷ ps) e = absurd (omega (arith, ap length e))
@@ -321,11 +321,7 @@ module _ (stage : Stage) (item c : ℕ) (over : IsOverColumn stage item c) (end 
       (omega (arith, sure_rows, taken_rows, split_count None ps, split_count (Some f) ps, count_none))
       (ap (λ (u : Tally). u.taken) g)
 
-  -- all uncertain rows are reached from 0 on
-  pub all_reached : count_by (λ b. b) (part_rows stage item c (Reached High 0)) ≡ uncertain_count (all_rows stage item end)
-  all_reached =
-      let column = column_of stage c in
-      let unsure = rows_with stage item is_unsure_row in
-      let list = unsure_list stage item c over end in
-      ap (count_by (λ b. b)) (every_row (number_of column.ends column.known.read) unsure column.known.prefixes (long_rows stage item c over is_unsure_row ∙ sym (long stage item c over)))
-      ∙ sym (listed_count (filter (λ p. not p.certain) (all_rows stage item end)) (λ r. row_value stage item c over end r) unsure list)
+  -- of the uncertain rows there are as many as uncertain pairs
+  pub all_unsure : count_by (λ b. b) (rows_with stage item is_unsure_row) ≡ uncertain_count (all_rows stage item end)
+  all_unsure =
+      sym (listed_count (filter (λ p. not p.certain) (all_rows stage item end)) (λ r. row_value stage item c over end r) (rows_with stage item is_unsure_row) (unsure_list stage item c over end))

@@ -1,12 +1,11 @@
 -- How far from base the rows lie that an end has above a fraction.
-use Rattle.std.proofs.Common.{◌≡◌, ℕ, ◌+◌, ◌-◌, ◌*◌, ◌/◌, ◌%◌, ◌^◌, ◌<◌, ◌≤◌, nat_le, nat_lt, min, cond, ℤ, pos, nat_abs, ◌+ℤ◌, ◌-ℤ◌, ◌*ℤ◌, ◌≤ℤ◌, ◌<ℤ◌, int_lt, Bool, true, false, Option, Some, None, refl, arith, subst, sym, ap, ◌∙◌, inl, inr}
+use Rattle.std.proofs.Common.{◌≡◌, ℕ, ◌<◌, ◌≤◌, nat_le, ℤ, pos, nat_abs, ◌+ℤ◌, ◌-ℤ◌, ◌≤ℤ◌, ◌<ℤ◌, int_lt, true, false, Some, None, arith, sym, ◌∙◌, inl, inr}
 use Rattle.std.proofs.lemmas.Bool.{cases_lt}
 use Rattle.std.proofs.lemmas.Bool.Decides.{nat_tests}
 use Rattle.std.proofs.lemmas.Int.{ints}
-use Rattle.avg_exact.specs.declared.passes.End.{End}
 use Rattle.avg_exact.specs.declared.passes.End.TheVariants.{Low, High}
 use Rattle.avg_exact.specs.ExactAverages.{negative}
-use Rattle.avg_exact.specs.Blocks.{IsDistance, turned}
+use Rattle.avg_exact.specs.Blocks.{IsDistance}
 use Rattle.avg_exact.proofs.Cuts.{lt_is, not_lt}
 
 test_is : (z w : ℕ) → z ≤ w → nat_le z w ≡ true

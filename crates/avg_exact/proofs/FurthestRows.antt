@@ -1,10 +1,10 @@
 -- The furthest number of some rows: of a block digit by digit, and of all rows block by block.
-use Rattle.std.proofs.Common.{◌≡◌, ℕ, zero, suc, ◌+◌, ◌-◌, ◌*◌, ◌/◌, ◌^◌, ◌<◌, ◌≤◌, ◌==◌, nat_le, nat_lt, min, max, Bool, true, false, cond, not, ◌&&◌, ◌||◌, List, [], ◌∷◌, length, map, take, drop, get_or, count_by, Option, Some, None, ◌⊎◌, inl, inr, refl, arith, subst, sym, ap, ◌∙◌}
+use Rattle.std.proofs.Common.{◌≡◌, ℕ, zero, suc, ◌+◌, ◌-◌, ◌*◌, ◌/◌, ◌^◌, ◌<◌, ◌≤◌, ◌==◌, Bool, true, false, cond, not, ◌&&◌, ◌||◌, List, [], ◌∷◌, length, map, drop, get_or, count_by, Option, Some, None, ◌⊎◌, inl, inr, refl, arith, subst, sym, ap, ◌∙◌}
 use Rattle.std.specs.Simd.Lanes.{zip2}
 use Rattle.std.proofs.Math.Nat.{div-one, div-eq_of_lt, pow-le-pow_right}
 use Rattle.std.proofs.lemmas.Bool.{cases_Bool, cases_lt, eq-eqb, eqb-true, false≢true}
 use Rattle.std.proofs.lemmas.Bool.Decides.{nat_tests}
-use Rattle.std.proofs.lemmas.List.{get_or-drop, get_or-take, length-take, length-drop}
+use Rattle.std.proofs.lemmas.List.{get_or-drop, get_or-take, length-take}
 use Rattle.std.proofs.lemmas.List.Sums.{sum_by-cons}
 use Rattle.plane_kernels.specs.Rows.{kept_rows}
 use Rattle.known_column.specs.Columns.{KnownColumn, digit_of}
@@ -16,7 +16,7 @@ use Rattle.aggregates.proofs.NumberRows.{first_plane}
 use Rattle.avg_exact.specs.declared.passes.End.{End}
 use Rattle.avg_exact.specs.declared.passes.End.TheVariants.{Low, High}
 use Rattle.avg_exact.specs.Blocks.{block_column, lies_beyond}
-use Rattle.avg_exact.specs.Furthest.{IsFurthest, IsFurthestFrom, IsReachedFrom, further_of, number_at, wanted}
+use Rattle.avg_exact.specs.Furthest.{IsFurthest, IsFurthestFrom, further_of, number_at, wanted}
 use Rattle.avg_exact.proofs.Reaching.{all_pass, beyond_step, digits_at, equal_step, further_digit, kept_next, rows_that}
 
 -- ---- counts of rows that pass a test
@@ -169,6 +169,7 @@ module _ (toward : End) (column : KnownColumn) (rows : List Bool) (counts : Coun
             ∙ kept_next (wanted toward) (at_level column n (column.known.read - j)) (λ p. at_level column n (column.known.read - j) p && cond (wanted toward) (digit_of column.known.read j p) (not (digit_of column.known.read j p)))
             (digit_of column.known.read j) rows column.known.prefixes counts.rows (λ r h has. refl))) ∙ none) r h has)
       ]
+
       grown : (n : ℕ) (digit : Bool) (from j : ℕ) → n < 2 ^ (j - from) → from ≤ j → 2 * n + cond digit 1 0 < 2 ^ ((j + 1) - from)
       grown n digit from j small above =
           let one = bit_small digit in

@@ -1,5 +1,5 @@
 -- From which number on an end reaches the rows above a fraction.
-use Rattle.std.proofs.Common.{◌≡◌, ℕ, zero, suc, ◌+◌, ◌-◌, ◌*◌, ◌/◌, ◌%◌, ◌^◌, ◌<◌, ◌≤◌, ◌==◌, nat_le, nat_lt, min, ℤ, pos, negsuc, nat_abs, ◌+ℤ◌, ◌-ℤ◌, ◌*ℤ◌, ◌≤ℤ◌, ◌<ℤ◌, int_le, int_lt, Bool, true, false, cond, ◌&&◌, ◌||◌, Some, None, inl, inr, refl, arith, subst, sym, ap, ◌∙◌}
+use Rattle.std.proofs.Common.{◌≡◌, ℕ, ◌+◌, ◌-◌, ◌*◌, ◌/◌, ◌%◌, ◌^◌, ◌<◌, ◌≤◌, ◌==◌, nat_le, nat_lt, min, ℤ, pos, negsuc, ◌+ℤ◌, ◌*ℤ◌, ◌≤ℤ◌, ◌<ℤ◌, int_lt, Bool, true, false, cond, ◌&&◌, ◌||◌, Some, None, inl, inr, refl, arith, subst, sym, ap, ◌∙◌}
 use Rattle.std.specs.Int.{int_div_euclid}
 use Rattle.std.proofs.Math.Nat.{div-mul-le_self, lt_of_mul-lt-mul_right, mod-lt, mul-le-mul_right, mul-mod_left, pow-le-pow_right}
 use Rattle.std.proofs.lemmas.Bool.{cases_Bool, cases_lt, eqb-true, false≢true}
@@ -17,7 +17,7 @@ use Rattle.known_column.proofs.CodeDigits.{prefix_mono, spread_small}
 use Rattle.aggregates.proofs.NumberRows.{IsNumber, number_row}
 use Rattle.avg_exact.specs.declared.passes.End.{End}
 use Rattle.avg_exact.specs.declared.passes.End.TheVariants.{Low, High}
-use Rattle.avg_exact.specs.Blocks.{IsDistance, IsShort, IsThreshold, IsValued, lies_above, reaches, turned, value_in}
+use Rattle.avg_exact.specs.Blocks.{IsDistance, IsShort, IsThreshold, IsValued, lies_above, value_in}
 use Rattle.avg_exact.specs.ExactAverages.{negative}
 use Rattle.avg_exact.specs.Ways.{IsNumberOf, number_value}
 use Rattle.avg_exact.proofs.Fractions.{plus_times}
@@ -150,6 +150,7 @@ module _ (ends : Ends) (read p n : ℕ) (number : IsNumber ends read p n) where
     where
       wide : (b : Bool) → b ≡ is_at_top ends read p → n * 2 ^ (planes ends - read) + cond b (spread ends % 2 ^ (planes ends - read)) (2 ^ (planes ends - read) - 1) ≤ spread ends
       wide b e = subst (λ x. n * 2 ^ (planes ends - read) + cond x (spread ends % 2 ^ (planes ends - read)) (2 ^ (planes ends - read) - 1) ≤ spread ends) (sym e) (omega (arith, number.wide))
+
       by_top : (b : Bool) → b ≡ is_at_top ends read p →
           n * 2 ^ (planes ends - read) + cond b (spread ends % 2 ^ (planes ends - read)) (2 ^ (planes ends - read) - 1) ≡ min (n * 2 ^ (planes ends - read) + (2 ^ (planes ends - read) - 1)) (spread ends)
       by_top true e =
@@ -185,6 +186,7 @@ module _ (column : KnownColumn) (known : IsKnownColumn column) where
       one : (b : Bool) → cond {A = ℕ} b 1 0 ≤ 1
       one true = omega arith
       one false = omega arith
+
       digits : (w b read : ℕ) → b ≤ 1 → read ≤ w + b → w ≤ (read - min b read) + ((w + b) - read)
       digits w b read h few = omega arith
 

@@ -1,11 +1,11 @@
 -- Which rows an end reaches, digit by digit.
-use Rattle.std.proofs.Common.{◌≡◌, ℕ, zero, suc, ◌+◌, ◌-◌, ◌*◌, ◌/◌, ◌%◌, ◌^◌, ◌<◌, ◌≤◌, ◌==◌, nat_le, nat_lt, min, Bool, true, false, cond, not, ◌&&◌, ◌||◌, List, [], ◌∷◌, length, map, get_or, refl, arith, subst, sym, ap, ◌∙◌}
+use Rattle.std.proofs.Common.{◌≡◌, ℕ, suc, ◌+◌, ◌-◌, ◌*◌, ◌/◌, ◌%◌, ◌^◌, ◌<◌, ◌≤◌, ◌==◌, Bool, true, false, cond, not, ◌&&◌, ◌||◌, List, [], ◌∷◌, length, map, get_or, refl, arith, subst, sym, ap, ◌∙◌}
 use Rattle.std.specs.Simd.Lanes.{zip2}
 use Rattle.std.proofs.Math.Nat.{div-one, div-eq_of_lt}
 use Rattle.std.proofs.lemmas.Bool.Decides.{nat_tests}
 use Rattle.std.proofs.lemmas.Simd.{length-zip2}
-use Rattle.plane_kernels.specs.Rows.{greater_rows, kept_rows, less_rows}
-use Rattle.known_column.specs.Columns.{KnownColumn, digit_of, number_of}
+use Rattle.plane_kernels.specs.Rows.{kept_rows}
+use Rattle.known_column.specs.Columns.{KnownColumn, digit_of}
 use Rattle.aggregates.proofs.EndSums.{Counts, number_in, numbers}
 use Rattle.aggregates.proofs.MaskSums.{AtRows}
 use Rattle.aggregates.proofs.NumberRows.{first_plane, halved}

@@ -1,11 +1,11 @@
 -- Lists of rows: as masks, in blocks, and by what each row gives.
-use Rattle.std.proofs.Common.{◌≡◌, ℕ, zero, suc, ◌+◌, ◌-◌, ◌*◌, ◌<◌, ◌≤◌, min, Bool, true, false, cond, not, ◌&&◌, ◌||◌, List, [], ◌∷◌, length, map, take, drop, get_or, count_by, refl, arith, IsTrue, IsFalse, Option, Some, None, subst, sym, ap, ◌∙◌}
+use Rattle.std.proofs.Common.{◌≡◌, ℕ, zero, suc, ◌+◌, ◌-◌, ◌*◌, ◌<◌, ◌≤◌, min, Bool, true, false, cond, not, ◌&&◌, List, [], ◌∷◌, length, map, take, drop, get_or, count_by, refl, arith, Option, subst, sym, ap, ◌∙◌}
 use Rattle.std.specs.List.{range_with_len}
 use Rattle.std.specs.Option.{option_map}
 use Rattle.std.specs.Simd.Lanes.{zip2}
 use Rattle.std.proofs.Math.Seq.{take-add}
 use Rattle.std.proofs.lemmas.List.Sums.{sum_by-append}
-use Rattle.std.proofs.lemmas.Bool.{false≢true, true≢false}
+use Rattle.std.proofs.lemmas.Bool.{false≢true}
 use Rattle.std.proofs.lemmas.List.{drop-map, length-drop, length-map, length-take, take-map}
 use Rattle.std.proofs.lemmas.List.FromFn.{fill_by_all, get_or-map-range_with_len, length-map-range_with_len}
 use Rattle.std.proofs.lemmas.Simd.{length-zip2}
@@ -17,24 +17,25 @@ use Rattle.query_model.specs.declared.bounds.Truth.{Truth}
 use Rattle.query_model.specs.declared.bounds.Truth.TheVariants.{False, Unknown, True}
 use Rattle.query_model.specs.Bounds.{Pair, pair_of, pair_unless_false}
 use Rattle.query_model.specs.Knowledge.{ranges_of}
-use Rattle.query_model.specs.Queries.{Column}
 use Rattle.query_model.specs.Truths.{and_of, may_be_null, may_be_number, null_of, span_of, truth_of, truth_of_number}
 use Rattle.kleene_filter.specs.Filters.{is_certain, is_possible, truth_at, truths_under}
 use Rattle.known_column.specs.Columns.{KnownColumn, is_sure, numbers_at, rows_of_column, rows_where}
 use Rattle.known_column.specs.Columns as columns
 use Rattle.known_column.specs.RowBlocks.{IsKnownColumn}
-use Rattle.aggregates.specs.Selections.{IsSound, MayHaveValues, block_of, has_row}
+use Rattle.aggregates.specs.Selections.{IsSound, block_of, has_row}
 use Rattle.aggregates.proofs.BlockSums.{column_block, counts_block}
 use Rattle.aggregates.proofs.BlockWords.{row_within}
 use Rattle.aggregates.proofs.EndSums.{Counts}
+use Rattle.aggregates.proofs.MaskSums.{count_both-le}
 use Rattle.known_column.specs.KnownTables.{KnownTable, column_at}
 use Rattle.round_engine.specs.Stages.{Stage}
 use Rattle.round_engine.proofs.RowPairs.{plain_pair}
-use Rattle.avg_exact.specs.declared.passes.End.TheVariants.{Low, High}
+use Rattle.avg_exact.specs.declared.passes.End.TheVariants.{High}
 use Rattle.avg_exact.specs.declared.planes.Part.{Part}
 use Rattle.avg_exact.specs.declared.planes.Part.TheVariants.{Certain, Reached}
-use Rattle.avg_exact.specs.Blocks.{IsOverColumn, column_of, is_sure_row, is_unsure_row, part_rows, reached_rows, reaches, rows_with}
+use Rattle.avg_exact.specs.Blocks.{IsOverColumn, MarkUncertain, column_of, is_passed_over, is_sure_row, is_unsure_row, part_rows, reaches, rows_with}
 use Rattle.avg_exact.specs.Passes.{item_at, seen, seen_at}
+use Rattle.avg_exact.proofs.BlockRows.{zip2_mapped}
 
 -- ---- lists, two at a time
 
@@ -252,6 +253,7 @@ module _ (stage : Stage) (item c : ℕ) (over : IsOverColumn stage item c) where
       first_of : (a b : Bool) → (a && b) ≡ true → a ≡ true
       first_of true b h = refl
       first_of false b h = h
+
       fewer : (test : ℕ → Bool) (rows : List Bool) (ps : List ℕ) (r : ℕ) → has_row (zip2 (λ has p. has && test p) rows ps) r ≡ true → has_row rows r ≡ true
       fewer test [] ps r h = h
       fewer test (b ∷ rows) [] r h = absurd (false≢true h)
@@ -295,6 +297,24 @@ module _ (stage : Stage) (item c : ℕ) (over : IsOverColumn stage item c) where
       let column = column_of stage c in
       length-zip2 (λ has p. has && reaches end t (columns.number_of column.ends column.known.read p)) (rows_with stage item is_unsure_row) column.known.prefixes (long_rows is_unsure_row ∙ sym long)
       ∙ long_rows is_unsure_row
+
+  -- a block that is passed over has no row of the part
+  pub passed_over : (part : Part) (blocks : List Bool) (block : ℕ) → MarkUncertain stage item blocks → 512 * block < stage.frame.rows → is_passed_over part blocks block ≡ true →
+      count_by (λ b. b) (block_of block (part_rows stage item c part)) ≡ 0
+  passed_over Certain blocks block marks there e = absurd (false≢true e)
+  passed_over (Reached end t) blocks block marks there e =
+      let column = column_of stage c in
+      let test = λ (p : ℕ). reaches end t (columns.number_of column.ends column.known.read p) in
+      let unsure = block_of block (rows_with stage item is_unsure_row) in
+      let none = marks block there (unmarked (get_or blocks block false) e) in
+      let few = count_both-le unsure (map test (block_of block column.known.prefixes)) in
+      let is : block_of block (part_rows stage item c (Reached end t)) ≡ zip2 (λ a b. a && b) unsure (map test (block_of block column.known.prefixes)) =
+      block-zip2 (λ has p. has && test p) block (rows_with stage item is_unsure_row) column.known.prefixes ∙ sym (zip2_mapped (λ a b. a && b) test unsure (block_of block column.known.prefixes)) in
+      ap (count_by (λ b. b)) is ∙ omega (arith, none, few)
+    where
+      unmarked : (b : Bool) → not b ≡ true → b ≡ false
+      unmarked true e = sym e
+      unmarked false e = refl
 
 -- ---- counts, block by block
 

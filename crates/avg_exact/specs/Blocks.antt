@@ -1,5 +1,5 @@
 -- The rows of an average over a bare column, by the planes of the column: which are certain, which are uncertain, and which an end reaches.
-use Rattle.std.specs.Prelude.{◌≡◌, ℕ, ◌+◌, ◌-◌, ◌*◌, ◌^◌, ◌<◌, ◌≤◌, min, ℤ, pos, ◌+ℤ◌, ◌-ℤ◌, ◌*ℤ◌, nat_abs, nat_le, nat_lt, int_lt, Bool, true, false, not, cond, ◌&&◌, List, length, map, slice_index, IsTrue}
+use Rattle.std.specs.Prelude.{◌≡◌, ℕ, ◌-◌, ◌*◌, ◌^◌, ◌<◌, ◌≤◌, min, ℤ, pos, ◌+ℤ◌, ◌-ℤ◌, ◌*ℤ◌, nat_abs, nat_le, nat_lt, int_lt, Bool, true, false, not, cond, ◌&&◌, List, length, map, slice_index_or}
 use Rattle.std.specs.declared.option.Option.{Option}
 use Rattle.std.specs.declared.option.Option.TheVariants.{Some, None}
 use Rattle.std.specs.List.{count_by, range_with_len}
@@ -10,7 +10,7 @@ use Rattle.query_model.specs.Bounds.{Pair}
 use Rattle.query_model.specs.Knowledge.{is_legal, known_at, range_of}
 use Rattle.query_model.specs.Queries.{Column}
 use Rattle.plane_kernels.specs.Rows.{IsPadded, greater_rows, less_rows}
-use Rattle.known_column.specs.Columns.{KnownColumn, is_at_top, is_possible, number_of, numbers_at, rows_of_column, rows_where}
+use Rattle.known_column.specs.Columns.{KnownColumn, is_at_top, is_possible, number_of, rows_where}
 use Rattle.aggregates.specs.Selections.{block_of, sum_where}
 use Rattle.round_engine.specs.Stages.{Stage}
 use Rattle.avg_exact.specs.declared.passes.End.{End}
@@ -59,7 +59,8 @@ lies_beyond Low t n = nat_lt n t
 lies_beyond High t n = nat_lt t n
 
 abbrev pub reached_rows : End → ℕ → KnownColumn → List Bool → List Bool
-reached_rows end t column rows = zip2 (λ has p. has && reaches end t (number_of column.ends column.known.read p)) rows column.known.prefixes
+reached_rows end t column rows =
+    zip2 (λ has p. has && reaches end t (number_of column.ends column.known.read p)) rows column.known.prefixes
 
 abbrev pub part_rows : Stage → ℕ → ℕ → Part → List Bool
 part_rows stage item c Certain = rows_with stage item is_sure_row
@@ -69,9 +70,23 @@ part_rows stage item c (Reached end t) = reached_rows end t (column_of stage c) 
 abbrev pub IsShort : KnownColumn → ℕ → Type 0
 IsShort column t = t < 2 ^ (column.known.read - min (cond column.ends.nullable 1 0) column.known.read)
 
+-- a block that is not marked has no uncertain row
+abbrev pub MarkUncertain : Stage → ℕ → List Bool → Type 0
+MarkUncertain stage item blocks =
+    (block : ℕ) → 512 * block < stage.frame.rows → slice_index_or blocks block false ≡ false →
+    count_by (λ b. b) (block_of block (rows_with stage item is_unsure_row)) ≡ 0
+
+-- blocks that are not marked are passed over where uncertain rows are asked for
+abbrev pub is_passed_over : Part → List Bool → ℕ → Bool
+is_passed_over Certain blocks block = false
+is_passed_over (Reached end t) blocks block = not (slice_index_or blocks block false)
+
 -- the part of a column in a block
 abbrev pub block_column : KnownColumn → ℕ → KnownColumn
-block_column column block = record { ends = column.ends; known = record { read = column.known.read; prefixes = block_of block column.known.prefixes } }
+block_column column block = record {
+  ends = column.ends;
+  known = record { read = column.known.read; prefixes = block_of block column.known.prefixes };
+}
 
 -- ---- what some rows come to
 
@@ -113,10 +128,12 @@ turned High z = z
 abbrev pub IsDistance : End → ℤ → ℤ → ℤ → Option ℕ → Type 0
 IsDistance end base top floor None = (w : ℕ) → w ≤ nat_abs (top -ℤ base) → int_lt floor (turned end (base +ℤ pos w)) ≡ false
 IsDistance end base top floor (Some z) =
-    (z ≤ nat_abs (top -ℤ base)) × ((w : ℕ) → w ≤ nat_abs (top -ℤ base) → int_lt floor (turned end (base +ℤ pos w)) ≡ reaches end z w)
+    (z ≤ nat_abs (top -ℤ base))
+    × ((w : ℕ) → w ≤ nat_abs (top -ℤ base) → int_lt floor (turned end (base +ℤ pos w)) ≡ reaches end z w)
 
 -- the number from which on, or up to which, an end reaches the rows above a fraction; none where no row lies above it
 abbrev pub IsThreshold : KnownColumn → End → Fraction → Option ℕ → Type 0
 IsThreshold column end over None = (p : ℕ) → IsValued column p → lies_above over (value_in end column p) ≡ false
 IsThreshold column end over (Some t) =
-    IsShort column t × ((p : ℕ) → IsValued column p → lies_above over (value_in end column p) ≡ reaches end t (number_of column.ends column.known.read p))
+    IsShort column t
+    × ((p : ℕ) → IsValued column p → lies_above over (value_in end column p) ≡ reaches end t (number_of column.ends column.known.read p))

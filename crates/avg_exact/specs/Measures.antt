@@ -6,10 +6,7 @@ use Rattle.known_column.specs.Columns.{KnownColumn}
 use Rattle.aggregates.specs.Selections.{highs_in, lows_in}
 use Rattle.avg_exact.specs.declared.passes.End.{End}
 use Rattle.avg_exact.specs.declared.passes.End.TheVariants.{Low, High}
-use Rattle.avg_exact.specs.declared.passes.Tally.{Tally}
 use Rattle.avg_exact.specs.declared.planes.Measure.{Measure}
-use Rattle.avg_exact.specs.declared.planes.Part.{Part}
-use Rattle.avg_exact.specs.declared.planes.Part.TheVariants.{Certain, Reached}
 use Rattle.avg_exact.specs.ExactAverages.{negative}
 
 -- ---- sums
@@ -27,7 +24,8 @@ low_sum column measure = (column.ends.base *ℤ pos measure.rows) +ℤ pos (meas
 
 abbrev pub widened : KnownColumn → Measure → ℕ
 widened column measure =
-    measure.at_top * (spread column.ends % 2 ^ (planes column.ends - column.known.read)) + (measure.rows - measure.at_top) * (2 ^ (planes column.ends - column.known.read) - 1)
+    measure.at_top * (spread column.ends % 2 ^ (planes column.ends - column.known.read))
+    + (measure.rows - measure.at_top) * (2 ^ (planes column.ends - column.known.read) - 1)
 
 abbrev pub sum_at : End → KnownColumn → Measure → ℤ
 sum_at Low column measure = negative (low_sum column measure)

@@ -17,16 +17,23 @@ use Rattle.avg_exact.specs.declared.passes.Tally.{Tally}
 use Rattle.avg_exact.specs.declared.planes.Part.{Part}
 use Rattle.avg_exact.specs.declared.planes.Part.TheVariants.{Certain, Reached}
 use Rattle.avg_exact.specs.declared.ways.Way.{Way}
-use Rattle.avg_exact.specs.declared.ways.Way.TheVariants.{Planes, Rows}
-use Rattle.avg_exact.specs.Blocks.{IsMeasure, IsOverColumn, column_of, part_rows}
+use Rattle.avg_exact.specs.declared.ways.Planes.{Planes}
+use Rattle.avg_exact.specs.declared.ways.Way.TheVariants.{Planes as ByPlanes, Rows}
+use Rattle.avg_exact.specs.Blocks.{IsMeasure, IsOverColumn, MarkUncertain, column_of, is_unsure_row, part_rows, rows_with}
 use Rattle.avg_exact.specs.ExactAverages.{Cut, negative}
 use Rattle.avg_exact.specs.Furthest.{IsFurthest}
 use Rattle.avg_exact.specs.Measures.{end_total}
 use Rattle.avg_exact.specs.Passes.{is_taken}
 
--- by planes where the argument is that column, with the measure of its certain rows
+-- the argument is that column, with the measure of its certain rows, and its uncertain rows
+pub record ArePlanes (stage : Stage) (item : ℕ) (planes : Planes) : Type 0 where
+  pub over : IsOverColumn stage item planes.column
+  pub certain : IsMeasure (column_of stage planes.column) (part_rows stage item planes.column Certain) planes.certain
+  pub blocks : MarkUncertain stage item planes.uncertain.blocks
+  pub rows : planes.uncertain.rows ≡ count_by (λ b. b) (rows_with stage item is_unsure_row)
+
 abbrev pub IsWay : Stage → ℕ → Way → Type 0
-IsWay stage item (Planes c certain) = IsOverColumn stage item c × IsMeasure (column_of stage c) (part_rows stage item c Certain) certain
+IsWay stage item (ByPlanes planes) = ArePlanes stage item planes
 IsWay stage item Rows = Unit {0}
 
 -- ---- tallies
@@ -66,7 +73,9 @@ pub record IsNumberOf (column : KnownColumn) (n : ℕ) : Type 0 where
 -- an end of the range of the numbers with these digits; from the low end it is negated
 abbrev pub number_value : End → KnownColumn → ℕ → ℤ
 number_value Low column n = negative (column.ends.base +ℤ pos (n * 2 ^ (planes column.ends - column.known.read)))
-number_value High column n = column.ends.base +ℤ pos (min (n * 2 ^ (planes column.ends - column.known.read) + (2 ^ (planes column.ends - column.known.read) - 1)) (spread column.ends))
+number_value High column n =
+    let d = planes column.ends - column.known.read in
+    column.ends.base +ℤ pos (min (n * 2 ^ d + (2 ^ d - 1)) (spread column.ends))
 
 abbrev pub opposite : End → End
 opposite Low = High

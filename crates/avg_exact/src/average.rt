@@ -29,13 +29,13 @@ pub fn exact_average(engine: &Engine, item: usize) -> Exact
 {
     let _open = engine.query();
     let way = way_of(engine, item);
-    let low = best_choice(engine, item, way, End::Low).negated();
-    let high = best_choice(engine, item, way, End::High);
+    let low = best_choice(engine, item, &way, End::Low).negated();
+    let high = best_choice(engine, item, &way, End::High);
     Exact {
         null: engine.average(item).null,
         lo: low.average(),
         hi: high.average(),
-        unknown: count_uncertain(engine, item, way),
+        unknown: count_uncertain(engine, item, &way),
         low_taken: low.taken,
         high_taken: high.taken,
         low_cut: low.cut,

@@ -4,12 +4,12 @@ ghost use Rattle.std.specs.Prelude.{◌≡◌, ◌≤◌, ◌<◌, ◌*◌, ◌�
 ghost use Rattle.std.specs.List.{count_by};
 ghost use Rattle.plane_kernels.specs.Rows.{kept_rows};
 ghost use Rattle.aggregates.specs.Selections.{block_of};
-ghost use Rattle.avg_exact.specs.Blocks.{block_column, column_of, part_rows, IsOverColumn, IsShortPart};
+ghost use Rattle.avg_exact.specs.Blocks.{block_column, column_of, part_rows, IsOverColumn, IsShortPart, MarkUncertain};
 ghost use Rattle.avg_exact.specs.Furthest.{further_of, wanted, IsFurthest};
 
 use crate::block::Block;
 use crate::passes::End;
-use crate::planes::{Part, keep, number_planes, part_block};
+use crate::planes::{Part, is_passed_over, keep, number_planes, part_block};
 use round_engine::Engine;
 
 // Those of `level` that have this digit, or all of them where none has it, and the digit that they have.
@@ -43,14 +43,20 @@ fn furthest_in_block(
     item: usize,
     column: usize,
     part: Part,
+    blocks: &[bool; 32768],
     toward: End,
     block: usize,
 ) -> Option<u64>
     requires over { IsOverColumn engine.now item column }
+    requires blocks { MarkUncertain engine.now item blocks.now }
     requires short { IsShortPart (column_of engine.now column) part }
     requires block { 512 * block < engine.now.frame.rows }
-    ensures { IsFurthest toward (block_column (column_of engine.now column) block) (block_of block (part_rows engine.now item column part)) result }
+    ensures { IsFurthest toward (block_column (column_of engine.now column) block)
+        (block_of block (part_rows engine.now item column part)) result }
 {
+    if is_passed_over(part, blocks, block) {
+        return None;
+    }
     let mut level = part_block(engine, item, column, part, block);
     if level.count() == 0 {
         return None;
@@ -87,9 +93,11 @@ pub(crate) fn furthest(
     item: usize,
     column: usize,
     part: Part,
+    blocks: &[bool; 32768],
     toward: End,
 ) -> Option<u64>
     requires over { IsOverColumn engine.now item column }
+    requires blocks { MarkUncertain engine.now item blocks.now }
     requires short { IsShortPart (column_of engine.now column) part }
     ensures { IsFurthest toward (column_of engine.now column) (part_rows engine.now item column part) result }
 {
@@ -98,7 +106,7 @@ pub(crate) fn furthest(
         found = further(
             toward,
             found,
-            furthest_in_block(engine, item, column, part, toward, block),
+            furthest_in_block(engine, item, column, part, blocks, toward, block),
         );
     }
     found

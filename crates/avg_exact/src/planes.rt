@@ -6,7 +6,7 @@ ghost use Rattle.std.specs.Simd.Lanes.{zip2};
 ghost use Rattle.plane_kernels.specs.Rows.{digit_at, kept_rows};
 ghost use Rattle.known_column.specs.Columns.{number_of, rows_of_column};
 ghost use Rattle.aggregates.specs.Selections.{block_of, sum_where, IsSound};
-ghost use Rattle.avg_exact.specs.Blocks.{beyond_rows, block_column, column_of, is_sure_row, is_unsure_row, part_rows, reached_rows, rows_with, IsMeasure, IsOverColumn, IsShort, IsShortPart};
+ghost use Rattle.avg_exact.specs.Blocks.{beyond_rows, block_column, column_of, is_passed_over, is_sure_row, is_unsure_row, part_rows, reached_rows, rows_with, IsMeasure, IsOverColumn, IsShort, IsShortPart, MarkUncertain};
 
 use crate::block::Block;
 use crate::passes::End;
@@ -97,7 +97,14 @@ fn digit_of(number: u64, place: u8) -> bool
 }
 
 // The uncertain rows of a block that an end reaches.
-fn reached_block(engine: &Engine, item: usize, column: usize, end: End, t: u64, block: usize) -> Block
+fn reached_block(
+    engine: &Engine,
+    item: usize,
+    column: usize,
+    end: End,
+    t: u64,
+    block: usize,
+) -> Block
     requires over { IsOverColumn engine.now item column }
     requires short { IsShort (column_of engine.now column) t }
     requires block { 512 * block < engine.now.frame.rows }
@@ -120,7 +127,13 @@ fn reached_block(engine: &Engine, item: usize, column: usize, end: End, t: u64, 
 }
 
 // Some of the rows of a block.
-pub(crate) fn part_block(engine: &Engine, item: usize, column: usize, part: Part, block: usize) -> Block
+pub(crate) fn part_block(
+    engine: &Engine,
+    item: usize,
+    column: usize,
+    part: Part,
+    block: usize,
+) -> Block
     requires over { IsOverColumn engine.now item column }
     requires short { IsShortPart (column_of engine.now column) part }
     requires block { 512 * block < engine.now.frame.rows }
@@ -132,8 +145,49 @@ pub(crate) fn part_block(engine: &Engine, item: usize, column: usize, part: Part
     }
 }
 
+/// Which blocks have an uncertain row, and how many such rows there are.
+#[derive(Drop)]
+pub(crate) struct Uncertain {
+    pub(crate) blocks: [bool; 32768],
+    pub(crate) rows: u64,
+}
+
+/// Looks for the uncertain rows.
+pub(crate) fn find_uncertain(engine: &Engine, item: usize, column: usize) -> Uncertain
+    requires over { IsOverColumn engine.now item column }
+    ensures blocks { MarkUncertain engine.now item result.blocks }
+    ensures rows { result.rows ≡ count_by (λ b. b) (rows_with engine.now item is_unsure_row) }
+{
+    let mut blocks = [false; 32768];
+    let mut rows = 0;
+    for block in 0..engine.rows().div_ceil(512) {
+        let count = uncertain_block(engine, item, column, block).count();
+        blocks[block] = count > 0;
+        rows += count;
+    }
+    Uncertain { blocks, rows }
+}
+
+/// Whether a block is passed over, since it has no row of that part.
+pub(crate) fn is_passed_over(part: Part, blocks: &[bool; 32768], block: usize) -> bool
+    requires { block < 32768 }
+    ensures { result ≡ is_passed_over part blocks.now block }
+{
+    match part {
+        Part::Certain => false,
+        Part::Reached(_, _) => !blocks[block],
+    }
+}
+
 // The digits of the numbers at some rows of a block, added up as numbers.
-fn add_numbers(engine: &Engine, item: usize, column: usize, part: Part, block: usize, rows: &Block) -> u128
+fn add_numbers(
+    engine: &Engine,
+    item: usize,
+    column: usize,
+    part: Part,
+    block: usize,
+    rows: &Block,
+) -> u128
     requires over { IsOverColumn engine.now item column }
     requires block { 512 * block < engine.now.frame.rows }
     requires rows { rows.now ≡ block_of block (part_rows engine.now item column part) }
@@ -152,35 +206,50 @@ fn add_numbers(engine: &Engine, item: usize, column: usize, part: Part, block: u
 }
 
 // What some of the rows of a block come to.
-fn measure_block(engine: &Engine, item: usize, column: usize, part: Part, block: usize) -> Measure
+fn measure_block(
+    engine: &Engine,
+    item: usize,
+    column: usize,
+    part: Part,
+    blocks: &[bool; 32768],
+    block: usize,
+) -> Measure
     requires over { IsOverColumn engine.now item column }
+    requires blocks { MarkUncertain engine.now item blocks.now }
     requires short { IsShortPart (column_of engine.now column) part }
     requires block { 512 * block < engine.now.frame.rows }
-    ensures measure { IsMeasure (block_column (column_of engine.now column) block) (block_of block (part_rows engine.now item column part)) result }
+    ensures measure { IsMeasure (block_column (column_of engine.now column) block)
+        (block_of block (part_rows engine.now item column part)) result }
     ensures rows { result.rows ≤ 512 }
     ensures at_top { result.at_top ≤ 512 }
     ensures numbers { result.numbers ≤ 2 ^ 88 }
 {
-    let rows = part_block(engine, item, column, part, block);
-    let count = rows.count();
-    if count == 0 {
+    if is_passed_over(part, blocks, block) {
         return Measure {
             rows: 0,
             numbers: 0,
             at_top: 0,
         };
     }
+    let rows = part_block(engine, item, column, part, block);
     let top = Block::of_mask(engine.columns().column(column).at_top(), block);
     Measure {
-        rows: count,
+        rows: rows.count(),
         numbers: add_numbers(engine, item, column, part, block, &rows),
         at_top: rows.and(&top).count(),
     }
 }
 
 /// What some of the rows come to.
-pub(crate) fn measure_part(engine: &Engine, item: usize, column: usize, part: Part) -> Measure
+pub(crate) fn measure_part(
+    engine: &Engine,
+    item: usize,
+    column: usize,
+    part: Part,
+    blocks: &[bool; 32768],
+) -> Measure
     requires over { IsOverColumn engine.now item column }
+    requires blocks { MarkUncertain engine.now item blocks.now }
     requires short { IsShortPart (column_of engine.now column) part }
     ensures { IsMeasure (column_of engine.now column) (part_rows engine.now item column part) result }
 {
@@ -190,7 +259,7 @@ pub(crate) fn measure_part(engine: &Engine, item: usize, column: usize, part: Pa
         at_top: 0,
     };
     for block in 0..engine.rows().div_ceil(512) {
-        let more = measure_block(engine, item, column, part, block);
+        let more = measure_block(engine, item, column, part, blocks, block);
         measure.rows += more.rows;
         measure.numbers += more.numbers;
         measure.at_top += more.at_top;

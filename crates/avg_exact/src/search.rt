@@ -60,9 +60,9 @@ fn mean(tally: Tally) -> Fraction
 }
 
 // Where a row is certain: the uncertain rows that do not lie above the average of the others are dropped, until none is.
-fn search(engine: &Engine, item: usize, way: Way, end: End, certain: Tally) -> Choice
+fn search(engine: &Engine, item: usize, way: &Way, end: End, certain: Tally) -> Choice
     requires averaged { IsAveraged engine.now item }
-    requires way { IsWay engine.now item way }
+    requires way { IsWay engine.now item way.now }
     requires certain { certain ≡ tally_of None (all_rows engine.now item end) }
     requires some { 1 ≤ certain.rows }
     ensures best { choice_shown result ≡ high_end (all_rows engine.now item end) }
@@ -100,9 +100,9 @@ fn just_below(value: i128) -> Fraction
 }
 
 // Where none is: the rows of the greatest value.
-fn take_greatest(engine: &Engine, item: usize, way: Way, end: End, value: i128) -> Choice
+fn take_greatest(engine: &Engine, item: usize, way: &Way, end: End, value: i128) -> Choice
     requires averaged { IsAveraged engine.now item }
-    requires way { IsWay engine.now item way }
+    requires way { IsWay engine.now item way.now }
     requires uncertain { (tally_of None (all_rows engine.now item end)).rows ≡ 0 }
     requires greatest { greatest_high (all_rows engine.now item end) ≡ Some value }
     requires small { nat_abs value < 2 ^ 127 }
@@ -119,9 +119,9 @@ fn take_greatest(engine: &Engine, item: usize, way: Way, end: End, value: i128) 
 }
 
 /// The choice of the greatest average, and of those the one that takes the fewest rows. Where no row may count it is the average 0 / 1.
-pub(crate) fn best_choice(engine: &Engine, item: usize, way: Way, end: End) -> Choice
+pub(crate) fn best_choice(engine: &Engine, item: usize, way: &Way, end: End) -> Choice
     requires averaged { IsAveraged engine.now item }
-    requires way { IsWay engine.now item way }
+    requires way { IsWay engine.now item way.now }
     ensures best { choice_shown result ≡ high_end (all_rows engine.now item end) }
     ensures turns { CanTurn result }
 {

@@ -3,14 +3,13 @@
 ghost use Rattle.std.specs.Prelude.{◌≡◌, ◌≤◌, ◌<◌, ◌^◌, nat_abs, IfSome};
 ghost use Rattle.std.specs.declared.option.Option.TheVariants.{None};
 ghost use Rattle.avg_exact.specs.declared.passes.End.TheVariants.{High};
-ghost use Rattle.avg_exact.specs.declared.planes.Part.TheVariants.{Certain};
 ghost use Rattle.avg_exact.specs.Blocks.{column_of, part_rows, IsMeasure, IsOverColumn, IsShortPart};
-ghost use Rattle.avg_exact.specs.Ways.{number_value, opposite, part_tally, taken_tally, IsFurthestValue, IsNumberOf, IsSmallTally, IsWay};
+ghost use Rattle.avg_exact.specs.Ways.{number_value, opposite, part_tally, taken_tally, ArePlanes, IsFurthestValue, IsNumberOf, IsSmallTally, IsWay};
 ghost use Rattle.avg_exact.specs.Passes.{all_rows, greatest_high, least_taken, tally_of, uncertain_count, IsAveraged};
 
 use crate::furthest::furthest;
 use crate::passes::{self, End, Tally};
-use crate::planes::{Measure, Part, measure_part};
+use crate::planes::{Measure, Part, Uncertain, find_uncertain, measure_part};
 use crate::sums::sum_at;
 use crate::thresholds::threshold;
 use interval_calc::Fraction;
@@ -18,11 +17,32 @@ use known_column::Known;
 use query_model::Expr;
 use round_engine::Engine;
 
-/// By the planes of a column, whose certain rows come to this, or row by row.
-#[derive(Clone, Copy)]
+/// The column whose planes are read, what its certain rows come to, and its uncertain rows.
+#[derive(Drop)]
+pub(crate) struct Planes {
+    column: usize,
+    certain: Measure,
+    uncertain: Uncertain,
+}
+
+/// By the planes of a column, or row by row.
+#[derive(Drop)]
 pub(crate) enum Way {
-    Planes(usize, Measure),
+    Planes(Planes),
     Rows,
+}
+
+// The way over the rows of a column.
+fn planes_of(engine: &Engine, item: usize, column: usize) -> Planes
+    requires over { IsOverColumn engine.now item column }
+    ensures { ArePlanes engine.now item result }
+{
+    let uncertain = find_uncertain(engine, item, column);
+    Planes {
+        column,
+        certain: measure_part(engine, item, column, Part::Certain, &uncertain.blocks),
+        uncertain,
+    }
 }
 
 /// The way to pass over the rows of an item.
@@ -32,10 +52,7 @@ pub(crate) fn way_of(engine: &Engine, item: usize) -> Way
 {
     let item_of_query = &engine.query().items.as_slice()[item];
     match &item_of_query.arg {
-        Expr::Column(column) => {
-            let column = *column as usize;
-            Way::Planes(column, measure_part(engine, item, column, Part::Certain))
-        }
+        Expr::Column(column) => Way::Planes(planes_of(engine, item, *column as usize)),
         _ => Way::Rows,
     }
 }
@@ -68,11 +85,12 @@ fn tally_part(
 }
 
 // The uncertain rows above a fraction.
-fn count_taken(engine: &Engine, item: usize, column: usize, end: End, over: Fraction) -> Tally
-    requires over { IsOverColumn engine.now item column }
+fn count_taken(engine: &Engine, item: usize, planes: &Planes, end: End, over: Fraction) -> Tally
+    requires planes { ArePlanes engine.now item planes.now }
     ensures tally { result ≡ taken_tally over (all_rows engine.now item end) }
     ensures few { IsSmallTally result }
 {
+    let column = planes.column;
     match threshold(engine.columns().column(column), end, over) {
         None => Tally {
             sum: 0,
@@ -81,7 +99,7 @@ fn count_taken(engine: &Engine, item: usize, column: usize, end: End, over: Frac
         },
         Some(t) => {
             let part = Part::Reached(end, t);
-            let measure = measure_part(engine, item, column, part);
+            let measure = measure_part(engine, item, column, part, &planes.uncertain.blocks);
             tally_part(engine, item, column, end, part, measure)
         }
     }
@@ -91,21 +109,26 @@ fn count_taken(engine: &Engine, item: usize, column: usize, end: End, over: Frac
 fn count_by_planes(
     engine: &Engine,
     item: usize,
-    column: usize,
-    certain: Measure,
+    planes: &Planes,
     end: End,
     over: Option<Fraction>,
 ) -> Tally
-    requires over { IsOverColumn engine.now item column }
-    requires certain { IsMeasure (column_of engine.now column) (part_rows engine.now item column Certain) certain }
+    requires planes { ArePlanes engine.now item planes.now }
     ensures tally { result ≡ tally_of over (all_rows engine.now item end) }
     ensures small { nat_abs result.sum < 2 ^ 127 }
 {
-    let sure = tally_part(engine, item, column, end, Part::Certain, certain);
+    let sure = tally_part(
+        engine,
+        item,
+        planes.column,
+        end,
+        Part::Certain,
+        planes.certain,
+    );
     match over {
         None => sure,
         Some(over) => {
-            let taken = count_taken(engine, item, column, end, over);
+            let taken = count_taken(engine, item, planes, end, over);
             Tally {
                 sum: sure.sum + taken.sum,
                 rows: sure.rows + taken.rows,
@@ -119,34 +142,30 @@ fn count_by_planes(
 pub(crate) fn count_above(
     engine: &Engine,
     item: usize,
-    way: Way,
+    way: &Way,
     end: End,
     over: Option<Fraction>,
 ) -> Tally
     requires averaged { IsAveraged engine.now item }
-    requires way { IsWay engine.now item way }
+    requires way { IsWay engine.now item way.now }
     requires small { IfSome over (λ f. f.den ≤ engine.now.frame.rows) }
     ensures tally { result ≡ tally_of over (all_rows engine.now item end) }
     ensures small { nat_abs result.sum < 2 ^ 127 }
 {
     match way {
-        Way::Planes(column, certain) => {
-            count_by_planes(engine, item, column, certain, end, over)
-        }
+        Way::Planes(planes) => count_by_planes(engine, item, planes, end, over),
         Way::Rows => passes::count_above(engine, item, end, over),
     }
 }
 
 /// How many rows are uncertain.
-pub(crate) fn count_uncertain(engine: &Engine, item: usize, way: Way) -> u64
+pub(crate) fn count_uncertain(engine: &Engine, item: usize, way: &Way) -> u64
     requires averaged { IsAveraged engine.now item }
-    requires way { IsWay engine.now item way }
+    requires way { IsWay engine.now item way.now }
     ensures { result ≡ uncertain_count (all_rows engine.now item High) }
 {
     match way {
-        Way::Planes(column, _) => {
-            measure_part(engine, item, column, Part::Reached(End::High, 0)).rows
-        }
+        Way::Planes(planes) => planes.uncertain.rows,
         Way::Rows => passes::count_uncertain(engine, item),
     }
 }
@@ -174,20 +193,22 @@ fn value_of_number(known: &Known, end: End, number: u64) -> i128
 fn furthest_value(
     engine: &Engine,
     item: usize,
-    column: usize,
+    planes: &Planes,
     part: Part,
     end: End,
     toward: End,
 ) -> Option<i128>
-    requires over { IsOverColumn engine.now item column }
-    requires short { IsShortPart (column_of engine.now column) part }
-    ensures value { IsFurthestValue toward end (column_of engine.now column) (part_rows engine.now item column part) result }
+    requires planes { ArePlanes engine.now item planes.now }
+    requires short { IsShortPart (column_of engine.now planes.now.column) part }
+    ensures value { IsFurthestValue toward end (column_of engine.now planes.now.column)
+        (part_rows engine.now item planes.now.column part) result }
     ensures small { IfSome result (λ v. nat_abs v < 2 ^ 127) }
 {
-    let known = engine.columns().column(column);
+    let known = engine.columns().column(planes.column);
     let _rows = known.rows();
     let _width = known.width();
-    match furthest(engine, item, column, part, toward) {
+    let blocks = &planes.uncertain.blocks;
+    match furthest(engine, item, planes.column, part, blocks, toward) {
         None => None,
         Some(number) => Some(value_of_number(known, end, number)),
     }
@@ -204,17 +225,30 @@ fn opposite(end: End) -> End
 }
 
 // The least value of an uncertain row above a fraction, by planes.
-fn least_by_planes(engine: &Engine, item: usize, column: usize, end: End, over: Fraction) -> Option<i128>
-    requires over { IsOverColumn engine.now item column }
+fn least_by_planes(
+    engine: &Engine,
+    item: usize,
+    planes: &Planes,
+    end: End,
+    over: Fraction,
+) -> Option<i128>
+    requires planes { ArePlanes engine.now item planes.now }
     ensures least { result ≡ least_taken over (all_rows engine.now item end) }
     ensures small { IfSome result (λ v. nat_abs v < 2 ^ 127) }
 {
-    let known = engine.columns().column(column);
+    let known = engine.columns().column(planes.column);
     let _rows = known.rows();
     let _width = known.width();
     match threshold(known, end, over) {
         None => None,
-        Some(t) => furthest_value(engine, item, column, Part::Reached(end, t), end, opposite(end)),
+        Some(t) => furthest_value(
+            engine,
+            item,
+            planes,
+            Part::Reached(end, t),
+            end,
+            opposite(end),
+        ),
     }
 }
 
@@ -222,46 +256,46 @@ fn least_by_planes(engine: &Engine, item: usize, column: usize, end: End, over: 
 pub(crate) fn least_above(
     engine: &Engine,
     item: usize,
-    way: Way,
+    way: &Way,
     end: End,
     over: Fraction,
 ) -> Option<i128>
     requires averaged { IsAveraged engine.now item }
-    requires way { IsWay engine.now item way }
+    requires way { IsWay engine.now item way.now }
     requires small { over.den ≤ engine.now.frame.rows }
     ensures least { result ≡ least_taken over (all_rows engine.now item end) }
     ensures small { IfSome result (λ v. nat_abs v < 2 ^ 127) }
 {
     match way {
-        Way::Planes(column, _) => least_by_planes(engine, item, column, end, over),
+        Way::Planes(planes) => least_by_planes(engine, item, planes, end, over),
         Way::Rows => passes::least_above(engine, item, end, over),
     }
 }
 
 // The greatest value of a row, where none is certain, by planes.
-fn greatest_by_planes(engine: &Engine, item: usize, column: usize, end: End) -> Option<i128>
-    requires over { IsOverColumn engine.now item column }
+fn greatest_by_planes(engine: &Engine, item: usize, planes: &Planes, end: End) -> Option<i128>
+    requires planes { ArePlanes engine.now item planes.now }
     requires uncertain { (tally_of None (all_rows engine.now item end)).rows ≡ 0 }
     ensures greatest { result ≡ greatest_high (all_rows engine.now item end) }
     ensures small { IfSome result (λ v. nat_abs v < 2 ^ 127) }
 {
-    let known = engine.columns().column(column);
+    let known = engine.columns().column(planes.column);
     let _rows = known.rows();
     let _width = known.width();
     let all = Part::Reached(End::High, 0);
-    furthest_value(engine, item, column, all, end, end)
+    furthest_value(engine, item, planes, all, end, end)
 }
 
 /// The greatest value of a row, where none is certain.
-pub(crate) fn greatest(engine: &Engine, item: usize, way: Way, end: End) -> Option<i128>
+pub(crate) fn greatest(engine: &Engine, item: usize, way: &Way, end: End) -> Option<i128>
     requires averaged { IsAveraged engine.now item }
-    requires way { IsWay engine.now item way }
+    requires way { IsWay engine.now item way.now }
     requires uncertain { (tally_of None (all_rows engine.now item end)).rows ≡ 0 }
     ensures greatest { result ≡ greatest_high (all_rows engine.now item end) }
     ensures small { IfSome result (λ v. nat_abs v < 2 ^ 127) }
 {
     match way {
-        Way::Planes(column, _) => greatest_by_planes(engine, item, column, end),
+        Way::Planes(planes) => greatest_by_planes(engine, item, planes, end),
         Way::Rows => passes::greatest(engine, item, end),
     }
 }

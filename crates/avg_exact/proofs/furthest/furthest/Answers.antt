@@ -1,4 +1,4 @@
-use Rattle.std.proofs.Common.{◌≡◌, ◌≤◌, ◌+◌, ◌*◌, length, sym, subst, ◌∙◌, arith}
+use Rattle.std.proofs.Common.{◌≤◌, ◌+◌, ◌*◌, length, sym, subst, arith}
 use Rattle.avg_exact.specs.Blocks.{column_of, part_rows}
 use Rattle.avg_exact.specs.Furthest.{IsFurthestFrom}
 use Rattle.avg_exact.proofs.FurthestRows.{all_rows_seen, joined, of_block}

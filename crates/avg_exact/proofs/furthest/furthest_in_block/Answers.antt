@@ -1,4 +1,4 @@
-use Rattle.std.proofs.Common.{◌≡◌, ◌⊎◌, ℕ, Bool, true, false, cond, ◌≤◌, ◌<◌, ◌+◌, ◌-◌, ◌*◌, ◌^◌, length, count_by, refl, ap, sym, subst, ◌∙◌, arith}
+use Rattle.std.proofs.Common.{◌≡◌, ◌⊎◌, ℕ, Bool, true, false, cond, ◌≤◌, ◌+◌, ◌-◌, ◌*◌, length, count_by, refl, ap, sym, subst, ◌∙◌, arith}
 use mir.Val.{bool_byte}
 use Rattle.std.proofs.lemmas.List.{length-map}
 use Rattle.plane_kernels.specs.Rows.{kept_rows}
@@ -6,9 +6,9 @@ use Rattle.known_column.specs.Columns.{digit_of}
 use Rattle.aggregates.specs.Selections.{block_of}
 use Rattle.aggregates.proofs.BlockSums.{column_block}
 use Rattle.avg_exact.specs.Blocks.{column_of, part_rows}
-use Rattle.avg_exact.proofs.FurthestRows.{IsNarrowed, at_level, narrowed_first, narrowed_last, narrowed_next, small_enough}
+use Rattle.avg_exact.proofs.FurthestRows.{IsNarrowed, at_level, narrowed_first, narrowed_last, narrowed_next, no_row, small_enough}
 use Rattle.avg_exact.proofs.Reaching.{length-that}
-use Rattle.avg_exact.proofs.RowLists.{digits_are, lends, part_block_counts}
+use Rattle.avg_exact.proofs.RowLists.{digits_are, lends, part_block_counts, passed_over}
 use Rattle.avg_exact.proofs.furthest.furthest_in_block.Goals as goal
 
 as_number : (b : Bool) → bool_byte b ≡ cond b 1 0
@@ -90,3 +90,8 @@ returns c =
     let rows = block_of c.args.block (part_rows stage c.args.item c.args.column c.args.part) in
     let counts = part_block_counts stage c.args.item c.args.column c.requires.over c.args.part c.args.block lent.sound in
     narrowed_last c.args.toward column rows counts c.number_planes-from.result.0 c.loop-j.j c.loop-j.number c.loop-j.level (omega (arith, c.loop-j.auto, c.loop-j-test.false, lent.to_is)) c.loop-j.invariant
+
+pub returns-then-is_passed_over : goal.returns-then-is_passed_over
+returns-then-is_passed_over c = λ r above below.
+    no_row (block_of c.args.block (part_rows c.args.engine.now c.args.item c.args.column c.args.part))
+    (passed_over c.args.engine.now c.args.item c.args.column c.requires.over c.args.part c.args.blocks.now c.args.block c.requires.blocks c.requires.block (sym c.is_passed_over.ensures ∙ c.if-is_passed_over.true)) r

@@ -1,10 +1,7 @@
-use Rattle.std.proofs.Common.{◌≡◌, ◌<◌, ◌≤◌, ◌+◌, ◌-◌, ◌*◌, ◌^◌, ◌&&◌, ◌||◌, Bool, not, min, length, map, count_by, ap, sym, subst, ◌∙◌, arith}
+use Rattle.std.proofs.Common.{◌≡◌, ◌+◌, ◌-◌, ◌*◌, ◌&&◌, length, map, count_by, ap, sym, subst, ◌∙◌, arith}
 use Rattle.std.specs.Simd.Lanes.{zip2}
-use Rattle.plane_kernels.specs.Rows.{kept_rows}
-use Rattle.known_column.specs.Columns.{digit_of, number_of}
-use Rattle.aggregates.specs.Selections.{block_of}
+use Rattle.known_column.specs.Columns.{digit_of}
 use Rattle.aggregates.proofs.BlockSums.{column_block}
-use Rattle.aggregates.proofs.NumberRows.{first_plane}
 use Rattle.std.proofs.lemmas.List.{length-map}
 use Rattle.aggregates.proofs.EndSums.{Counts, short_end, short_few, short_further, short_start, sum_short}
 use Rattle.avg_exact.specs.Blocks.{column_of}

@@ -1,10 +1,9 @@
-use Rattle.std.proofs.Common.{◌≡◌, ◌<◌, ◌≤◌, ◌+◌, ◌-◌, ◌*◌, ◌&&◌, not, min, length, map, ap, sym, subst, ◌∙◌, arith}
+use Rattle.std.proofs.Common.{◌-◌, ◌*◌, ◌&&◌, min, length, ap, sym, ◌∙◌, arith}
 use Rattle.std.specs.Simd.Lanes.{zip2}
-use Rattle.kleene_filter.specs.Filters.{is_certain, is_possible}
-use Rattle.known_column.specs.Columns.{KnownColumn, is_sure, rows_where}
-use Rattle.known_column.specs.Columns as columns
+use Rattle.kleene_filter.specs.Filters.{is_certain}
+use Rattle.known_column.specs.Columns.{is_sure, rows_where}
 use Rattle.aggregates.specs.Selections.{block_of}
-use Rattle.avg_exact.specs.Blocks.{column_of, is_sure_row, rows_with}
+use Rattle.avg_exact.specs.Blocks.{column_of}
 use Rattle.avg_exact.proofs.RowLists.{certain_in_block, length-block, lent_column, long_marks, long_mask}
 use Rattle.avg_exact.proofs.planes.certain_block.Goals as goal
 

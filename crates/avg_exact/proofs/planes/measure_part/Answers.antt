@@ -1,10 +1,9 @@
-use Rattle.std.proofs.Common.{◌≡◌, ◌<◌, ◌≤◌, ◌+◌, ◌-◌, ◌*◌, ◌&&◌, Bool, min, length, map, take, count_by, ap, sym, ◌∙◌, arith}
+use Rattle.std.proofs.Common.{◌≡◌, ◌≤◌, ◌*◌, ◌&&◌, length, count_by, ap, sym, ◌∙◌, arith}
 use Rattle.std.specs.Simd.Lanes.{zip2}
 use Rattle.std.proofs.lemmas.List.{length-map, take_all}
 use Rattle.std.proofs.lemmas.Simd.{length-zip2}
-use Rattle.std.proofs.lemmas.List.Sums.{count_by-le-length}
 use Rattle.known_column.specs.Columns.{is_at_top, number_of, rows_where}
-use Rattle.aggregates.specs.Selections.{block_of, sum_where}
+use Rattle.aggregates.specs.Selections.{block_of}
 use Rattle.aggregates.proofs.BlockSums.{all_blocks, next_block}
 use Rattle.avg_exact.specs.Blocks.{column_of, part_rows}
 use Rattle.avg_exact.proofs.RowLists.{block-map, block-zip2, long, long_part, next_count}

@@ -1,4 +1,4 @@
-use Rattle.std.proofs.Common.{◌≡◌, not, ◌&&◌, length, ap, sym, ◌∙◌}
+use Rattle.std.proofs.Common.{not, ◌&&◌, length, ap, sym, ◌∙◌}
 use Rattle.std.proofs.lemmas.Simd.{length-zip2}
 use Rattle.avg_exact.proofs.planes.pass.Goals as goal
 

@@ -1,6 +1,6 @@
-use Rattle.std.proofs.Common.{◌≡◌, ◌<◌, ◌≤◌, ◌+◌, ◌-◌, ◌*◌, ◌&&◌, not, min, length, map, ap, sym, subst, ◌∙◌, arith}
+use Rattle.std.proofs.Common.{◌-◌, ◌*◌, ◌&&◌, not, min, length, ap, sym, ◌∙◌, arith}
 use Rattle.std.specs.Simd.Lanes.{zip2}
-use Rattle.kleene_filter.specs.Filters.{is_certain, is_possible}
+use Rattle.kleene_filter.specs.Filters.{is_possible}
 use Rattle.known_column.specs.Columns.{KnownColumn, is_sure, rows_where}
 use Rattle.known_column.specs.Columns as columns
 use Rattle.aggregates.specs.Selections.{block_of}

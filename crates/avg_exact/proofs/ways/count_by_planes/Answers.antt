@@ -8,7 +8,7 @@ use Rattle.avg_exact.proofs.ways.count_by_planes.Goals as goal
 
 pub returns-in-None-clause-tally : goal.returns-in-None-clause-tally
 returns-in-None-clause-tally c =
-    c.tally_part-sure.ensures.tally ∙ sure_tally c.args.engine.now c.args.item c.args.column c.requires.over c.args.end
+    c.tally_part-sure.ensures.tally ∙ sure_tally c.args.engine.now c.args.item c.args.planes.now.column c.requires.planes.over c.args.end
     ∙ ap (λ over. tally_of over (all_rows c.args.engine.now c.args.item c.args.end)) (sym c.in-None.is)
 
 abbrev with_sum : ℤ → Tally → Tally → Tally
@@ -22,6 +22,6 @@ returns-in-Some-clause-tally c =
     let b = c.count_taken-taken.ensures.few.sum in
     let whole : to_z w128 (of_z w128 (to_z w128 (of_z w128 sure.sum) +ℤ to_z w128 (of_z w128 taken.sum))) ≡ sure.sum +ℤ taken.sum = omega (arith, ints, a.0, a.1, b.0, b.1) in
     ap (λ z. with_sum z sure taken) whole
-    ∙ both_tally c.args.engine.now c.args.item c.args.column c.requires.over c.args.end c.in-Some.over sure taken
-    (c.tally_part-sure.ensures.tally ∙ sure_tally c.args.engine.now c.args.item c.args.column c.requires.over c.args.end) c.count_taken-taken.ensures.tally
+    ∙ both_tally c.args.engine.now c.args.item c.args.planes.now.column c.requires.planes.over c.args.end c.in-Some.over sure taken
+    (c.tally_part-sure.ensures.tally ∙ sure_tally c.args.engine.now c.args.item c.args.planes.now.column c.requires.planes.over c.args.end) c.count_taken-taken.ensures.tally
     ∙ ap (λ over. tally_of over (all_rows c.args.engine.now c.args.item c.args.end)) (sym c.in-Some.is)

@@ -1,4 +1,4 @@
-use Rattle.std.proofs.Common.{◌≡◌, not, ◌&&◌, ◌||◌, Bool, List, ℕ, length, ap, sym, subst, ◌∙◌}
+use Rattle.std.proofs.Common.{not, ◌&&◌, length, ap, sym, subst, ◌∙◌}
 use Rattle.std.specs.Simd.Lanes.{zip2}
 use Rattle.plane_kernels.specs.Words.{and_not}
 use Rattle.plane_kernels.specs.Rows.{rows_of}

@@ -1,4 +1,4 @@
-use Rattle.std.proofs.Common.{◌≡◌, count_by, ap, ◌∙◌}
+use Rattle.std.proofs.Common.{count_by, ap, ◌∙◌}
 use Rattle.avg_exact.proofs.BlockRows.{counted_rows}
 use Rattle.avg_exact.proofs.block.Block.count.Goals as goal
 

@@ -1,4 +1,4 @@
-use Rattle.std.proofs.Common.{◌≡◌, not, ◌&&◌, ◌||◌, Bool, List, ℕ, length, ap, sym, subst, ◌∙◌}
+use Rattle.std.proofs.Common.{◌||◌, length, ap, sym, subst, ◌∙◌}
 use Rattle.std.specs.Simd.Lanes.{zip2}
 use Rattle.std.specs.Int.Bits.{bit_or}
 use Rattle.plane_kernels.specs.Rows.{rows_of}
