@@ -2,16 +2,18 @@
 use Rattle.std.proofs.Common.{◌≡◌, ℕ, ◌-◌, ◌<◌, ◌≤◌, Bool, Option, Some, None, List, [], ◌∷◌, length, get_or, map, refl, sym, ap, ◌∙◌, subst, arith, slice_get, slice_index}
 use Rattle.std.proofs.lemmas.List.{get_or-map}
 use Rattle.std.specs.Option.{option_map_or}
+use Rattle.std.specs.List.{AllByRecursion}
 use Rattle.daq_table.specs.declared.table_head.Head.{Head}
 use Rattle.daq_table.specs.Tables.{ends_at, ends_of, frame_of, no_ends, planes}
 use Rattle.daq_table.specs.declared.head.ColumnHead.{ColumnHead}
 use Rattle.multi_session.proofs.Awaiting.{awaited_own, own_there}
-use Rattle.multi_session.specs.Sessions.{Awaits, IsSessionProgress, Session, awaited, columns_named, followed, session_outlook, session_stepped, unread_in, unread_of}
+use Rattle.multi_session.specs.Sessions.{Awaits, IsSessionProgress, Session, awaited, columns_named, followed, session_opened, session_outlook, session_stepped, unread_in, unread_of}
 use Rattle.plane_schedule.specs.Choices.{HasUnread, IsUnread}
 use Rattle.plane_schedule.specs.declared.progress.Progress.{Progress}
 use Rattle.query_model.specs.Knowledge.{IsKnowledge}
-use Rattle.query_model.specs.Validity.{FitsHead}
-use Rattle.round_engine.specs.Stages.{Stage, stepped}
+use Rattle.query_model.specs.Queries.{Query}
+use Rattle.query_model.specs.Validity.{FitsHead, IsValid}
+use Rattle.round_engine.specs.Stages.{Stage, opened, stepped}
 use Rattle.session_rounds.proofs.Lists.{all_of, all_there}
 use Rattle.session_rounds.proofs.Outlooks.{AreAlike, awaits_some}
 use Rattle.session_rounds.proofs.Standing.{Found, found, from_map}
@@ -83,9 +85,6 @@ fits_followed : (width place : ℕ) (bits : List Bool) (head : Head) (stage : St
     FitsHead (followed width place bits stage).query (followed width place bits stage).frame head
 fits_followed width place bits head stage fits = by (awaited width place stage)
   where
-    new : Option ℕ → Stage
-    new o = option_map_or (λ c. stepped stage c bits) o stage
-
     by : (o : Option ℕ) → FitsHead (option_map_or (λ c. stepped stage c bits) o stage).query (option_map_or (λ c. stepped stage c bits) o stage).frame head
     by None = fits
     by (Some c) = fits
@@ -109,3 +108,18 @@ fits_stepped s new head column bits fits step =
           let (old, at, is) = from_map (followed s.width place bits) s.stages k stage there in
           subst (λ (stage : Stage). FitsHead stage.query stage.frame head) is (fits_followed s.width place bits head old (fits_query s head k old fits at)));
     })
+
+-- ---- a session of which nothing is read
+
+queries_of : (queries : List Query) (head : Head) → queries ≡ map (λ (stage : Stage). stage.query) (map (λ query. opened query head) queries)
+queries_of [] head = refl
+queries_of (query ∷ queries) head = ap (λ qs. query ∷ qs) (queries_of queries head)
+
+pub fits_opened : (queries : List Query) (head : Head) (width : ℕ) → AllByRecursion (IsValid head) queries → FitsSession (session_opened queries head width) head
+fits_opened queries head width valid = record {
+  rows = refl;
+  columns = ap columns_named (queries_of queries head);
+  stages = all_of (λ (stage : Stage). FitsHead stage.query stage.frame head) (map (λ query. opened query head) queries) (λ k stage there.
+      let (query, at, is) = from_map (λ query. opened query head) queries k stage there in
+      subst (λ (stage : Stage). FitsHead stage.query stage.frame head) is (record { valid = all_there (IsValid head) queries k query valid at; same = refl }));
+}

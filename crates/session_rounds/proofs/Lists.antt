@@ -22,9 +22,6 @@ same_maps f h (y ∷ ys) each = rw (each 0 y refl, same_maps f h ys (λ k x e. e
 
 -- ---- counts
 
-one_if : Bool → ℕ
-one_if b = cond b 1 0
-
 count_of_cons : (p : ℕ → Bool) (x : ℕ) (xs : List ℕ) → count_by p (x ∷ xs) ≡ cond (p x) 1 0 + count_by p xs
 count_of_cons p x xs = sum_by-cons (λ y. cond (p y) 1 0) x xs
 

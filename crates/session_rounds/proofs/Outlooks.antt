@@ -32,9 +32,6 @@ same_outlook s p is = record {
   read = is.done;
 }
 
-pub some_unread : (s : Session) (p : Progress) → IsSessionProgress s p → HasUnread (session_outlook s) → HasUnread (outlook_of p)
-some_unread s p is (c, unread) = (c, unread_there (session_outlook s) (outlook_of p) (turned (outlook_of p) (session_outlook s) (same_outlook s p is)) c unread)
-
 pub choice_there : (policy : Policy) (s : Session) (p : Progress) → IsSessionProgress s p → HasChoice policy (session_outlook s) → HasChoice policy (outlook_of p)
 choice_there policy s p is (c, chosen) = (c, same_choice policy (session_outlook s) (outlook_of p) (turned (outlook_of p) (session_outlook s) (same_outlook s p is)) c chosen)
 

@@ -10,3 +10,6 @@ pub use laws::{
     sessions_begin, sessions_have_an_end,
 };
 pub use reading::{ending, read_next};
+
+#[cfg(test)]
+mod tests;
