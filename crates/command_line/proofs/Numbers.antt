@@ -15,7 +15,7 @@ if_some : {A : Type 0} (b : Bool) (v n : A) → (if b then Some v else None) ≡
 if_some true v n e = (refl, cc)
 if_some false v n e = cc
 
-both : (a b : Bool) → a && b ≡ true → (a ≡ true) × (b ≡ true)
+pub both : (a b : Bool) → a && b ≡ true → (a ≡ true) × (b ≡ true)
 both true b e = (refl, e)
 both false b e = cc
 

@@ -37,7 +37,7 @@ completes (number limit k) at = completes_more (number limit k) (k 0) at (codes 
     (ap (option_map k) (number_some limit (codes "0") 0 (zero_is limit))) (completes (k 0) (at + 1))
 completes (policy k) at = completes_more (policy k) (k widest) at (codes "widest")
     (ap (option_map k) (policy_some (codes "widest") widest refl)) (completes (k widest) (at + 1))
-completes (option g k) at = record { rest = []; command = k (options_given g); whole = answer-none (option g k) at }
+completes (option by_name g k) at = record { rest = []; command = k (options_given g); whole = answer-none (option by_name g k) at }
 completes (done c) at = record { rest = []; command = c; whole = answer-none (done c) at }
 
 -- the longest list of first words with which something goes on, where the place is one past it
@@ -94,7 +94,7 @@ missing name at place e = cc
 missing (word k) at place e = cc
 missing (number limit k) at place e = cc
 missing (policy k) at place e = cc
-missing (option g k) at place e = cc
+missing (option by_name g k) at place e = cc
 missing (done c) at place e = cc
 
 stuck : (next : Next) (at : ℕ) (words : List (List ℕ)) (place : ℕ) → answer next at words ≡ Err place → Stuck next at words place

@@ -1,13 +1,14 @@
 -- What is read whole is a command of the grammar.
 use Rattle.command_line.specs.declared.reader.Flag.{Flag}
 use Rattle.command_line.specs.declared.reader.Flag.TheVariants as f
-use Rattle.std.proofs.Common.{◌≡◌, ◌≢◌, ℕ, zero, suc, ◌+◌, ◌≤◌, Bool, true, false, not, if◌then◌else◌, Option, Some, None, is_none, Ok, Err, List, [], ◌∷◌, length, option_map, refl, sym, ap, subst, ◌∙◌, codes, arith}
+use Rattle.std.proofs.Common.{◌≡◌, ◌≢◌, ℕ, zero, suc, ◌+◌, ◌≤◌, Bool, true, false, not, if◌then◌else◌, Option, Some, None, is_none, Ok, Err, List, [], ◌∷◌, length, option_map, unwrap_or, refl, sym, ap, subst, ◌∙◌, codes, arith}
 use Rattle.std.specs.Option.{option_map_or}
 use Rattle.std.specs.Str.{bytes_eq}
 use Rattle.std.proofs.lemmas.Slice.Eq.{bytes_eq-Decides}
-use Rattle.command_line.specs.Commands.{ReadOrder, widest, in_order, filter_first, IsPolicy, IsNumber, Given, Gives, no_more, more_width, more_rounds, more_policy, more_reads, more_list, more_clip, more_exact, Options, Command, ask, query, load, info, upgrade, demo, IsCommand, AreOptions, nothing_given, options_given, most_seed, most_rows, most_width, most_rounds}
-use Rattle.command_line.specs.Reading.{Next, name, word, number, policy, option, done, after, after_ask, after_query, after_load, after_info, after_upgrade, after_demo, after_name, after_flag, behind, is_free, flag_of, flag_text, at_end, answer, number_of, policy_of}
-use Rattle.command_line.proofs.Numbers.{number_is}
+use Rattle.command_line.specs.Commands.{ReadOrder, widest, in_order, filter_first, reads, IsPolicy, IsNumber, Given, Gives, no_more, more_width, more_rounds, more_policy, more_reads, more_list, more_clip, more_exact, Options, Command, ask, query, session, load, info, upgrade, demo, IsCommand, AreOptions, nothing_given, options_given, most_seed, most_rows, most_width, most_rounds}
+use Rattle.command_line.specs.Reading.{Next, name, word, number, policy, option, done, after, after_ask, after_query, after_session, after_load, after_info, after_upgrade, after_demo, after_name, after_flag, behind, is_free, flag_of, flag_text, at_end, answer, number_of, policy_of}
+use Rattle.command_line.proofs.Numbers.{number_is, both}
+use Rattle.command_line.proofs.Steps.{Allowed}
 
 -- ---- cases on tests
 
@@ -116,9 +117,10 @@ read_policy k at ws c e =
 -- ---- options
 
 -- what the words give, and the command with it
-record Given_by (g : Given) (k : Options → Command) (ws : List (List ℕ)) (c : Command) : Type 0 where
+record Given_by (by_name : Bool) (g : Given) (k : Options → Command) (ws : List (List ℕ)) (c : Command) : Type 0 where
   end : Given
   gives : Gives g ws end
+  allowed : Allowed by_name g → Allowed by_name end
   same : c ≡ k (options_given end)
 
 abbrev IsFlag : List ℕ → Option Flag → Type 0
@@ -144,9 +146,9 @@ free_some true x at ws c e = (refl, e)
 free_some false x at ws c e = cc
 
 -- words shorter than so many that are read whole as options
-abbrev ReadBelow : ℕ → (Options → Command) → Type 0
-ReadBelow n k = (g : Given) (at : ℕ) (ws : List (List ℕ)) (c : Command) → length ws ≤ n → answer (option g k) at ws ≡ Ok c →
-    Given_by g k ws c
+abbrev ReadBelow : Bool → ℕ → (Options → Command) → Type 0
+ReadBelow by_name n k = (g : Given) (at : ℕ) (ws : List (List ℕ)) (c : Command) → length ws ≤ n → answer (option by_name g k) at ws ≡ Ok c →
+    Given_by by_name g k ws c
 
 -- the words behind an option that takes one word
 shorter : (n : ℕ) (w first : List ℕ) (ws tail : List (List ℕ)) → length (w ∷ ws) ≤ suc n → ws ≡ first ∷ tail → length tail ≤ n
@@ -157,71 +159,84 @@ moved : (g h : Given) (w flag first : List ℕ) (ws tail : List (List ℕ)) → 
     Gives g (w ∷ ws) h
 moved g h w flag first ws tail a b gives = rw (a, b) gives
 
-read_flag : (n : ℕ) (k : Options → Command) → ReadBelow n k →
+-- a policy is no list of names
+policy_allowed : (by_name : Bool) (g : Given) (w : List ℕ) (p : ReadOrder) → IsPolicy w p → Allowed by_name (record g { order = Some p })
+policy_allowed by_name g w widest is names e = cc
+policy_allowed by_name g w in_order is names e = cc
+policy_allowed by_name g w filter_first is names e = cc
+policy_allowed by_name g w (reads listed) is names e = absurd is
+
+read_flag : (by_name : Bool) (n : ℕ) (k : Options → Command) → ReadBelow by_name n k →
     (g : Given) (at : ℕ) (w : List ℕ) (ws : List (List ℕ)) (c : Command) (flag : Flag) → length (w ∷ ws) ≤ suc n →
-    w ≡ flag_text flag → is_free flag g ≡ true → answer (behind flag g k) (at + 1) ws ≡ Ok c → Given_by g k (w ∷ ws) c
-read_flag n k ih g at w ws c f.Width h same free e =
+    w ≡ flag_text flag → is_free by_name flag g ≡ true → answer (behind by_name flag g k) (at + 1) ws ≡ Ok c → Given_by by_name g k (w ∷ ws) c
+read_flag by_name n k ih g at w ws c f.Width h same free e =
     let r = read_number most_width _ (at + 1) ws c e in
     let b = ih _ (at + 1 + 1) r.tail c (shorter n w r.first ws r.tail h r.words) r.whole in
     record {
       end = b.end;
       gives = moved g b.end w _ r.first ws r.tail same r.words (more_width (unset g.width free) r.meant b.gives);
+      allowed = b.allowed;
       same = b.same;
     }
-read_flag n k ih g at w ws c f.Rounds h same free e =
+read_flag by_name n k ih g at w ws c f.Rounds h same free e =
     let r = read_number most_rounds _ (at + 1) ws c e in
     let b = ih _ (at + 1 + 1) r.tail c (shorter n w r.first ws r.tail h r.words) r.whole in
     record {
       end = b.end;
       gives = moved g b.end w _ r.first ws r.tail same r.words (more_rounds (unset g.rounds free) r.meant b.gives);
+      allowed = b.allowed;
       same = b.same;
     }
-read_flag n k ih g at w ws c f.Policy h same free e =
+read_flag by_name n k ih g at w ws c f.Policy h same free e =
     let r = read_policy _ (at + 1) ws c e in
     let b = ih _ (at + 1 + 1) r.tail c (shorter n w r.first ws r.tail h r.words) r.whole in
     record {
       end = b.end;
       gives = moved g b.end w _ r.first ws r.tail same r.words (more_policy (unset g.order free) r.meant b.gives);
+      allowed = λ a. b.allowed (policy_allowed by_name g r.first r.said r.meant);
       same = b.same;
     }
-read_flag n k ih g at w ws c f.Reads h same free e =
+read_flag by_name n k ih g at w ws c f.Reads h same free e =
+    let (may, free_order) = both _ _ free in
     let r = read_word _ (at + 1) ws c e in
     let b = ih _ (at + 1 + 1) r.tail c (shorter n w r.first ws r.tail h r.words) r.whole in
     record {
       end = b.end;
       gives = moved g b.end w _ r.said ws r.tail same (r.words ∙ ap (λ v. v ∷ r.tail) r.meant)
-          (more_reads (unset g.order free) b.gives);
+          (more_reads (unset g.order free_order) b.gives);
+      allowed = λ a. b.allowed (λ names e. may);
       same = b.same;
     }
-read_flag n k ih g at w ws c f.List h same free e =
+read_flag by_name n k ih g at w ws c f.List h same free e =
     let b = ih _ (at + 1) ws c (omega arith) e in
-    record { end = b.end; gives = subst (λ v. Gives g (v ∷ ws) b.end) (sym same) (more_list (not_set g.list free) b.gives); same = b.same }
-read_flag n k ih g at w ws c f.Clip h same free e =
+    record { end = b.end; gives = subst (λ v. Gives g (v ∷ ws) b.end) (sym same) (more_list (not_set g.list free) b.gives); allowed = b.allowed; same = b.same }
+read_flag by_name n k ih g at w ws c f.Clip h same free e =
     let b = ih _ (at + 1) ws c (omega arith) e in
-    record { end = b.end; gives = subst (λ v. Gives g (v ∷ ws) b.end) (sym same) (more_clip (not_set g.clip free) b.gives); same = b.same }
-read_flag n k ih g at w ws c f.Exact h same free e =
+    record { end = b.end; gives = subst (λ v. Gives g (v ∷ ws) b.end) (sym same) (more_clip (not_set g.clip free) b.gives); allowed = b.allowed; same = b.same }
+read_flag by_name n k ih g at w ws c f.Exact h same free e =
     let b = ih _ (at + 1) ws c (omega arith) e in
-    record { end = b.end; gives = subst (λ v. Gives g (v ∷ ws) b.end) (sym same) (more_exact (not_set g.exact free) b.gives); same = b.same }
+    record { end = b.end; gives = subst (λ v. Gives g (v ∷ ws) b.end) (sym same) (more_exact (not_set g.exact free) b.gives); allowed = b.allowed; same = b.same }
 
-read_option : (n : ℕ) (k : Options → Command) → ReadBelow n k →
+read_option : (by_name : Bool) (n : ℕ) (k : Options → Command) → ReadBelow by_name n k →
     (g : Given) (at : ℕ) (w : List ℕ) (ws : List (List ℕ)) (c : Command) (o : Option Flag) → length (w ∷ ws) ≤ suc n →
-    IsFlag w o → option_map_or (λ next. answer next (at + 1) ws) (after_flag g k o) (Err (at + 1)) ≡ Ok c → Given_by g k (w ∷ ws) c
-read_option n k ih g at w ws c (Some flag) h same e =
-    let (free, whole) = free_some (is_free flag g) (behind flag g k) at ws c e in
-    read_flag n k ih g at w ws c flag h same free whole
-read_option n k ih g at w ws c None h same e = cc
+    IsFlag w o → option_map_or (λ next. answer next (at + 1) ws) (after_flag by_name g k o) (Err (at + 1)) ≡ Ok c → Given_by by_name g k (w ∷ ws) c
+read_option by_name n k ih g at w ws c (Some flag) h same e =
+    let (free, whole) = free_some (is_free by_name flag g) (behind by_name flag g k) at ws c e in
+    read_flag by_name n k ih g at w ws c flag h same free whole
+read_option by_name n k ih g at w ws c None h same e = cc
 
-read_options : (k : Options → Command) (n : ℕ) → ReadBelow n k
+read_options : (by_name : Bool) (k : Options → Command) (n : ℕ) → ReadBelow by_name n k
 unfolding answer
-read_options k n g at [] c h e = record { end = g; gives = no_more; same = cc }
-read_options k zero g at (w ∷ ws) c h e = absurd (omega arith)
-read_options k (suc n) g at (w ∷ ws) c h e = read_option n k (read_options k n) g at w ws c (flag_of w) h (flag_is w) e
+read_options by_name k n g at [] c h e = record { end = g; gives = no_more; allowed = λ a. a; same = cc }
+read_options by_name k zero g at (w ∷ ws) c h e = absurd (omega arith)
+read_options by_name k (suc n) g at (w ∷ ws) c h e = read_option by_name n k (read_options by_name k n) g at w ws c (flag_of w) h (flag_is w) e
 
 -- ---- commands
 
 data IsName (w : List ℕ) : Option Next → Type 0 where
   is_ask : w ≡ codes "ask" → IsName w (Some after_ask)
   is_query : w ≡ codes "query" → IsName w (Some after_query)
+  is_session : w ≡ codes "session" → IsName w (Some after_session)
   is_load : w ≡ codes "load" → IsName w (Some after_load)
   is_info : w ≡ codes "info" → IsName w (Some after_info)
   is_upgrade : w ≡ codes "upgrade" → IsName w (Some after_upgrade)
@@ -233,10 +248,11 @@ unfolding after_name
 name_is w =
     if_cases (IsName w) (bytes_eq w (codes "ask")) _ _ (λ t. is_ask (same_bytes w _ t))
     (if_cases (IsName w) (bytes_eq w (codes "query")) _ _ (λ t. is_query (same_bytes w _ t))
+    (if_cases (IsName w) (bytes_eq w (codes "session")) _ _ (λ t. is_session (same_bytes w _ t))
     (if_cases (IsName w) (bytes_eq w (codes "load")) _ _ (λ t. is_load (same_bytes w _ t))
     (if_cases (IsName w) (bytes_eq w (codes "info")) _ _ (λ t. is_info (same_bytes w _ t))
     (if_cases (IsName w) (bytes_eq w (codes "upgrade")) _ _ (λ t. is_upgrade (same_bytes w _ t))
-    (if_cases (IsName w) (bytes_eq w (codes "demo")) _ _ (λ t. is_demo (same_bytes w _ t)) is_no_name)))))
+    (if_cases (IsName w) (bytes_eq w (codes "demo")) _ _ (λ t. is_demo (same_bytes w _ t)) is_no_name))))))
 
 said : (words : List (List ℕ)) (given : Given) → Gives nothing_given words given → AreOptions words (options_given given)
 said words given gives = record { given = given; gives = gives; say = refl }
@@ -257,7 +273,7 @@ ask_is ws c e =
     let csv = read_word _ 1 ws c e in
     let schema = read_word _ 2 csv.tail c csv.whole in
     let sql = read_word _ 3 schema.tail c schema.whole in
-    let o = read_options _ (length sql.tail) _ 4 sql.tail c (omega arith) sql.whole in
+    let o = read_options true _ (length sql.tail) _ 4 sql.tail c (omega arith) sql.whole in
     let is : IsCommand (codes "ask" ∷ ws) (ask (record {
       csv = csv.said;
       schema = schema.said;
@@ -283,7 +299,7 @@ query_is : (ws : List (List ℕ)) (c : Command) → answer after_query 1 ws ≡ 
 query_is ws c e =
     let file = read_word _ 1 ws c e in
     let sql = read_word _ 2 file.tail c file.whole in
-    let o = read_options _ (length sql.tail) _ 3 sql.tail c (omega arith) sql.whole in
+    let o = read_options true _ (length sql.tail) _ 3 sql.tail c (omega arith) sql.whole in
     let is : IsCommand (codes "query" ∷ ws) (query (record { file = file.said; sql = sql.said; options = options_given o.end })) =
     record {
       tail = sql.tail;
@@ -291,6 +307,26 @@ query_is ws c e =
       options = said sql.tail o.end o.gives;
     } in
     subst (IsCommand (codes "query" ∷ ws)) (sym o.same) is
+
+-- an order that may not be a list of names is none
+no_names : (order : Option ReadOrder) → ((names : List ℕ) → order ≡ Some (reads names) → false ≡ true) → (names : List ℕ) →
+    unwrap_or order widest ≢ reads names
+no_names None allowed names e = cc
+no_names (Some p) allowed names e = let never = allowed names (ap Some e) in cc
+
+session_is : (ws : List (List ℕ)) (c : Command) → answer after_session 1 ws ≡ Ok c → IsCommand (codes "session" ∷ ws) c
+session_is ws c e =
+    let file = read_word _ 1 ws c e in
+    let script = read_word _ 2 file.tail c file.whole in
+    let o = read_options false _ (length script.tail) _ 3 script.tail c (omega arith) script.whole in
+    let is : IsCommand (codes "session" ∷ ws) (session (record { file = file.said; script = script.said; options = options_given o.end })) =
+    record {
+      tail = script.tail;
+      spelled = ap (λ v. codes "session" ∷ v) (two_words file.said script.said ws file.tail script.tail (word_there file) (word_there script));
+      options = said script.tail o.end o.gives;
+      by_policy = no_names o.end.order (o.allowed (λ names e. cc));
+    } in
+    subst (IsCommand (codes "session" ∷ ws)) (sym o.same) is
 
 load_is : (ws : List (List ℕ)) (c : Command) → answer after_load 1 ws ≡ Ok c → IsCommand (codes "load" ∷ ws) c
 load_is ws c e =
@@ -326,7 +362,7 @@ demo_is ws c e =
     let seed = read_number most_seed _ 1 ws c e in
     let rows = read_number most_rows _ 2 seed.tail c seed.whole in
     let sql = read_word _ 3 rows.tail c rows.whole in
-    let o = read_options _ (length sql.tail) _ 4 sql.tail c (omega arith) sql.whole in
+    let o = read_options true _ (length sql.tail) _ 4 sql.tail c (omega arith) sql.whole in
     let is : IsCommand (codes "demo" ∷ ws) (demo (record {
       seed = seed.said;
       rows = rows.said;
@@ -349,6 +385,7 @@ named_is : (w : List ℕ) (ws : List (List ℕ)) (c : Command) (o : Option Next)
     option_map_or (λ next. answer next 1 ws) o (Err 1) ≡ Ok c → IsCommand (w ∷ ws) c
 named_is w ws c (Some _) (is_ask same) e = subst (λ v. IsCommand (v ∷ ws) c) (sym same) (ask_is ws c e)
 named_is w ws c (Some _) (is_query same) e = subst (λ v. IsCommand (v ∷ ws) c) (sym same) (query_is ws c e)
+named_is w ws c (Some _) (is_session same) e = subst (λ v. IsCommand (v ∷ ws) c) (sym same) (session_is ws c e)
 named_is w ws c (Some _) (is_load same) e = subst (λ v. IsCommand (v ∷ ws) c) (sym same) (load_is ws c e)
 named_is w ws c (Some _) (is_info same) e = subst (λ v. IsCommand (v ∷ ws) c) (sym same) (info_is ws c e)
 named_is w ws c (Some _) (is_upgrade same) e = subst (λ v. IsCommand (v ∷ ws) c) (sym same) (upgrade_is ws c e)
@@ -365,6 +402,7 @@ command_is (w ∷ ws) c e = named_is w ws c (after_name w) (name_is w) e
 pub record IsNoName (w : List ℕ) : Type 0 where
   pub ask : w ≢ codes "ask"
   pub query : w ≢ codes "query"
+  pub session : w ≢ codes "session"
   pub load : w ≢ codes "load"
   pub info : w ≢ codes "info"
   pub upgrade : w ≢ codes "upgrade"
@@ -373,6 +411,7 @@ pub record IsNoName (w : List ℕ) : Type 0 where
 no_next : (w : List ℕ) (o : Option Next) → IsName w o → IsNoName w → o ≡ None
 no_next w (Some _) (is_ask same) none = absurd (none.ask same)
 no_next w (Some _) (is_query same) none = absurd (none.query same)
+no_next w (Some _) (is_session same) none = absurd (none.session same)
 no_next w (Some _) (is_load same) none = absurd (none.load same)
 no_next w (Some _) (is_info same) none = absurd (none.info same)
 no_next w (Some _) (is_upgrade same) none = absurd (none.upgrade same)

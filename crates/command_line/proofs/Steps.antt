@@ -3,7 +3,7 @@ use Rattle.command_line.specs.declared.reader.Flag.{Flag}
 use Rattle.command_line.specs.declared.reader.Flag.TheVariants as f
 use Rattle.std.proofs.lemmas.Option.{slice_get_within, get_or_from_slice_get}
 use Rattle.std.proofs.Common.{length, ◌==◌, rules, drop, drop-cons, slice_get, suc, arith, Bool, true, false, is_none, not, if◌then◌else◌, ◌≡◌, ℕ, ◌+◌, Option, Some, None, true, false, Ok, Err, List, [], ◌∷◌, refl, sym, ap, ◌∙◌}
-use Rattle.command_line.specs.Commands.{Given, Options, Command}
+use Rattle.command_line.specs.Commands.{Given, Options, Command, reads}
 use Rattle.command_line.specs.Reading.{Next, option, done, Left, Takes, Lacks, HasMore, after, after_flag, behind, is_free, flag_of, flag_text, at_end, answer, answers}
 
 pub answer-none : (next : Next) (at : ℕ) → answer next at [] ≡ at_end next at
@@ -59,10 +59,11 @@ text_of_flag f.List = refl
 text_of_flag f.Clip = refl
 text_of_flag f.Exact = refl
 
--- the name of an option that was not given yet
-pub after_free : (g : Given) (k : Options → Command) (flag : Flag) → is_free flag g ≡ true →
-    after (option g k) (flag_text flag) ≡ Some (behind flag g k)
-after_free g k flag free = ap (after_flag g k) (text_of_flag flag) ∙ ap (λ b. if b then Some (behind flag g k) else None) free
+-- the name of an option that may be given and was not yet
+pub after_free : (by_name : Bool) (g : Given) (k : Options → Command) (flag : Flag) → is_free by_name flag g ≡ true →
+    after (option by_name g k) (flag_text flag) ≡ Some (behind by_name flag g k)
+after_free by_name g k flag free =
+    ap (after_flag by_name g k) (text_of_flag flag) ∙ ap (λ b. if b then Some (behind by_name flag g k) else None) free
 
 pub is_none_at : {A : Type 0} (o : Option A) → o ≡ None → is_none o ≡ true
 is_none_at None e = refl
@@ -71,6 +72,10 @@ is_none_at (Some x) e = cc
 pub not_at : (b : Bool) → b ≡ false → not b ≡ true
 not_at false e = refl
 not_at true e = cc
+
+-- a list of names was given only where it may be
+abbrev pub Allowed : Bool → Given → Type 0
+Allowed by_name g = (names : List ℕ) → g.order ≡ Some (reads names) → by_name ≡ true
 
 -- ---- the next word
 

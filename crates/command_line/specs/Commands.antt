@@ -1,5 +1,5 @@
 -- The commands of a command line, rule by rule; which words are no command, and where they go wrong.
-use Rattle.std.specs.Prelude.{◌≡◌, ℕ, ◌+◌, ◌-◌, ◌^◌, ◌≤◌, Bool, true, false, Option, Some, None, unwrap_or, List, [], ◌∷◌, ◌++◌, length, take, codes}
+use Rattle.std.specs.Prelude.{◌≡◌, ◌≢◌, ℕ, ◌+◌, ◌-◌, ◌^◌, ◌≤◌, Bool, true, false, Option, Some, None, unwrap_or, List, [], ◌∷◌, ◌++◌, length, take, codes}
 use Rattle.std.specs.Str.Parse.{IsNumeral, digits_value}
 
 -- ---- what a command says
@@ -45,6 +45,12 @@ pub record Query : Type 0 where
   pub sql : List ℕ
   pub options : Options
 
+-- what follows the word `session`
+pub record Session : Type 0 where
+  pub file : List ℕ
+  pub script : List ℕ
+  pub options : Options
+
 -- what follows the word `info`
 pub record Info : Type 0 where
   pub file : List ℕ
@@ -57,6 +63,7 @@ pub record Upgrade : Type 0 where
 pub data Command : Type 0 where
   ask : Ask → Command
   query : Query → Command
+  session : Session → Command
   load : Load → Command
   info : Info → Command
   upgrade : Upgrade → Command
@@ -152,6 +159,13 @@ pub record IsQuery (words : List (List ℕ)) (q : Query) : Type 0 where
   pub spelled : words ≡ codes "query" ∷ q.file ∷ q.sql ∷ tail
   pub options : AreOptions tail q.options
 
+-- "session" file script {option}, but no list of names
+pub record IsSession (words : List (List ℕ)) (s : Session) : Type 0 where
+  pub tail : List (List ℕ)
+  pub spelled : words ≡ codes "session" ∷ s.file ∷ s.script ∷ tail
+  pub options : AreOptions tail s.options
+  pub by_policy : (names : List ℕ) → s.options.order ≢ reads names
+
 -- "load" csv file schema
 abbrev pub IsLoad : List (List ℕ) → Load → Type 0
 IsLoad words l = words ≡ codes "load" ∷ l.csv ∷ l.file ∷ l.schema ∷ []
@@ -178,6 +192,7 @@ pub record IsDemo (words : List (List ℕ)) (d : Demo) : Type 0 where
 abbrev pub IsCommand : List (List ℕ) → Command → Type 0
 IsCommand words (ask a) = IsAsk words a
 IsCommand words (query q) = IsQuery words q
+IsCommand words (session s) = IsSession words s
 IsCommand words (load l) = IsLoad words l
 IsCommand words (info i) = IsInfo words i
 IsCommand words (upgrade u) = IsUpgrade words u

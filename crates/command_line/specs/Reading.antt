@@ -1,5 +1,5 @@
 -- How words are read one by one: what may come next, and what a word leads to.
-use Rattle.std.specs.Prelude.{◌≡◌, ◌≢◌, ℕ, ◌+◌, nat_le, Bool, true, not, ◌&&◌, if◌then◌else◌, Option, Some, None, is_none, option_map, Result, Ok, Err, List, [], ◌∷◌, length, codes}
+use Rattle.std.specs.Prelude.{◌≡◌, ◌≢◌, ℕ, ◌+◌, nat_le, Bool, true, false, not, ◌&&◌, if◌then◌else◌, Option, Some, None, is_none, option_map, Result, Ok, Err, List, [], ◌∷◌, length, codes}
 use Rattle.std.specs.Option.{option_map_or}
 use Rattle.std.specs.Char.{is_ascii_digit}
 use Rattle.std.specs.List.{list_all}
@@ -7,15 +7,15 @@ use Rattle.std.specs.Str.{bytes_eq}
 use Rattle.std.specs.Str.Parse.{digits_value}
 use Rattle.command_line.specs.declared.reader.Flag.{Flag}
 use Rattle.command_line.specs.declared.reader.Flag.TheVariants as f
-use Rattle.command_line.specs.Commands.{ReadOrder, widest, in_order, filter_first, reads, Given, Options, Command, ask, query, load, info, upgrade, demo, nothing_given, options_given, most_seed, most_rows, most_width, most_rounds}
+use Rattle.command_line.specs.Commands.{ReadOrder, widest, in_order, filter_first, reads, Given, Options, Command, ask, query, session, load, info, upgrade, demo, nothing_given, options_given, most_seed, most_rows, most_width, most_rounds}
 
--- what comes next, and for each such word what comes behind it
+-- what comes next, and for each such word what comes behind it; options come by name where a list of names may be one of them
 pub data Next : Type 0 where
   name : Next
   word : (List ℕ → Next) → Next
   number : ℕ → (ℕ → Next) → Next
   policy : (ReadOrder → Next) → Next
-  option : Given → (Options → Command) → Next
+  option : Bool → Given → (Options → Command) → Next
   done : Command → Next
 
 -- the number that the word writes, if it is one and at most the limit
@@ -30,7 +30,7 @@ policy_of w =
     else (if bytes_eq w (codes "filter") then Some filter_first else None))
 
 abbrev pub options : (Options → Command) → Next
-options k = option nothing_given k
+options k = option true nothing_given k
 
 abbrev pub after_ask : Next
 after_ask =
@@ -38,6 +38,10 @@ after_ask =
 
 abbrev pub after_query : Next
 after_query = word (λ file. word (λ sql. options (λ o. query (record { file = file; sql = sql; options = o }))))
+
+abbrev pub after_session : Next
+after_session =
+    word (λ file. word (λ script. option false nothing_given (λ o. session (record { file = file; script = script; options = o }))))
 
 abbrev pub after_load : Next
 after_load = word (λ csv. word (λ file. word (λ schema. done (load (record { csv = csv; file = file; schema = schema })))))
@@ -57,10 +61,11 @@ unfoldable pub after_name : List ℕ → Option Next
 after_name w =
     if bytes_eq w (codes "ask") then Some after_ask
     else (if bytes_eq w (codes "query") then Some after_query
+    else (if bytes_eq w (codes "session") then Some after_session
     else (if bytes_eq w (codes "load") then Some after_load
     else (if bytes_eq w (codes "info") then Some after_info
     else (if bytes_eq w (codes "upgrade") then Some after_upgrade
-    else (if bytes_eq w (codes "demo") then Some after_demo else None)))))
+    else (if bytes_eq w (codes "demo") then Some after_demo else None))))))
 
 -- ---- options
 
@@ -83,29 +88,29 @@ flag_of w =
     else (if bytes_eq w (codes "--clip") then Some f.Clip
     else (if bytes_eq w (codes "--exact-avg") then Some f.Exact else None))))))
 
--- what it gives was not given yet
-abbrev pub is_free : Flag → Given → Bool
-is_free f.Width g = is_none g.width
-is_free f.Rounds g = is_none g.rounds
-is_free f.Policy g = is_none g.order
-is_free f.Reads g = is_none g.order
-is_free f.List g = not g.list
-is_free f.Clip g = not g.clip
-is_free f.Exact g = not g.exact
+-- it may be given, and what it gives was not given yet
+abbrev pub is_free : Bool → Flag → Given → Bool
+is_free by_name f.Width g = is_none g.width
+is_free by_name f.Rounds g = is_none g.rounds
+is_free by_name f.Policy g = is_none g.order
+is_free by_name f.Reads g = by_name && is_none g.order
+is_free by_name f.List g = not g.list
+is_free by_name f.Clip g = not g.clip
+is_free by_name f.Exact g = not g.exact
 
 -- what comes behind it
-abbrev pub behind : Flag → Given → (Options → Command) → Next
-behind f.Width g k = number most_width (λ n. option (record g { width = Some n }) k)
-behind f.Rounds g k = number most_rounds (λ n. option (record g { rounds = Some n }) k)
-behind f.Policy g k = policy (λ p. option (record g { order = Some p }) k)
-behind f.Reads g k = word (λ names. option (record g { order = Some (reads names) }) k)
-behind f.List g k = option (record g { list = true }) k
-behind f.Clip g k = option (record g { clip = true }) k
-behind f.Exact g k = option (record g { exact = true }) k
+abbrev pub behind : Bool → Flag → Given → (Options → Command) → Next
+behind by_name f.Width g k = number most_width (λ n. option by_name (record g { width = Some n }) k)
+behind by_name f.Rounds g k = number most_rounds (λ n. option by_name (record g { rounds = Some n }) k)
+behind by_name f.Policy g k = policy (λ p. option by_name (record g { order = Some p }) k)
+behind by_name f.Reads g k = word (λ names. option by_name (record g { order = Some (reads names) }) k)
+behind by_name f.List g k = option by_name (record g { list = true }) k
+behind by_name f.Clip g k = option by_name (record g { clip = true }) k
+behind by_name f.Exact g k = option by_name (record g { exact = true }) k
 
-abbrev pub after_flag : Given → (Options → Command) → Option Flag → Option Next
-after_flag g k None = None
-after_flag g k (Some flag) = if is_free flag g then Some (behind flag g k) else None
+abbrev pub after_flag : Bool → Given → (Options → Command) → Option Flag → Option Next
+after_flag by_name g k None = None
+after_flag by_name g k (Some flag) = if is_free by_name flag g then Some (behind by_name flag g k) else None
 
 -- ---- all that may come
 
@@ -114,7 +119,7 @@ after name w = after_name w
 after (word k) w = Some (k w)
 after (number limit k) w = option_map k (number_of limit w)
 after (policy k) w = option_map k (policy_of w)
-after (option g k) w = after_flag g k (flag_of w)
+after (option by_name g k) w = after_flag by_name g k (flag_of w)
 after (done c) w = None
 
 -- what it is where no word is left: a command, or a word is missing at the next place
@@ -123,7 +128,7 @@ at_end name at = Err (at + 1)
 at_end (word k) at = Err (at + 1)
 at_end (number limit k) at = Err (at + 1)
 at_end (policy k) at = Err (at + 1)
-at_end (option g k) at = Ok (k (options_given g))
+at_end (option by_name g k) at = Ok (k (options_given g))
 at_end (done c) at = Ok c
 
 -- the command of the words, of which so many were read before, or the place of the first that may not come
@@ -163,17 +168,17 @@ abbrev pub StopsAt : {A : Type 0} → ((A → Next) → Next) → Left → ℕ �
 StopsAt {A} part old place = (k : A → Next) → answers (part k) old ≡ Err place
 
 -- the words left begin with an option, which makes `h` of what was given, and these are left behind it
-abbrev pub Adds : Given → Left → Given → Left → Type 0
-Adds g old h new = (k : Options → Command) → answers (option g k) old ≡ answers (option h k) new
+abbrev pub Adds : Bool → Given → Left → Given → Left → Type 0
+Adds by_name g old h new = (k : Options → Command) → answers (option by_name g k) old ≡ answers (option by_name h k) new
 
--- the words left begin with an option that was not given yet, and these are left behind its name
-abbrev pub Names : Given → Left → Flag → Left → Type 0
-Names g old flag new = (k : Options → Command) → answers (option g k) old ≡ answers (behind flag g k) new
+-- the words left begin with an option that may be given and was not yet, and these are left behind its name
+abbrev pub Names : Bool → Given → Left → Flag → Left → Type 0
+Names by_name g old flag new = (k : Options → Command) → answers (option by_name g k) old ≡ answers (behind by_name flag g k) new
 
 -- all words left are options, and these are theirs
-abbrev pub Says : Given → Left → Options → Type 0
-Says g old said = (k : Options → Command) → answers (option g k) old ≡ Ok (k said)
+abbrev pub Says : Bool → Given → Left → Options → Type 0
+Says by_name g old said = (k : Options → Command) → answers (option by_name g k) old ≡ Ok (k said)
 
 -- an option goes wrong there
-abbrev pub Fails : Given → Left → ℕ → Type 0
-Fails g old place = (k : Options → Command) → answers (option g k) old ≡ Err place
+abbrev pub Fails : Bool → Given → Left → ℕ → Type 0
+Fails by_name g old place = (k : Options → Command) → answers (option by_name g k) old ≡ Err place

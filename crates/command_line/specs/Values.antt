@@ -9,6 +9,7 @@ use Rattle.command_line.specs.declared.command.Demo.{Demo}
 use Rattle.command_line.specs.declared.command.Info.{Info}
 use Rattle.command_line.specs.declared.command.Load.{Load}
 use Rattle.command_line.specs.declared.command.Query.{Query}
+use Rattle.command_line.specs.declared.command.Session.{Session}
 use Rattle.command_line.specs.declared.command.Upgrade.{Upgrade}
 use Rattle.command_line.specs.declared.command.Command.{Command}
 use Rattle.command_line.specs.declared.command.Command.TheVariants as c
@@ -30,6 +31,9 @@ ask_of a = record { csv = a.csv.now; schema = a.schema.now; sql = a.sql.now; opt
 abbrev pub query_of : Query → spec.Query
 query_of q = record { file = q.file.now; sql = q.sql.now; options = options_of q.options }
 
+abbrev pub session_of : Session → spec.Session
+session_of s = record { file = s.file.now; script = s.script.now; options = options_of s.options }
+
 abbrev pub load_of : Load → spec.Load
 load_of l = record { csv = l.csv.now; file = l.file.now; schema = l.schema.now }
 
@@ -45,6 +49,7 @@ demo_of d = record { seed = d.seed; rows = d.rows; sql = d.sql.now; options = op
 abbrev pub command_of : Command → spec.Command
 command_of (c.Ask a) = spec.ask (ask_of a)
 command_of (c.Query q) = spec.query (query_of q)
+command_of (c.Session s) = spec.session (session_of s)
 command_of (c.Load l) = spec.load (load_of l)
 command_of (c.Info i) = spec.info (info_of i)
 command_of (c.Upgrade u) = spec.upgrade (upgrade_of u)

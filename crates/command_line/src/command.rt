@@ -62,6 +62,17 @@ pub struct Query<'a> {
     pub options: Options<'a>,
 }
 
+/// `session`: the queries of a script over a plane file.
+#[derive(Clone, Copy, Debug, PartialEq, Eq)]
+pub struct Session<'a> {
+    /// The path of the plane file.
+    pub file: &'a str,
+    /// The path of the script.
+    pub script: &'a str,
+    /// How they are answered; their order is no list of names.
+    pub options: Options<'a>,
+}
+
 /// `load`: a CSV is written as a plane file.
 #[derive(Clone, Copy, Debug, PartialEq, Eq)]
 pub struct Load<'a> {
@@ -109,6 +120,8 @@ pub enum Command<'a> {
     Ask(Ask<'a>),
     /// A query over a plane file.
     Query(Query<'a>),
+    /// The queries of a script over a plane file.
+    Session(Session<'a>),
     /// A CSV is written as a plane file.
     Load(Load<'a>),
     /// What is declared in a plane file.
@@ -136,6 +149,7 @@ impl<'a> Command<'a> {
         match reader.word()? {
             "ask" => Ok(Command::Ask(reader.ask()?)),
             "query" => Ok(Command::Query(reader.query()?)),
+            "session" => Ok(Command::Session(reader.session()?)),
             "load" => Ok(Command::Load(reader.load()?)),
             "info" => Ok(Command::Info(reader.info()?)),
             "upgrade" => Ok(Command::Upgrade(reader.upgrade()?)),

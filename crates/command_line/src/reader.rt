@@ -5,11 +5,11 @@ ghost use Rattle.std.specs.Char.{is_ascii_digit};
 ghost use Rattle.std.specs.List.{list_all};
 ghost use Rattle.std.specs.Option.{SomeIff};
 ghost use Rattle.std.specs.Str.Parse.{IsNumeral, digits_value};
-ghost use Rattle.command_line.specs.Commands.{ask, demo, info, load, nothing_given, options_given, query, upgrade};
-ghost use Rattle.command_line.specs.Reading.{Adds, Fails, HasMore, Lacks, LeadsTo, Names, Says, StopsAt, Takes, after_ask, after_demo, after_info, after_load, after_query, after_upgrade, answers, flag_of, is_free, number, policy, policy_of};
-ghost use Rattle.command_line.specs.Values.{ask_of, demo_of, given_of, info_of, load_of, options_of, order_of, query_of, upgrade_of};
+ghost use Rattle.command_line.specs.Commands.{ask, demo, info, load, nothing_given, options_given, query, session, upgrade};
+ghost use Rattle.command_line.specs.Reading.{Adds, Fails, HasMore, Lacks, LeadsTo, Names, Says, StopsAt, Takes, after_ask, after_demo, after_info, after_load, after_query, after_session, after_upgrade, answers, flag_of, is_free, number, policy, policy_of};
+ghost use Rattle.command_line.specs.Values.{ask_of, demo_of, given_of, info_of, load_of, options_of, order_of, query_of, session_of, upgrade_of};
 
-use crate::command::{Ask, Demo, Info, Load, Options, Query, ReadOrder, Upgrade, Usage};
+use crate::command::{Ask, Demo, Info, Load, Options, Query, ReadOrder, Session, Upgrade, Usage};
 use crate::words::Words;
 use std::marker::Model;
 
@@ -118,14 +118,15 @@ impl<'a> Given<'a> {
         }
     }
 
-    // Whether what the option gives was not given yet.
-    fn is_free(&self, flag: Flag) -> bool
-        ensures { result ≡ is_free flag (given_of self.now) }
+    // Whether the option may be given, and what it gives was not given yet.
+    fn is_free(&self, flag: Flag, by_name: bool) -> bool
+        ensures { result ≡ is_free by_name flag (given_of self.now) }
     {
         match flag {
             Flag::Width => self.width.is_none(),
             Flag::Rounds => self.rounds.is_none(),
-            Flag::Policy | Flag::Reads => self.order.is_none(),
+            Flag::Policy => self.order.is_none(),
+            Flag::Reads => by_name && self.order.is_none(),
             Flag::List => !self.list,
             Flag::Clip => !self.clip,
             Flag::Exact => !self.exact,
@@ -221,28 +222,28 @@ impl<'a> Reader<'a> {
         }
     }
 
-    // The name of an option that was not given yet.
-    fn flag(&mut self, given: &Given<'a>) -> Result<Flag, Usage>
+    // The name of an option that may be given and was not yet.
+    fn flag(&mut self, given: &Given<'a>, by_name: bool) -> Result<Flag, Usage>
         requires { self.old.words ≢ [] }
-        ensures ok { IfOk result (λ flag. Names (given_of given.now) self.old flag self.new) }
+        ensures ok { IfOk result (λ flag. Names by_name (given_of given.now) self.old flag self.new) }
         ensures shorter { OnOk result (length self.new.words < length self.old.words) }
-        ensures err { IfErr result (λ usage. Fails (given_of given.now) self.old usage.place) }
+        ensures err { IfErr result (λ usage. Fails by_name (given_of given.now) self.old usage.place) }
     {
         let refusal = self.refusal();
         match flag_of(self.word()?) {
-            Some(flag) if given.is_free(flag) => Ok(flag),
+            Some(flag) if given.is_free(flag, by_name) => Ok(flag),
             _ => Err(refusal),
         }
     }
 
-    // An option that was not given yet.
-    fn option(&mut self, given: &mut Given<'a>) -> Result<(), Usage>
+    // An option that may be given and was not yet.
+    fn option(&mut self, given: &mut Given<'a>, by_name: bool) -> Result<(), Usage>
         requires { self.old.words ≢ [] }
-        ensures ok { OnOk result (Adds (given_of given.old) self.old (given_of given.new) self.new) }
+        ensures ok { OnOk result (Adds by_name (given_of given.old) self.old (given_of given.new) self.new) }
         ensures shorter { OnOk result (length self.new.words < length self.old.words) }
-        ensures err { IfErr result (λ usage. Fails (given_of given.old) self.old usage.place) }
+        ensures err { IfErr result (λ usage. Fails by_name (given_of given.old) self.old usage.place) }
     {
-        match self.flag(given)? {
+        match self.flag(given, by_name)? {
             Flag::Width => given.width = Some(self.number(MOST_WIDTH)?),
             Flag::Rounds => given.rounds = Some(self.number(u32::MAX as u64)? as u32),
             Flag::Policy => given.order = Some(self.policy()?),
@@ -254,14 +255,14 @@ impl<'a> Reader<'a> {
         Ok(())
     }
 
-    // All words that are left, as options.
-    fn options(&mut self) -> Result<Options<'a>, Usage>
-        ensures ok { IfOk result (λ options. Says nothing_given self.old (options_of options)) }
-        ensures err { IfErr result (λ usage. Fails nothing_given self.old usage.place) }
+    // All words that are left, as options; by name, a list of names may be one of them.
+    fn options(&mut self, by_name: bool) -> Result<Options<'a>, Usage>
+        ensures ok { IfOk result (λ options. Says by_name nothing_given self.old (options_of options)) }
+        ensures err { IfErr result (λ usage. Fails by_name nothing_given self.old usage.place) }
     {
         let mut given = Given::nothing();
         while !self.is_done() {
-            self.option(&mut given)?;
+            self.option(&mut given, by_name)?;
         }
         Ok(given.options())
     }
@@ -275,7 +276,7 @@ impl<'a> Reader<'a> {
             csv: self.word()?,
             schema: self.word()?,
             sql: self.word()?,
-            options: self.options()?,
+            options: self.options(true)?,
         })
     }
 
@@ -287,7 +288,19 @@ impl<'a> Reader<'a> {
         Ok(Query {
             file: self.word()?,
             sql: self.word()?,
-            options: self.options()?,
+            options: self.options(true)?,
+        })
+    }
+
+    // What follows the word `session`.
+    pub(crate) fn session(&mut self) -> Result<Session<'a>, Usage>
+        ensures ok { IfOk result (λ s. answers after_session self.old ≡ Ok (session (session_of s))) }
+        ensures err { IfErr result (λ usage. answers after_session self.old ≡ Err usage.place) }
+    {
+        Ok(Session {
+            file: self.word()?,
+            script: self.word()?,
+            options: self.options(false)?,
         })
     }
 
@@ -337,7 +350,7 @@ impl<'a> Reader<'a> {
             seed: self.number(u64::MAX)?,
             rows: self.number(u64::MAX)?,
             sql: self.word()?,
-            options: self.options()?,
+            options: self.options(true)?,
         })
     }
 }

@@ -14,7 +14,7 @@ fn words_of(alloc: Global, line: &str) -> Result<Words, AllocError> {
 }
 
 // Words that are no command, and the place where they go wrong.
-const WRONG: [(&str, usize); 36] = [
+const WRONG: [(&str, usize); 42] = [
     ("", 1),
     ("sum p.csv s q", 1),
     ("Ask p.csv s q", 1),
@@ -44,6 +44,12 @@ const WRONG: [(&str, usize); 36] = [
     ("query p.daq q more", 4),
     ("query p.daq q --rounds 1 --rounds 2", 6),
     ("query p.daq q --exact-avg --exact-avg", 5),
+    ("session p.daq", 3),
+    ("session p.daq p.sql more", 4),
+    ("session p.daq p.sql --reads price", 4),
+    ("session p.daq p.sql --reads", 4),
+    ("session p.daq p.sql --policy order --reads price", 6),
+    ("session p.daq p.sql --width 1 --policy", 7),
     ("load p.csv p.daq", 4),
     ("load p.csv p.daq s --list", 5),
     ("info", 2),
@@ -126,6 +132,14 @@ fn commands_over_plane_files(rt: HostRuntime) -> Result<(), Fail> {
             Command::Query(Query {
                 file: "p.daq",
                 sql: "q",
+                options,
+            }),
+        ),
+        (
+            "session p.daq --reads --rounds 3 --exact-avg --policy widest --clip",
+            Command::Session(Session {
+                file: "p.daq",
+                script: "--reads",
                 options,
             }),
         ),

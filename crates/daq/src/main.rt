@@ -46,6 +46,10 @@ fn world_of(
             world.made = FileSink::named(rt, load.file)?;
         }
         Ok(Command::Query(query)) => world.planes = FileStore::open(rt, query.file),
+        Ok(Command::Session(session)) => {
+            world.planes = FileStore::open(rt, session.file);
+            world.side = FileSource::open(rt, session.script);
+        }
         Ok(Command::Info(info)) => world.planes = FileStore::open(rt, info.file),
         Ok(Command::Upgrade(upgrade)) => {
             world.planes = FileStore::open(rt, upgrade.older);

@@ -21,6 +21,9 @@ use Rattle.plane_reads.specs.declared.fault.ReadsFault.TheVariants as r
 use Rattle.plane_schedule.specs.declared.policy.Policy.{Policy}
 use Rattle.plane_schedule.specs.declared.policy.Policy.TheVariants as p
 use Rattle.query_model.specs.declared.query.TypedQuery.{TypedQuery}
+use Rattle.session_rounds.specs.Laws.{SessionsHaveAnEnd}
+use Rattle.session_script.specs.Answers as script_laws
+use Rattle.session_script.specs.Lines.{Line}
 use Rattle.sql_text.specs.Answer.{IsFault, IsText}
 use Rattle.sql_text.specs.Laws as text_laws
 use Rattle.sql_text.specs.Tree as sql
@@ -36,23 +39,17 @@ use Rattle.table_gen.specs.TableOf.{IsTableOfSeed}
 use Rattle.daq_cli.specs.Inputs.{input_step, limits, most_bytes, schema_step, table_step}
 use Rattle.daq_cli.specs.Laws.{StepsAreComplete}
 use Rattle.daq_cli.specs.Questions.{IsAnswerable, IsPolicyOf, RefusesOrder, ShowsQuestion, asked_with, extras_of, question_of, question_step, sql_step}
-use Rattle.daq_cli.specs.Steps.{IsComplete, Step, then}
+use Rattle.daq_cli.specs.Scripts.{ShowsLine}
+use Rattle.daq_cli.specs.Steps.{IsComplete}
 use Rattle.daq_cli.specs.commands.Demo.{generator_step, most_rows}
 use Rattle.daq_cli.specs.commands.Query.{head_step, query_step, report_step}
 use Rattle.daq_cli.specs.declared.refusal.Refusal.{Refusal}
-use Rattle.daq_cli.specs.declared.refusal.Refusal.TheVariants.{Query, Reads, Schema, Table, TooLong, TooManyRows, Typing}
+use Rattle.daq_cli.specs.declared.refusal.Refusal.TheVariants.{LineQuery, Query, Reads, Schema, Table, TooLong, TooManyRows, Typing}
 use Rattle.daq_cli.proofs.FileRounds.{GoOn, rounds_complete}
 use Rattle.daq_cli.proofs.Files.{file_complete}
+use Rattle.daq_cli.proofs.SessionLaws as session
+use Rattle.daq_cli.proofs.Steps.{then_complete}
 use Rattle.daq_cli.proofs.Upgrade.{upgrade_complete}
-
--- a step and the one that follows it
-then_complete : {A B : Type 0} (first : Step A) (second : A → Step B) → IsComplete first → ((a : A) → first.accepts a → IsComplete (second a)) → IsComplete (then first second)
-then_complete first second (inr (why, shown)) rest = inr (why, inl shown)
-then_complete first second (inl (a, accepted)) rest = by (rest a accepted)
-  where
-    by : IsComplete (second a) → IsComplete (then first second)
-    by (inl (b, after)) = inl (b, (a, accepted, after))
-    by (inr (why, shown)) = inr (why, inr (a, accepted, shown))
 
 -- what is known of each step from the crate that carries it out
 pub record Laws : Type 0 where
@@ -66,6 +63,8 @@ pub record Laws : Type 0 where
   pub heads : file_laws.HasHead
   pub files : file_laws.HaveTables
   pub rounds : GoOn
+  pub scripts : script_laws.ScriptsHaveAnswers
+  pub sessions : SessionsHaveAnEnd
 
 module _ (law : Laws) where
   sql_complete : (text : List ℕ) → IsComplete (sql_step text)
@@ -168,6 +167,16 @@ module _ (law : Laws) where
       then_complete _ _ (query_complete query bytes are) (λ asked (tree, is_text, (file, is_head, (same, answerable))).
       rounds_complete law.rounds asked bytes (subst IsAnswerable (sym same) answerable))
 
+  line_complete : (line : Line) → ((query : sql.Query) × IsText line.text query) ⊎ ((why : Refusal) × ShowsLine line why)
+  line_complete line = by (law.texts line.text)
+    where
+      by : ((query : sql.Query) × IsText line.text query) ⊎ ((fault : SqlFault) × (fault ≢ q.NoMemory) × IsFault line.text fault) → ((query : sql.Query) × IsText line.text query) ⊎ ((why : Refusal) × ShowsLine line why)
+      by (inl is) = inl is
+      by (inr (fault, shown, faulty)) = inr (LineQuery line.number fault, record { fault = fault; shown = shown; is = refl; faulty = faulty })
+
+  sessions_law : session.GoOn
+  sessions_law = record { scripts = law.scripts; lines = line_complete; typings = law.typings; valid = law.valid; heads = law.heads; end = law.sessions }
+
   pub steps_complete : StepsAreComplete
   steps_complete = record {
     words = λ ask. then_complete _ _ (sql_complete ask.sql) (λ query _. schema_complete ask.schema);
@@ -185,4 +194,6 @@ module _ (law : Laws) where
     query = query_complete;
     report = report_complete;
     upgrade = upgrade_complete law.files;
+    script = session.queries_complete sessions_law;
+    session = session.report_complete sessions_law;
   }

@@ -15,6 +15,8 @@ use Rattle.plane_reads.specs.declared.fault.ReadsFault.TheVariants as r
 use Rattle.plane_schedule.specs.Laws.{ChoicesAreOne}
 use Rattle.plane_schedule.specs.declared.policy.Policy.{Policy}
 use Rattle.query_model.specs.declared.query.TypedQuery.{TypedQuery}
+use Rattle.session_rounds.specs.Laws.{SessionsAreOne}
+use Rattle.session_script.specs.Answers as script_laws
 use Rattle.sql_text.specs.Answer.{Breaks, IsFault, IsText, fault_of}
 use Rattle.sql_text.specs.Tree as sql
 use Rattle.sql_text.specs.declared.fault.Cause.{Cause}
@@ -33,9 +35,10 @@ use Rattle.daq_cli.specs.commands.Demo.{demo_step, generator_step}
 use Rattle.daq_cli.specs.commands.Load.{load_step}
 use Rattle.daq_cli.specs.commands.Query.{head_step, query_step, report_step}
 use Rattle.daq_cli.specs.declared.refusal.Refusal.{Refusal}
-use Rattle.daq_cli.specs.declared.refusal.Refusal.TheVariants.{Query, Schema, Table, Typing, Reads}
+use Rattle.daq_cli.specs.declared.refusal.Refusal.TheVariants.{LineQuery, Query, Schema, Table, Typing, Reads}
 use Rattle.daq_cli.proofs.FileRounds.{rounds_exact}
 use Rattle.daq_cli.proofs.Files.{file_exact}
+use Rattle.daq_cli.proofs.SessionLaws as session
 use Rattle.daq_cli.proofs.Steps.{then_exact}
 use Rattle.daq_cli.proofs.Upgrade.{upgrade_exact}
 
@@ -62,6 +65,8 @@ pub record Laws : Type 0 where
   pub file_faults : file_laws.ShowOneFault
   pub good_files : file_laws.FilesShowNoFault
   pub choices : ChoicesAreOne
+  pub scripts : script_laws.AnswersAreOne
+  pub sessions : SessionsAreOne
 
 -- ---- the SQL
 
@@ -100,6 +105,21 @@ sql_exact law text = record {
   once = law.queries text;
   same = λ why other p r. p.is ∙ ap Query (one_fault law text p.fault r.fault p.shown r.shown p.faulty r.faulty) ∙ sym r.is;
   apart = λ query why is p. no_fault law text p.fault query p.shown p.faulty is;
+}
+
+-- a line of a script
+sessions_law : Laws → session.Laws
+sessions_law law = record {
+  scripts = law.scripts;
+  queries = law.queries;
+  faults = λ line why other p r. p.is ∙ ap (LineQuery line.number) (one_fault law line.text p.fault r.fault p.shown r.shown p.faulty r.faulty) ∙ sym r.is;
+  apart = λ line query why is p. no_fault law line.text p.fault query p.shown p.faulty is;
+  typings = law.typings;
+  type_faults = law.type_faults;
+  good_typings = law.good_typings;
+  faultless = law.faultless;
+  heads = law.heads;
+  steps = law.sessions;
 }
 
 -- ---- the schema
@@ -237,4 +257,6 @@ steps_exact law = record {
   query = query_exact law;
   upgrade = upgrade_exact law.files law.file_faults law.good_files;
   report = report_exact law;
+  script = session.queries_exact (sessions_law law);
+  session = session.report_exact (sessions_law law);
 }

@@ -1,6 +1,7 @@
 pub mod Texts
 pub mod Steps
 pub mod Results
+pub mod SessionLaws
 pub mod Exactness
 pub mod Completeness
 pub mod Causes
@@ -8,10 +9,12 @@ pub mod Reports
 pub mod FileRounds
 pub mod QuestionCauses
 pub mod InputCauses
+pub mod ScriptCauses
 pub mod StoreCauses
 pub mod AskCauses
 pub mod DemoCauses
 pub mod QueryCauses
+pub mod SessionCauses
 pub mod Ask
 pub mod Load
 pub mod Demo
@@ -19,6 +22,7 @@ pub mod Files
 pub mod Info
 pub mod Upgrade
 pub mod Query
+pub mod Session
 pub mod Runs
 pub mod Widths
 pub mod Blocks
@@ -30,3 +34,8 @@ pub mod Signed
 pub mod Spelled
 pub mod SpelledTexts
 pub mod ColumnLines
+pub mod Numbered
+pub mod SessionQueries
+pub mod StepBlocks
+pub mod SessionSteps
+pub mod ShownAlone

@@ -8,7 +8,7 @@ use Rattle.daq_table.specs.Tables.{frame_of}
 use Rattle.daq_table.specs.declared.table_head.Head.{Head}
 use Rattle.file_rounds.specs.Told.{IsUnpadded, bits_at}
 use Rattle.outer_world.specs.Device.{SinkState, StoreState}
-use Rattle.outer_world.specs.Whole.{laid}
+use Rattle.outer_world.specs.Whole.{HoldsSame, laid}
 use Rattle.plane_file.specs.Opening.{Opened, Opens, Refuses}
 use Rattle.plane_file.specs.Places.{plane_places}
 use Rattle.plane_file.specs.declared.file_fault.FileFault.{FileFault}
@@ -41,6 +41,14 @@ pub told_bytes : (head : Head) (held : Option (List ℕ)) (P : OfPlanes → Plan
     IfSome (option_map (bits_at head) held) (P (λ column number. IfSome held (λ bytes. IsUnpadded head bytes column number))) → IfSome held (λ bytes. P (IsUnpadded head bytes) (bits_at head bytes))
 told_bytes head None P told = tt
 told_bytes head (Some bytes) P told = told
+
+-- what the opened store told the store told before
+pub told_before : (planes opened : StoreState) → HoldsSame planes opened → (P Q : List ℕ → Type 0) → ((bytes : List ℕ) → P bytes → Q bytes) → IfSome opened.held P → IfSome planes.held Q
+told_before planes opened same P Q f told = by planes.held (subst (λ held. IfSome held P) same.held told)
+  where
+    by : (held : Option (List ℕ)) → IfSome held P → IfSome held Q
+    by None p = tt
+    by (Some bytes) p = f bytes p
 
 module _ {E : Type 0} (causes others : CausesAfter E) (weaker : (at : Option (List ℕ)) (column number : ℕ) (error : E) → causes at column number error → others at column number error) where
   pub ends_weaker : (line : List ℕ) (head : Head) (plan : Plan) (query : TypedQuery) (bits : Planes) (places : Places) (shows : OfPlanes) (result : Result (Unit {0}) (Stop E)) (old new : SinkState) (from to : Option (List ℕ)) →
@@ -100,20 +108,12 @@ module _ (words : line.Query) (planes opened planes' : StoreState) (out out' : S
       AreCertainOf begun.typed (frame_of begun.file.head) (bits_at begun.file.head bytes) reads
   headline bytes reads rounds = λ cells has. certain begun.plan begun.typed (frame_of begun.file.head) (bits_at begun.file.head bytes) reads cells named longs rounds has
 
-  -- what the opened store told the store told before
-  told_before : (P Q : List ℕ → Type 0) → ((bytes : List ℕ) → P bytes → Q bytes) → IfSome opened.held P → IfSome planes.held Q
-  told_before P Q f told = by planes.held (subst (λ held. IfSome held P) begun.same.held told)
-    where
-      by : (held : Option (List ℕ)) → IfSome held P → IfSome held Q
-      by None p = tt
-      by (Some bytes) p = f bytes p
-
   pub query_done : Written (Ok tt) → IfSome opened.held (Ends (Ok tt)) → Queries words planes planes' out out'
   query_done written ends = record {
     opened = opened;
     begun = begun;
     written = written;
-    completed = told_before _ _ (λ bytes rounds. record { rounds = rounds; headline = headline bytes rounds.reads rounds.rounds.rounds }) ends;
+    completed = told_before planes opened begun.same _ _ (λ bytes rounds. record { rounds = rounds; headline = headline bytes rounds.reads rounds.rounds.rounds }) ends;
   }
 
   stop_rounds : (bytes : List ℕ) (causes : Causes PlaneFault) (fault : StepFault PlaneFault) (reads handed : List ℕ) →
@@ -126,7 +126,7 @@ module _ (words : line.Query) (planes opened planes' : StoreState) (out out' : S
       QueryCause words planes planes' out out' why
   query_stop Failed why is cause written ends =
       subst (QueryCause words planes planes' out out') (sym is)
-      (at_write opened begun cause written (told_before _ _ (λ bytes rounds. record { rounds = rounds; headline = headline bytes rounds.reads rounds.rounds }) ends))
+      (at_write opened begun cause written (told_before planes opened begun.same _ _ (λ bytes rounds. record { rounds = rounds; headline = headline bytes rounds.reads rounds.rounds }) ends))
   query_stop (Step fault) why is cause written ends =
       at_plane opened begun fault is cause written
-      (told_before _ _ (λ bytes rounds. record { rounds = rounds; headline = headline bytes rounds.reads (stop_rounds bytes (StopsAfter begun.file.head opened planes' rounds.at) fault rounds.reads rounds.more rounds.stop) }) ends)
+      (told_before planes opened begun.same _ _ (λ bytes rounds. record { rounds = rounds; headline = headline bytes rounds.reads (stop_rounds bytes (StopsAfter begun.file.head opened planes' rounds.at) fault rounds.reads rounds.more rounds.stop) }) ends)

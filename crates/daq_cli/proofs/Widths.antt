@@ -1,6 +1,6 @@
 -- The width of a command's options is below 2 ^ 63.
 use Rattle.std.proofs.Common.{ℕ, ◌≤◌, List, Option, Some, None, IfSome, unwrap_or, zero-le}
-use Rattle.command_line.specs.Commands.{Ask, Demo, Given, Gives, IsCommand, Query, ask, demo, query, most_width, no_more, more_width, more_rounds, more_policy, more_reads, more_list, more_clip, more_exact}
+use Rattle.command_line.specs.Commands.{Ask, Demo, Given, Gives, IsCommand, Query, Session, ask, demo, query, session, most_width, no_more, more_width, more_rounds, more_policy, more_reads, more_list, more_clip, more_exact}
 
 abbrev IsSmall : Given → Type 0
 IsSmall g = IfSome g.width (λ n. n ≤ most_width)
@@ -27,3 +27,6 @@ demo_width words d is = rw is.options.say (small_width is.options.given.width (s
 
 pub query_width : (words : List (List ℕ)) (q : Query) → IsCommand words (query q) → q.options.width ≤ most_width
 query_width words q is = rw is.options.say (small_width is.options.given.width (small_given is.options.gives tt))
+
+pub session_width : (words : List (List ℕ)) (s : Session) → IsCommand words (session s) → s.options.width ≤ most_width
+session_width words s is = rw is.options.say (small_width is.options.given.width (small_given is.options.gives tt))

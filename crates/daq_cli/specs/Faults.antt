@@ -1,8 +1,11 @@
 -- What the fault of each step is to the run.
+use Rattle.std.specs.Prelude.{ℕ}
 use Rattle.daq_table.specs.declared.schema_fault.SchemaFault.{SchemaFault}
 use Rattle.daq_table.specs.declared.schema_fault.SchemaFault.TheVariants as s
 use Rattle.csv_load.specs.declared.fault.TableFault.{TableFault}
 use Rattle.csv_load.specs.declared.fault.TableFault.TheVariants as t
+use Rattle.multi_session.specs.declared.limits.SessionFault.{SessionFault}
+use Rattle.multi_session.specs.declared.limits.SessionFault.TheVariants as m
 use Rattle.outer_world.specs.declared.whole.ReadAll.{ReadAll}
 use Rattle.outer_world.specs.declared.whole.ReadAll.TheVariants as all
 use Rattle.plane_file.specs.declared.file_fault.FileFault.{FileFault}
@@ -15,6 +18,8 @@ use Rattle.plane_file.specs.declared.table_fault.ReadTable.{ReadTable}
 use Rattle.plane_file.specs.declared.table_fault.ReadTable.TheVariants as files
 use Rattle.plane_reads.specs.declared.fault.ReadsFault.{ReadsFault}
 use Rattle.plane_reads.specs.declared.fault.ReadsFault.TheVariants as r
+use Rattle.session_script.specs.declared.fault.ScriptFault.{ScriptFault}
+use Rattle.session_script.specs.declared.fault.ScriptFault.TheVariants as c
 use Rattle.sql_text.specs.declared.fault.SqlFault.{SqlFault}
 use Rattle.sql_text.specs.declared.fault.SqlFault.TheVariants as q
 use Rattle.sql_typing.specs.declared.fault.TypeFault.{TypeFault}
@@ -27,7 +32,7 @@ use Rattle.daq_cli.specs.declared.stop.Stop.{Stop}
 use Rattle.daq_cli.specs.declared.stop.Stop.TheVariants.{Failed, Step}
 use Rattle.table_gen.specs.declared.fault.GenFault.TheVariants as g
 use Rattle.daq_cli.specs.declared.refusal.Refusal.{Refusal}
-use Rattle.daq_cli.specs.declared.refusal.Refusal.TheVariants.{Query, Schema, TooLong, Table, TooManyRows, Typing, Reads, File, PadBits, OverTop, ReadFault, WriteFault, NoMemory}
+use Rattle.daq_cli.specs.declared.refusal.Refusal.TheVariants.{Query, Schema, TooLong, Table, TooManyRows, Typing, Reads, File, PadBits, OverTop, Script, LineQuery, LineTyping, Session, ReadFault, WriteFault, NoMemory}
 
 -- want of memory is the run's, and any other fault is shown as it stands
 abbrev pub text : SqlFault → Refusal
@@ -58,6 +63,28 @@ abbrev pub input : ReadAll → Refusal
 input all.Fault = ReadFault
 input (all.TooLong limit) = TooLong limit
 input all.NoMemory = NoMemory
+
+-- that a script has too many bytes is a fault of the script
+abbrev pub side : ReadAll → Refusal
+side all.Fault = ReadFault
+side (all.TooLong limit) = Script (c.TooLong limit)
+side all.NoMemory = NoMemory
+
+abbrev pub script : ScriptFault → Refusal
+script c.NoMemory = NoMemory
+script fault = Script fault
+
+abbrev pub line_text : ℕ → SqlFault → Refusal
+line_text line q.NoMemory = NoMemory
+line_text line fault = LineQuery line fault
+
+abbrev pub line_typing : ℕ → TypeFault → Refusal
+line_typing line y.NoMemory = NoMemory
+line_typing line fault = LineTyping line fault
+
+abbrev pub session : SessionFault → Refusal
+session m.NoMemory = NoMemory
+session fault = Session fault
 
 abbrev pub opening : FileFault → Refusal
 opening f.Fault = ReadFault

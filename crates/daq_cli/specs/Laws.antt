@@ -1,19 +1,21 @@
 -- That the steps of each command are exact, and that nothing falls between: so a run has one answer.
-use Rattle.std.specs.Prelude.{ℕ, List}
-use Rattle.command_line.specs.Commands.{Ask, Demo, Load, Query}
+use Rattle.std.specs.Prelude.{◌≢◌, ℕ, List}
+use Rattle.command_line.specs.Commands.{Ask, Demo, Load, Query, Session, reads}
 use Rattle.plane_file.specs.Bytes.{AreBytes}
 use Rattle.daq_cli.specs.Files.{file_step}
 use Rattle.daq_cli.specs.Inputs.{schema_step}
 use Rattle.daq_cli.specs.Questions.{sql_step}
+use Rattle.daq_cli.specs.Scripts.{queries_step}
 use Rattle.daq_cli.specs.Steps.{IsComplete, IsExact}
 use Rattle.daq_cli.specs.commands.Ask.{ask_step, words_step}
 use Rattle.daq_cli.specs.commands.Demo.{demo_step}
 use Rattle.daq_cli.specs.commands.Load.{load_step}
 use Rattle.daq_cli.specs.commands.Query.{query_step, report_step}
+use Rattle.daq_cli.specs.commands.Session as together
 use Rattle.daq_cli.specs.commands.Upgrade.{upgrade_step}
 
--- words, words with an input or a store, and the bytes of a store are accepted as one question, report, table or file at most or show one
--- refusal at most, and never both
+-- words, words with an input, a script or a store, the bytes of a script and those of a store are accepted as one question, report, table,
+-- list of queries or file at most or show one refusal at most, and never both
 pub record StepsAreExact : Type 0 where
   pub words : (ask : Ask) → IsExact (words_step ask)
   pub ask : (ask : Ask) (bytes : List ℕ) → IsExact (ask_step ask bytes)
@@ -25,8 +27,11 @@ pub record StepsAreExact : Type 0 where
   pub query : (query : Query) (bytes : List ℕ) → IsExact (query_step query bytes)
   pub upgrade : (bytes : List ℕ) → IsExact (upgrade_step bytes)
   pub report : (query : Query) (bytes : List ℕ) → IsExact (report_step query bytes)
+  pub script : (script : List ℕ) → IsExact (queries_step script)
+  pub session : (session : Session) (script bytes : List ℕ) → IsExact (together.report_step session script bytes)
 
--- words alone, words with an input or a store, words of a `demo` and the bytes of a store are accepted or show a refusal
+-- words alone, words with an input, a script or a store, words of a `demo`, the bytes of a script and those of a store are accepted or
+-- show a refusal
 pub record StepsAreComplete : Type 0 where
   pub words : (ask : Ask) → IsComplete (words_step ask)
   pub ask : (ask : Ask) (bytes : List ℕ) → IsComplete (ask_step ask bytes)
@@ -38,3 +43,6 @@ pub record StepsAreComplete : Type 0 where
   pub query : (query : Query) (bytes : List ℕ) → AreBytes bytes → IsComplete (query_step query bytes)
   pub upgrade : (bytes : List ℕ) → AreBytes bytes → IsComplete (upgrade_step bytes)
   pub report : (query : Query) (bytes : List ℕ) → AreBytes bytes → IsComplete (report_step query bytes)
+  pub script : (script : List ℕ) → IsComplete (queries_step script)
+  pub session : (session : Session) (script bytes : List ℕ) → ((names : List ℕ) → session.options.order ≢ reads names) → AreBytes bytes →
+      IsComplete (together.report_step session script bytes)

@@ -3,9 +3,12 @@ pub mod Faults
 pub mod Refusals
 pub mod Steps
 pub mod Inputs
+pub mod Scripts
+pub mod ScriptValues
 pub mod Files
 pub mod Stores
 pub mod Report
+pub mod SessionReport
 pub mod Questions
 pub mod commands
 pub mod Runs

@@ -1,23 +1,27 @@
 -- The line and the status of each refusal, and how a run tells of it.
-use Rattle.std.specs.Prelude.{◌≡◌, ◌⊎◌, ℕ, ◌+◌, pos, List, ◌++◌, codes}
+use Rattle.std.specs.Prelude.{◌≡◌, ◌⊎◌, ℕ, ◌+◌, pos, List, ◌++◌, codes, drop, length}
 use Rattle.std.specs.Fmt.{signed_decimal}
 use Rattle.daq_table.specs.declared.schema_fault.SchemaFault.{SchemaFault}
 use Rattle.daq_table.specs.declared.schema_fault.SchemaFault.TheVariants as schema
 use Rattle.csv_load.specs.declared.fault.TableFault.{TableFault}
 use Rattle.csv_load.specs.declared.fault.TableFault.TheVariants as table
+use Rattle.multi_session.specs.declared.limits.SessionFault.{SessionFault}
+use Rattle.multi_session.specs.declared.limits.SessionFault.TheVariants as session
 use Rattle.outer_world.specs.Device.{SinkState}
 use Rattle.outer_world.specs.Whole.{Writes}
 use Rattle.plane_file.specs.declared.file_fault.FileFault.{FileFault}
 use Rattle.plane_file.specs.declared.file_fault.FileFault.TheVariants as file
 use Rattle.plane_reads.specs.declared.fault.ReadsFault.{ReadsFault}
 use Rattle.plane_reads.specs.declared.fault.ReadsFault.TheVariants as reads
+use Rattle.session_script.specs.declared.fault.ScriptFault.{ScriptFault}
+use Rattle.session_script.specs.declared.fault.ScriptFault.TheVariants as script
 use Rattle.sql_text.specs.declared.fault.SqlFault.{SqlFault}
 use Rattle.sql_text.specs.declared.fault.SqlFault.TheVariants as text
 use Rattle.sql_typing.specs.declared.fault.TypeFault.{TypeFault}
 use Rattle.sql_typing.specs.declared.fault.TypeFault.TheVariants as typing
 use Rattle.daq_cli.specs.Worlds.{partly, whole}
 use Rattle.daq_cli.specs.declared.refusal.Refusal.{Refusal}
-use Rattle.daq_cli.specs.declared.refusal.Refusal.TheVariants.{Usage, Query, Schema, TooLong, Table, TooManyRows, Typing, Reads, File, PadBits, OverTop, ReadFault, WriteFault, NoMemory}
+use Rattle.daq_cli.specs.declared.refusal.Refusal.TheVariants.{Usage, Query, Schema, TooLong, Table, TooManyRows, Typing, Reads, File, PadBits, OverTop, Script, LineQuery, LineTyping, Session, ReadFault, WriteFault, NoMemory}
 use Rattle.daq_cli.specs.declared.status.Status.{Status}
 use Rattle.daq_cli.specs.declared.status.Status.TheVariants as s
 
@@ -67,6 +71,24 @@ reads_fault_text (reads.UnknownName place) = codes "query refused: read " ++ sig
 reads_fault_text (reads.PastEnd place) = codes "query refused: read " ++ signed_decimal (pos (place + 1)) ++ codes " is past its column's last plane"
 reads_fault_text reads.NoMemory = codes "no memory"
 
+-- places count from 0, from the script's first byte
+abbrev pub script_fault_text : ScriptFault → List ℕ
+script_fault_text (script.TooLong limit) = codes "query refused: script longer than " ++ signed_decimal (pos limit) ++ codes " bytes"
+script_fault_text (script.NoText at) = codes "query refused: script is no text at " ++ signed_decimal (pos at)
+script_fault_text script.NoQuery = codes "query refused: no query in the script"
+script_fault_text (script.TooMany count) = codes "query refused: " ++ signed_decimal (pos count) ++ codes " queries"
+script_fault_text script.NoMemory = codes "no memory"
+
+abbrev pub session_fault_text : SessionFault → List ℕ
+session_fault_text (session.TooMany count) = codes "query refused: " ++ signed_decimal (pos count) ++ codes " queries"
+session_fault_text (session.TooManyColumns count) = codes "query refused: " ++ signed_decimal (pos count) ++ codes " columns in the session"
+session_fault_text (session.TooLarge cells) = codes "query refused: " ++ signed_decimal (pos cells) ++ codes " cells in the session"
+session_fault_text session.NoMemory = codes "no memory"
+
+-- in a line of a script, which counts from 1, a query is refused as it is alone
+abbrev pub at_line : ℕ → List ℕ → List ℕ
+at_line line alone = codes "query refused: line " ++ signed_decimal (pos line) ++ codes ": " ++ drop (length (codes "query refused: ")) alone
+
 -- places count from 0, from the file's first byte
 abbrev pub file_fault_text : FileFault → List ℕ
 file_fault_text file.BadMagic = codes "file refused: not a plane file"
@@ -97,6 +119,10 @@ fault_text (Reads fault) = reads_fault_text fault
 fault_text (File fault) = file_fault_text fault
 fault_text (PadBits column plane) = plane_text column plane ++ codes " has pad bits"
 fault_text (OverTop column plane row) = over_top_text column plane row
+fault_text (Script fault) = script_fault_text fault
+fault_text (LineQuery line fault) = at_line line (text_fault_text fault)
+fault_text (LineTyping line fault) = at_line line (type_fault_text fault)
+fault_text (Session fault) = session_fault_text fault
 fault_text ReadFault = codes "read fault"
 fault_text WriteFault = codes "write fault"
 fault_text NoMemory = codes "no memory"
@@ -116,6 +142,10 @@ status_of (Reads fault) = s.QueryRefused
 status_of (File _) = s.FileRefused
 status_of (PadBits column plane) = s.FileRefused
 status_of (OverTop column plane row) = s.FileRefused
+status_of (Script fault) = s.QueryRefused
+status_of (LineQuery line fault) = s.QueryRefused
+status_of (LineTyping line fault) = s.QueryRefused
+status_of (Session fault) = s.QueryRefused
 status_of ReadFault = s.ReadFault
 status_of WriteFault = s.WriteFault
 status_of NoMemory = s.NoMemory

@@ -1,9 +1,9 @@
 -- What a run comes to, by the words of the command line and what the devices tell before and after.
 use Rattle.std.specs.Prelude.{◌≡◌, ◌⊎◌, ℕ, Bool, true, false, ⊤, IsTrue, List}
-use Rattle.command_line.specs.Commands.{Ask, Command, Demo, GoesWrong, Info, IsCommand, Load, Upgrade, ask, demo, info, load, query, upgrade}
+use Rattle.command_line.specs.Commands.{Ask, Command, Demo, GoesWrong, Info, IsCommand, Load, Session, Upgrade, ask, demo, info, load, query, session, upgrade}
 use Rattle.command_line.specs.Commands as line
 use Rattle.daq_table.specs.Tables.{Contents}
-use Rattle.outer_world.specs.Device.{Rose, StoreState}
+use Rattle.outer_world.specs.Device.{Rose, SourceState, StoreState}
 use Rattle.outer_world.specs.Whole.{Writes}
 use Rattle.plane_file.specs.Opening.{Opened}
 use Rattle.sql_text.specs.Answer.{IsText}
@@ -11,6 +11,7 @@ use Rattle.sql_text.specs.Tree.{Query}
 use Rattle.daq_cli.specs.Inputs.{IsSchema}
 use Rattle.daq_cli.specs.Questions.{Question, Reports}
 use Rattle.daq_cli.specs.Refusals.{IsTold}
+use Rattle.daq_cli.specs.Scripts.{AcceptsScript}
 use Rattle.daq_cli.specs.Stores.{WritesTable}
 use Rattle.daq_cli.specs.Worlds.{Device, WorldState, IsSame, whole}
 use Rattle.daq_cli.specs.Worlds as device
@@ -19,6 +20,7 @@ use Rattle.daq_cli.specs.commands.Demo.{DemoCause, Demonstrates, demo_step}
 use Rattle.daq_cli.specs.commands.Info.{InfoAccepts, InfoCause, InfoShows, Informs, info_text}
 use Rattle.daq_cli.specs.commands.Load.{LoadAccepts, LoadCause, LoadShows, Loads, loaded}
 use Rattle.daq_cli.specs.commands.Query.{Begins, Queries, QueryAccepts, QueryCause, QueryShows}
+use Rattle.daq_cli.specs.commands.Session.{BeginsSteps, SessionAccepts, SessionCause, SessionShows, Sessions}
 use Rattle.daq_cli.specs.commands.Upgrade.{UpgradeAccepts, UpgradeCause, UpgradeShows, Upgrades, upgraded}
 use Rattle.daq_cli.specs.declared.refusal.Refusal.{Refusal}
 use Rattle.daq_cli.specs.declared.refusal.Refusal.TheVariants.{NoMemory, Usage, WriteFault}
@@ -33,6 +35,7 @@ Does (ask a) before after = Asks a whole before.input after.input before.out aft
 Does (demo d) before after = Demonstrates d whole before.out after.out
 Does (load l) before after = Loads l before.input after.input before.made after.made before.out after.out
 Does (query q) before after = Queries q before.planes after.planes before.out after.out
+Does (session s) before after = Sessions s before.side after.side before.planes after.planes before.out after.out
 Does (info i) before after = Informs whole before.planes after.planes before.out after.out
 Does (upgrade u) before after = Upgrades before.planes after.planes before.made after.made before.out after.out
 
@@ -42,15 +45,17 @@ StopsFor (ask a) before after why = AskCause a before.input after.input before.o
 StopsFor (demo d) before after why = DemoCause d before.out after.out why
 StopsFor (load l) before after why = LoadCause l before.input after.input before.made after.made before.out after.out why
 StopsFor (query q) before after why = QueryCause q before.planes after.planes before.out after.out why
+StopsFor (session s) before after why = SessionCause s before.side after.side before.planes after.planes before.out after.out why
 StopsFor (info i) before after why = InfoCause before.planes after.planes before.out after.out why
 StopsFor (upgrade u) before after why = UpgradeCause before.planes after.planes before.made after.made before.out after.out why
 
--- the refusal that it shows, by itself or with what its input or its store tells
+-- the refusal that it shows, by itself or with what its input, its script or its store tells
 abbrev pub CommandShows : Command → WorldState → Refusal → Type 0
 CommandShows (ask a) before why = AskShows a before.input.left why
 CommandShows (demo d) before why = (demo_step d).shows why
 CommandShows (load l) before why = LoadShows l before.input.left why
 CommandShows (query q) before why = QueryShows q before.planes.held why
+CommandShows (session s) before why = SessionShows s before.side.left before.planes.held why
 CommandShows (info i) before why = InfoShows before.planes.held why
 CommandShows (upgrade u) before why = UpgradeShows before.planes.held why
 
@@ -68,6 +73,8 @@ pub data CommandAccepts (before : WorldState) : Command → Task → Type 0 wher
   of_demo : (d : Demo) (question : Question) → (demo_step d).accepts question → CommandAccepts before (demo d) (report question)
   of_load : (l : Load) (table : Contents) → LoadAccepts l before.input.left table → CommandAccepts before (load l) (store loaded table)
   of_query : (q : line.Query) (text : List ℕ) → QueryAccepts q before.planes.held text → CommandAccepts before (query q) (inquire text)
+  of_session : (s : Session) (text : List ℕ) → SessionAccepts s before.side.left before.planes.held text →
+      CommandAccepts before (session s) (inquire text)
   of_info : (i : Info) (file : Opened) → InfoAccepts before.planes.held file → CommandAccepts before (info i) (describe file)
   of_upgrade : (u : Upgrade) (table : Contents) → UpgradeAccepts before.planes.held table → CommandAccepts before (upgrade u) (store upgraded table)
 
@@ -84,8 +91,14 @@ IsReadable (ask a) = AcceptsWords a
 IsReadable (demo d) = (query : Query) × IsText d.sql query
 IsReadable (load l) = IsSchema l.schema
 IsReadable (query q) = (query : Query) × IsText q.sql query
+IsReadable (session s) = ⊤
 IsReadable (info i) = ⊤
 IsReadable (upgrade u) = ⊤
+
+-- nor are they with its script, where it has one
+abbrev pub IsReadableAside : Command → WorldState → Type 0
+IsReadableAside (session s) before = AcceptsScript before.side.left
+IsReadableAside command before = IsReadable command
 
 -- the devices that it uses
 abbrev pub uses : Command → Device → Bool
@@ -97,6 +110,9 @@ uses (load l) device.made = true
 uses (load l) device.out = true
 uses (query q) device.planes = true
 uses (query q) device.out = true
+uses (session s) device.side = true
+uses (session s) device.planes = true
+uses (session s) device.out = true
 uses (info i) device.planes = true
 uses (info i) device.out = true
 uses (upgrade u) device.planes = true
@@ -117,7 +133,7 @@ pub data IsCause (words : List (List ℕ)) (before after : WorldState) : Refusal
   usage : (place : ℕ) → GoesWrong words place → IsCause words before after (Usage place)
   of_command : {why : Refusal} (command : Command) → IsCommand words command → StopsFor command before after why → IsCause words before after why
 
--- the words show the refusal, or they do with what the input or the store tells
+-- the words show the refusal, or they do with what the input, the script or the store tells
 pub data Shows (words : List (List ℕ)) (before : WorldState) : Refusal → Type 0 where
   usage : (place : ℕ) → GoesWrong words place → Shows words before (Usage place)
   of_command : {why : Refusal} (command : Command) → IsCommand words command → CommandShows command before why → Shows words before why
@@ -132,6 +148,10 @@ pub record Accepts (words : List (List ℕ)) (before : WorldState) (task : Task)
 abbrev pub IsRefused : List (List ℕ) → Type 0
 IsRefused words = (command : Command) → IsCommand words command → IsReadable command → ⊥
 
+-- the words alone are refused, or with their script
+abbrev pub IsRefusedAside : List (List ℕ) → WorldState → Type 0
+IsRefusedAside words before = (command : Command) → IsCommand words command → IsReadableAside command before → ⊥
+
 -- the command of the words uses the device
 abbrev pub Uses : List (List ℕ) → Device → Type 0
 Uses words one = (command : Command) × IsCommand words command × IsTrue (uses command one)
@@ -140,18 +160,19 @@ Uses words one = (command : Command) × IsCommand words command × IsTrue (uses 
 abbrev pub IsUnwritten : WorldState → WorldState → Type 0
 IsUnwritten before after = (after.made ≡ before.made) × (after.out ≡ before.out)
 
--- the words are a `query` whose rounds were begun
-pub record BeginsRounds (words : List (List ℕ)) (before : WorldState) : Type 0 where
-  pub asked : line.Query
-  pub is_command : IsCommand words (query asked)
-  pub opened : StoreState
-  pub begun : Begins asked before.planes opened
+-- the words are a `query` whose rounds were begun, or a `session` whose steps were
+pub data BeginsRounds (words : List (List ℕ)) (before : WorldState) : Type 0 where
+  in_query : (q : line.Query) (opened : StoreState) → IsCommand words (query q) → Begins q before.planes opened → BeginsRounds words before
+  in_session : (s : Session) (read : SourceState) (opened : StoreState) → IsCommand words (session s) →
+      BeginsSteps s before.side read before.planes opened → BeginsRounds words before
 
 -- a read failed
-abbrev pub ReadFails : WorldState → WorldState → Type 0
-ReadFails before after = Rose before.input.faults after.input.faults ⊎ Rose before.planes.faults after.planes.faults
+abbrev pub ReadFails : List (List ℕ) → WorldState → WorldState → Type 0
+ReadFails words before after =
+    Rose before.input.faults after.input.faults ⊎ Rose before.planes.faults after.planes.faults
+    ⊎ (Uses words device.side × Rose before.side.faults after.side.faults)
 
--- the words are a `query` whose rounds were begun, and the run tells that their report was not written
+-- the words are such a `query` or `session`, and the run tells that its report was not written
 abbrev pub FailsInRounds : List (List ℕ) → Status → WorldState → WorldState → Type 0
 FailsInRounds words status before after =
     BeginsRounds words before × Rose before.out.faults after.out.faults × IsTold WriteFault status before.err after.err
@@ -159,13 +180,14 @@ FailsInRounds words status before after =
 -- the run tells of the refusal, or that memory ran out; or a read failed, or the write of a report before the plane that is refused
 abbrev pub EndsSo : List (List ℕ) → Refusal → Status → WorldState → WorldState → Type 0
 EndsSo words why status before after =
-    IsTold why status before.err after.err ⊎ IsTold NoMemory status before.err after.err ⊎ ReadFails before after ⊎ FailsInRounds words status before after
+    IsTold why status before.err after.err ⊎ IsTold NoMemory status before.err after.err ⊎ ReadFails words before after
+    ⊎ FailsInRounds words status before after
 
 -- a write failed
 abbrev pub WriteFails : WorldState → WorldState → Type 0
 WriteFails before after = Rose before.made.faults after.made.faults ⊎ Rose before.out.faults after.out.faults ⊎ Rose before.err.faults after.err.faults
 
 -- the run does what is asked for, unless memory runs out or a device fails
-abbrev pub Completes : Task → Status → WorldState → WorldState → Type 0
-Completes task status before after =
-    ((status ≡ s.Done) × IsFulfilled task before after) ⊎ (status ≡ s.NoMemory) ⊎ ReadFails before after ⊎ WriteFails before after
+abbrev pub Completes : List (List ℕ) → Task → Status → WorldState → WorldState → Type 0
+Completes words task status before after =
+    ((status ≡ s.Done) × IsFulfilled task before after) ⊎ (status ≡ s.NoMemory) ⊎ ReadFails words before after ⊎ WriteFails before after

@@ -3,4 +3,5 @@ pub mod Demo
 pub mod Info
 pub mod Load
 pub mod Query
+pub mod Session
 pub mod Upgrade

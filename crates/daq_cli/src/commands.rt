@@ -5,4 +5,5 @@ pub(crate) mod demo;
 pub(crate) mod info;
 pub(crate) mod load;
 pub(crate) mod query;
+pub(crate) mod session;
 pub(crate) mod upgrade;

@@ -1,20 +1,22 @@
-//! What the line of each fault of a query, a schema, a table, a list of reads and a plane file says.
+//! What the line of each fault of a query, a script, a session, a schema, a table, a list of reads and a plane file says.
 
 ghost use Rattle.std.specs.Prelude.{◌≡◌, ◌≤◌, ◌+◌, ◌++◌, length, pos};
 ghost use Rattle.std.specs.Fmt.{signed_decimal};
-ghost use Rattle.daq_cli.specs.Refusals.{file_fault_text, over_top_text, plane_text, reads_fault_text, schema_fault_text, table_fault_text, text_fault_text, type_fault_text};
+ghost use Rattle.daq_cli.specs.Refusals.{at_line, file_fault_text, over_top_text, plane_text, reads_fault_text, schema_fault_text, script_fault_text, session_fault_text, table_fault_text, text_fault_text, type_fault_text};
 
 use csv_load::TableFault;
 use daq_table::{SchemaFault, TextBuf, written_number};
+use multi_session::SessionFault;
 use plane_file::FileFault;
 use plane_reads::ReadsFault;
+use session_script::ScriptFault;
 use sql_text::SqlFault;
 use sql_typing::TypeFault;
 
 // What is said of a text that is no query.
 pub(crate) fn written_text_fault(fault: &SqlFault) -> TextBuf
     ensures text { result ≡ text_fault_text fault.now }
-    ensures short { length result ≤ 500 }
+    ensures short { length result ≤ 160 }
 {
     match fault {
         SqlFault::TooLong => plain(b"query refused: longer than 4096 bytes"),
@@ -23,6 +25,60 @@ pub(crate) fn written_text_fault(fault: &SqlFault) -> TextBuf
         SqlFault::LiteralTooLarge { at } => placed(b"query refused: number too large at ", *at),
         SqlFault::NoMemory => plain(b"no memory"),
     }
+}
+
+// What is said of bytes that are no script.
+pub(crate) fn written_script_fault(fault: &ScriptFault) -> TextBuf
+    ensures text { result ≡ script_fault_text fault.now }
+    ensures short { length result ≤ 500 }
+{
+    match fault {
+        ScriptFault::TooLong { limit } => with_number(
+            b"query refused: script longer than ",
+            counted(*limit),
+            b" bytes",
+        ),
+        ScriptFault::NoText { at } => placed(b"query refused: script is no text at ", *at),
+        ScriptFault::NoQuery => plain(b"query refused: no query in the script"),
+        ScriptFault::TooMany { count } => {
+            with_number(b"query refused: ", counted(*count), b" queries")
+        }
+        ScriptFault::NoMemory => plain(b"no memory"),
+    }
+}
+
+// What is said of queries that make no session.
+pub(crate) fn written_session_fault(fault: &SessionFault) -> TextBuf
+    ensures text { result ≡ session_fault_text fault.now }
+    ensures short { length result ≤ 500 }
+{
+    match fault {
+        SessionFault::TooMany { count } => {
+            with_number(b"query refused: ", counted(*count), b" queries")
+        }
+        SessionFault::TooManyColumns { count } => with_number(
+            b"query refused: ",
+            counted(*count),
+            b" columns in the session",
+        ),
+        SessionFault::TooLarge { cells } => with_number(
+            b"query refused: ",
+            *cells as u128,
+            b" cells in the session",
+        ),
+        SessionFault::NoMemory => plain(b"no memory"),
+    }
+}
+
+// What is said of the query in a line of a script, by what is said of it alone.
+pub(crate) fn written_at_line(line: usize, alone: &[u8]) -> TextBuf
+    requires { length alone.now ≤ 160 }
+    ensures text { result ≡ at_line line alone.now }
+    ensures short { length result ≤ 500 }
+{
+    let mut text = with_number(b"query refused: line ", counted(line), b": ");
+    text.append(&alone[b"query refused: ".len().min(alone.len())..]);
+    text
 }
 
 // What is said of a list of columns to be read.
@@ -100,7 +156,7 @@ pub(crate) fn written_table_fault(fault: &TableFault) -> TextBuf
 // What is said of a query that cannot be typed.
 pub(crate) fn written_type_fault(fault: &TypeFault) -> TextBuf
     ensures text { result ≡ type_fault_text fault.now }
-    ensures short { length result ≤ 500 }
+    ensures short { length result ≤ 160 }
 {
     match fault {
         TypeFault::UnknownTable { at } => placed(b"query refused: unknown table at ", *at),

@@ -11,6 +11,8 @@ use plane_file::{
 use plane_reads::{answers_are_one, words_have_answers};
 use plane_schedule::{choices_are_one, policies_choose};
 use query_model::{taken_is_knowledge, valid_queries_name_columns};
+use session_rounds::{sessions_are_one, sessions_have_an_end};
+use session_script::scripts_have_answers;
 use sql_text::{one_answer, some_answer};
 use sql_typing::{trees_have_typings, typed_queries_are_valid, typing_is_exact};
 use table_rounds::{rounds_begin, rounds_have_planes};
@@ -33,6 +35,8 @@ pub fn steps_are_exact()
     plane_file::tables_are_one();
     file_faults_are_exact();
     choices_are_one();
+    session_script::answers_are_one();
+    sessions_are_one();
 }
 
 /// The words of an `ask`, of a `load`, they with the bytes of an input, the words of a `demo` and the bytes of a store are
@@ -55,4 +59,6 @@ pub fn steps_are_complete()
     rounds_have_planes();
     taken_is_knowledge();
     rounds_begin();
+    scripts_have_answers();
+    sessions_have_an_end();
 }

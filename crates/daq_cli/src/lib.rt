@@ -10,14 +10,18 @@ mod lines;
 mod question;
 mod refusal;
 mod report;
+mod scripts;
+mod session_report;
 mod status;
 mod stop;
 mod stores;
+mod together;
 mod top;
 mod world;
 
 pub use command_line::Words;
 pub use laws::{steps_are_complete, steps_are_exact};
+pub use session_report::queries_are_shown_alone;
 pub use status::{Status, code};
 pub use top::run;
 pub use world::World;

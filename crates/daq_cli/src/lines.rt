@@ -4,8 +4,9 @@ ghost use Rattle.std.specs.Prelude.{◌≡◌, ◌≤◌, length};
 ghost use Rattle.daq_cli.specs.Refusals.{IsTold, fault_line, fault_text};
 
 use crate::fault_lines::{
-    plain, with_number, written_file_fault, written_over_top, written_plane, written_reads_fault,
-    written_schema_fault, written_table_fault, written_text_fault, written_type_fault,
+    plain, with_number, written_at_line, written_file_fault, written_over_top, written_plane,
+    written_reads_fault, written_schema_fault, written_script_fault, written_session_fault,
+    written_table_fault, written_text_fault, written_type_fault,
 };
 use crate::refusal::{Refusal, status_of};
 use crate::status::Status;
@@ -54,6 +55,14 @@ fn written_cause(why: &Refusal) -> TextBuf
         Refusal::File(fault) => written_file_fault(fault),
         Refusal::PadBits { column, plane } => written_plane(*column, *plane, b" has pad bits"),
         Refusal::OverTop { column, plane, row } => written_over_top(*column, *plane, *row),
+        Refusal::Script(fault) => written_script_fault(fault),
+        Refusal::LineQuery { line, fault } => {
+            written_at_line(*line, written_text_fault(fault).bytes())
+        }
+        Refusal::LineTyping { line, fault } => {
+            written_at_line(*line, written_type_fault(fault).bytes())
+        }
+        Refusal::Session(fault) => written_session_fault(fault),
         Refusal::ReadFault => plain(b"read fault"),
         Refusal::WriteFault => plain(b"write fault"),
         Refusal::NoMemory => plain(b"no memory"),

@@ -10,12 +10,14 @@ use crate::stop::Stop;
 use command_line::Usage;
 use csv_load::TableFault;
 use daq_table::SchemaFault;
+use multi_session::SessionFault;
 use outer_world::{Failed, ReadAll};
 use plane_file::{FileFault, PlaneFault, ReadTable, WriteFile};
 use plane_reads::ReadsFault;
+use session_script::ScriptFault;
 use sql_text::SqlFault;
 use sql_typing::TypeFault;
-use std::alloc::AllocError;
+use std::alloc::{AllocError, AllocFailed};
 use table_gen::GenFault;
 use table_rounds::StepFault;
 
@@ -51,6 +53,20 @@ pub enum Refusal {
         plane: u8,
         row: usize,
     },
+    /// The script of a session is none.
+    Script(ScriptFault),
+    /// The query in this line of a script is none. Lines count from 1.
+    LineQuery {
+        line: usize,
+        fault: SqlFault,
+    },
+    /// The query in this line of a script cannot be typed.
+    LineTyping {
+        line: usize,
+        fault: TypeFault,
+    },
+    /// The queries of a script pass a limit of sessions.
+    Session(SessionFault),
     ReadFault,
     WriteFault,
     NoMemory,
@@ -142,6 +158,28 @@ impl From<ReadsFault> for Refusal {
     }
 }
 
+impl From<ScriptFault> for Refusal {
+    ghost from_gives = { λ fault why. why ≡ of.script fault };
+
+    fn from(fault: ScriptFault) -> Self {
+        match fault {
+            ScriptFault::NoMemory => Refusal::NoMemory,
+            fault => Refusal::Script(fault),
+        }
+    }
+}
+
+impl From<SessionFault> for Refusal {
+    ghost from_gives = { λ fault why. why ≡ of.session fault };
+
+    fn from(fault: SessionFault) -> Self {
+        match fault {
+            SessionFault::NoMemory => Refusal::NoMemory,
+            fault => Refusal::Session(fault),
+        }
+    }
+}
+
 impl From<FileFault> for Refusal {
     ghost from_gives = { λ fault why. why ≡ of.opening fault };
 
@@ -212,6 +250,14 @@ impl From<AllocError> for Refusal {
     }
 }
 
+impl<T: Drop> From<AllocFailed<T>> for Refusal {
+    ghost from_gives = { λ _ why. why ≡ refusals.NoMemory };
+
+    fn from(_: AllocFailed<T>) -> Self {
+        Refusal::NoMemory
+    }
+}
+
 impl From<Failed> for Refusal {
     ghost from_gives = { λ _ why. why ≡ refusals.WriteFault };
 
@@ -227,6 +273,10 @@ pub(crate) fn status_of(why: &Refusal) -> Status
     match why {
         Refusal::Usage { .. } => Status::Usage,
         Refusal::Query(_) | Refusal::Typing(_) | Refusal::Reads(_) => Status::QueryRefused,
+        Refusal::Script(_)
+        | Refusal::LineQuery { .. }
+        | Refusal::LineTyping { .. }
+        | Refusal::Session(_) => Status::QueryRefused,
         Refusal::Schema(_) | Refusal::TooLong { .. } | Refusal::Table(_) | Refusal::TooManyRows =>
             Status::TableRefused,
         Refusal::File(_) | Refusal::PadBits { .. } | Refusal::OverTop { .. } => Status::FileRefused,

@@ -36,8 +36,8 @@ fn write_query<K: Sink>(sql: &[u8], out: &mut K) -> Result<(), Failed>
     write_pieces(out, &[b"query ", sql, b"\n"])
 }
 
-// Writes the line that says why the rounds ended.
-fn write_ending<K: Sink>(ending: Ending, out: &mut K) -> Result<(), Failed>
+// Writes the line that says why the rounds, or the steps of a session, ended.
+pub(crate) fn write_ending<K: Sink>(ending: Ending, out: &mut K) -> Result<(), Failed>
     ensures { Writes result (K.state out.old) (K.state out.new) (ending_line ending) }
 {
     match ending {

@@ -3,11 +3,11 @@
 ghost use Rattle.std.specs.Prelude.{◌≡◌, ◌≢◌, ◌⊎◌, OnOk, IfErr};
 ghost use Rattle.command_line.specs.Commands.{Command, IsCommand};
 ghost use Rattle.daq_cli.specs.Refusals.{IsTold};
-ghost use Rattle.daq_cli.specs.Runs.{Accepts, BeginsRounds, Completes, Does, EndsSo, IsCause, IsDone, IsRefused, IsUnwritten, Shows, Task, Uses};
-ghost use Rattle.daq_cli.specs.Worlds.{Device, IsSame};
+ghost use Rattle.daq_cli.specs.Runs.{Accepts, BeginsRounds, Completes, Does, EndsSo, IsCause, IsDone, IsRefused, IsRefusedAside, IsUnwritten, Shows, Task, Uses};
+ghost use Rattle.daq_cli.specs.Worlds.{Device, IsSame, side};
 ghost use Rattle.daq_cli.specs.declared.refusal.Refusal.{Refusal};
 
-use crate::commands::{ask, demo, info, load, query, upgrade};
+use crate::commands::{ask, demo, info, load, query, session, upgrade};
 use crate::laws::steps_are_exact;
 use crate::lines::refuse;
 use crate::refusal::Refusal;
@@ -27,6 +27,7 @@ fn perform<S: Source, P: Store, K: Sink>(
     ensures refused { IfErr result (IsCause words.now world.old world.new) }
     ensures stays { (device : Device) → ¬ Uses words.now device → IsSame device world.old world.new }
     ensures untouched { IsRefused words.now → (device : Device) → IsSame device world.old world.new }
+    ensures aside { IsRefusedAside words.now world.old → (device : Device) → device ≢ side → IsSame device world.old world.new }
     ensures quiet { world.new.err ≡ world.old.err }
 {
     match Command::parse(words) {
@@ -44,6 +45,13 @@ fn perform<S: Source, P: Store, K: Sink>(
         Ok(Command::Query(asked)) => {
             query::carry_out(alloc, &asked, &mut world.planes, &mut world.out)
         }
+        Ok(Command::Session(asked)) => session::carry_out(
+            alloc,
+            &asked,
+            &mut world.side,
+            &mut world.planes,
+            &mut world.out,
+        ),
         Ok(Command::Info(_)) => info::carry_out(alloc, &mut world.planes, &mut world.out),
         Ok(Command::Upgrade(_)) => {
             upgrade::carry_out(alloc, &mut world.planes, &mut world.made, &mut world.out)
@@ -64,10 +72,11 @@ pub fn run<S: Source, P: Store, K: Sink>(
         × IsCause words.now world.old world.new why × IsTold why result world.old.err world.new.err }
     // What the words and a told input or store show is told, and what they accept is answered.
     ensures exact { (why : Refusal) → Shows words.now world.old why → EndsSo words.now why result world.old world.new }
-    ensures complete { (task : Task) → Accepts words.now world.old task → Completes task result world.old world.new }
+    ensures complete { (task : Task) → Accepts words.now world.old task → Completes words.now task result world.old world.new }
     // What stays as it was.
     ensures stays { (device : Device) → ¬ Uses words.now device → IsSame device world.old world.new }
     ensures untouched { IsRefused words.now → (device : Device) → IsSame device world.old world.new }
+    ensures aside { IsRefusedAside words.now world.old → (device : Device) → device ≢ side → IsSame device world.old world.new }
     // But for a failed write, and for rounds that were begun, nothing was written.
     ensures early { result ≢ Status.Done → result ≢ Status.WriteFault
         → IsUnwritten world.old world.new ⊎ BeginsRounds words.now world.old }

@@ -12,6 +12,8 @@ mod reported;
 #[cfg(test)]
 mod runs;
 #[cfg(test)]
+mod sessions;
+#[cfg(test)]
 mod told;
 #[cfg(test)]
 mod upgraded;

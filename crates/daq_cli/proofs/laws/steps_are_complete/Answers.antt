@@ -21,4 +21,6 @@ returns c = steps_complete (record {
     taken = c.taken_is_knowledge.ensures;
     begin = c.rounds_begin.ensures;
   };
+  scripts = c.scripts_have_answers.ensures;
+  sessions = c.sessions_have_an_end.ensures;
 })

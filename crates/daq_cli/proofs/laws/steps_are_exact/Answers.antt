@@ -24,4 +24,6 @@ returns c = steps_exact (record {
   file_faults = c.file_faults_are_exact.ensures.one;
   good_files = c.file_faults_are_exact.ensures.none;
   choices = c.choices_are_one.ensures;
+  scripts = c.answers_are_one-2.ensures;
+  sessions = c.sessions_are_one.ensures;
 })

@@ -1,11 +1,11 @@
 -- Each command does what it says, or stops with its cause.
 use Rattle.std.proofs.Common.{sym, ap, subst, arith}
-use Rattle.command_line.specs.Commands.{IsCommand, ask, demo, info, load, query, upgrade}
-use Rattle.command_line.specs.Values.{ask_of, command_of, demo_of, info_of, load_of, query_of, upgrade_of}
+use Rattle.command_line.specs.Commands.{IsCommand, ask, demo, info, load, query, session, upgrade}
+use Rattle.command_line.specs.Values.{ask_of, command_of, demo_of, info_of, load_of, query_of, session_of, upgrade_of}
 use Rattle.daq_cli.specs.Runs.{IsCause}
 use Rattle.daq_cli.proofs.Results.{if_err}
-use Rattle.daq_cli.proofs.Runs.{ask_stops, demo_stops, info_stops, load_stops, query_stops, upgrade_stops}
-use Rattle.daq_cli.proofs.Widths.{ask_width, demo_width, query_width}
+use Rattle.daq_cli.proofs.Runs.{ask_stops, demo_stops, info_stops, load_stops, query_stops, session_stops, upgrade_stops}
+use Rattle.daq_cli.proofs.Widths.{ask_width, demo_width, query_width, session_width}
 use Rattle.daq_cli.proofs.top.perform.Goals as goal
 
 pub carry_out-requires : goal.carry_out-requires
@@ -22,6 +22,22 @@ pub carry_out-requires-in-Ok-Query : goal.carry_out-requires-in-Ok-Query
 carry_out-requires-in-Ok-Query g c =
     let small = query_width c.args.words.now (query_of c.in-Ok-Query.asked) (subst (λ f. IsCommand c.args.words.now (command_of f)) c.in-Ok-Query.field-0-is c.in-Ok-Query.ensures.ok) in
     record { width = omega (arith, small) }
+
+pub carry_out-requires-in-Ok-Session : goal.carry_out-requires-in-Ok-Session
+carry_out-requires-in-Ok-Session g c =
+    let is : IsCommand c.args.words.now (session (session_of c.in-Ok-Session.asked)) = subst (λ f. IsCommand c.args.words.now (command_of f)) c.in-Ok-Session.field-0-is c.in-Ok-Session.ensures.ok in
+    let small = session_width c.args.words.now (session_of c.in-Ok-Session.asked) is in
+    record { width = omega (arith, small); by_policy = is.by_policy }
+
+pub returns-in-Ok-Session-clause-refused : goal.returns-in-Ok-Session-clause-refused
+returns-in-Ok-Session-clause-refused g c =
+    let is : IsCommand c.args.words.now (session (session_of c.in-Ok-Session.asked)) = subst (λ f. IsCommand c.args.words.now (command_of f)) c.in-Ok-Session.field-0-is c.in-Ok-Session.ensures.ok in
+    if_err _ _ c.carry_out-in-Ok-Session.result _ _
+    (λ why cause. IsCause.of_command (session (session_of c.in-Ok-Session.asked)) is
+    (session_stops (session_of c.in-Ok-Session.asked) (g.S.Source.state c.world.inside.side) c.args.world.now.side (g.S.Source.state c.carry_out-in-Ok-Session.new.side)
+    (g.P.Store.state c.world.inside.planes) c.args.world.now.planes (g.P.Store.state c.carry_out-in-Ok-Session.new.planes)
+    (g.K.Sink.state c.world.inside.out) c.args.world.now.out (g.K.Sink.state c.carry_out-in-Ok-Session.new.out) why
+    (ap (λ w. w.side) c.world.view_is) (ap (λ w. w.planes) c.world.view_is) (ap (λ w. w.out) c.world.view_is) cause)) c.carry_out-in-Ok-Session.ensures.refused
 
 pub returns-in-Ok-Query-clause-refused : goal.returns-in-Ok-Query-clause-refused
 returns-in-Ok-Query-clause-refused g c =

@@ -24,7 +24,7 @@ returns-in-Err-clause-refused g c = λ other.
       err = g.K.Sink.state c.refuse.new.err;
     } in
     let told = subst (λ e. IsTold c.in-Err.why c.refuse.result e (g.K.Sink.state c.refuse.new.err)) (ap (λ w. w.err) c.world.view_is ∙ c.in-Err.ensures.quiet) c.refuse.ensures in
-    (c.in-Err.why, same_cause c.args.words.now c.args.world.now c.perform.new.world after c.in-Err.why (ap (λ w. w.input) c.world.view_is) (ap (λ w. w.planes) c.world.view_is) (ap (λ w. w.made) c.world.view_is) (ap (λ w. w.out) c.world.view_is) c.in-Err.ensures.refused, told)
+    (c.in-Err.why, same_cause c.args.words.now c.args.world.now c.perform.new.world after c.in-Err.why (ap (λ w. w.input) c.world.view_is) (ap (λ w. w.side) c.world.view_is) (ap (λ w. w.planes) c.world.view_is) (ap (λ w. w.made) c.world.view_is) (ap (λ w. w.out) c.world.view_is) c.in-Err.ensures.refused, told)
 
 pub returns-in-Err-clause-exact : goal.returns-in-Err-clause-exact
 returns-in-Err-clause-exact g c = λ why shows.
@@ -37,7 +37,7 @@ returns-in-Err-clause-exact g c = λ why shows.
       err = g.K.Sink.state c.refuse.new.err;
     } in
     let told = subst (λ e. IsTold c.in-Err.why c.refuse.result e (g.K.Sink.state c.refuse.new.err)) (ap (λ w. w.err) c.world.view_is ∙ c.in-Err.ensures.quiet) c.refuse.ensures in
-    let cause = same_cause c.args.words.now c.args.world.now c.perform.new.world after c.in-Err.why (ap (λ w. w.input) c.world.view_is) (ap (λ w. w.planes) c.world.view_is) (ap (λ w. w.made) c.world.view_is) (ap (λ w. w.out) c.world.view_is) c.in-Err.ensures.refused in
+    let cause = same_cause c.args.words.now c.args.world.now c.perform.new.world after c.in-Err.why (ap (λ w. w.input) c.world.view_is) (ap (λ w. w.side) c.world.view_is) (ap (λ w. w.planes) c.world.view_is) (ap (λ w. w.made) c.world.view_is) (ap (λ w. w.out) c.world.view_is) c.in-Err.ensures.refused in
     ends_so c.args.words.now c.in-Err.why why c.refuse.result c.args.world.now after told
     (shown_is c.steps_are_exact.ensures c.one_command.ensures.commands c.one_command.ensures.places c.args.words.now c.args.world.now after c.in-Err.why why cause shows)
 
@@ -52,8 +52,8 @@ returns-in-Err-clause-complete g c = λ task accepts.
       err = g.K.Sink.state c.refuse.new.err;
     } in
     let told = subst (λ e. IsTold c.in-Err.why c.refuse.result e (g.K.Sink.state c.refuse.new.err)) (ap (λ w. w.err) c.world.view_is ∙ c.in-Err.ensures.quiet) c.refuse.ensures in
-    let cause = same_cause c.args.words.now c.args.world.now c.perform.new.world after c.in-Err.why (ap (λ w. w.input) c.world.view_is) (ap (λ w. w.planes) c.world.view_is) (ap (λ w. w.made) c.world.view_is) (ap (λ w. w.out) c.world.view_is) c.in-Err.ensures.refused in
-    completes c.in-Err.why task c.refuse.result c.args.world.now after told
+    let cause = same_cause c.args.words.now c.args.world.now c.perform.new.world after c.in-Err.why (ap (λ w. w.input) c.world.view_is) (ap (λ w. w.side) c.world.view_is) (ap (λ w. w.planes) c.world.view_is) (ap (λ w. w.made) c.world.view_is) (ap (λ w. w.out) c.world.view_is) c.in-Err.ensures.refused in
+    completes c.args.words.now accepts.command accepts.is_command c.in-Err.why task c.refuse.result c.args.world.now after told
     (accepted_is c.steps_are_exact.ensures c.one_command.ensures.commands c.one_command.ensures.places c.args.words.now c.args.world.now after c.in-Err.why task cause accepts)
 
 pub returns-in-Err-clause-early : goal.returns-in-Err-clause-early
@@ -67,7 +67,7 @@ returns-in-Err-clause-early g c = λ done fault.
       err = g.K.Sink.state c.refuse.new.err;
     } in
     let told = subst (λ e. IsTold c.in-Err.why c.refuse.result e (g.K.Sink.state c.refuse.new.err)) (ap (λ w. w.err) c.world.view_is ∙ c.in-Err.ensures.quiet) c.refuse.ensures in
-    let cause = same_cause c.args.words.now c.args.world.now c.perform.new.world after c.in-Err.why (ap (λ w. w.input) c.world.view_is) (ap (λ w. w.planes) c.world.view_is) (ap (λ w. w.made) c.world.view_is) (ap (λ w. w.out) c.world.view_is) c.in-Err.ensures.refused in
+    let cause = same_cause c.args.words.now c.args.world.now c.perform.new.world after c.in-Err.why (ap (λ w. w.input) c.world.view_is) (ap (λ w. w.side) c.world.view_is) (ap (λ w. w.planes) c.world.view_is) (ap (λ w. w.made) c.world.view_is) (ap (λ w. w.out) c.world.view_is) c.in-Err.ensures.refused in
     let same : (one : Device) → IsSame one c.args.world.now c.perform.new.world → IsSame one c.args.world.now after = same_after c.args.world.now c.perform.new.world after
     (ap (λ w. w.input) c.world.view_is) (ap (λ w. w.side) c.world.view_is) (ap (λ w. w.planes) c.world.view_is) (ap (λ w. w.made) c.world.view_is) (ap (λ w. w.out) c.world.view_is) in
     unwritten c.one_command.ensures.commands c.args.words.now c.args.world.now after c.in-Err.why c.refuse.result
@@ -86,3 +86,17 @@ returns-in-Err-clause-stays g c = λ one none.
     same_after c.args.world.now c.perform.new.world after
     (ap (λ w. w.input) c.world.view_is) (ap (λ w. w.side) c.world.view_is) (ap (λ w. w.planes) c.world.view_is) (ap (λ w. w.made) c.world.view_is) (ap (λ w. w.out) c.world.view_is)
     one (c.in-Err.ensures.stays one none)
+
+pub returns-in-Err-clause-aside : goal.returns-in-Err-clause-aside
+returns-in-Err-clause-aside g c = λ refused one other.
+    let after : WorldState = record {
+      input = g.S.Source.state c.world.inside.input;
+      side = g.S.Source.state c.world.inside.side;
+      planes = g.P.Store.state c.world.inside.planes;
+      made = g.K.Sink.state c.world.inside.made;
+      out = g.K.Sink.state c.world.inside.out;
+      err = g.K.Sink.state c.refuse.new.err;
+    } in
+    same_after c.args.world.now c.perform.new.world after
+    (ap (λ w. w.input) c.world.view_is) (ap (λ w. w.side) c.world.view_is) (ap (λ w. w.planes) c.world.view_is) (ap (λ w. w.made) c.world.view_is) (ap (λ w. w.out) c.world.view_is)
+    one (c.in-Err.ensures.aside refused one other)

@@ -1,9 +1,9 @@
 use Rattle.std.proofs.Common.{◌≡◌, ◌+◌, ℕ, List, Err, refl, ap, sym, ◌∙◌, rules}
-use Rattle.command_line.specs.Commands.{ask, query, load, info, upgrade, demo, GoesWrong}
-use Rattle.command_line.specs.Values.{ask_of, query_of, load_of, info_of, upgrade_of, demo_of}
-use Rattle.command_line.specs.Reading.{Left, Lacks, name, after_ask, after_query, after_load, after_info, after_upgrade, after_demo, after_name, answer, answers}
+use Rattle.command_line.specs.Commands.{ask, query, session, load, info, upgrade, demo, GoesWrong}
+use Rattle.command_line.specs.Values.{ask_of, query_of, session_of, load_of, info_of, upgrade_of, demo_of}
+use Rattle.command_line.specs.Reading.{Left, Lacks, name, after_ask, after_query, after_session, after_load, after_info, after_upgrade, after_demo, after_name, answer, answers}
 use Rattle.command_line.proofs.Steps.{goes, stops, lacks}
-use Rattle.command_line.proofs.Whole.{after_name_ask, after_name_query, after_name_load, after_name_info, after_name_upgrade, after_name_demo}
+use Rattle.command_line.proofs.Whole.{after_name_ask, after_name_query, after_name_session, after_name_load, after_name_info, after_name_upgrade, after_name_demo}
 use Rattle.command_line.proofs.Sound.{command_is, no_name}
 use Rattle.command_line.proofs.Places.{goes_wrong}
 use Rattle.command_line.proofs.command.Command.parse.Goals as goal
@@ -50,6 +50,22 @@ returns-in_ok-query-in-query-clause-ok c =
     let named = goes name after_query c.new-reader.result c.word.new.self c.in_ok-word.field-0.now c.in_ok-word.ensures.ok
     (ap after_name c.in-query.is ∙ after_name_query) in
     command_is c.args.words.now (query (query_of c.in_ok-query-in-query.field-0)) (first ∙ named ∙ c.in_ok-query-in-query.ensures.ok)
+
+pub returns-in_err-session-in-session-clause-usage : goal.returns-in_err-session-in-session-clause-usage
+returns-in_err-session-in-session-clause-usage c =
+    let first = start c.args.words.now c.new-reader.result c.new-reader.ensures.at c.new-reader.ensures.words in
+    let named = goes name after_session c.new-reader.result c.word.new.self c.in_ok-word.field-0.now c.in_ok-word.ensures.ok
+    (ap after_name c.in-session.is ∙ after_name_session) in
+    let wrong : (place : ℕ) → answers after_session c.word.new.self ≡ Err place → GoesWrong c.args.words.now place = λ place e.
+    goes_wrong c.args.words.now place (first ∙ named ∙ e) in
+    search (rules, wrong)
+
+pub returns-in_ok-session-in-session-clause-ok : goal.returns-in_ok-session-in-session-clause-ok
+returns-in_ok-session-in-session-clause-ok c =
+    let first = start c.args.words.now c.new-reader.result c.new-reader.ensures.at c.new-reader.ensures.words in
+    let named = goes name after_session c.new-reader.result c.word.new.self c.in_ok-word.field-0.now c.in_ok-word.ensures.ok
+    (ap after_name c.in-session.is ∙ after_name_session) in
+    command_is c.args.words.now (session (session_of c.in_ok-session-in-session.field-0)) (first ∙ named ∙ c.in_ok-session-in-session.ensures.ok)
 
 pub returns-in_err-load-in-load-clause-usage : goal.returns-in_err-load-in-load-clause-usage
 returns-in_err-load-in-load-clause-usage c =
@@ -121,6 +137,7 @@ returns-in_default-clause-usage c =
     let none = no_name c.in_ok-word.field-0.now (record {
       ask = c.in_default.not-ask;
       query = c.in_default.not-query;
+      session = c.in_default.not-session;
       load = c.in_default.not-load;
       info = c.in_default.not-info;
       upgrade = c.in_default.not-upgrade;

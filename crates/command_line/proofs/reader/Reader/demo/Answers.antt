@@ -1,4 +1,4 @@
-use Rattle.std.proofs.Common.{◌≡◌, ℕ, Err, refl, ◌∙◌, rules}
+use Rattle.std.proofs.Common.{◌≡◌, ℕ, true, Err, refl, ◌∙◌, rules}
 use Rattle.command_line.specs.Commands.{nothing_given}
 use Rattle.command_line.specs.Reading.{Fails, Lacks, after_demo, answers}
 use Rattle.command_line.proofs.Steps.{goes, lacks}
@@ -12,7 +12,7 @@ returns-in_err-word-clause-err c =
 
 pub returns-in_err-options-clause-err : goal.returns-in_err-options-clause-err
 returns-in_err-options-clause-err c =
-    let stop : (place : ℕ) → Fails nothing_given c.word.new.self place → answers after_demo c.args.self.now ≡ Err place = λ place f.
+    let stop : (place : ℕ) → Fails true nothing_given c.word.new.self place → answers after_demo c.args.self.now ≡ Err place = λ place f.
     c.in_ok-number.ensures.ok _ ∙ c.in_ok-number-2.ensures.ok _
     ∙ goes _ _ c.number-2.new.self c.word.new.self c.in_ok-word.field-0.now c.in_ok-word.ensures.ok refl
     ∙ f _ in

@@ -9,5 +9,5 @@ returns-clause-ok c = λ k.
     let left = c.loop-self.self in
     let g = given_of c.loop-self.given in
     let done : left.words ≡ [] = none_left left.words (sym c.is_done.ensures ∙ c.loop-self-test.false) in
-    c.loop-self.invariant k ∙ ap (answer (option g k) left.at) done ∙ answer-none (option g k) left.at
+    c.loop-self.invariant k ∙ ap (answer (option c.args.by_name g k) left.at) done ∙ answer-none (option c.args.by_name g k) left.at
     ∙ ap (λ o. Ok (k o)) (sym c.options.ensures)

@@ -1,4 +1,4 @@
-use Rattle.std.proofs.Common.{◌≡◌, ℕ, Err, refl, ◌∙◌, rules}
+use Rattle.std.proofs.Common.{◌≡◌, ℕ, true, Err, refl, ◌∙◌, rules}
 use Rattle.command_line.specs.Commands.{nothing_given}
 use Rattle.command_line.specs.Reading.{Fails, Lacks, after_query, answers}
 use Rattle.command_line.proofs.Steps.{goes, lacks}
@@ -19,7 +19,7 @@ returns-in_err-word-2-clause-err c =
 
 pub returns-in_err-options-clause-err : goal.returns-in_err-options-clause-err
 returns-in_err-options-clause-err c =
-    let stop : (place : ℕ) → Fails nothing_given c.word-2.new.self place → answers after_query c.args.self.now ≡ Err place = λ place f.
+    let stop : (place : ℕ) → Fails true nothing_given c.word-2.new.self place → answers after_query c.args.self.now ≡ Err place = λ place f.
     goes after_query _ c.args.self.now c.word.new.self c.in_ok-word.field-0.now c.in_ok-word.ensures.ok refl
     ∙ goes _ _ c.word.new.self c.word-2.new.self c.in_ok-word-2.field-0.now c.in_ok-word-2.ensures.ok refl
     ∙ f _ in

@@ -1,0 +1,158 @@
+-- Why each step of a `session` stops it, and what it comes to.
+use Rattle.std.proofs.Common.{◌≡◌, ◌≢◌, ◌⊎◌, ℕ, List, Ok, Err, Result, refl, sym, subst, inl, inr, IfSome}
+use Rattle.std.specs.Prelude.{option_map}
+use Rattle.std.specs.declared.option.Option.{Option}
+use Rattle.command_line.specs.Commands as line
+use Rattle.daq_table.specs.Tables.{frame_of}
+use Rattle.daq_table.specs.declared.table_head.Head.{Head}
+use Rattle.file_rounds.specs.Told.{IsUnpadded, bits_at}
+use Rattle.multi_session.specs.Limits.{RefusesSession}
+use Rattle.multi_session.specs.declared.limits.SessionFault.{SessionFault}
+use Rattle.multi_session.specs.declared.limits.SessionFault.TheVariants as m
+use Rattle.outer_world.specs.Device.{SinkState, SourceState, StoreState}
+use Rattle.outer_world.specs.Whole.{laid}
+use Rattle.plane_file.specs.Opening.{Opened, Refuses}
+use Rattle.plane_file.specs.Places.{plane_places}
+use Rattle.plane_file.specs.declared.file_fault.FileFault.{FileFault}
+use Rattle.plane_file.specs.declared.plane_fault.PlaneFault.{PlaneFault}
+use Rattle.plane_schedule.specs.declared.policy.Plan.{Plan}
+use Rattle.query_model.specs.Queries.{Query}
+use Rattle.session_rounds.specs.Laws.{AreValid, SessionsAreCertain}
+use Rattle.session_rounds.specs.Reading.{StopsAt}
+use Rattle.session_rounds.specs.Steps.{AreSteps}
+use Rattle.sql_typing.specs.Refusals as typing
+use Rattle.sql_typing.specs.declared.fault.TypeFault.{TypeFault}
+use Rattle.sql_typing.specs.declared.fault.TypeFault.TheVariants as y
+use Rattle.table_rounds.specs.Headline.{AreOfLongs}
+use Rattle.table_rounds.specs.Rounds.{Planes}
+use Rattle.table_rounds.specs.Sources.{Causes, OfPlanes, Places}
+use Rattle.table_rounds.specs.declared.reading.StepFault.{StepFault}
+use Rattle.table_rounds.specs.declared.reading.StepFault.TheVariants.{Source, OverTop}
+use Rattle.daq_cli.specs.Faults as of
+use Rattle.daq_cli.specs.Report.{CausesAfter, HasStopCause}
+use Rattle.daq_cli.specs.Scripts.{ReadsScript, Scripted}
+use Rattle.daq_cli.specs.SessionReport.{EndsSession, queries_lines}
+use Rattle.daq_cli.specs.Steps.{StopsStep, each}
+use Rattle.daq_cli.specs.commands.Query.{StopsAfter}
+use Rattle.daq_cli.specs.commands.Session.{AreAllCertain, AskedTogether, BeginsSteps, HasOpened, SessionCause, Sessions, ShowsLimit, asked_together, printed_forms, together_step, typing_step, at_file, at_queries, at_write, at_plane, no_memory}
+use Rattle.daq_cli.specs.declared.refusal.Refusal.{Refusal}
+use Rattle.daq_cli.specs.declared.refusal.Refusal.TheVariants.{LineTyping, NoMemory, Session}
+use Rattle.daq_cli.specs.declared.stop.Stop.{Stop}
+use Rattle.daq_cli.specs.declared.stop.Stop.TheVariants.{Failed, Step}
+use Rattle.daq_cli.proofs.QueryCauses.{told_before}
+
+-- ---- what is asked of the table
+
+module _ (head : Head) (one : Scripted) where
+  untyped : (fault : TypeFault) (why : Refusal) → fault ≢ y.NoMemory → typing.Refuses one.query head fault → why ≡ LineTyping one.line fault → StopsStep (typing_step head one) why
+  untyped fault why shown faulty is = inl (record { fault = fault; shown = shown; is = is; faulty = faulty })
+
+  pub typing_shown : (fault : TypeFault) (why : Refusal) → typing.Refuses one.query head fault → why ≡ of.line_typing one.line fault → StopsStep (typing_step head one) why
+  typing_shown (y.UnknownTable at) why faulty is = untyped (y.UnknownTable at) why (λ n. cc) faulty is
+  typing_shown (y.UnknownColumn at) why faulty is = untyped (y.UnknownColumn at) why (λ n. cc) faulty is
+  typing_shown y.TooManyColumns why faulty is = untyped y.TooManyColumns why (λ n. cc) faulty is
+  typing_shown y.TooManyItems why faulty is = untyped y.TooManyItems why (λ n. cc) faulty is
+  typing_shown (y.KindsDiffer at) why faulty is = untyped (y.KindsDiffer at) why (λ n. cc) faulty is
+  typing_shown (y.ScaleTooFine at) why faulty is = untyped (y.ScaleTooFine at) why (λ n. cc) faulty is
+  typing_shown (y.NotGrouped at) why faulty is = untyped (y.NotGrouped at) why (λ n. cc) faulty is
+  typing_shown (y.TooManyValues at) why faulty is = untyped (y.TooManyValues at) why (λ n. cc) faulty is
+  typing_shown (y.LimitOutOfRange at) why faulty is = untyped (y.LimitOutOfRange at) why (λ n. cc) faulty is
+  typing_shown (y.GroupTooWide bits) why faulty is = untyped (y.GroupTooWide bits) why (λ n. cc) faulty is
+  typing_shown (y.TooWide item) why faulty is = untyped (y.TooWide item) why (λ n. cc) faulty is
+  typing_shown y.NoMemory why faulty is = inr is
+
+limit_shown : (asked : AskedTogether) (fault : SessionFault) (why : Refusal) → RefusesSession asked.head.rows asked.typed fault → why ≡ of.session fault → ShowsLimit asked why ⊎ (why ≡ NoMemory)
+limit_shown asked (m.TooMany count) why passed is = inl (record { fault = m.TooMany count; is = is; passed = passed })
+limit_shown asked (m.TooManyColumns count) why passed is = inl (record { fault = m.TooManyColumns count; is = is; passed = passed })
+limit_shown asked (m.TooLarge cells) why passed is = inl (record { fault = m.TooLarge cells; is = is; passed = passed })
+limit_shown asked m.NoMemory why passed is = inr is
+
+module _ (queries : List Scripted) (head : Head) where
+  -- the typings
+  pub typings_stop : (why : Refusal) → StopsStep (each (typing_step head) queries) why → StopsStep (together_step queries head) why
+  typings_stop why (inl shown) = inl (inl shown)
+  typings_stop why (inr e) = inr e
+
+  -- the limits
+  pub limits_stop : (typed : List Query) → (each (typing_step head) queries).accepts typed → (fault : SessionFault) (why : Refusal) → RefusesSession head.rows typed fault →
+      why ≡ of.session fault → StopsStep (together_step queries head) why
+  limits_stop typed accepted fault why passed is = by (limit_shown (asked_together queries typed head) fault why passed is)
+    where
+      by : ShowsLimit (asked_together queries typed head) why ⊎ (why ≡ NoMemory) → StopsStep (together_step queries head) why
+      by (inl shown) = inl (inr (typed, accepted, shown))
+      by (inr e) = inr e
+
+-- ---- before the steps
+
+module _ (words : line.Session) (side side' : SourceState) (out : SinkState) where
+  -- the file
+  pub session_file : (queries : List Scripted) → ReadsScript side side' queries → (planes planes' : StoreState) (fault : FileFault) (why : Refusal) → Refuses planes planes' fault → why ≡ of.opening fault →
+      SessionCause words side side' planes planes' out out why
+  session_file queries read planes planes' fault why refused is = at_file queries read (record { fault = fault; is = is; refused = refused }) refl
+
+  -- what is asked of its table
+  pub session_queries : (queries : List Scripted) (file : Opened) (planes planes' : StoreState) → HasOpened side side' planes planes' queries file → (why : Refusal) →
+      StopsStep (together_step queries file.head) why → SessionCause words side side' planes planes' out out why
+  session_queries queries file planes planes' has why (inl shown) = at_queries queries file has shown refl
+  session_queries queries file planes planes' has why (inr e) = subst (SessionCause words side side' planes planes' out out) (sym e) (no_memory queries file has refl)
+
+-- ---- the steps
+
+module _ {E : Type 0} (causes others : CausesAfter E) (weaker : (at : Option (List ℕ)) (column number : ℕ) (error : E) → causes at column number error → others at column number error)
+    (lines : List ℕ) (head : Head) (plan : Plan) (queries : List Query) (bits : Planes) (places : Places) (shows : OfPlanes) where
+  stop_weaker : (at : Option (List ℕ)) (fault : StepFault E) (reads handed : List ℕ) → StopsAt plan queries head bits places (causes at) reads fault handed →
+      StopsAt plan queries head bits places (others at) reads fault handed
+  stop_weaker at (Source error) reads handed (next, followed, failed, rest) = (next, followed, weaker at _ _ error failed, rest)
+  stop_weaker at (OverTop column plane row) reads handed refused = refused
+
+  pub steps_weaker : (result : Result (Unit {0}) (Stop E)) (old new : SinkState) (from to : Option (List ℕ)) → EndsSession lines head plan queries bits places shows causes result old new from to →
+      EndsSession lines head plan queries bits places shows others result old new from to
+  steps_weaker (Ok done) old new from to ends = ends
+  steps_weaker (Err Failed) old new from to ends = ends
+  steps_weaker (Err (Step fault)) old new from to ends = record {
+    reads = ends.reads;
+    at = ends.at;
+    more = ends.more;
+    stop = stop_weaker ends.at fault ends.reads ends.more ends.stop;
+    shown = ends.shown;
+    refused = ends.refused;
+    written = ends.written;
+    before = ends.before;
+    handed = ends.handed;
+  }
+
+module _ (words : line.Session) (side side' : SourceState) (planes opened planes' : StoreState) (out out' : SinkState) (begun : BeginsSteps words side side' planes opened)
+    (certain : SessionsAreCertain) (valid : AreValid begun.file.head begun.typed) (longs : AreOfLongs (frame_of begun.file.head)) where
+  abbrev Ends : Result (Unit {0}) (Stop PlaneFault) → List ℕ → Type 0
+  Ends result bytes =
+      EndsSession (queries_lines (printed_forms begun.queries)) begun.file.head begun.plan begun.typed (bits_at begun.file.head bytes) (plane_places begun.file.head) (IsUnpadded begun.file.head bytes)
+      (StopsAfter begun.file.head opened planes') result out out' (option_map laid opened.pieces) (option_map laid planes'.pieces)
+
+  headline : (bytes reads : List ℕ) → AreSteps begun.plan begun.typed begun.file.head (bits_at begun.file.head bytes) reads →
+      AreAllCertain begun.plan begun.typed begun.file.head (bits_at begun.file.head bytes) reads
+  headline bytes reads steps = λ n query there cells has. certain begun.plan begun.typed begun.file.head (bits_at begun.file.head bytes) reads n query cells valid longs steps there has
+
+  pub session_done : IfSome opened.held (Ends (Ok tt)) → Sessions words side side' planes planes' out out'
+  session_done ends = record {
+    opened = opened;
+    begun = begun;
+    completed = told_before planes opened begun.has_opened.same _ _ (λ bytes steps. record { steps = steps; headline = headline bytes steps.reads steps.steps.steps }) ends;
+  }
+
+  stop_steps : (bytes : List ℕ) (causes : Causes PlaneFault) (fault : StepFault PlaneFault) (reads handed : List ℕ) →
+      StopsAt begun.plan begun.typed begun.file.head (bits_at begun.file.head bytes) (plane_places begun.file.head) causes reads fault handed →
+      AreSteps begun.plan begun.typed begun.file.head (bits_at begun.file.head bytes) reads
+  stop_steps bytes causes (Source error) reads handed (next, followed, failed, rest) = followed.steps
+  stop_steps bytes causes (OverTop column plane row) reads handed (refused, all) = refused.followed.steps
+
+  pub session_stop : (stop : Stop PlaneFault) (why : Refusal) → why ≡ of.stop stop → HasStopCause (StopsAfter begun.file.head opened planes') (Err stop) out out' → IfSome opened.held (Ends (Err stop)) →
+      SessionCause words side side' planes planes' out out' why
+  session_stop Failed why is cause ends =
+      subst (SessionCause words side side' planes planes' out out') (sym is)
+      (at_write opened begun cause (told_before planes opened begun.has_opened.same _ _ (λ bytes steps. record { steps = steps; headline = headline bytes steps.reads steps.steps }) ends))
+  session_stop (Step fault) why is cause ends =
+      at_plane opened begun fault is cause
+      (told_before planes opened begun.has_opened.same _ _ (λ bytes steps. record {
+        steps = steps;
+        headline = headline bytes steps.reads (stop_steps bytes (StopsAfter begun.file.head opened planes' steps.at) fault steps.reads steps.more steps.stop);
+      }) ends)

@@ -1,0 +1,153 @@
+//! `session`: the queries of a script over the planes that a file holds. The script is read to its end, then the file's head, and then the
+//! planes of the steps, each once for all queries that await it.
+
+ghost use Rattle.std.specs.Prelude.{◌≡◌, ◌≢◌, ◌<◌, ◌^◌, ℕ, List, [], IfErr, IsUtf8, OnOk, length, map, string_bytes};
+ghost use Rattle.std.specs.List.{All};
+ghost use Rattle.command_line.specs.Commands.{reads};
+ghost use Rattle.command_line.specs.Values.{order_of, session_of};
+ghost use Rattle.file_rounds.specs.Told.{HoldsFile};
+ghost use Rattle.multi_session.specs.Sessions.{session_opened};
+ghost use Rattle.outer_world.specs.Device.{SourceState, StoreState};
+ghost use Rattle.outer_world.specs.Whole.{HoldsSame};
+ghost use Rattle.session_rounds.specs.Laws.{AreValid};
+ghost use Rattle.session_rounds.specs.Steps.{IsUnlisted};
+ghost use Rattle.sql_print.specs.Printed.{printed};
+ghost use Rattle.sql_text.specs.Tree.{query_of};
+ghost use Rattle.daq_cli.specs.Report.{HasStopCause};
+ghost use Rattle.daq_cli.specs.ScriptValues.{scripted_of};
+ghost use Rattle.daq_cli.specs.Scripts.{AcceptsScript};
+ghost use Rattle.daq_cli.specs.SessionReport.{queries_of};
+ghost use Rattle.daq_cli.specs.commands.Query.{StopsAfter};
+ghost use Rattle.daq_cli.specs.commands.Session.{EndsSteps, HasOpened, SessionCause, Sessions};
+
+use crate::refusal::Refusal;
+use crate::scripts::{Scripted, read_queries};
+use crate::session_report::write_session;
+use crate::stop::Stop;
+use crate::together::prepare_all;
+use command_line::Session as Asked;
+use file_rounds::FilePlanes;
+use multi_session::Session;
+use outer_world::{Sink, Source, Store};
+use plane_file::{PlaneFault, PlaneFile, open};
+use plane_kernels::Plane;
+use plane_schedule::Plan;
+use session_rounds::sessions_are_certain;
+use std::alloc::Global;
+use table_rounds::heads_are_of_longs;
+
+// Writes the report of a session of queries with those printed forms over a file, on which it was opened. The planes of its steps are read,
+// each before the blocks of its step.
+fn report_planes<P: Store, K: Sink>(
+    sqls: &[String],
+    plan: &Plan,
+    session: &mut Session,
+    source: &mut FilePlanes<'_, P>,
+    plane: &mut Plane,
+    out: &mut K,
+) -> Result<(), Stop<PlaneFault>>
+    requires holds { HoldsFile source.old.file.now.head (P.state source.old.store.now) }
+    requires valid { AreValid source.old.file.now.head (queries_of session.old) }
+    requires opened { session.old ≡ session_opened (queries_of session.old) source.old.file.now.head plan.now.width }
+    requires rows { length plane.old ≡ session.old.rows }
+    requires unlisted { IsUnlisted plan.now.policy }
+    ensures same_reference { source.new.store.ghost_name ≡ source.old.store.ghost_name }
+    ensures same { HoldsSame (P.state source.old.store.now) (P.state source.new.store.now) }
+    ensures cause { HasStopCause (StopsAfter source.old.file.now.head (P.state source.old.store.now) (P.state source.new.store.now)) result
+        (K.state out.old) (K.state out.new) }
+    ensures ends { EndsSteps (map string_bytes sqls.now) plan.now (queries_of session.old) source.old.file.now.head result
+        (P.state source.old.store.now) (P.state source.new.store.now) (K.state out.old) (K.state out.new) }
+{
+    // The head's clause says that it can be spelled.
+    let _head = source.file.head();
+    write_session(sqls, plan, session, source, plane, out)
+}
+
+// The same, of a file and a store that holds it.
+fn report_file<P: Store, K: Sink>(
+    sqls: &[String],
+    plan: &Plan,
+    session: &mut Session,
+    file: &PlaneFile,
+    planes: &mut P,
+    plane: &mut Plane,
+    out: &mut K,
+) -> Result<(), Stop<PlaneFault>>
+    requires holds { HoldsFile file.now.head (P.state planes.old) }
+    requires valid { AreValid file.now.head (queries_of session.old) }
+    requires opened { session.old ≡ session_opened (queries_of session.old) file.now.head plan.now.width }
+    requires rows { length plane.old ≡ session.old.rows }
+    requires unlisted { IsUnlisted plan.now.policy }
+    ensures same { HoldsSame (P.state planes.old) (P.state planes.new) }
+    ensures cause { HasStopCause (StopsAfter file.now.head (P.state planes.old) (P.state planes.new)) result
+        (K.state out.old) (K.state out.new) }
+    ensures ends { EndsSteps (map string_bytes sqls.now) plan.now (queries_of session.old) file.now.head result
+        (P.state planes.old) (P.state planes.new) (K.state out.old) (K.state out.new) }
+{
+    let mut source = FilePlanes {
+        file,
+        store: planes,
+    };
+    report_planes(sqls, plan, session, &mut source, plane, out)
+}
+
+// Answers the queries over the table of a file that was opened. All memory is taken before the report's first byte.
+fn answer_file<P: Store, K: Sink>(
+    alloc: Global,
+    asked: &Asked,
+    queries: &[Scripted],
+    file: &PlaneFile,
+    planes: &mut P,
+    out: &mut K,
+) -> Result<(), Refusal>
+    requires width { asked.now.options.width < 2 ^ 63 }
+    requires by_policy { (names : List ℕ) → order_of asked.now.options.order ≢ reads names }
+    requires some { queries.now ≢ [] }
+    requires printable { All (λ one. IsUtf8 (printed (query_of one.tree))) queries.now }
+    requires holds { HoldsFile file.now.head (P.state planes.old) }
+    ensures done { (old side : SourceState) (first : StoreState)
+        → HasOpened old side first (P.state planes.old) (map scripted_of queries.now) file.now
+        → OnOk result (Sessions (session_of asked.now) old side first (P.state planes.new) (K.state out.old) (K.state out.new)) }
+    ensures refused { (old side : SourceState) (first : StoreState)
+        → HasOpened old side first (P.state planes.old) (map scripted_of queries.now) file.now
+        → IfErr result (SessionCause (session_of asked.now) old side first (P.state planes.new) (K.state out.old) (K.state out.new)) }
+    ensures same { HoldsSame (P.state planes.old) (P.state planes.new) }
+{
+    sessions_are_certain();
+    let head = file.head();
+    heads_are_of_longs(head);
+    let mut together = prepare_all(alloc, queries, &asked.options, head)?;
+    report_file(
+        &together.sqls,
+        &together.plan,
+        &mut together.session,
+        file,
+        planes,
+        &mut together.plane,
+        out,
+    )?;
+    Ok(())
+}
+
+// Reads the script to its end, opens the file, and answers the queries over its table.
+pub(crate) fn carry_out<S: Source, P: Store, K: Sink>(
+    alloc: Global,
+    asked: &Asked,
+    side: &mut S,
+    planes: &mut P,
+    out: &mut K,
+) -> Result<(), Refusal>
+    requires width { asked.now.options.width < 2 ^ 63 }
+    requires by_policy { (names : List ℕ) → order_of asked.now.options.order ≢ reads names }
+    ensures done { OnOk result (Sessions (session_of asked.now) (S.state side.old) (S.state side.new)
+        (P.state planes.old) (P.state planes.new) (K.state out.old) (K.state out.new)) }
+    ensures refused { IfErr result (SessionCause (session_of asked.now) (S.state side.old) (S.state side.new)
+        (P.state planes.old) (P.state planes.new) (K.state out.old) (K.state out.new)) }
+    ensures same { HoldsSame (P.state planes.old) (P.state planes.new) }
+    ensures aside { ¬ AcceptsScript (S.state side.old).left
+        → (P.state planes.new ≡ P.state planes.old) × (K.state out.new ≡ K.state out.old) }
+{
+    let queries = read_queries(alloc, side)?;
+    let file = open(alloc, planes)?;
+    answer_file(alloc, asked, &queries, &file, planes, out)
+}
