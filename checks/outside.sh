@@ -103,12 +103,83 @@ refused 'a CSV as a plane file' 5 'daq: file refused: not a plane file' info "$s
 head -c 194 "$planes" >"$work/short.daq"
 refused 'a shorter file' 5 'daq: file refused: size 194, not 195' query "$work/short.daq" "$sum"
 
+# ---- sessions
+
+run session "$planes" "$here/examples/shop.sql"
+holds 'a session' 0 "queries 3
+1 SELECT SUM(price) FROM t
+2 SELECT COUNT(*) FROM t WHERE price < 7
+3 SELECT MIN(qty) FROM t
+at 0 query 1
+round 0
+1 [12, 48]
+at 0 query 2
+round 0
+1 [0, 4]
+at 0 query 3
+round 0
+1 [1, 4]
+at 1 query 1
+round 1 price 1/4
+1 [20, 42]
+at 1 query 2
+round 1 price 1/4
+1 [0, 3]
+at 2 query 1
+round 2 price 2/4
+1 [24, 34]
+at 2 query 2
+round 2 price 2/4
+1 2
+at 3 query 1
+round 3 price 3/4
+1 [28, 32]
+at 4 query 3
+round 1 qty 1/2
+1 [1, 2]
+at 5 query 1
+round 4 price 4/4
+1 29
+at 6 query 3
+round 2 qty 2/2
+1 1
+end narrow
+" ''
+
+# Checks that a session over a script of these bytes, as printf writes them, is refused: a name, a line, and the bytes.
+no_session() {
+    printf '%b' "$3" >"$work/script"
+    refused "$1" 3 "daq: query refused: $2" session "$planes" "$work/script"
+}
+
+echo "$sum" >"$work/one"
+no_session 'an unknown column in a session' 'line 2: unknown column at 11' 'SELECT SUM(price) FROM t\nSELECT SUM(cost) FROM t\n'
+no_session 'no query in a line' 'line 3: syntax at 17' '\r\n\nSELECT SUM(price FROM t'
+no_session 'an empty script' 'no query in the script' ''
+no_session 'a script that is no text' 'script is no text at 2' 'a\n\0377'
+awk 'BEGIN { for (i = 0; i < 17; i++) print "SELECT COUNT(*) FROM t" }' >"$work/many"
+refused 'too many queries' 3 'daq: query refused: 17 queries' session "$planes" "$work/many"
+head -c 131073 /dev/zero >"$work/long"
+refused 'a long script' 3 'daq: query refused: script longer than 131072 bytes' session "$planes" "$work/long"
+refused 'a missing script' 6 'daq: read fault' session "$planes" "$work/missing.sql"
+refused 'a session by a list of reads' 2 'daq: usage: word 4' session "$planes" "$work/many" --reads price
+
 # The second plane of the price gives its third row a value past the top.
 { head -c 139 "$planes"; printf '\006'; tail -c 55 "$planes"; } >"$work/damaged.daq"
 run query "$work/damaged.daq" "$sum"
 holds 'a damaged plane' 5 "query $sum
 round 0
 1 [12, 48]
+round 1 price 1/4
+1 [20, 42]
+" 'daq: file refused: column 1 plane 2 row 3 passes its top'
+run session "$work/damaged.daq" "$work/one"
+holds 'a damaged plane in a session' 5 "queries 1
+1 $sum
+at 0 query 1
+round 0
+1 [12, 48]
+at 1 query 1
 round 1 price 1/4
 1 [20, 42]
 " 'daq: file refused: column 1 plane 2 row 3 passes its top'

@@ -5,14 +5,16 @@ _daq() {
     COMPREPLY=()
     # Bash takes the colons of a schema for ends of words, so the words before an option are not counted.
     case ${COMP_CWORD}-${COMP_WORDS[1]}-$before$word in
-    1-*) choices='load query info upgrade ask demo' ;;
-    [23]-load-* | 2-query-* | 2-info-* | [23]-upgrade-* | 2-ask-*)
+    1-*) choices='load query session info upgrade ask demo' ;;
+    [23]-load-* | 2-query-* | [23]-session-* | 2-info-* | [23]-upgrade-* | 2-ask-*)
         compopt -o filenames
         mapfile -t COMPREPLY < <(compgen -f -- "$word")
         return ;;
-    *-query---policy* | *-ask---policy* | *-demo---policy*) choices='widest order filter' ;;
+    *-query---policy* | *-session---policy* | *-ask---policy* | *-demo---policy*) choices='widest order filter' ;;
     *-query-* | *-ask-* | *-demo-*)
         case $word in -*) choices='--width --rounds --policy --reads --list --clip --exact-avg' ;; esac ;;
+    *-session-*)
+        case $word in -*) choices='--width --rounds --policy --list --clip --exact-avg' ;; esac ;;
     esac
     mapfile -t COMPREPLY < <(compgen -W "$choices" -- "$word")
 }

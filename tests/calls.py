@@ -12,29 +12,31 @@ from trials import NO_MEMORY, READ_FAULT, WRITE_FAULT, Left, Trials, plane_file
 
 TEXT, SCHEMA = "price,qty,city\n5,2,Oslo\n9,1,Rome\n12,4,Oslo\n3,3,Bern\n", "price:int,qty:int,city:text"
 SQL = "SELECT SUM(price) FROM t"
+SCRIPT = SQL + "\nSELECT COUNT(*), MIN(qty) FROM t WHERE price < 7\n"
 # Each block of memory is mapped and given back by a call of its own.
 EACH_BLOCK = {"GLIBC_TUNABLES": "glibc.malloc.mmap_threshold=1:glibc.malloc.mmap_max=1000000", "PATH": "/usr/bin:/bin"}
 
 
 class Scene:
-    """A command, what it leaves where nothing fails, and the file that it reads."""
+    """A command, what it leaves where nothing fails, and the files that it reads."""
 
-    def __init__(self, name, words, left, source):
-        self.name, self.words, self.left, self.source = name, words, left, source
+    def __init__(self, name, words, left, *sources):
+        self.name, self.words, self.left, self.sources = name, words, left, sources
 
 
 def scenes(trials):
     new, line = plane_file(TEXT, SCHEMA)
     older = new[:8] + b"\1" + new[9:]
     csv, file, old, made = trials.put("t.csv", TEXT), trials.put("t.daq", new), trials.put("old.daq", older), trials.path("made")
-    report = reports.report(TEXT, SCHEMA, SQL, []).encode()
+    report, together = reports.report(TEXT, SCHEMA, SQL, []).encode(), reports.session_report(TEXT, SCHEMA, SCRIPT, []).encode()
     return [
         Scene("ask", ["ask", csv, SCHEMA, SQL], Left(0, report), "t.csv"),
         Scene("query", ["query", file, SQL], Left(0, report), "t.daq"),
+        Scene("session", ["session", file, trials.put("t.sql", SCRIPT)], Left(0, together), "t.sql", "t.daq"),
         Scene("load", ["load", csv, made, SCHEMA], Left(0, line, b"", new), "t.csv"),
         Scene("info", ["info", file], Left(0, files.info(new)[0].encode()), "t.daq"),
         Scene("upgrade", ["upgrade", old, made], Left(0, files.upgrade(older)[0].encode(), b"", new), "old.daq"),
-        Scene("refusal", ["ask", csv, "price", SQL], Left(4, b"", b"daq: table refused: schema item at 0\n"), None),
+        Scene("refusal", ["ask", csv, "price", SQL], Left(4, b"", b"daq: table refused: schema item at 0\n")),
     ]
 
 
@@ -60,16 +62,19 @@ def each_call(trials, scene, name, error):
             yield "%s, %s %d of %s" % (scene.name, call, place, name), call, failing(trials, scene, name, call, place, error)
 
 
-def blocks(report):
-    """The parts of a report that end with a block."""
-    return [report[:at] for at in [m.start() for m in re.finditer(b"round |end ", report)]][1:]
+def before_planes(report):
+    """The parts of a report that stand before its planes are read, each before the first block that it goes to."""
+    ends = {}
+    for mark in re.finditer(rb"^at (\d+) " if report.startswith(b"queries") else rb"^round (\d+)", report, re.M):
+        ends.setdefault(int(mark.group(1)), mark.start())
+    return [report[:ends[number]] for number in ends if number]
 
 
-def reads(trials, scene):
+def reads(trials, scene, source):
     """A read that fails: nothing is made, and of a report at most whole blocks stand."""
     seen = set()
-    for what, call, told in each_call(trials, scene, scene.source, "EIO"):
-        allowed = [b""] + (blocks(scene.left.out)[:-1] if scene.name == "query" else [])
+    for what, call, told in each_call(trials, scene, source, "EIO"):
+        allowed = [b""] + (before_planes(scene.left.out) if scene.name in ("query", "session") and source == "t.daq" else [])
         trials.check(what, told, told == Left(6, told.out, READ_FAULT) and told.out in allowed)
         seen.add(told.out)
     trials.check("each block is the last once", seen, seen == set(allowed))
@@ -108,8 +113,8 @@ def main(words):
     trials = Trials(words[0])
     all_scenes = scenes(trials)
     for scene in all_scenes:
-        if scene.source:
-            reads(trials, scene)
+        for source in scene.sources:
+            reads(trials, scene, source)
         for name in ("made", "out", "err"):
             if getattr(scene.left, name):
                 writes(trials, scene, name)

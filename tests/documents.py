@@ -1,5 +1,5 @@
 #!/usr/bin/env python3
-"""Checks what the documents say of the repository: links lead to files, and the definitions and edits that are named are there.
+"""Checks what the documents say of the repository: links lead to files, what they name is there, and each crate stands in one line.
 
 documents.py prints a line for each fault, and ends with 0 only where there is none.
 """
@@ -41,9 +41,33 @@ def lost_edits(page="docs/PROMISES.md"):
             yield "%s: no edit %s of %s" % (page, edit, crate)
 
 
+def words_of_crates():
+    files = [path for ending in ("rt", "antt") for path in glob.glob(os.path.join(TOP, "crates", "*", "s*", "**", "*." + ending), recursive=True)]
+    return set(re.findall(r"\w+", "".join(map(read, files)))) | set(crates()) | set(os.listdir(TOP))
+
+
+def lost_names(page, words):
+    for name in re.findall(r"`([A-Za-z_][\w:]*)`", read(page)) + re.findall(r"\*([A-Z]\w+)\*", read(page)):
+        if not set(name.replace("::", " ").split()) <= words:
+            yield "%s: nothing has the name %s" % (page, name)
+
+
+def crates():
+    return re.findall(r"^(\w+)[^:\n#]*:", read("crates.txt"), re.M)
+
+
+def miscounted_crates(page="docs/ARCHITECTURE.md"):
+    lines = [name for names in re.findall(r"^\| ([a-z_, ]+) \|", read(page), re.M) for name in names.split(", ")]
+    for crate in sorted(set(crates() + lines)):
+        if (lines.count(crate), crates().count(crate)) != (1, 1):
+            yield "%s: crate %s stands in %d lines, and in %d of crates.txt" % (page, crate, lines.count(crate), crates().count(crate))
+
+
 def main():
     faults = [fault for page in pages() for fault in dead_links(page)] + list(lost_definitions()) + list(lost_edits())
-    print("\n".join(faults) or "ok: links, definitions and edits are there")
+    words = words_of_crates()
+    faults += [fault for page in ("PROMISES", "ARCHITECTURE") for fault in lost_names("docs/%s.md" % page, words)] + list(miscounted_crates())
+    print("\n".join(faults) or "ok: links, names, edits and crates are there")
     sys.exit(bool(faults))
 
 

@@ -17,11 +17,11 @@ TEXT, SCHEMA = "price,qty,city\n5,2,Oslo\n9,1,Rome\n12,4,Oslo\n3,3,Bern\n", "pri
 SQL = "SELECT SUM(price) FROM t"
 
 
-def commands(csv, file, made):
+def commands(csv, file, made, script):
     """Each command that reads a path, by its name."""
     return {
         "ask": ["ask", csv, SCHEMA, SQL], "load": ["load", csv, made, SCHEMA], "query": ["query", file, SQL],
-        "info": ["info", file], "upgrade": ["upgrade", file, made],
+        "session": ["session", file, script], "info": ["info", file], "upgrade": ["upgrade", file, made],
     }
 
 
@@ -36,7 +36,7 @@ def unreadable(trials):
     paths = {"missing": trials.path("no such file"), "a directory": trials.folder.name, "a path through a file": closed + "/x",
              "no name": "", "a name of 5,000 bytes": "x" * 5000, "a file without rights": closed}
     for what, path in paths.items():
-        for command, words in commands(path, path, trials.path("made")).items():
+        for command, words in commands(path, path, trials.path("made"), path).items():
             trials.same("%s, %s" % (command, what), trials.run(words, **user_without_rights()), Left(6, b"", READ_FAULT))
 
 
@@ -49,7 +49,7 @@ def unwritable(trials):
              "a file that may not be written": old, "a name of 5,000 bytes": "x" * 5000}
     for what, path in paths.items():
         for command in ("load", "upgrade"):
-            told = trials.run(commands(csv, file, path)[command], **user_without_rights())
+            told = trials.run(commands(csv, file, path, "")[command], **user_without_rights())
             trials.same("%s, %s" % (command, what), told, Left(7, b"", WRITE_FAULT))
     trials.check("the old file", trials.get("old"), trials.get("old") == b"an old file")
 
@@ -66,11 +66,11 @@ def kept(trials):
 def full(trials):
     """A full device under each sink."""
     file, line = plane_file(TEXT, SCHEMA)
-    csv, planes = trials.put("t.csv", TEXT), trials.put("t.daq", file)
-    for command, words in commands(csv, planes, "/dev/full").items():
+    csv, planes, script = trials.put("t.csv", TEXT), trials.put("t.daq", file), trials.put("t.sql", SQL)
+    for command, words in commands(csv, planes, "/dev/full", script).items():
         if command in ("load", "upgrade"):
             trials.same("%s, made full" % command, trials.run(words), Left(7, b"", WRITE_FAULT))
-    for command, words in commands(csv, planes, trials.path("made")).items():
+    for command, words in commands(csv, planes, trials.path("made"), script).items():
         trials.forget("made")
         with open("/dev/full", "wb") as out:
             ended = subprocess.run([trials.daq] + words, stdout=out, stderr=subprocess.PIPE)
@@ -111,9 +111,9 @@ def filling(trials):
 def closing(trials):
     """A pipe that closes after some bytes: what was written is the front of the report, and the status that of a failed write."""
     csv = trials.put("t.csv", TEXT)
-    whole = trials.run(commands(csv, "", "")["ask"]).out
+    whole = trials.run(commands(csv, "", "", "")["ask"]).out
     for size in range(0, 40, 3):
-        ended = subprocess.Popen([trials.daq, *commands(csv, "", "")["ask"]], stdout=subprocess.PIPE, stderr=subprocess.PIPE)
+        ended = subprocess.Popen([trials.daq, *commands(csv, "", "", "")["ask"]], stdout=subprocess.PIPE, stderr=subprocess.PIPE)
         front = ended.stdout.read(size) if size else b""
         ended.stdout.close()
         line = ended.stderr.read()
@@ -139,7 +139,7 @@ def same_path(trials):
 
 def slow(trials):
     """A CSV that comes in pieces, by a pipe with a name: the report of the whole."""
-    whole = trials.run(commands(trials.put("t.csv", TEXT), "", "")["ask"])
+    whole = trials.run(commands(trials.put("t.csv", TEXT), "", "", "")["ask"])
     for piece in (1, 2, 5, 20):
         pipe = trials.path("pipe%d" % piece)
         os.mkfifo(pipe)

@@ -36,7 +36,7 @@ def page_examples(text):
     for block in code_blocks(text):
         if block[0].startswith("./daq "):
             commands = block
-        elif commands and block[0].startswith(("loaded ", "query ")):
+        elif commands and block[0].startswith(("loaded ", "query ", "queries ")):
             yield commands, "".join(line + "\n" for line in block)
             commands = None
 

@@ -1,5 +1,5 @@
 #!/usr/bin/env python3
-"""Plane files that are damaged, under `info`, `query` and `upgrade`: each answer is compared with that of an independent reader of the format.
+"""Plane files that are damaged, under `info`, `query`, `session` and `upgrade`: each answer is compared with that of an independent reader of the format.
 
 files.py DAQ [FILE]..   damages each file (or two of its own) in every byte: set to 00, to FF, each bit turned; and cuts it after every byte
 """
@@ -171,6 +171,11 @@ class FileRounds(reports.Rounds):
         column.take(self.data)
 
 
+class FileSession(reports.Session):
+    def step(self, column):
+        column.take(self.data)
+
+
 def info(data):
     reader = Reader(data)
     lines = ["version %d rows %d columns %d" % (reader.version, reader.rows, len(reader.columns))]
@@ -180,21 +185,35 @@ def info(data):
     return "".join(line + "\n" for line in lines), None
 
 
-def query(data, sql, words):
-    reader = Reader(data)
+def parse(reader, sql, front=""):
     try:
         parsed = reports.Parser(sql, reader.columns).query()
     except KeyError:
-        raise Refused("daq: query refused: unknown column at 11", 3) from None
+        raise Refused("daq: query refused: %sunknown column at 11" % front, 3) from None
     if any(c.kind in ("date", "text") for c in parsed.columns):
-        raise Refused("daq: query refused: kinds differ at 11", 3)
-    rounds = FileRounds(reader.columns, reader.rows, parsed, reports.parse_options(words))
+        raise Refused("daq: query refused: %skinds differ at 11" % front, 3)
+    return parsed
+
+
+def reported(rounds, data, asked):
     rounds.data, lines = data, []
     try:
-        rounds.report(sql, lines)
+        rounds.report(asked, lines)
     except Refused as refused:
         raise Refused(refused.line, 5, "".join(line + "\n" for line in lines)) from None
     return "".join(line + "\n" for line in lines), None
+
+
+def query(data, sql, words):
+    reader = Reader(data)
+    rounds = FileRounds(reader.columns, reader.rows, parse(reader, sql), reports.parse_options(words))
+    return reported(rounds, data, sql)
+
+
+def session(data, sqls, words):
+    reader = Reader(data)
+    queries = [parse(reader, sql, "line %d: " % line) for line, sql in enumerate(sqls, 1)]
+    return reported(FileSession(reader.columns, reader.rows, queries, reports.parse_options(words)), data, sqls)
 
 
 def upgrade(data):
@@ -217,7 +236,7 @@ def changes(data):
 class Trial:
     def __init__(self, daq, folder):
         self.daq, self.count, self.wrong = daq, 0, 0
-        self.path, self.made = os.path.join(folder, "t.daq"), os.path.join(folder, "made.daq")
+        self.path, self.made, self.script = (os.path.join(folder, name) for name in ("t.daq", "made.daq", "t.sql"))
 
     def tried(self, what, words, wanted):
         """Whether the command answers as the reader does."""
@@ -238,11 +257,15 @@ class Trial:
             print("differs: %s, %s\n  wanted %d %r %r\n  told %d %r %r" % (what, words[0], status, out, line, told.returncode, told.stdout, told.stderr))
 
     def damage(self, data, sql):
+        sqls, words = [sql, "SELECT MIN(price), COUNT(*) FROM t"], ["--policy", "order"]
+        with open(self.script, "w") as file:
+            file.write("\n".join(sqls))
         for what, changed in changes(data):
             with open(self.path, "wb") as file:
                 file.write(changed)
             self.tried(what, ["info", self.path], lambda: info(changed))
-            self.tried(what, ["query", self.path, sql, "--policy", "order"], lambda: query(changed, sql, ["--policy", "order"]))
+            self.tried(what, ["query", self.path, sql, *words], lambda: query(changed, sql, words))
+            self.tried(what, ["session", self.path, self.script, *words], lambda: session(changed, sqls, words))
             self.tried(what, ["upgrade", self.path, self.made], lambda: upgrade(changed))
 
 

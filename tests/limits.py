@@ -64,6 +64,10 @@ def rows(limits):
     eight = "SELECT " + ", ".join("SUM(c%d)" % c for c in range(1, 9)) + " FROM t"
     ends = "".join("%d %d\n" % (c + 1, 256 * sum(r[c] for r in table)) for c in range(8)).encode() + b"end narrow\n"
     limits.measured("query 8 sums over 8 columns", ["query", file, eight], 0, ends=ends)
+    lines = ["SELECT SUM(c%d) FROM t\n" % c for c in range(1, 9)]
+    limits.measured("session of these sums, 2^27 cells", ["session", file, limits.put("8.sql", "".join(lines))], 0, begins=b"queries 8\n", ends=b"end narrow\n")
+    more = limits.put("9.sql", "".join(lines + lines[:1]))
+    limits.measured("a session of more cells", ["session", file, more], 3, b"daq: query refused: 150994944 cells in the session\n")
     limits.measured("query LIMIT 1,000 with --list", ["query", file, "SELECT * FROM t ORDER BY c1 DESC LIMIT 1000", "--list"], 0, ends=b"end narrow\n")
     limits.measured("upgrade of them", ["upgrade", file, again], 0, ends=b"upgraded " + counts)
     same = os.system("cmp -s %s %s" % (file, again)) == 0
@@ -175,7 +179,22 @@ def texts(limits):
     limits.measured("groups of 17 digits", few + ["SELECT COUNT(*) FROM t GROUP BY b, g"], 3, b"daq: query refused: group of 18 bits\n")
 
 
-PARTS = (chains, texts, digits, names, cells, rows)
+def sessions(limits):
+    """A session of sixteen queries with 64 comparisons each over 2^23 rows; a query more; a script of 131,072 bytes, and a byte more."""
+    csv, file = limits.table("half.csv", "n", ["%d\n" % (r * 7919 % 1000003) for r in range(BLOCK)], ROWS // BLOCK // 2), limits.path("half.daq")
+    limits.measured("load 2^23 rows", ["load", csv, file, "n:int"], 0, begins=b"loaded 8388608 rows, 1 columns, ")
+    line = "SELECT COUNT(*) FROM t WHERE %s\n" % " OR ".join("n = %d" % (v * 100) for v in range(64))
+    most = limits.put("16.sql", line * 16)
+    limits.measured("session of 16 conditions of 64 comparisons, 1 step", ["session", file, most, "--rounds", "1"], 0, begins=b"queries 16\n", ends=b"end rounds\n")
+    limits.measured("17 queries", ["session", file, limits.put("17.sql", line * 17)], 3, b"daq: query refused: 17 queries\n")
+    full, long = limits.put("full.sql", line.ljust(131072)), limits.put("long.sql", line.ljust(131073))
+    limits.measured("a script of 131,072 bytes", ["session", file, full, "--rounds", "0"], 0, begins=b"queries 1\n", ends=b"end rounds\n")
+    limits.measured("a byte more", ["session", file, long], 3, b"daq: query refused: script longer than 131072 bytes\n")
+    os.remove(csv)
+    os.remove(file)
+
+
+PARTS = (chains, texts, digits, names, cells, sessions, rows)
 
 
 def main(words):

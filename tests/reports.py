@@ -1,8 +1,9 @@
 #!/usr/bin/env python3
 """Reports of queries over small tables, worked out by the definitions alone, apart from the program.
 
-reports.py CSV SCHEMA SQL [OPTIONS]      prints the report (SQL in the form in which a report prints it)
-reports.py --compare DAQ [COUNT [SEED]]  makes tables and queries by chance, and compares what `DAQ ask` prints
+reports.py CSV SCHEMA SQL [OPTIONS]               prints the report (SQL in the form in which a report prints it)
+reports.py --session CSV SCHEMA SCRIPT [OPTIONS]  prints that of a session, whose script is a file
+reports.py --compare DAQ [COUNT [SEED]]           makes tables, queries and sessions by chance, and compares what DAQ prints of them
 """
 import csv
 import datetime
@@ -619,20 +620,9 @@ class Rounds:
         return self.cells() if self.query.groups else self.totals()
 
     def next_column(self, number):
-        columns, policy = self.query.columns, self.options["policy"]
-        unread = [c for c in columns if c.read < c.planes]
         if self.options["reads"] is not None:
-            return next(c for c in columns if c.name == self.options["reads"][number])
-        if policy == "order":
-            return unread[0]
-        if policy == "filter":
-            filters = [c for c in unread if c in self.query.in_condition]
-            groups = [c for c in unread if c in self.query.groups and c not in self.query.in_condition]
-            if filters and "U" in self.truths():
-                unread = filters
-            elif groups:
-                unread = groups
-        return max(unread, key=lambda c: (c.planes - c.read, -columns.index(c)))
+            return next(c for c in self.query.columns if c.name == self.options["reads"][number])
+        return chosen(self.options["policy"], self.query.columns, [self])
 
     def ending(self, narrow, number):
         if narrow:
@@ -662,6 +652,61 @@ class Rounds:
             self.step(column)
             number += 1
             lines.append("round %d %s %d/%d" % (number, column.name, column.read, column.planes))
+
+
+def chosen(policy, columns, unfinished):
+    """The column that a policy reads next for some queries, of the columns in the order in which it sees them."""
+    conditions = [c for one in unfinished for c in one.query.in_condition]
+    unread = [c for c in columns if c.read < c.planes and any(c in one.query.columns for one in unfinished)]
+    if policy == "order":
+        return unread[0]
+    if policy == "filter":
+        filters = [c for c in unread if c in conditions]
+        groups = [c for c in unread if c not in conditions and any(c in one.query.groups for one in unfinished)]
+        if filters and any("U" in one.truths() for one in unfinished):
+            unread = filters
+        elif groups:
+            unread = groups
+    return max(unread, key=lambda c: (c.planes - c.read, -columns.index(c)))
+
+
+class Session:
+    """Several queries over one table, which read its planes together."""
+
+    def __init__(self, columns, rows, queries, options):
+        self.members = [Rounds(columns, rows, query, options) for query in queries]
+        self.options = options
+        self.columns = []
+        for query in queries:
+            self.columns += [c for c in query.columns if c not in self.columns]
+
+    def step(self, column):
+        """Reads the next plane of a column."""
+        column.read += 1
+
+    def report(self, texts, lines):
+        """Appends the lines of the report."""
+        lines += ["queries %d" % len(texts)] + ["%d %s" % numbered for numbered in enumerate(texts, 1)]
+        unfinished, steps = list(self.members), 0
+        reads, heads = [0] * len(texts), ["round 0"] * len(texts)
+        moved = unfinished
+        while True:
+            for one in moved:
+                place = self.members.index(one)
+                found, narrow = one.block()
+                lines += ["at %d query %d" % (steps, place + 1), heads[place]] + found
+                if narrow:
+                    unfinished = [other for other in unfinished if other is not one]
+            if not unfinished or steps == self.options["rounds"]:
+                lines.append("end rounds" if unfinished else "end narrow")
+                return
+            column = chosen(self.options["policy"], self.columns, unfinished)
+            self.step(column)
+            steps += 1
+            moved = [one for one in unfinished if column in one.query.columns]
+            for place in map(self.members.index, moved):
+                reads[place] += 1
+                heads[place] = "round %d %s %d/%d" % (reads[place], column.name, column.read, column.planes)
 
 
 def text_of(item):
@@ -701,6 +746,19 @@ def report(text, schema, sql, words):
     query = Parser(sql, columns).query()
     lines = []
     Rounds(columns, rows, query, parse_options(words)).report(sql, lines)
+    return "".join(line + "\n" for line in lines)
+
+
+def queries_in(script):
+    return [line.strip(" \r") for line in script.split("\n") if line.strip(" \t\r")]
+
+
+def session_report(text, schema, script, words):
+    columns, rows = read_table(text, schema)
+    texts = queries_in(script)
+    queries = [Parser(sql, columns).query() for sql in texts]
+    lines = []
+    Session(columns, rows, queries, parse_options(words)).report(texts, lines)
     return "".join(line + "\n" for line in lines)
 
 
@@ -796,26 +854,56 @@ def some_options(chance):
     return words
 
 
+def some_script(chance, columns):
+    """The lines of queries, some behind blank ones; the last may lack its end."""
+    lines = []
+    for _ in range(chance.choice([1, 2, 2, 3, 5, 8])):
+        lines += [""] * chance.choice([0, 0, 0, 1, 2]) + [some_query(chance, columns) + chance.choice(["", "", " ", "\r"])]
+    return "\n".join(lines) + chance.choice(["", "\n", "\n\n \t\r\n"])
+
+
+def told_of(daq, *words):
+    return subprocess.run([daq, *words], capture_output=True, text=True)
+
+
+def told_of_session(daq, folder, path, schema, script, words):
+    planes, lines = os.path.join(folder, "t.daq"), os.path.join(folder, "t.sql")
+    with open(lines, "w", newline="") as file:
+        file.write(script)
+    loaded = told_of(daq, "load", path, planes, schema)
+    return told_of(daq, "session", planes, lines, *words) if loaded.returncode == 0 else loaded
+
+
 def compare(daq, count, seed):
     chance, wrong = random.Random(seed), 0
     with tempfile.TemporaryDirectory() as folder:
         path = os.path.join(folder, "t.csv")
         for number in range(count):
             text, schema, columns = some_table(chance)
-            sql, words = some_query(chance, columns), some_options(chance)
+            words = some_options(chance)
             with open(path, "w") as file:
                 file.write(text)
-            told = subprocess.run([daq, "ask", path, schema, sql] + words, capture_output=True, text=True)
+            if number % 2:
+                asked = some_script(chance, columns)
+                told, of = told_of_session(daq, folder, path, schema, asked, words), session_report
+            else:
+                asked = some_query(chance, columns)
+                told, of = told_of(daq, "ask", path, schema, asked, *words), report
             if told.returncode == 3 and "group of" in told.stderr:
                 continue
-            wanted = report(text, schema, sql, words)
+            wanted = of(text, schema, asked, words)
             if told.stdout != wanted or told.returncode != 0:
                 wrong += 1
-                print("differs (%d): %s\n%s%s %s\n--- wanted\n%s--- told (%d) %s\n%s" % (number, schema, text, sql, words, wanted, told.returncode, told.stderr, told.stdout))
+                print("differs (%d): %s\n%s%s %s\n--- wanted\n%s--- told (%d) %s\n%s" % (number, schema, text, asked, words, wanted, told.returncode, told.stderr, told.stdout))
                 if wrong == 3:
                     break
     print("%d reports compared, %d differ" % (count, wrong))
     return 1 if wrong else 0
+
+
+def read_file(path):
+    with open(path, newline="") as file:
+        return file.read()
 
 
 def main(words):
@@ -823,8 +911,10 @@ def main(words):
         count = int(words[2]) if len(words) > 2 else 500
         seed = int(words[3]) if len(words) > 3 else 1
         return compare(words[1], count, seed)
-    with open(words[0], newline="") as file:
-        sys.stdout.write(report(file.read(), words[1], words[2], words[3:]))
+    if words[0] == "--session":
+        sys.stdout.write(session_report(read_file(words[1]), words[2], read_file(words[3]), words[4:]))
+    else:
+        sys.stdout.write(report(read_file(words[0]), words[1], words[2], words[3:]))
     return 0
 
 

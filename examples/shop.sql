@@ -1,0 +1,3 @@
+SELECT SUM(price) FROM t
+SELECT COUNT(*) FROM t WHERE price < 7
+SELECT MIN(qty) FROM t
