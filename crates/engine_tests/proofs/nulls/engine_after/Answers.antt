@@ -3,8 +3,8 @@ use Rattle.std.specs.List.{AllByRecursion}
 use Rattle.query_model.specs.Validity.{CanCompareIn, IsValidItem}
 use Rattle.engine_tests.proofs.nulls.engine_after.Goals as goal
 
-pub open-requires : goal.open-requires
-open-requires c =
+pub open_within-requires : goal.open_within-requires
+open_within-requires c =
     let head = c.in_ok-null_head.field-0 in
     let query = c.in_ok-null_query.field-0 in
     record {
