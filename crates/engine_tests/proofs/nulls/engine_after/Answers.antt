@@ -6,7 +6,7 @@ use Rattle.engine_tests.proofs.nulls.engine_after.Goals as goal
 pub open_within-requires : goal.open_within-requires
 open_within-requires c =
     let head = c.in_ok-null_head.field-0 in
-    let query = c.in_ok-null_query.field-0 in
+    let query = c.in_ok-query.query in
     record {
       valid = record {
         few_columns = search rules;
@@ -14,8 +14,8 @@ open_within-requires c =
         distinct = search rules;
         few_items = search rules;
         condition = search rules;
-        compared = subst (CanCompareIn head query) (sym c.in_ok-null_query.ensures.condition) (c.requires.compared head query);
+        compared = subst (CanCompareIn head query) (sym c.in_ok-query.ensures.condition) (c.requires.compared head query);
         shape = search rules;
-        items = subst (AllByRecursion (IsValidItem head query)) (sym c.in_ok-null_query.ensures.items) (search rules, (search rules, (search rules, (search rules, tt))));
+        items = subst (AllByRecursion (IsValidItem head query)) (sym c.in_ok-query.ensures.items) (search rules, (search rules, (search rules, (search rules, tt))));
       };
     }
