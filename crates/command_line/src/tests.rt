@@ -117,7 +117,7 @@ fn a_query_over_a_generated_table(rt: HostRuntime) -> Result<(), Fail> {
 }
 
 #[test]
-fn commands_over_plane_files(rt: HostRuntime) -> Result<(), Fail> {
+fn questions_to_plane_files(rt: HostRuntime) -> Result<(), Fail> {
     let options = Options {
         width: 0,
         rounds: Some(3),
@@ -143,6 +143,17 @@ fn commands_over_plane_files(rt: HostRuntime) -> Result<(), Fail> {
                 options,
             }),
         ),
+    ];
+    for (line, command) in commands {
+        let words = words_of(rt.alloc(), line)?;
+        assert_eq!(rt; Command::parse(&words), Ok(command));
+    }
+    Ok(())
+}
+
+#[test]
+fn commands_over_whole_plane_files(rt: HostRuntime) -> Result<(), Fail> {
+    let commands = [
         (
             "load p.csv --list s",
             Command::Load(Load {

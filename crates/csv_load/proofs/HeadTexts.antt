@@ -1,6 +1,5 @@
 -- The values of a column have texts: its cells are values of its kind, and its least and greatest number are theirs.
-use Rattle.std.proofs.Common.{◌≡◌, ℕ, zero, suc, ◌≤◌, ℤ, pos, ◌≤ℤ◌, Bool, true, false, IsFalse, All, Some, List, [], ◌∷◌, fold, slice_get, length, get_or, refl, inl, inr, arith}
-use Rattle.std.proofs.lemmas.Int.{ints}
+use Rattle.std.proofs.Common.{◌≡◌, ℕ, zero, suc, ◌≤◌, pos, Bool, true, false, IsFalse, All, Some, List, [], ◌∷◌, fold, slice_get, length, get_or, refl, inl, inr, arith}
 use Rattle.std.proofs.lemmas.List.Elements.{All-cons, All-from_get_or, All-head, All-map, All-nil, All-tail}
 use Rattle.std.proofs.lemmas.Map.Views.{All-insert_key}
 use Rattle.std.proofs.lemmas.Option.{slice_get-get_or, slice_get_cases, slice_get_within}
@@ -18,13 +17,14 @@ use Rattle.daq_table.specs.declared.head.ColumnHead.{ColumnHead}
 use Rattle.daq_table.specs.declared.head.Kind.{Kind}
 use Rattle.daq_table.specs.declared.head.Kind.TheVariants.{Int, Dec, Date, Text}
 use Rattle.daq_table.specs.declared.schema_column.SchemaColumn.{SchemaColumn}
+use Rattle.daq_table.proofs.Extremes.{greatest_has, least_has}
+use Rattle.daq_table.proofs.ShownNumbers.{between_has, zero_has}
 use Rattle.csv_load.specs.Columns.{IsValue, column_texts, dictionary, is_null, numbers_of, present}
 use Rattle.csv_load.specs.Laws.{HeadsHaveTexts}
 use Rattle.csv_load.specs.Records.{Fields}
 use Rattle.csv_load.specs.Rows.{AreGoodRows}
 use Rattle.csv_load.specs.TableOf.{IsColumnOf}
 use Rattle.csv_load.specs.declared.limits.Limits.{Limits}
-use Rattle.csv_load.proofs.EndFacts.{greatest_has, least_has}
 
 first_day : day_count (pos 0) 1 1 ≡ 3652425
 first_day = day_count-early (pos 0) 9999 1 1 refl (omega arith) (omega arith) (omega arith)
@@ -38,19 +38,6 @@ begins_later (suc year) = omega (arith, first_day, day_count-later_year (pos 0) 
 civil_is_day : (year month day : ℕ) → IsCivilDate (pos year) month day → IsDay (days_from_civil (pos year) month day)
 civil_is_day year month day h =
     omega (arith, signed_arith, days_from_civil-day_count, begins_later year, day_count_bounds (pos year) month day h, day_count-day_of_year (pos year) month day h.2.0, h.2.0)
-
-zero_has : (kind : Kind) → HasText kind (pos 0)
-zero_has Int = tt
-zero_has (Dec scale) = tt
-zero_has Date = omega (arith, ints)
-zero_has Text = tt
-
--- between two numbers with texts each has one
-between_has : (kind : Kind) (base top value : ℤ) → HasText kind base → HasText kind top → base ≤ℤ value → value ≤ℤ top → HasText kind value
-between_has Int base top value low high h k = tt
-between_has (Dec scale) base top value low high h k = tt
-between_has Date base top value low high h k = (omega (arith, ints, low, h), omega (arith, ints, high, k))
-between_has Text base top value low high h k = tt
 
 numbers_have : (kind : Kind) (texts : List (List ℕ)) → All (IsValue kind) texts → All (HasText kind) (numbers_of kind texts)
 numbers_have Int texts all = λ k d lt. tt

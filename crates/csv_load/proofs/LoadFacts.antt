@@ -1,23 +1,15 @@
 -- What was read of a CSV, finished, is its table.
-use Rattle.std.proofs.Common.{◌≡◌, ℕ, ◌<◌, ◌≤◌, Bool, true, false, ◌||◌, cond, IsTrue, All, Some, List, [], ◌∷◌, slice_get, length, map, fold, get_or, refl, sym, ap, subst, inl, inr, ◌∙◌, arith}
+use Rattle.std.proofs.Common.{◌≡◌, ℕ, ◌<◌, ◌≤◌, Bool, true, false, cond, Some, List, [], ◌∷◌, slice_get, length, map, get_or, refl, sym, ap, subst, inl, inr, ◌∙◌, arith}
 use Rattle.std.proofs.lemmas.List.{length-map}
-use Rattle.std.proofs.lemmas.List.Elements.{All-cons}
-use Rattle.std.proofs.lemmas.Map.Text.{is_eq-slice_cmp}
 use Rattle.std.proofs.lemmas.Option.{get_or_from_slice_get, slice_get_cases}
-use Rattle.std.proofs.lemmas.Slice.Eq.{bytes_eq-Decides}
-use Rattle.std.specs.BTreeSet.{insert_key}
-use Rattle.std.specs.Cmp.Lexicographic.{slice_cmp}
-use Rattle.std.specs.List.{list_any}
-use Rattle.std.specs.Ordering.{is_eq, match_ordering, nat_cmp}
-use Rattle.std.specs.Str.{bytes_eq}
-use Rattle.std.specs.declared.cmp.Ordering.{Ordering}
-use Rattle.std.specs.declared.cmp.Ordering.TheVariants.{Less, Equal, Greater}
 use Rattle.daq_table.specs.Tables.{Cell, Contents}
 use Rattle.daq_table.specs.declared.head.ColumnHead.{ColumnHead}
 use Rattle.daq_table.specs.declared.head.Kind.{Kind}
 use Rattle.daq_table.specs.declared.head.Kind.TheVariants.{Int, Dec, Date, Text}
 use Rattle.daq_table.specs.declared.schema_column.SchemaColumn.{SchemaColumn}
-use Rattle.csv_load.specs.Columns.{column_texts, greatest, is_null, least, numbers_of, present, values_of}
+use Rattle.daq_table.proofs.Dictionaries.{all_come}
+use Rattle.daq_table.specs.Extremes.{greatest, least}
+use Rattle.csv_load.specs.Columns.{column_texts, is_null, numbers_of, present, values_of}
 use Rattle.csv_load.specs.Records.{Fields}
 use Rattle.csv_load.specs.Rows.{AreGoodRows}
 use Rattle.csv_load.specs.States.{AreComplete, AreStored, HasRead, IsComplete, IsStored, IsWhole, State, kept_of, laid, numbers_in, state_of, values_in}
@@ -25,52 +17,6 @@ use Rattle.csv_load.specs.TableOf.{IsColumnOf, IsTableOf}
 use Rattle.csv_load.specs.declared.limits.Limits.{Limits}
 use Rattle.csv_load.proofs.NullFacts.{count_present, nullable_values, other_values}
 use Rattle.csv_load.proofs.RowFacts.{rows_bound}
-
-or_left : (p q : Bool) → p ≡ true → (p || q) ≡ true
-or_left true q e = refl
-or_left false q e = absurd cc
-
-or_right : (p q : Bool) → q ≡ true → (p || q) ≡ true
-or_right true q e = refl
-or_right false q e = e
-
-or_more : (p q r : Bool) → (p || q) ≡ true → (q ≡ true → r ≡ true) → (p || r) ≡ true
-or_more true q r e f = refl
-or_more false q r e f = f e
-
--- a name stays when another comes, and the other is there then
-stays : (names : List (List ℕ)) (name text : List ℕ) → list_any (bytes_eq name) names ≡ true → list_any (bytes_eq name) (insert_key (slice_cmp nat_cmp) names text) ≡ true
-stays [] name text h = absurd cc
-stays (x ∷ names) name text h =
-    let more = stays names name text in
-    elim (slice_cmp nat_cmp text x) as (λ o. list_any (bytes_eq name) (match_ordering o (text ∷ x ∷ names) (x ∷ names) (x ∷ insert_key (slice_cmp nat_cmp) names text)) ≡ true) [
-      | Less ↦ or_right (bytes_eq name text) (bytes_eq name x || list_any (bytes_eq name) names) h
-      | Equal ↦ h
-      | Greater ↦ or_more (bytes_eq name x) (list_any (bytes_eq name) names) (list_any (bytes_eq name) (insert_key (slice_cmp nat_cmp) names text)) h more
-    ]
-
-itself : (text : List ℕ) → bytes_eq text text ≡ true
-itself text = (bytes_eq-Decides text text).1 refl
-
-came : (names : List (List ℕ)) (x text : List ℕ) (o : Ordering) → slice_cmp nat_cmp text x ≡ o → list_any (bytes_eq text) (insert_key (slice_cmp nat_cmp) names text) ≡ true
-    → list_any (bytes_eq text) (match_ordering o (text ∷ x ∷ names) (x ∷ names) (x ∷ insert_key (slice_cmp nat_cmp) names text)) ≡ true
-came names x text Less e h = or_left (bytes_eq text text) (bytes_eq text x || list_any (bytes_eq text) names) (itself text)
-came names x text Equal e h = or_left (bytes_eq text x) (list_any (bytes_eq text) names) (sym (is_eq-slice_cmp text x) ∙ ap is_eq e)
-came names x text Greater e h = or_right (bytes_eq text x) (list_any (bytes_eq text) (insert_key (slice_cmp nat_cmp) names text)) h
-
-comes : (names : List (List ℕ)) (text : List ℕ) → list_any (bytes_eq text) (insert_key (slice_cmp nat_cmp) names text) ≡ true
-comes [] text = or_left (bytes_eq text text) false (itself text)
-comes (x ∷ names) text = came names x text (slice_cmp nat_cmp text x) refl (comes names text)
-
-stays_all : (texts names : List (List ℕ)) (name : List ℕ) → list_any (bytes_eq name) names ≡ true → list_any (bytes_eq name) (fold (insert_key (slice_cmp nat_cmp)) names texts) ≡ true
-stays_all [] names name h = h
-stays_all (text ∷ texts) names name h = stays_all texts (insert_key (slice_cmp nat_cmp) names text) name (stays names name text h)
-
-pub all_come : (texts names : List (List ℕ)) → All (λ text. IsTrue (list_any (bytes_eq text) (fold (insert_key (slice_cmp nat_cmp)) names texts))) texts
-all_come [] names = λ k d lt. absurd (omega (arith, lt))
-all_come (text ∷ texts) names =
-    let after = insert_key (slice_cmp nat_cmp) names text in
-    All-cons (λ (t : List ℕ). IsTrue (list_any (bytes_eq t) (fold (insert_key (slice_cmp nat_cmp)) after texts))) text texts (stays_all texts after text (comes names text)) (all_come texts after)
 
 kept_complete : (kind : Kind) (texts : List (List ℕ)) → IsComplete (kept_of kind texts)
 kept_complete Int texts = record { known = λ k d lt. absurd (omega (arith, lt)); plain = λ e. refl }

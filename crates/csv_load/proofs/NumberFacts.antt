@@ -18,9 +18,9 @@ use Rattle.std.specs.Str.{bytes_eq}
 use Rattle.std.specs.declared.cmp.Ordering.{Ordering}
 use Rattle.std.specs.declared.cmp.Ordering.TheVariants.{Less, Equal, Greater}
 use Rattle.indexmap.specs.IndexSet.{insert_key as add}
-use Rattle.csv_load.specs.Columns.{distinct}
+use Rattle.daq_table.proofs.Dictionaries.{all_come}
+use Rattle.daq_table.specs.Dictionaries.{distinct}
 use Rattle.csv_load.specs.Numbered.{AreNumbered, HasNumber, texts_at}
-use Rattle.csv_load.proofs.LoadFacts.{all_come}
 use Rattle.csv_load.proofs.RowFacts.{distinct_more}
 use Rattle.csv_load.proofs.StateFacts.{insert_viewed}
 

@@ -4,7 +4,8 @@ use Rattle.std.proofs.lemmas.List.{get_or-map, length-map}
 use Rattle.std.proofs.lemmas.List.Elements.{All-tail}
 use Rattle.daq_table.specs.declared.head.Kind.{Kind}
 use Rattle.daq_table.specs.declared.head.Kind.TheVariants.{Int, Dec, Date, Text}
-use Rattle.csv_load.specs.Columns.{distinct, is_text, rank_of}
+use Rattle.daq_table.specs.Dictionaries.{distinct, rank_of}
+use Rattle.csv_load.specs.Columns.{is_text}
 use Rattle.csv_load.specs.Raised.{lowered}
 use Rattle.csv_load.specs.States.{numbers_in}
 

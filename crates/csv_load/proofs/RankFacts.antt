@@ -14,7 +14,7 @@ use Rattle.std.specs.Ordering.{is_eq, nat_cmp, ordering_index}
 use Rattle.std.specs.Str.{bytes_eq}
 use Rattle.std.specs.declared.cmp.Ordering.{Ordering}
 use Rattle.std.specs.declared.cmp.Ordering.TheVariants.{Less, Equal, Greater}
-use Rattle.csv_load.specs.Columns.{rank_of}
+use Rattle.daq_table.specs.Dictionaries.{rank_of}
 
 equal_is : (a b : List ℕ) → slice_cmp nat_cmp a b ≡ Equal → a ≡ b
 equal_is a b e = (bytes_eq-Decides a b).0 (sym (is_eq-slice_cmp a b) ∙ ap is_eq e)

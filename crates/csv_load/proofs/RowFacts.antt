@@ -13,7 +13,8 @@ use Rattle.daq_table.specs.CellTexts.{cell_number}
 use Rattle.daq_table.specs.declared.head.Kind.{Kind}
 use Rattle.daq_table.specs.declared.head.Kind.TheVariants.{Int, Dec, Date, Text}
 use Rattle.daq_table.specs.declared.schema_column.SchemaColumn.{SchemaColumn}
-use Rattle.csv_load.specs.Columns.{column_texts, dictionary, distinct, is_null, present}
+use Rattle.daq_table.specs.Dictionaries.{distinct}
+use Rattle.csv_load.specs.Columns.{column_texts, dictionary, is_null, present}
 use Rattle.csv_load.specs.Records.{Fields}
 use Rattle.csv_load.specs.Rows.{AreGoodBefore, AreGoodRows, HasRoom, IsGoodCell, IsGoodRow}
 use Rattle.csv_load.specs.States.{AreStates, HasRoomFor, Kept, State, Takes, TakesRow, TookBelow, kept_of, kept_with, names_with, state_of, state_with}

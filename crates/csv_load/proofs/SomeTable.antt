@@ -1,16 +1,9 @@
 -- A header and good rows stand for a table.
-use Rattle.std.proofs.Common.{◌≡◌, ℕ, zero, suc, ◌≤◌, ℤ, ◌-ℤ◌, unsigned_abs, Bool, if◌then◌else◌, IsTrue, Some, List, [], ◌∷◌, fold, slice_get, get_or, length, map, refl, sym, ap, subst, ◌∙◌, arith}
-use Rattle.std.proofs.lemmas.Cmp.{nat_list_cmp_total}
-use Rattle.std.proofs.lemmas.List.Elements.{All-from_recursion, recursion_from_All}
-use Rattle.std.proofs.lemmas.Map.Views.{All-insert_key}
+use Rattle.std.proofs.Common.{◌≡◌, ℕ, zero, suc, ◌≤◌, ℤ, ◌-ℤ◌, unsigned_abs, Bool, if◌then◌else◌, IsTrue, Some, List, [], ◌∷◌, slice_get, get_or, length, map, refl, sym, ap, subst, arith}
 use Rattle.std.proofs.lemmas.Option.{same_Some}
-use Rattle.std.specs.BTreeSet.{insert_key}
 use Rattle.std.specs.Cmp.Lexicographic.{slice_cmp}
-use Rattle.std.specs.List.{AllByRecursion}
 use Rattle.std.specs.List.Sorted.{IsStrictlySortedBy}
-use Rattle.std.specs.Ordering.{match_ordering, nat_cmp, ordering_reverse}
-use Rattle.std.specs.declared.cmp.Ordering.{Ordering}
-use Rattle.std.specs.declared.cmp.Ordering.TheVariants.{Less, Equal, Greater}
+use Rattle.std.specs.Ordering.{nat_cmp}
 use Rattle.daq_table.specs.ColumnFacts.{IsName}
 use Rattle.daq_table.specs.HeadFacts.{all_differ}
 use Rattle.daq_table.specs.Schemas.{names_of}
@@ -20,39 +13,19 @@ use Rattle.daq_table.specs.declared.head.Kind.{Kind}
 use Rattle.daq_table.specs.declared.head.Kind.TheVariants.{Int, Dec, Date, Text}
 use Rattle.daq_table.specs.declared.schema_column.SchemaColumn.{SchemaColumn}
 use Rattle.daq_table.specs.declared.table_head.Head.{Head}
-use Rattle.csv_load.specs.Columns.{column_texts, dictionary, greatest, least, present}
+use Rattle.daq_table.proofs.Dictionaries.{sorted_after}
+use Rattle.daq_table.proofs.Extremes.{cells_stand, least_below}
+use Rattle.daq_table.specs.Extremes.{greatest, least}
+use Rattle.csv_load.specs.Columns.{column_texts, dictionary, present}
 use Rattle.csv_load.specs.Records.{AreRecordsOf, Fields}
 use Rattle.csv_load.specs.Rows.{AreGoodRows}
 use Rattle.csv_load.specs.States.{AreFinished, HasRead, IsFinished, IsWhole, State, filled, numbers_in, state_of}
 use Rattle.csv_load.specs.TableOf.{IsTableOf}
 use Rattle.csv_load.specs.declared.limits.Limits.{Limits}
-use Rattle.csv_load.proofs.EndFacts.{cells_stand, column_is, least_below}
+use Rattle.csv_load.proofs.EndFacts.{column_is}
 use Rattle.csv_load.proofs.LoadFacts.{all_complete, few_rows, state_whole, table_is}
 use Rattle.csv_load.proofs.NullFacts.{finished}
 use Rattle.csv_load.proofs.TableFacts.{are_stored, is_head}
-
--- names that are sorted stay so when a text comes
-sorted_step : (names : List (List ℕ)) (x text : List ℕ) (o : Ordering) → slice_cmp nat_cmp text x ≡ o → AllByRecursion (λ y. slice_cmp nat_cmp x y ≡ Less) names → IsStrictlySortedBy (slice_cmp nat_cmp) names
-    → IsStrictlySortedBy (slice_cmp nat_cmp) (insert_key (slice_cmp nat_cmp) names text)
-    → IsStrictlySortedBy (slice_cmp nat_cmp) (match_ordering o (text ∷ x ∷ names) (x ∷ names) (x ∷ insert_key (slice_cmp nat_cmp) names text))
-unfolding IsStrictlySortedBy
-sorted_step names x text Less e above rest more =
-    let all = All-from_recursion (λ y. slice_cmp nat_cmp x y ≡ Less) names above in
-    ((e, recursion_from_All (λ y. slice_cmp nat_cmp text y ≡ Less) names (λ k d lt. nat_list_cmp_total.trans text x (get_or names k d) e (all k d lt))), (above, rest))
-sorted_step names x text Equal e above rest more = (above, rest)
-sorted_step names x text Greater e above rest more =
-    let all = All-from_recursion (λ y. slice_cmp nat_cmp x y ≡ Less) names above in
-    let below : slice_cmp nat_cmp x text ≡ Less = nat_list_cmp_total.antisymm x text ∙ ap ordering_reverse e in
-    (recursion_from_All (λ y. slice_cmp nat_cmp x y ≡ Less) (insert_key (slice_cmp nat_cmp) names text) (All-insert_key (slice_cmp nat_cmp) text (λ y. slice_cmp nat_cmp x y ≡ Less) names all below), more)
-
-sorted_with : (names : List (List ℕ)) (text : List ℕ) → IsStrictlySortedBy (slice_cmp nat_cmp) names → IsStrictlySortedBy (slice_cmp nat_cmp) (insert_key (slice_cmp nat_cmp) names text)
-unfolding IsStrictlySortedBy
-sorted_with [] text h = (tt, tt)
-sorted_with (x ∷ names) text h = sorted_step names x text (slice_cmp nat_cmp text x) refl h.0 h.1 (sorted_with names text h.1)
-
-sorted_after : (texts names : List (List ℕ)) → IsStrictlySortedBy (slice_cmp nat_cmp) names → IsStrictlySortedBy (slice_cmp nat_cmp) (fold (insert_key (slice_cmp nat_cmp)) names texts)
-sorted_after [] names h = h
-sorted_after (text ∷ texts) names h = sorted_after texts (insert_key (slice_cmp nat_cmp) names text) (sorted_with names text h)
 
 dictionary_sorted : (kind : Kind) (texts : List (List ℕ)) → IsStrictlySortedBy (slice_cmp nat_cmp) (dictionary kind texts)
 unfolding IsStrictlySortedBy

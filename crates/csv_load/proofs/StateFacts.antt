@@ -6,7 +6,8 @@ use Rattle.std.specs.Ordering.{match_ordering, nat_cmp}
 use Rattle.std.specs.declared.cmp.Ordering.TheVariants.{Less, Equal, Greater}
 use Rattle.daq_table.specs.declared.head.Kind.{Kind}
 use Rattle.daq_table.specs.declared.head.Kind.TheVariants.{Int, Dec, Date, Text}
-use Rattle.csv_load.specs.Columns.{IsShortText, IsValue, distinct, is_text}
+use Rattle.daq_table.specs.Dictionaries.{distinct}
+use Rattle.csv_load.specs.Columns.{IsShortText, IsValue, is_text}
 use Rattle.csv_load.specs.States.{Kept, kept_with, names_with}
 use Rattle.csv_load.proofs.RowFacts.{distinct_more}
 

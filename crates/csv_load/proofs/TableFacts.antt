@@ -15,9 +15,9 @@ use Rattle.daq_table.specs.declared.head.Ends.{Ends}
 use Rattle.daq_table.specs.declared.head.Kind.{Kind}
 use Rattle.daq_table.specs.declared.head.Kind.TheVariants.{Int, Dec, Date, Text}
 use Rattle.daq_table.specs.declared.schema_column.SchemaColumn.{SchemaColumn}
-use Rattle.csv_load.specs.Columns.{greatest}
+use Rattle.daq_table.proofs.Extremes.{greatest_above}
+use Rattle.daq_table.specs.Extremes.{greatest}
 use Rattle.csv_load.specs.States.{AreComplete, AreFinished, AreStored, IsComplete, IsFinished, IsStored, State, laid, numbers_in, state_of, values_in}
-use Rattle.csv_load.proofs.EndFacts.{greatest_above}
 use Rattle.csv_load.proofs.RowFacts.{last_place}
 
 -- what stands at a place of a list, and of that list with one more behind it

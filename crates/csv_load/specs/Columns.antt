@@ -1,15 +1,12 @@
 -- The cells of one column: which are null, which texts are values, and the numbers that they stand for.
-use Rattle.std.specs.Prelude.{ℕ, ◌≤◌, ℤ, pos, Bool, true, false, not, if◌then◌else◌, Option, Some, None, List, [], ◌∷◌, ◌++◌, fold, length, map, slice_index_or, IsUtf8}
-use Rattle.std.specs.BTreeSet.{insert_key}
-use Rattle.std.specs.Cmp.Lexicographic.{slice_cmp}
-use Rattle.std.specs.Int.{int_max, int_min}
-use Rattle.std.specs.List.{filter, position_or_len}
-use Rattle.std.specs.Ordering.{nat_cmp}
-use Rattle.std.specs.Str.{bytes_eq}
+use Rattle.std.specs.Prelude.{ℕ, ◌≤◌, ℤ, pos, Bool, true, false, not, if◌then◌else◌, Option, Some, None, List, [], ◌∷◌, ◌++◌, length, map, slice_index_or, IsUtf8}
+use Rattle.std.specs.List.{filter}
 use Rattle.daq_table.specs.CellTexts.{IsCellText, cell_number}
 use Rattle.daq_table.specs.declared.head.Kind.{Kind}
 use Rattle.daq_table.specs.declared.head.Kind.TheVariants.{Int, Dec, Date, Text}
 use Rattle.daq_table.specs.declared.schema_column.SchemaColumn.{SchemaColumn}
+use Rattle.daq_table.specs.Dictionaries.{distinct, rank_of}
+pub use Rattle.daq_table.specs.Extremes.{greatest, least}
 use Rattle.csv_load.specs.Records.{Fields}
 
 -- the column's cells, row by row
@@ -44,10 +41,6 @@ IsValue (Dec scale) bytes = IsCellText (Dec scale) bytes
 IsValue Date bytes = IsCellText Date bytes
 IsValue Text bytes = IsShortText bytes
 
--- the texts, each once, sorted by their bytes
-abbrev pub distinct : List (List ℕ) → List (List ℕ)
-distinct texts = fold (insert_key (slice_cmp nat_cmp)) [] texts
-
 -- the dictionary of a column with these texts, none of them null: only one of texts has names
 abbrev pub dictionary : Kind → List (List ℕ) → List (List ℕ)
 dictionary kind texts = if is_text kind then distinct texts else []
@@ -55,10 +48,6 @@ dictionary kind texts = if is_text kind then distinct texts else []
 -- the dictionary of a column after these cells and one more that is not null
 abbrev pub names_after : SchemaColumn → List (List ℕ) → List ℕ → List (List ℕ)
 names_after column texts text = dictionary column.kind (present column.nullable texts ++ text ∷ [])
-
--- the place of a name in a dictionary
-abbrev pub rank_of : List (List ℕ) → List ℕ → ℕ
-rank_of names text = position_or_len (bytes_eq text) names
 
 -- the number of a cell that is not null: a text's rank, and every other cell's value
 abbrev pub number_in : Kind → List (List ℕ) → List ℕ → ℤ
@@ -75,13 +64,3 @@ value_in nullable kind names text = if is_null nullable text then None else Some
 -- what a column's cells stand for, by the dictionary of those that are not null
 abbrev pub values_of : Bool → Kind → List (List ℕ) → List (Option ℤ)
 values_of nullable kind texts = map (value_in nullable kind (dictionary kind (present nullable texts))) texts
-
--- the least number, and 0 where there is none
-abbrev pub least : List ℤ → ℤ
-least [] = pos 0
-least (z ∷ zs) = fold int_min z zs
-
--- the greatest number, and 0 where there is none
-abbrev pub greatest : List ℤ → ℤ
-greatest [] = pos 0
-greatest (z ∷ zs) = fold int_max z zs

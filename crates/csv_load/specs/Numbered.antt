@@ -2,7 +2,7 @@
 use Rattle.std.specs.Prelude.{◌≡◌, ℕ, ◌<◌, All, Some, List, [], length, map, slice_get, slice_index_or}
 use Rattle.std.specs.Str.{bytes_eq}
 use Rattle.indexmap.specs.IndexSet.{insert_key}
-use Rattle.csv_load.specs.Columns.{distinct}
+use Rattle.daq_table.specs.Dictionaries.{distinct}
 
 -- the texts with these numbers
 abbrev pub texts_at : List (List ℕ) → List ℕ → List (List ℕ)

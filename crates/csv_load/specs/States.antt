@@ -11,7 +11,9 @@ use Rattle.daq_table.specs.Tables.{Cell, Cells, column_from, ends_of, value_of}
 use Rattle.daq_table.specs.declared.head.ColumnHead.{ColumnHead}
 use Rattle.daq_table.specs.declared.head.Kind.{Kind}
 use Rattle.daq_table.specs.declared.schema_column.SchemaColumn.{SchemaColumn}
-use Rattle.csv_load.specs.Columns.{IsValue, column_texts, dictionary, greatest, is_null, is_text, least, present, rank_of}
+use Rattle.daq_table.specs.Dictionaries.{rank_of}
+use Rattle.daq_table.specs.Extremes.{greatest, least}
+use Rattle.csv_load.specs.Columns.{IsValue, column_texts, dictionary, is_null, is_text, present}
 use Rattle.csv_load.specs.Records.{AreRecordsOf, Fields}
 use Rattle.csv_load.specs.Faults.{IsFirstDifference}
 use Rattle.csv_load.specs.Rows.{AreGoodRows}

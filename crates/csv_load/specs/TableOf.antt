@@ -4,7 +4,8 @@ use Rattle.daq_table.specs.Schemas.{names_of}
 use Rattle.daq_table.specs.Tables.{Cell, Contents, ends_of, value_of}
 use Rattle.daq_table.specs.declared.head.ColumnHead.{ColumnHead}
 use Rattle.daq_table.specs.declared.schema_column.SchemaColumn.{SchemaColumn}
-use Rattle.csv_load.specs.Columns.{column_texts, dictionary, greatest, least, numbers_of, present, values_of}
+use Rattle.daq_table.specs.Extremes.{greatest, least}
+use Rattle.csv_load.specs.Columns.{column_texts, dictionary, numbers_of, present, values_of}
 use Rattle.csv_load.specs.Records.{AreRecordsOf, Fields}
 use Rattle.csv_load.specs.Rows.{AreGoodRows}
 use Rattle.csv_load.specs.declared.limits.Limits.{Limits}

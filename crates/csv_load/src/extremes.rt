@@ -1,7 +1,7 @@
 //! The least and the greatest number of a column, and how far its numbers lie above the least. The numbers are raised.
 
 ghost use Rattle.std.specs.Prelude.{◌≡◌, ◌-ℤ◌, unsigned_abs, map};
-ghost use Rattle.csv_load.specs.Columns.{greatest, least};
+ghost use Rattle.daq_table.specs.Extremes.{greatest, least};
 ghost use Rattle.csv_load.specs.Raised.{lowered};
 
 use crate::raised::lower;

@@ -1,4 +1,5 @@
-//! Numbers as a column keeps them until its base is known: raised by 2^63, so that the room of each serves its distance from the base later.
+//! Numbers as a column keeps them until its base is known: raised by 2^63, so that the room of each serves its distance
+//! from the base later.
 
 ghost use Rattle.std.specs.Prelude.{◌≡◌};
 ghost use Rattle.csv_load.specs.Raised.{lowered};

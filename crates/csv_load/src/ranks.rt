@@ -6,7 +6,7 @@ ghost use Rattle.std.specs.List.{list_any};
 ghost use Rattle.std.specs.List.Sorted.{IsStrictlySortedBy};
 ghost use Rattle.std.specs.Ordering.{nat_cmp};
 ghost use Rattle.std.specs.Str.{bytes_eq};
-ghost use Rattle.csv_load.specs.Columns.{rank_of};
+ghost use Rattle.daq_table.specs.Dictionaries.{rank_of};
 ghost use Rattle.csv_load.specs.Raised.{lowered};
 
 use crate::raised::raise;

@@ -4,7 +4,7 @@ ghost use Rattle.std.specs.Prelude.{◌≡◌, ◌<◌, ◌++◌, ◌∷◌, [],
 ghost use Rattle.std.specs.Cmp.Lexicographic.{slice_cmp};
 ghost use Rattle.std.specs.List.Sorted.{IsStrictlySortedBy};
 ghost use Rattle.std.specs.Ordering.{nat_cmp};
-ghost use Rattle.csv_load.specs.Columns.{distinct, rank_of};
+ghost use Rattle.daq_table.specs.Dictionaries.{distinct, rank_of};
 ghost use Rattle.csv_load.specs.Numbered.{HasNumber};
 ghost use Rattle.csv_load.specs.Raised.{lowered};
 

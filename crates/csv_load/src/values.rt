@@ -4,7 +4,8 @@ ghost use Rattle.std.specs.Prelude.{◌≡◌, ◌↔◌, ◌≢◌, if◌then�
 ghost use Rattle.std.specs.Option.{SomeIff};
 ghost use Rattle.daq_table.specs.CellTexts.{IsCellText, cell_number};
 ghost use Rattle.daq_table.specs.declared.head.Kind.TheVariants.{Text};
-ghost use Rattle.csv_load.specs.Columns.{IsShortText, is_text, rank_of};
+ghost use Rattle.daq_table.specs.Dictionaries.{rank_of};
+ghost use Rattle.csv_load.specs.Columns.{IsShortText, is_text};
 ghost use Rattle.csv_load.specs.States.{HasValues, IsComplete, RefusesValue, TakesValue, kept_of, kept_with, numbers_in};
 
 use crate::extremes::{become_distances, greatest_number, least_number};
@@ -28,7 +29,7 @@ pub(crate) struct Values {
 
 impl Model for Values {
     ghost use Rattle.std.specs.Prelude.{map};
-    ghost use Rattle.csv_load.specs.Columns.{distinct};
+    ghost use Rattle.daq_table.specs.Dictionaries.{distinct};
     ghost use Rattle.csv_load.specs.Raised.{lowered};
     ghost use Rattle.csv_load.specs.States.{Kept};
 

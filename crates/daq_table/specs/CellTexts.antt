@@ -84,11 +84,15 @@ pub record IsDateCell (bytes : List ℕ) : Type 0 where
   pub year : AllDigits 10 (year_digits bytes)
   pub month : AllDigits 10 (month_digits bytes)
   pub day : AllDigits 10 (day_digits bytes)
-  pub civil : IsCivilDate (pos (digits_value 10 (year_digits bytes))) (digits_value 10 (month_digits bytes)) (digits_value 10 (day_digits bytes))
+  pub civil :
+      IsCivilDate (pos (digits_value 10 (year_digits bytes)))
+      (digits_value 10 (month_digits bytes)) (digits_value 10 (day_digits bytes))
 
 -- the day number of the date: 0 for 1 January 1970
 abbrev pub date_value : List ℕ → ℤ
-date_value bytes = days_from_civil (pos (digits_value 10 (year_digits bytes))) (digits_value 10 (month_digits bytes)) (digits_value 10 (day_digits bytes))
+date_value bytes =
+    days_from_civil (pos (digits_value 10 (year_digits bytes)))
+    (digits_value 10 (month_digits bytes)) (digits_value 10 (day_digits bytes))
 
 -- the bytes have the form of the kind's cells, and their number is one of 64 bits; a cell of texts has none
 abbrev pub IsCellText : Kind → List ℕ → Type 0

@@ -1,6 +1,8 @@
 pub mod ColumnFacts
 pub mod HeadFacts
 pub mod Tables
+pub mod Extremes
+pub mod Dictionaries
 pub mod Numbers
 pub mod CellTexts
 pub mod ValueTexts

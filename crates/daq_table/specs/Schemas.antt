@@ -38,7 +38,8 @@ kind_word word = if is_nullable_word word then take (length word - 1) word else 
 
 abbrev pub column_named : List ℕ → Option Kind → Bool → Option SchemaColumn
 column_named name None nullable = None
-column_named name (Some kind) nullable = if is_schema_name name then Some (record { name = name; kind = kind; nullable = nullable }) else None
+column_named name (Some kind) nullable =
+    if is_schema_name name then Some (record { name = name; kind = kind; nullable = nullable }) else None
 
 -- the column that a name and the word behind it declare
 abbrev pub column_worded : List ℕ → List ℕ → Option SchemaColumn

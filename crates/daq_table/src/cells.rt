@@ -40,7 +40,9 @@ fn with_digit(number: u64, digit: u8) -> Option<u64>
 // The number that the bytes write as digits behind those of `start`. None where one is no digit, or the number
 // is not one of 64 bits.
 pub(crate) fn read_digits(start: u64, bytes: &[u8]) -> Option<u64>
-    ensures { SomeIff result (AllDigits 10 bytes.now × (digits_value_after 10 start bytes.now < 2 ^ 64)) (digits_value_after 10 start bytes.now) }
+    ensures { SomeIff result
+        (AllDigits 10 bytes.now × (digits_value_after 10 start bytes.now < 2 ^ 64))
+        (digits_value_after 10 start bytes.now) }
 {
     let mut number = start;
     for byte in bytes {

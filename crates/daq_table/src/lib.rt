@@ -21,7 +21,7 @@ mod values;
 
 pub use buffer::{NoRoom, TextBuf};
 pub use cells::{cell_value, int_cell};
-pub use column::{ends, planes, width};
+pub use column::{digits_of, ends, planes, width};
 pub use exactness::{schemas_are_exact, schemas_have_meanings};
 pub use head::{ColumnHead, ColumnHeads, Ends, Kind};
 pub use listed::Listed;
@@ -30,6 +30,7 @@ pub use numbers::{number_text, written_number};
 pub use schema::Schema;
 pub use schema_column::{SchemaColumn, SchemaColumns};
 pub use schema_fault::SchemaFault;
+pub use schema_items::is_column_name;
 pub use table::Table;
 pub use table_head::Head;
 pub use values::value_text;

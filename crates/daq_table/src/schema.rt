@@ -22,7 +22,8 @@ pub struct Schema {
 
 impl Schema {
     /// The schema that a text writes: items parted by `,`, each a name, `:` and `int`, `date`, `text`, or `dec` and one
-    /// digit, with `?` behind it where the column is nullable. A name has from 1 to 64 bytes, each from 0x20 to 0x7E and none of `,` `:` `"`.
+    /// digit, with `?` behind it where the column is nullable. A name has from 1 to 64 bytes, each from 0x20 to 0x7E
+    /// and none of `,` `:` `"`.
     pub fn parse(alloc: Global, text: &str) -> Result<Schema, SchemaFault>
         ensures ok { IfOk result (λ schema. Declares text.now schema.columns) }
         ensures err { IfErr result (Refuses text.now) }

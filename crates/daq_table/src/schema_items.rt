@@ -26,8 +26,8 @@ fn are_letters(bytes: &[u8]) -> bool
     bytes.iter().all(|byte| is_letter(*byte))
 }
 
-// Whether the bytes are a name.
-fn is_name(bytes: &[u8]) -> bool
+/// Whether the bytes are the name of a column, as a schema gives it.
+pub fn is_column_name(bytes: &[u8]) -> bool
     ensures { result ≡ is_schema_name bytes.now }
 {
     bytes.len() >= 1 && bytes.len() <= 64 && are_letters(bytes)
@@ -76,7 +76,7 @@ fn read_column(alloc: Global, name: &[u8], word: &[u8]) -> Result<Option<SchemaC
     let (word, nullable) = parted_word(word);
     match read_kind(word) {
         Some(kind) => {
-            if !is_name(name) {
+            if !is_column_name(name) {
                 return Ok(None);
             }
             let name = Name::new(Vec::from_slice(alloc, name)?);

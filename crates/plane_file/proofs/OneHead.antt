@@ -1,14 +1,10 @@
 -- Bytes begin with one head at most, and are the file of one table.
-use Rattle.std.proofs.Common.{◌≡◌, ℕ, ℤ, List, [], ◌∷◌, ◌++◌, length, take, refl, sym, ap, subst, ◌∙◌, arith, length-append}
-use Rattle.std.proofs.Props.{props}
+use Rattle.std.proofs.Common.{◌≡◌, ℕ, List, [], ◌∷◌, ◌++◌, length, take, refl, sym, ap, subst, ◌∙◌, arith, length-append}
 use Rattle.std.proofs.lemmas.List.{take_at}
-use mathlib.Core.HLevel.{is_prop→PathP}
-use Rattle.daq_table.specs.ColumnFacts.{IsColumn}
-use Rattle.daq_table.specs.HeadFacts.{IsHead}
 use Rattle.daq_table.specs.Tables.{Contents, IsTable, frame_of}
 use Rattle.daq_table.specs.declared.head.ColumnHead.{ColumnHead}
-use Rattle.daq_table.specs.declared.head.Kind.{Kind}
 use Rattle.daq_table.specs.declared.table_head.Head.{Head}
+use Rattle.daq_table.proofs.SameTables.{same_column, same_contents, same_head}
 use Rattle.plane_file.proofs.Lengths.{length-file}
 use Rattle.plane_file.proofs.OneTable.{files_tell_cells}
 use Rattle.plane_file.proofs.SpelledHead.{AreAt, columns_at, has_front, tells}
@@ -17,33 +13,6 @@ use Rattle.plane_file.specs.Format.{IsFileOf, file, head_bytes, header_bytes, he
 use Rattle.plane_file.specs.Fronts.{IsColumnAt}
 use Rattle.plane_file.specs.Laws.{HaveOneHead, TablesAreOne}
 use Rattle.plane_file.specs.Opening.{IsFileHead}
-
-column_prop : (name : List ℕ) (kind : Kind) (base top : ℤ) (names : List (List ℕ)) → IsProp (IsColumn name kind base top names)
-column_prop name kind base top names = hlevel props
-
-head_prop : (rows : ℕ) (columns : List ColumnHead) → IsProp (IsHead rows columns)
-head_prop rows columns = hlevel props
-
-same_column : (h k : ColumnHead) → h.name ≡ k.name → h.kind ≡ k.kind → h.nullable ≡ k.nullable → h.base ≡ k.base → h.top ≡ k.top → h.names ≡ k.names → h ≡ k
-same_column h k n d u b t m = λ i. record {
-  name = n i;
-  kind = d i;
-  nullable = u i;
-  base = b i;
-  top = t i;
-  names = m i;
-  is_column = is_prop→PathP (λ j. IsColumn (n j) (d j) (b j) (t j) (m j)) (λ j. column_prop (n j) (d j) (b j) (t j) (m j)) h.is_column k.is_column i;
-}
-
-same_head : (h k : Head) → h.rows ≡ k.rows → h.columns ≡ k.columns → h ≡ k
-same_head h k r c = λ i. record {
-  rows = r i;
-  columns = c i;
-  is_head = is_prop→PathP (λ j. IsHead (r j) (c j)) (λ j. head_prop (r j) (c j)) h.is_head k.is_head i;
-}
-
-pub same_contents : (a b : Contents) → a.head ≡ b.head → a.cells ≡ b.cells → a ≡ b
-same_contents a b h c = λ i. record { head = h i; cells = c i }
 
 -- one column stands at a place
 one_column : (bytes : List ℕ) (titles : List (List ℕ)) (at end end' : ℕ) (x y : ColumnHead) → IsColumnAt bytes titles at x end → IsColumnAt bytes titles at y end' → x ≡ y

@@ -1,9 +1,8 @@
 -- The planes of a table tell its cells.
-use Rattle.std.proofs.Common.{◌≡◌, ℕ, zero, suc, ◌+◌, ◌-◌, ◌*◌, ◌/◌, ◌%◌, ◌^◌, ◌<◌, ◌≤◌, ◌==◌, cond, Some, None, List, [], ◌∷◌, ◌++◌, length, map, get_or, refl, sym, ap, ◌∙◌, arith, length-append}
+use Rattle.std.proofs.Common.{◌≡◌, ℕ, zero, suc, ◌+◌, ◌-◌, ◌*◌, ◌/◌, ◌^◌, ◌<◌, ◌≤◌, cond, Some, None, List, [], ◌∷◌, ◌++◌, length, map, get_or, refl, sym, ap, ◌∙◌, arith, length-append}
 use Rattle.std.specs.List.{flat_map, range_with_len}
-use Rattle.std.proofs.Math.Nat.{div-div-eq-div-mul}
 use Rattle.std.proofs.lemmas.List.{get_or_default, length-map, same_lists}
-use Rattle.std.proofs.lemmas.Nat.{div-add-mod', mod_below, pow_pos}
+use Rattle.std.proofs.lemmas.Nat.{pow_pos}
 use Rattle.daq_table.specs.declared.head.Ends.{Ends}
 use Rattle.daq_table.specs.declared.table_head.Head.{Head}
 use Rattle.daq_table.specs.Tables.{Cell, Cells, IsCell, IsTable, code, ends_at, ends_of, frame_of, planes, width}
@@ -11,31 +10,12 @@ use Rattle.plane_kernels.specs.Bytes.{bytes_of_rows}
 use Rattle.plane_kernels.proofs.BytesLaws.{of_one_list}
 use Rattle.query_model.specs.Knowledge.{bit_at, longer, plane_of, prefix_of}
 use Rattle.query_model.proofs.Blocks.{none_read, nullable_column}
+use Rattle.query_model.proofs.Planes.{next_digit}
 use Rattle.plane_file.specs.Format.{column_planes, head_bytes, header_bytes, heads_bytes, plane_size, planes_bytes}
 use Rattle.plane_file.specs.Laws.{FilesTellCells}
 use Rattle.plane_file.proofs.Lengths.{length-bytes_of_rows, length-column_planes}
 
 -- ---- from digits to cells
-
-bit_is : (q : ℕ) → cond (q % 2 == 1) 1 0 ≡ q % 2
-bit_is q = by_cases (q % 2) (mod_below q 2 (omega arith))
-  where
-    by_cases : (m : ℕ) → m < 2 → cond (m == 1) 1 0 ≡ m
-    by_cases zero h = refl
-    by_cases (suc zero) h = refl
-    by_cases (suc (suc m)) h = absurd (omega arith)
-
--- one digit more
-next_digit : (ends : Ends) (read : ℕ) (cell : Cell) → read < planes ends → 2 * prefix_of ends read cell + cond (bit_at ends read cell) 1 0 ≡ prefix_of ends (read + 1) cell
-next_digit ends read cell h =
-    let d = 2 ^ (planes ends - (read + 1)) in
-    let z = code ends cell in
-    let e : planes ends - read ≡ suc (planes ends - (read + 1)) = omega arith in
-    let twice : 2 ^ (planes ends - read) ≡ d * 2 = rw e (omega arith) in
-    let half : z / 2 ^ (planes ends - read) ≡ z / d / 2 = ap (λ b. z / b) twice ∙ sym (div-div-eq-div-mul z d 2) in
-    let parts = div-add-mod' (z / d) 2 in
-    let bit = bit_is (z / d) in
-    omega arith
 
 -- the same first digits make the same prefix
 same_prefix : (ends : Ends) (x y : Cell) → IsCell ends x → IsCell ends y → (read : ℕ) → read ≤ planes ends → ((j : ℕ) → j < read → bit_at ends j x ≡ bit_at ends j y) → prefix_of ends read x ≡ prefix_of ends read y

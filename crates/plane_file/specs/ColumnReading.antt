@@ -93,10 +93,12 @@ pub record ReachesIllegal (head : Head) (bytes : List ℕ) (column plane row : �
 -- why the planes of a column were not read
 abbrev pub IsColumnCause : Head → ℕ → StoreState → StoreState → ReadTable → Type 0
 IsColumnCause head column old new (File _) = ⊥
-IsColumnCause head column old new (Plane (PadBits c plane)) = (c ≡ column) × IfSome old.held (λ bytes. ReachesPadded head bytes column plane)
+IsColumnCause head column old new (Plane (PadBits c plane)) =
+    (c ≡ column) × IfSome old.held (λ bytes. ReachesPadded head bytes column plane)
 IsColumnCause head column old new (Plane Fault) = Rose old.faults new.faults
 IsColumnCause head column old new (Plane WentShort) = Rose old.ends new.ends × IfSome old.held (λ bytes. ⊥)
-IsColumnCause head column old new (OverTop c plane row) = (c ≡ column) × IfSome old.held (λ bytes. ReachesIllegal head bytes column plane row)
+IsColumnCause head column old new (OverTop c plane row) =
+    (c ≡ column) × IfSome old.held (λ bytes. ReachesIllegal head bytes column plane row)
 IsColumnCause head column old new NoMemory = ⊤
 
 -- so many bytes are at most those of so many planes
@@ -132,7 +134,8 @@ pub record ReadsCells (head : Head) (column : ℕ) (old new : StoreState) (numbe
   pub make : MakeCells head column numbers marks
   pub have : IfSome old.held (λ bytes. HavePlanes head bytes column (planes (ends_at (frame_of head) column)) (column_from numbers marks))
   pub handed :
-      HandsOver old.pieces new.pieces (places_from (plane_at head column 0) (plane_size head.rows * planes (ends_at (frame_of head) column)))
+      HandsOver old.pieces new.pieces
+      (places_from (plane_at head column 0) (plane_size head.rows * planes (ends_at (frame_of head) column)))
 
 -- the numbers and marks of the first columns, so many
 pub record MakeColumns (head : Head) (count : ℕ) (numbers : List (List ℕ)) (marks : List (List Bool)) : Type 0 where

@@ -46,7 +46,9 @@ first_bytes column = kind_byte column ∷ scale_byte column.kind ∷ width (ends
 
 -- what stands before the name of a column: these four, base, top, and the number of its texts
 abbrev pub numbers_bytes : ColumnHead → List ℕ
-numbers_bytes column = first_bytes column ++ (signed_bytes column.base ++ (signed_bytes column.top ++ to_le_bytes w32 (length column.names)))
+numbers_bytes column =
+    first_bytes column
+    ++ (signed_bytes column.base ++ (signed_bytes column.top ++ to_le_bytes w32 (length column.names)))
 
 -- the head of a column: its numbers, its name, and its texts
 abbrev pub column_bytes : ColumnHead → List ℕ

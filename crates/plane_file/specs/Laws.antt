@@ -38,7 +38,9 @@ ShowOneFault = (bytes : List ℕ) (one other : ReadTable) → ShowsFault bytes o
 
 -- the file of a table shows none
 abbrev pub FilesShowNoFault : Type 0
-FilesShowNoFault = (bytes : List ℕ) (version : ℕ) (table : Contents) (fault : ReadTable) → IsFileOf bytes version table → ¬ ShowsFault bytes fault
+FilesShowNoFault =
+    (bytes : List ℕ) (version : ℕ) (table : Contents) (fault : ReadTable) →
+    IsFileOf bytes version table → ¬ ShowsFault bytes fault
 
 -- bytes that show no fault are the file of a table
 abbrev pub HaveTables : Type 0

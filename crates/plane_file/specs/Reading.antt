@@ -55,7 +55,9 @@ StopsReading head c j old new WentShort = IsShort (plane_at head c j) (plane_siz
 
 -- these bytes were put into the plane, from word `first` on, and their places were handed over
 pub record PutsWords (place first size : ℕ) (old new : StoreState) (before after : List Bool) : Type 0 where
-  pub bytes : IfSome old.held (λ bytes. bytes_of_rows after ≡ put_chunk (8 * first) (bytes_of_rows before) (take size (drop (place + 8 * first) bytes)))
+  pub bytes :
+      IfSome old.held (λ bytes.
+      bytes_of_rows after ≡ put_chunk (8 * first) (bytes_of_rows before) (take size (drop (place + 8 * first) bytes)))
   pub handed : HandsOver old.pieces new.pieces (places_from (place + 8 * first) size)
 
 -- a bit past the last of so many rows is 1 in the bytes of the words from `first` on, and their places were handed over

@@ -56,7 +56,8 @@ fn read_known<P: Store>(
     requires rows { length plane.old ≡ file.now.head.rows }
     requires holds { HoldsFile (P.state store.old) file.now.head }
     ensures rows { length plane.new ≡ length plane.old }
-    ensures read { IfOk result (ReadsPlanes file.now.head column (planes (ends_at (frame_of file.now.head) column)) (P.state store.old) (P.state store.new)) }
+    ensures read { IfOk result
+        (ReadsPlanes file.now.head column (planes (ends_at (frame_of file.now.head) column)) (P.state store.old) (P.state store.new)) }
     ensures stopped { IfErr result (StopsInColumn file.now.head column (P.state store.old) (P.state store.new)) }
     ensures same { HoldsSame (P.state store.old) (P.state store.new) }
 {

@@ -1,15 +1,14 @@
 //! Whether each field of a column's head has a value that it can have.
 
 ghost use Rattle.std.specs.Prelude.{◌≡◌, ◌-ℤ◌, ◌+◌, ◌<◌, ◌≤◌, ◌^◌, nat_abs};
-ghost use Rattle.std.specs.List.{list_all, list_any};
+ghost use Rattle.std.specs.List.{list_any};
 ghost use Rattle.std.specs.Str.{bytes_eq};
-ghost use Rattle.daq_table.specs.Schemas.{fits_scale, is_name_byte, is_schema_name};
-ghost use Rattle.daq_table.specs.Tables.{binary_digits};
+ghost use Rattle.daq_table.specs.Schemas.{fits_scale};
 ghost use Rattle.plane_file.specs.Checks.{are_ranks_below, fits_base, fits_count, fits_top, has_base, has_count, has_kind, has_scale, has_title, has_title_length, has_top, has_width, is_kind_byte, is_new, kind_at, kind_from, titles_of};
 ghost use Rattle.plane_file.specs.Format.{is_day, scale_byte};
 
 use crate::places::{byte_at, number32_at, number64_at, part_at, reaches, signed_at};
-use daq_table::{ColumnHead, Kind};
+use daq_table::{ColumnHead, Kind, digits_of, is_column_name};
 
 // Whether the byte is that of a kind in a version.
 fn is_kind_byte(version: u32, byte: u8) -> bool
@@ -115,40 +114,6 @@ fn fits_count(kind: Kind, count: u32, base: i64, top: i64, empty: bool) -> bool
         Kind::Date => count == 0,
         Kind::Text => are_ranks_below(count, base, top, empty),
     }
-}
-
-// The number of binary digits, none for 0.
-fn digits_of(number: u64) -> u8
-    ensures { result ≡ binary_digits number }
-{
-    let mut rest = number;
-    let mut digits = 0;
-    while rest > 0 {
-        rest /= 2;
-        digits += 1;
-    }
-    digits
-}
-
-// Whether a byte may stand in the name of a column.
-fn is_letter(byte: u8) -> bool
-    ensures { result ≡ is_name_byte byte }
-{
-    byte >= 0x20 && byte <= 0x7E && byte != b',' && byte != b':' && byte != b'"'
-}
-
-// Whether each byte may stand in the name of a column.
-fn are_letters(bytes: &[u8]) -> bool
-    ensures { result ≡ list_all is_name_byte bytes.now }
-{
-    bytes.iter().all(|byte| is_letter(*byte))
-}
-
-// Whether the bytes are the name of a column.
-fn is_column_name(bytes: &[u8]) -> bool
-    ensures { result ≡ is_schema_name bytes.now }
-{
-    bytes.len() >= 1 && bytes.len() <= 64 && are_letters(bytes)
 }
 
 // Whether a column has that name.

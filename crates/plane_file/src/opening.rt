@@ -15,7 +15,7 @@ use std::alloc::Global;
 
 // Fills the buffer with the bytes from a place on.
 fn fill<P: Store>(store: &mut P, at: u64, buf: &mut [u8]) -> Result<(), FileFault>
-    requires { at + length buf.old < 2 ^ 64 }
+    requires { at + length buf.old < 2 ^ 63 }
     ensures filled { OnOk result (Fills (P.state store.old) (P.state store.new) at buf.new) }
     ensures stopped { IfErr result (StopsAt (P.state store.old) (P.state store.new) at (length buf.new)) }
     ensures same { HoldsSame (P.state store.old) (P.state store.new) }

@@ -20,7 +20,7 @@ const PIECE: usize = 65536;
 
 // Fills the buffer with the bytes from a place on.
 fn fetch<P: Store>(store: &mut P, place: u64, bytes: &mut [u8]) -> Result<(), WordsFault>
-    requires fits { place + length bytes.old < 2 ^ 64 }
+    requires fits { place + length bytes.old < 2 ^ 63 }
     requires holds { IfSome (P.state store.old).held (λ held. place + length bytes.old ≤ length held) }
     ensures filled { OnOk result (Fills (P.state store.old) (P.state store.new) place bytes.new) }
     ensures stopped { IfErr result (StopsAtBytes place (length bytes.old) (P.state store.old) (P.state store.new)) }
@@ -44,7 +44,7 @@ fn read_piece<P: Store>(
 ) -> Result<(), WordsFault>
     requires whole { length bytes.old % 8 ≡ 0 }
     requires within { 8 * first + length bytes.old ≤ plane_size (length into.old) }
-    requires fits { place + plane_size (length into.old) < 2 ^ 64 }
+    requires fits { place + plane_size (length into.old) < 2 ^ 63 }
     requires holds { IfSome (P.state store.old).held (λ held. place + plane_size (length into.old) ≤ length held) }
     ensures rows { length into.new ≡ length into.old }
     ensures read { OnOk result (PutsWords place first (length bytes.old) (P.state store.old) (P.state store.new) into.old into.new) }
@@ -60,11 +60,12 @@ fn read_piece<P: Store>(
 
 // Reads a plane that begins at a place.
 fn read_words<P: Store>(store: &mut P, place: u64, into: &mut Plane) -> Result<(), WordsFault>
-    requires fits { place + plane_size (length into.old) < 2 ^ 64 }
+    requires fits { place + plane_size (length into.old) < 2 ^ 63 }
     requires holds { IfSome (P.state store.old).held (λ held. place + plane_size (length into.old) ≤ length held) }
     ensures rows { length into.new ≡ length into.old }
     ensures read { OnOk result (ReadsWords place (P.state store.old) (P.state store.new) into.new) }
-    ensures stopped { IfErr result (StopsAtWords place 0 (plane_size (length into.old)) (length into.old) (P.state store.old) (P.state store.new)) }
+    ensures stopped { IfErr result
+        (StopsAtWords place 0 (plane_size (length into.old)) (length into.old) (P.state store.old) (P.state store.new)) }
     ensures same { HoldsSame (P.state store.old) (P.state store.new) }
 {
     let mut buffer = [0u8; PIECE];
@@ -83,7 +84,7 @@ fn place_of(file: &PlaneFile, column: usize, plane: u8) -> u64
     requires column { column < length file.now.head.columns }
     requires plane { plane < planes (ends_at (frame_of file.now.head) column) }
     ensures place { result ≡ plane_at file.now.head column plane }
-    ensures fits { result + plane_size file.now.head.rows < 2 ^ 64 }
+    ensures fits { result + plane_size file.now.head.rows < 2 ^ 63 }
 {
     let head = file.head();
     let before = planes_in(&head.columns.as_slice()[..column]) + u64::from(plane);

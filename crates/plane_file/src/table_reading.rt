@@ -21,7 +21,8 @@ fn read_columns<P: Store>(
     store: &mut P,
 ) -> Result<(Vec<Vec<u64>>, Vec<Vec<bool>>), ReadTable>
     requires holds { HoldsFile (P.state store.old) file.now.head }
-    ensures read { IfOk result (λ read. ReadsColumns file.now.head (P.state store.old) (P.state store.new) (map vec_items read.0.items) (map vec_items read.1.items)) }
+    ensures read { IfOk result (λ read. ReadsColumns file.now.head (P.state store.old) (P.state store.new)
+        (map vec_items read.0.items) (map vec_items read.1.items)) }
     ensures stopped { IfErr result (StopsInColumns file.now.head (P.state store.old) (P.state store.new)) }
     ensures same { HoldsSame (P.state store.old) (P.state store.new) }
 {

@@ -1,4 +1,5 @@
-// Blocks of 512 rows of masks and planes.
+//! Blocks of 512 rows of masks and planes.
+
 ghost use Rattle.std.specs.Prelude.{◌≡◌, ◌<◌, ◌*◌, length};
 
 use super::*;

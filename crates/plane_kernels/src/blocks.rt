@@ -1,4 +1,5 @@
-// Blocks of eight words, which have 512 rows.
+//! Blocks of eight words, which have 512 rows.
+
 ghost use Rattle.std.specs.Prelude.{◌≡◌, ◌≤◌, ◌<◌, ◌+◌, ◌-◌, ◌*◌, ◌++◌, [], ◌∷◌, length, take, drop, replicate};
 ghost use Rattle.std.specs.Simd.Lanes.{put_chunk};
 ghost use Rattle.plane_kernels.specs.Rows.{IsPadded, rows_of};

@@ -1,4 +1,5 @@
-// Planes as bytes: written, read whole or in pieces, and refused.
+//! Planes as bytes: written, read whole or in pieces, and refused.
+
 ghost use Rattle.std.specs.Prelude.{◌≡◌, ◌*◌, length, IfOk, OnOk};
 ghost use Rattle.plane_kernels.specs.Bytes.{bytes_of_rows, word_count};
 

@@ -1,4 +1,4 @@
-// What may be wrong with the bytes of a plane.
+//! What may be wrong with the bytes of a plane.
 
 /// A bit past the last row is 1.
 #[derive(Clone, Copy, Debug, PartialEq, Eq)]

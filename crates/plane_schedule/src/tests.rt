@@ -1,4 +1,5 @@
-// Choices of the next column, and rounds by a chooser.
+//! Choices of the next column, and rounds by a chooser.
+
 ghost use Rattle.std.specs.Prelude.{◌≤◌, ◌<◌};
 ghost use Rattle.plane_schedule.specs.Choices.{IsSound};
 ghost use Rattle.plane_schedule.specs.Keeping.{Follows, Keeps};

@@ -1,4 +1,5 @@
--- What the definitions come to where no value may be null: a condition is true or false, and what is known of it goes by Kleene's connectives.
+-- What the definitions come to where no value may be null: a condition is true or false,
+-- and what is known of it goes by Kleene's connectives.
 use Rattle.std.specs.Prelude.{ℕ, ℤ, ◌+ℤ◌, ◌-ℤ◌, ◌*ℤ◌, Bool, true, false, not, ◌&&◌, ◌||◌, List, [], ◌∷◌}
 use Rattle.std.specs.Ordering.{int_eq}
 use Rattle.interval_calc.specs.Intervals.{Interval}
@@ -69,4 +70,5 @@ plain_truth (Negation a) intervals = not_of (plain_truth a intervals)
 abbrev pub plain_truth_of_group : List ℕ → List ℤ → (ℕ → Interval) → Truth
 plain_truth_of_group [] key intervals = True
 plain_truth_of_group (c ∷ cs) [] intervals = False
-plain_truth_of_group (c ∷ cs) (k ∷ ks) intervals = and_of (truth_over (intervals c) (λ x. int_eq x k)) (plain_truth_of_group cs ks intervals)
+plain_truth_of_group (c ∷ cs) (k ∷ ks) intervals =
+    and_of (truth_over (intervals c) (λ x. int_eq x k)) (plain_truth_of_group cs ks intervals)

@@ -1,23 +1,9 @@
 //! How many planes a column has.
 
 ghost use Rattle.std.specs.Prelude.{◌≡◌, ◌≤◌};
-ghost use Rattle.daq_table.specs.Tables.{binary_digits, planes as planes_of};
+ghost use Rattle.daq_table.specs.Tables.{planes as planes_of};
 
-use daq_table::Ends;
-
-// The number of binary digits, none for 0.
-fn digits_of(number: u64) -> u8
-    ensures digits { result ≡ binary_digits number }
-    ensures few { result ≤ 64 }
-{
-    let mut rest = number;
-    let mut digits = 0;
-    while rest > 0 {
-        rest /= 2;
-        digits += 1;
-    }
-    digits
-}
+use daq_table::{Ends, digits_of};
 
 // The planes of a column: its binary digits, and one that tells null where it is nullable.
 pub(crate) fn planes(ends: Ends) -> u8

@@ -1,4 +1,5 @@
-// Rows that are parted by planes of one column, at numbers of rows about the ends of blocks.
+//! Rows that are parted by planes of one column, at numbers of rows about the ends of blocks.
+
 ghost use Rattle.std.specs.Prelude.{◌≡◌, ◌≤◌, ◌<◌, length, IfOk};
 ghost use Rattle.daq_table.specs.Tables.{planes as planes_of};
 

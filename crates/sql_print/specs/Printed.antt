@@ -75,9 +75,15 @@ wraps_tight Right = true
 abbrev pub expr_text : Side → Expr → List ℕ
 expr_text side (Column n) = name_text n.name
 expr_text side (Number n) = num_text n
-expr_text side (Add a b) = opening (wraps_loose side) ++ (expr_text Left a ++ (codes " + " ++ (expr_text Middle b ++ closing (wraps_loose side))))
-expr_text side (Sub a b) = opening (wraps_loose side) ++ (expr_text Left a ++ (codes " - " ++ (expr_text Middle b ++ closing (wraps_loose side))))
-expr_text side (Mul at a b) = opening (wraps_tight side) ++ (expr_text Middle a ++ (codes " * " ++ (expr_text Right b ++ closing (wraps_tight side))))
+expr_text side (Add a b) =
+    opening (wraps_loose side)
+    ++ (expr_text Left a ++ (codes " + " ++ (expr_text Middle b ++ closing (wraps_loose side))))
+expr_text side (Sub a b) =
+    opening (wraps_loose side)
+    ++ (expr_text Left a ++ (codes " - " ++ (expr_text Middle b ++ closing (wraps_loose side))))
+expr_text side (Mul at a b) =
+    opening (wraps_tight side)
+    ++ (expr_text Middle a ++ (codes " * " ++ (expr_text Right b ++ closing (wraps_tight side))))
 
 abbrev pub call_text : CallKind → List ℕ
 call_text Count = codes "COUNT("
@@ -140,8 +146,12 @@ pred_text side (Between c low high) = between_text false c low high
 pred_text side (OneOf c vs) = members_text false c vs
 pred_text side (IsNull c) = null_text false c
 pred_text side (Negation a) = negated_text a (pred_text Right a)
-pred_text side (Both a b) = opening (wraps_tight side) ++ (pred_text Middle a ++ (codes " AND " ++ (pred_text Right b ++ closing (wraps_tight side))))
-pred_text side (Either a b) = opening (wraps_loose side) ++ (pred_text Left a ++ (codes " OR " ++ (pred_text Middle b ++ closing (wraps_loose side))))
+pred_text side (Both a b) =
+    opening (wraps_tight side)
+    ++ (pred_text Middle a ++ (codes " AND " ++ (pred_text Right b ++ closing (wraps_tight side))))
+pred_text side (Either a b) =
+    opening (wraps_loose side)
+    ++ (pred_text Left a ++ (codes " OR " ++ (pred_text Middle b ++ closing (wraps_loose side))))
 
 -- ---- queries
 
@@ -159,4 +169,6 @@ ending_text (Grouped ns) = codes " GROUP BY " ++ listed_text (λ n. name_text n.
 ending_text (Ordered key down limit) = codes " ORDER BY " ++ (name_text key.name ++ (direction_text down ++ num_text limit))
 
 abbrev pub printed : Query → List ℕ
-printed q = codes "SELECT " ++ (head_text q.head ++ (codes " FROM " ++ (name_text q.table.name ++ (filter_text q.pred ++ ending_text q.ending))))
+printed q =
+    codes "SELECT " ++ (head_text q.head
+    ++ (codes " FROM " ++ (name_text q.table.name ++ (filter_text q.pred ++ ending_text q.ending))))

@@ -284,7 +284,8 @@ fn put_between(
     low: &Value,
     high: &Value,
 ) -> Result<(), AllocError>
-    ensures { OnOk result (out.new.items ≡ out.old.items ++ between_text negated (name_of column.now) (operand_of low.now) (operand_of high.now)) }
+    ensures { OnOk result
+        (out.new.items ≡ out.old.items ++ between_text negated (name_of column.now) (operand_of low.now) (operand_of high.now)) }
 {
     put_name(out, column.name.as_slice())?;
     let word: &[u8] = if negated {
@@ -333,7 +334,8 @@ fn put_compare(
     op: Comparison,
     value: &Value,
 ) -> Result<(), AllocError>
-    ensures { OnOk result (out.new.items ≡ out.old.items ++ (name_text (name_of column.now).name ++ (cmp_text op ++ operand_text (operand_of value.now)))) }
+    ensures { OnOk result (out.new.items ≡ out.old.items
+        ++ (name_text (name_of column.now).name ++ (cmp_text op ++ operand_text (operand_of value.now)))) }
 {
     put_name(out, column.name.as_slice())?;
     put_cmp(out, op)?;
@@ -346,7 +348,8 @@ fn put_columns(
     op: Comparison,
     right: &Named,
 ) -> Result<(), AllocError>
-    ensures { OnOk result (out.new.items ≡ out.old.items ++ (name_text (name_of left.now).name ++ (cmp_text op ++ name_text (name_of right.now).name))) }
+    ensures { OnOk result (out.new.items ≡ out.old.items
+        ++ (name_text (name_of left.now).name ++ (cmp_text op ++ name_text (name_of right.now).name))) }
 {
     put_name(out, left.name.as_slice())?;
     put_cmp(out, op)?;

@@ -61,12 +61,16 @@ unfoldable pub expect : {X : Type 0} → (Lexeme → Option X) → Reader X
 expect test w = when (look test w) (refuse Syntax w) (λ x. Ok x)
 
 unfoldable pub numeral : (fits : Bool → Option ℕ → Bool) → Bool → Reader Num
-numeral fits negative w = when (look is_number w) (refuse Syntax w) (λ x. if fits negative x.0.units then Ok (number_of negative x.0, x.1) else refuse TooLarge w)
+numeral fits negative w =
+    when (look is_number w) (refuse Syntax w)
+    (λ x. if fits negative x.0.units then Ok (number_of negative x.0, x.1) else refuse TooLarge w)
 
 -- more parts, each behind a separator, at most so many
 unfoldable pub chain : {A B X : Type 0} → ℕ → (Lexeme → Option X) → (A → X → B → A) → Reader B → A → Reader A
 chain zero separator join part a w = Ok (a, w)
-chain (suc m) separator join part a w = when (look separator w) (Ok (a, w)) (λ x. part x.1 >>= λ y. chain m separator join part (join a x.0 y.0) y.1)
+chain (suc m) separator join part a w =
+    when (look separator w) (Ok (a, w))
+    (λ x. part x.1 >>= λ y. chain m separator join part (join a x.0 y.0) y.1)
 
 -- one more than the tokens of a text of 4096 bytes
 unfoldable pub turns : ℕ
@@ -78,9 +82,13 @@ reads m fits inside (give a) w = Ok (a, w)
 reads m fits inside (one test) w = expect test w
 reads m fits inside (number negative f) w = numeral fits negative w >>= λ x. Ok (f x.0, x.1)
 reads m fits inside (either test go stay) w = when (look test w) (reads m fits inside stay w) (λ x. reads m fits inside (go x.0) x.1)
-reads m fits inside (deeper test part go stay) w = when (look test w) (reads m fits inside stay w) (λ x. inside part w >>= λ y. reads m fits inside (go y.0) y.1)
+reads m fits inside (deeper test part go stay) w =
+    when (look test w) (reads m fits inside stay w)
+    (λ x. inside part w >>= λ y. reads m fits inside (go y.0) y.1)
 reads m fits inside (next p go) w = reads m fits inside p w >>= λ x. reads m fits inside (go x.0) x.1
-reads m fits inside (many separator first join part) w = reads m fits inside part w >>= λ x. chain m separator join (reads m fits inside part) (first x.0) x.1
+reads m fits inside (many separator first join part) w =
+    reads m fits inside part w >>= λ x.
+    chain m separator join (reads m fits inside part) (first x.0) x.1
 
 -- one level down, where so many levels are left
 unfoldable pub inside_at : (m : ℕ) (fits : Bool → Option ℕ → Bool) (levels : ℕ) (p : Part) → Reader (Inner p)

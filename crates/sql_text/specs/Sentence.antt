@@ -33,7 +33,9 @@ IsLimitAt _ _ = ⊥
 
 -- The next token could stand there, but for a limit.
 abbrev pub PassesLimit : (levels : ℕ) → Cause → List Lexeme → List Lexeme → Type 0
-PassesLimit levels cause front rest = (x : Lexeme) × (v : List Lexeme) × (rest ≡ x ∷ v) × IsLimitAt cause x × Begins IsAnySentence (front ++ (x ∷ [])) × (Begins (IsSentence levels) (front ++ (x ∷ [])) → ⊥)
+PassesLimit levels cause front rest =
+    (x : Lexeme) × (v : List Lexeme) × (rest ≡ x ∷ v) × IsLimitAt cause x
+    × Begins IsAnySentence (front ++ (x ∷ [])) × (Begins (IsSentence levels) (front ++ (x ∷ [])) → ⊥)
 
 abbrev pub IsCause : (levels : ℕ) → Cause → List Lexeme → List Lexeme → Type 0
 IsCause levels Syntax front rest = IsWrong front rest

@@ -86,7 +86,9 @@ pub data IsToken : List ℕ → Mark → Type 0 where
   word : {b : ℕ} {w : List ℕ} → class_of b ≡ Letter → Each in_word (b ∷ w) → IsToken (b ∷ w) (word_of (b ∷ w))
   quoted : {b : ℕ} {w : List ℕ} → Each in_quotes (b ∷ w) → IsToken (34 ∷ (b ∷ (w ++ (34 ∷ [])))) (NAME (b ∷ w))
   digits : {b : ℕ} {w : List ℕ} → class_of b ≡ Digit → Each in_number (b ∷ w) → IsToken (b ∷ w) (number_mark (b ∷ w) [])
-  point : {b : ℕ} (c : ℕ) (w f : List ℕ) → class_of b ≡ Digit → Each in_number (b ∷ w) → Each in_number (c ∷ f) → IsToken (b ∷ (w ++ (46 ∷ (c ∷ f)))) (number_mark (b ∷ w) (c ∷ f))
+  point : {b : ℕ} (c : ℕ) (w f : List ℕ) →
+      class_of b ≡ Digit → Each in_number (b ∷ w) → Each in_number (c ∷ f) →
+      IsToken (b ∷ (w ++ (46 ∷ (c ∷ f)))) (number_mark (b ∷ w) (c ∷ f))
   string : (s : List ℕ) → IsToken (39 ∷ (doubled s ++ (39 ∷ []))) (STRING s)
   one : {b : ℕ} {k : Fixed} → class_of b ≡ Other → one_sign b ≡ Some k → IsToken (b ∷ []) (FIXED k)
   two : {b c : ℕ} {k : Fixed} → class_of b ≡ Other → two_sign b c ≡ Some k → IsToken (b ∷ (c ∷ [])) (FIXED k)
@@ -103,4 +105,7 @@ BeginsNone w = ((u v : List ℕ) (m : Mark) → w ≡ u ++ v → IsToken u m →
 pub data Splits : ℕ → List ℕ → List Lexeme → List ℕ → Type 0 where
   stops : {at : ℕ} {w : List ℕ} → BeginsNone w → Splits at w [] w
   blank : {at b : ℕ} {w rest : List ℕ} {ts : List Lexeme} → class_of b ≡ Blank → Splits (at + 1) w ts rest → Splits at (b ∷ w) ts rest
-  next : {at : ℕ} {front w rest : List ℕ} {m : Mark} {ts : List Lexeme} → IsToken front m → IsLongest front w → Splits (at + length front) w ts rest → Splits at (front ++ w) (token at m ∷ ts) rest
+  next : {at : ℕ} {front w rest : List ℕ} {m : Mark} {ts : List Lexeme} →
+      IsToken front m → IsLongest front w →
+      Splits (at + length front) w ts rest →
+      Splits at (front ++ w) (token at m ∷ ts) rest

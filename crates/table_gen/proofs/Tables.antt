@@ -10,12 +10,14 @@ use Rattle.daq_table.specs.declared.head.ColumnHead.{ColumnHead}
 use Rattle.daq_table.specs.declared.head.Ends.{Ends}
 use Rattle.daq_table.specs.declared.head.Kind.{Kind}
 use Rattle.daq_table.specs.declared.head.Kind.TheVariants.{Int, Dec, Date, Text}
-use Rattle.table_gen.specs.Columns.{Stores, distinct, greatest, ranks_of}
+use Rattle.daq_table.proofs.Dictionaries.{some_names}
+use Rattle.daq_table.proofs.Extremes.{greatest_above}
+use Rattle.daq_table.specs.Dictionaries.{distinct}
+use Rattle.daq_table.specs.Extremes.{greatest}
+use Rattle.table_gen.specs.Columns.{Stores, ranks_of}
 use Rattle.table_gen.specs.Draws.{a_of, b_of, column_of, d_of, g_of}
 use Rattle.table_gen.specs.TableOf.{IsTableOfSeed}
 use Rattle.table_gen.proofs.Columns.{column_long}
-use Rattle.table_gen.proofs.Dictionaries.{some_names}
-use Rattle.table_gen.proofs.Ends.{greatest_above}
 
 -- the heads and cells of the four columns
 pub record AreMade (seed rows : ℕ) (a b d g : ColumnHead) (ka kb kd kg : List Cell) : Type 0 where

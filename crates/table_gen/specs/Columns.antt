@@ -1,36 +1,14 @@
 -- How a column is stored: its dictionary, its ends and its cells.
-use Rattle.std.specs.Prelude.{◌≡◌, ℕ, ℤ, pos, false, Some, List, [], ◌∷◌, fold, map, slice_get}
-use Rattle.std.specs.BTreeSet.{insert_key}
-use Rattle.std.specs.Cmp.Lexicographic.{slice_cmp}
-use Rattle.std.specs.Int.{int_max, int_min}
-use Rattle.std.specs.List.{position_or_len}
-use Rattle.std.specs.Ordering.{nat_cmp}
-use Rattle.std.specs.Str.{bytes_eq}
+use Rattle.std.specs.Prelude.{◌≡◌, ℕ, ℤ, pos, false, Some, List, map, slice_get}
 use Rattle.daq_table.specs.Tables.{Cell, Contents, ends_of, value_of}
 use Rattle.daq_table.specs.declared.head.ColumnHead.{ColumnHead}
 use Rattle.daq_table.specs.declared.head.Kind.{Kind}
-
--- the texts, each once, sorted by their bytes
-abbrev pub distinct : List (List ℕ) → List (List ℕ)
-distinct texts = fold (insert_key (slice_cmp nat_cmp)) [] texts
-
--- the place of a name in a dictionary
-abbrev pub rank_of : List (List ℕ) → List ℕ → ℕ
-rank_of names text = position_or_len (bytes_eq text) names
+use Rattle.daq_table.specs.Dictionaries.{distinct, rank_of}
+use Rattle.daq_table.specs.Extremes.{greatest, least}
 
 -- the ranks of the texts in their dictionary
 abbrev pub ranks_of : List (List ℕ) → List ℤ
 ranks_of texts = map (λ text. pos (rank_of (distinct texts) text)) texts
-
--- the least number, and 0 where there is none
-abbrev pub least : List ℤ → ℤ
-least [] = pos 0
-least (z ∷ zs) = fold int_min z zs
-
--- the greatest number, and 0 where there is none
-abbrev pub greatest : List ℤ → ℤ
-greatest [] = pos 0
-greatest (z ∷ zs) = fold int_max z zs
 
 -- base and top are the least and the greatest of these numbers, and the cells stand for them, none of them null
 pub record Stores (name : List ℕ) (kind : Kind) (names : List (List ℕ)) (numbers : List ℤ)

@@ -2,7 +2,8 @@
 use Rattle.std.specs.Prelude.{◌≡◌, ℕ, [], codes, length}
 use Rattle.daq_table.specs.Tables.{Contents}
 use Rattle.daq_table.specs.declared.head.Kind.TheVariants.{Int, Dec, Date, Text}
-use Rattle.table_gen.specs.Columns.{HasColumn, distinct, ranks_of}
+use Rattle.daq_table.specs.Dictionaries.{distinct}
+use Rattle.table_gen.specs.Columns.{HasColumn, ranks_of}
 use Rattle.table_gen.specs.Draws.{a_of, b_of, column_of, d_of, g_of}
 
 -- the four columns `a:int`, `b:dec2`, `d:date` and `g:text` of so many rows

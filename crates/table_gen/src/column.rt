@@ -3,7 +3,8 @@
 ghost use Rattle.std.specs.Prelude.{◌≡◌, ◌≢◌, IfOk, IsTrue, []};
 ghost use Rattle.daq_table.specs.Tables.{column_from};
 ghost use Rattle.daq_table.specs.ColumnFacts.{fits_names, is_ascending};
-ghost use Rattle.table_gen.specs.Columns.{Stores, greatest, least};
+ghost use Rattle.daq_table.specs.Extremes.{greatest, least};
+ghost use Rattle.table_gen.specs.Columns.{Stores};
 
 use crate::extremes::{distances, greatest_number, least_number};
 use daq_table::{ColumnHead, Dictionary, Kind, Name};

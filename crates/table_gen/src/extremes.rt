@@ -1,7 +1,7 @@
 //! The least and the greatest number of a column, and how far its numbers lie above the least.
 
 ghost use Rattle.std.specs.Prelude.{◌≡◌, ◌-ℤ◌, unsigned_abs, map, IfOk};
-ghost use Rattle.table_gen.specs.Columns.{greatest, least};
+ghost use Rattle.daq_table.specs.Extremes.{greatest, least};
 
 use std::alloc::{AllocError, Global};
 

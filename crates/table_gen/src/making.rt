@@ -3,7 +3,8 @@
 ghost use Rattle.std.specs.Prelude.{◌≡◌, ◌≤◌, ◌<◌, ◌↔◌, ◌≢◌, All, IfOk, Err, [], ◌∷◌, map, vec_items};
 ghost use Rattle.daq_table.specs.Tables.{column_from};
 ghost use Rattle.daq_table.specs.declared.head.Kind.TheVariants.{Text};
-ghost use Rattle.table_gen.specs.Columns.{Stores, distinct, ranks_of};
+ghost use Rattle.daq_table.specs.Dictionaries.{distinct};
+ghost use Rattle.table_gen.specs.Columns.{Stores, ranks_of};
 ghost use Rattle.table_gen.specs.Draws.{text_of};
 ghost use Rattle.table_gen.specs.TableOf.{IsTableOfSeed};
 

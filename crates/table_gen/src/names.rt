@@ -5,7 +5,7 @@ ghost use Rattle.std.specs.BTreeSet.{insert_key};
 ghost use Rattle.std.specs.Cmp.Lexicographic.{slice_cmp};
 ghost use Rattle.std.specs.List.Sorted.{IsStrictlySortedBy};
 ghost use Rattle.std.specs.Ordering.{nat_cmp};
-ghost use Rattle.table_gen.specs.Columns.{distinct, rank_of};
+ghost use Rattle.daq_table.specs.Dictionaries.{distinct, rank_of};
 ghost use Rattle.table_gen.specs.Draws.{text_of};
 
 use daq_table::{Dictionary, Text};

@@ -98,7 +98,8 @@ Narrows plane first old share new narrower =
 -- the rows at the level and those counted there have one range
 abbrev pub HaveOneRange : KnownColumn → Cut → Type 0
 HaveOneRange key cut =
-    (x y : ℕ) → x < rows_of_column key → y < rows_of_column key → IsTrue (is_in cut.level x) → IsTrue (is_in cut.counted y) → range_at key x ≡ range_at key y
+    (x y : ℕ) → x < rows_of_column key → y < rows_of_column key →
+    IsTrue (is_in cut.level x) → IsTrue (is_in cut.counted y) → range_at key x ≡ range_at key y
 
 -- of rows of one range that has more values none must come before another, and each may come before each other
 abbrev pub are_wanted : Rivals → Share → Bool
@@ -109,7 +110,9 @@ are_wanted May share = nat_le share.there share.wanted
 abbrev pub Settles : Rivals → KnownColumn → Share → Cut → List Bool → Type 0
 Settles rivals key share cut found =
     (x : ℕ) → x < rows_of_column key →
-    is_in found x ≡ (is_in cut.before x || (is_in cut.level x && (if is_wide (range_at key x) then are_wanted rivals share else is_reached share.wanted cut.counted x)))
+    is_in found x ≡ (is_in cut.before x
+    || (is_in cut.level x
+    && (if is_wide (range_at key x) then are_wanted rivals share else is_reached share.wanted cut.counted x)))
 
 -- ---- the whole
 

@@ -28,7 +28,8 @@ is_in rows r = slice_index_or rows r false
 abbrev pub count_rows : ℕ → (ℕ → Bool) → ℕ
 count_rows rows test = length (filter test (range_with_len 0 rows))
 
--- row y comes before row x: it must where its last value comes before the first of x, and it may where its first value comes before the last of x
+-- row y comes before row x: it must where its last value comes before the first of x, and it may where its first value
+-- comes before the last of x
 abbrev pub comes : Rivals → Bool → Range → ℕ → Range → ℕ → Bool
 comes Must down other y range x = comes_before down (last_end down other) y (first_end down range) x
 comes May down other y range x = comes_before down (first_end down other) y (last_end down range) x
@@ -94,5 +95,6 @@ pub record IsJudged (pred : Condition) (order : Order) (frame : Frame) (known : 
 -- the standings are those of the definition
 abbrev pub StandingsStand : Type 0
 StandingsStand =
-    (pred : Condition) (order : Order) (frame : Frame) (known : Knowledge) (judged : Judged) (x : ℕ) → IsJudged pred order frame known judged → x < frame.rows →
+    (pred : Condition) (order : Order) (frame : Frame) (known : Knowledge) (judged : Judged) (x : ℕ) →
+    IsJudged pred order frame known judged → x < frame.rows →
     standing_by judged x ≡ standing_of pred order frame known x

@@ -88,9 +88,10 @@ impl Search {
         requires room { length found.old ≡ rows_of_column key.now }
         requires searched { HasSearchedSome key.now self.now }
         ensures rows { length found.new ≡ rows_of_column key.now }
-        ensures found { (down : Bool) (counted among : List Bool) (limit : ℕ) → length among ≡ rows_of_column key.now → length counted ≡ rows_of_column key.now
-            → HasSearched down key.now counted among limit self.now → AreNested rivals counted among
-            → FindsFirst rivals down key.now counted among limit found.new }
+        ensures found { (down : Bool) (counted among : List Bool) (limit : ℕ) →
+            length among ≡ rows_of_column key.now → length counted ≡ rows_of_column key.now →
+            HasSearched down key.now counted among limit self.now → AreNested rivals counted among →
+            FindsFirst rivals down key.now counted among limit found.new }
     {
         let _planes = read_planes(key);
         if self.share.there < self.share.wanted {

@@ -46,9 +46,16 @@ impl Model for TopK {
 
     ghost Value = { Kept };
 
-    ghost view = { λ t. record { limit = t.limit; down = t.down; standings = zip2 standing_in t.certain t.possible; must = t.must; may = t.may } };
+    ghost view = { λ t. record {
+      limit = t.limit;
+      down = t.down;
+      standings = zip2 standing_in t.certain t.possible;
+      must = t.must;
+      may = t.may;
+    } };
 
-    ghost invariant = { λ t. (1 ≤ t.limit) × IsKept (length t.certain) t.must × IsKept (length t.certain) t.may × AreApart t.certain t.possible };
+    ghost invariant = { λ t. (1 ≤ t.limit)
+        × IsKept (length t.certain) t.must × IsKept (length t.certain) t.may × AreApart t.certain t.possible };
 }
 
 // The standing of a row that is marked so.

@@ -1,5 +1,5 @@
 use Rattle.std.proofs.Common.{◌≡◌, List, ℕ, pos, map, take, vec_items}
-use Rattle.csv_load.specs.Columns.{rank_of}
+use Rattle.daq_table.specs.Dictionaries.{rank_of}
 use Rattle.csv_load.specs.Raised.{lowered}
 use Rattle.csv_load.proofs.ranks.ranks_of.Given as goal
 

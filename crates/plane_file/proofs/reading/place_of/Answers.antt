@@ -9,7 +9,7 @@ use Rattle.plane_file.proofs.Bounds.{short_heads}
 use Rattle.plane_file.proofs.reading.place_of.Goals as goal
 
 -- a place behind few and short heads, and so many planes of so many words
-low_place : (heads columns words planes : ℕ) → heads ≤ 16777304 * columns → columns ≤ 64 → words ≤ 2097160 → planes ≤ 4415 → 32 + heads + words * planes + 2097160 < 2 ^ 64
+low_place : (heads columns words planes : ℕ) → heads ≤ 16777304 * columns → columns ≤ 64 → words ≤ 2097160 → planes ≤ 4415 → 32 + heads + words * planes + 2097160 < 2 ^ 63
 low_place heads columns words planes short few small many = omega (arith, short, few, mul-le-mul small many)
 
 pub overflow_add-result : goal.overflow_add-result

@@ -2,10 +2,10 @@ use Rattle.std.proofs.Common.{◌∙◌, map, vec_items, sym, subst}
 use Rattle.std.proofs.lemmas.Result.{err_from_is_err_and}
 use Rattle.daq_table.specs.Tables.{AreMarks, IsTable, cells_from, frame_of}
 use Rattle.daq_table.specs.declared.table_head.Head.{Head}
+use Rattle.daq_table.proofs.SameTables.{same_contents}
 use Rattle.plane_file.specs.TableReading.{ReadsTable, RefusesTable}
 use Rattle.plane_file.specs.declared.table_fault.ReadTable.{ReadTable}
 use Rattle.plane_file.proofs.AllColumns.{columns_marks, columns_table}
-use Rattle.plane_file.proofs.OneHead.{same_contents}
 use Rattle.plane_file.proofs.WholeTable.{columns_refused, open_refused, table_read}
 use Rattle.plane_file.proofs.table_reading.read_table.Goals as goal
 

@@ -1,7 +1,8 @@
 use Rattle.std.proofs.Common.{◌∙◌, Some, map, ap, subst, refl, w64, to_z, of_z, to_z-of_z, FitsSigned}
 use Rattle.daq_table.specs.ColumnFacts.{IsName}
-use Rattle.table_gen.specs.Columns.{greatest, least}
-use Rattle.table_gen.proofs.Ends.{cells_of, ends_ordered, plain_values}
+use Rattle.daq_table.proofs.Extremes.{cells_of, ends_ordered}
+use Rattle.daq_table.specs.Extremes.{greatest, least}
+use Rattle.table_gen.proofs.Ends.{plain_values}
 use Rattle.table_gen.proofs.column.column_of.Goals as goal
 
 pub invariant_of-head : goal.invariant_of-head

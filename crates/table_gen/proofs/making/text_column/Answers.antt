@@ -4,9 +4,10 @@ use Rattle.daq_table.proofs.Ascending.{ascending_when_sorted}
 use Rattle.daq_table.specs.Tables.{column_from}
 use Rattle.daq_table.specs.declared.head.ColumnHead.{ColumnHead}
 use Rattle.daq_table.specs.declared.head.Kind.TheVariants.{Text}
-use Rattle.table_gen.specs.Columns.{Stores, distinct, rank_of, ranks_of}
+use Rattle.daq_table.proofs.Dictionaries.{ranks_are}
+use Rattle.daq_table.specs.Dictionaries.{distinct, rank_of}
+use Rattle.table_gen.specs.Columns.{Stores, ranks_of}
 use Rattle.table_gen.specs.Draws.{text_of}
-use Rattle.table_gen.proofs.Dictionaries.{ranks_are}
 use Rattle.table_gen.proofs.making.text_column.Goals as goal
 
 pub column_of-requires-clause-ascending : goal.column_of-requires-clause-ascending

@@ -2,8 +2,8 @@ use Rattle.std.proofs.Common.{◌≡◌, ◌∙◌, ℕ, map, Vec, Global, sym, 
 use Rattle.std.proofs.lemmas.Map.Iter.{iter_end}
 use Rattle.std.proofs.lemmas.Simd.{map-map}
 use Rattle.std.specs.Map.Iter.{deref}
+use Rattle.daq_table.proofs.Dictionaries.{distinct_sorted}
 use Rattle.table_gen.specs.Draws.{text_of}
-use Rattle.table_gen.proofs.Dictionaries.{distinct_sorted}
 use Rattle.table_gen.proofs.names.dictionary.Goals as goal
 
 pub returns-clause-same : goal.returns-clause-same

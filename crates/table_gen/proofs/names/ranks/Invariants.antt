@@ -1,5 +1,5 @@
 use Rattle.std.proofs.Common.{◌≡◌, ℕ, ◌<◌, pos, get_or, length, map, take}
-use Rattle.table_gen.specs.Columns.{rank_of}
+use Rattle.daq_table.specs.Dictionaries.{rank_of}
 use Rattle.table_gen.specs.Draws.{text_of}
 use Rattle.table_gen.proofs.names.ranks.Given as goal
 

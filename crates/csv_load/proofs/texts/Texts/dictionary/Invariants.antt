@@ -1,5 +1,5 @@
 use Rattle.std.proofs.Common.{◌≡◌, map, take, vec_items}
-use Rattle.csv_load.specs.Columns.{distinct}
+use Rattle.daq_table.specs.Dictionaries.{distinct}
 use Rattle.csv_load.proofs.texts.Texts.dictionary.Given as goal
 
 abbrev pub invariant-loop-text : goal.invariant-loop-text

@@ -2,7 +2,7 @@ use Rattle.std.proofs.Common.{◌≡◌, ◌<◌, ◌∙◌, ℕ, List, ℤ, Vec
 use Rattle.std.proofs.lemmas.List.{take_at}
 use Rattle.std.specs.List.{list_any}
 use Rattle.std.specs.Str.{bytes_eq}
-use Rattle.csv_load.specs.Columns.{distinct, rank_of}
+use Rattle.daq_table.specs.Dictionaries.{distinct, rank_of}
 use Rattle.csv_load.specs.Raised.{lowered}
 use Rattle.csv_load.proofs.NumberFacts.{all_known, ranks_at}
 use Rattle.csv_load.proofs.RaisedFacts.{lowered_at, same_length}
