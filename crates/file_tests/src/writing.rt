@@ -1,4 +1,4 @@
-// A small table and the bytes of its file, written out by hand.
+//! A small table and the bytes of its file, written out by hand.
 
 ghost use Rattle.std.specs.Prelude.{◌≡◌, pos, true, length, IfOk};
 ghost use Rattle.daq_table.specs.Tables.{ends_at, frame_of};

@@ -51,19 +51,35 @@ const WORKS: Case = Case {
 
 const CASES: [Case; 13] = [
     Case {
-        out: "query SELECT SUM(price) FROM t\nround 0\n1 [12, 48]\nround 1 price 1/4\n1 [20, 42]\nround 2 price 2/4\n1 [24, 34]\nround 3 price 3/4\n1 [28, 32]\nround 4 price 4/4\n1 29\nend narrow\n",
+        out: "query SELECT SUM(price) FROM t\n\
+            round 0\n1 [12, 48]\n\
+            round 1 price 1/4\n1 [20, 42]\n\
+            round 2 price 2/4\n1 [24, 34]\n\
+            round 3 price 3/4\n1 [28, 32]\n\
+            round 4 price 4/4\n1 29\n\
+            end narrow\n",
         ..WORKS
     },
     Case {
         words: "query\np.daq\nSELECT SUM(price) FROM t\n--width\n6\n",
-        out: "query SELECT SUM(price) FROM t\nround 0\n1 [12, 48]\nround 1 price 1/4\n1 [20, 42]\nround 2 price 2/4\n1 [24, 34]\nround 3 price 3/4\n1 [28, 32]\nend narrow\n",
+        out: "query SELECT SUM(price) FROM t\n\
+            round 0\n1 [12, 48]\n\
+            round 1 price 1/4\n1 [20, 42]\n\
+            round 2 price 2/4\n1 [24, 34]\n\
+            round 3 price 3/4\n1 [28, 32]\n\
+            end narrow\n",
         ..WORKS
     },
     // Behind the reads of the size, of the head and of three planes there is no other, which would fail.
     Case {
         words: "query\np.daq\nSELECT SUM(price) FROM t\n--width\n6\n",
         fails: Some(6),
-        out: "query SELECT SUM(price) FROM t\nround 0\n1 [12, 48]\nround 1 price 1/4\n1 [20, 42]\nround 2 price 2/4\n1 [24, 34]\nround 3 price 3/4\n1 [28, 32]\nend narrow\n",
+        out: "query SELECT SUM(price) FROM t\n\
+            round 0\n1 [12, 48]\n\
+            round 1 price 1/4\n1 [20, 42]\n\
+            round 2 price 2/4\n1 [24, 34]\n\
+            round 3 price 3/4\n1 [28, 32]\n\
+            end narrow\n",
         ..WORKS
     },
     // The last byte is left out.

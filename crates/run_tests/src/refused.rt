@@ -66,7 +66,8 @@ const CASES: [Case; 25] = [
         err: "daq: query refused: number too large at 11\n",
     },
     Case {
-        words: "ask\np.csv\nprice:int,qty:int,city:text\nSELECT SUM((((((((((((((((((((((((((((((((((v)))))))))))))))))))))))))))))))))) FROM t\n",
+        words: "ask\np.csv\nprice:int,qty:int,city:text\n\
+            SELECT SUM((((((((((((((((((((((((((((((((((v)))))))))))))))))))))))))))))))))) FROM t\n",
         csv: TOWNS,
         status: Status::QueryRefused,
         out: "",

@@ -40,20 +40,44 @@ const REFUSED: Case = Case {
 
 const CASES: [Case; 20] = [
     Case {
-        out: "queries 3\n1 SELECT SUM(price) FROM t\n2 SELECT COUNT(*) FROM t WHERE price < 7\n3 SELECT MIN(qty) FROM t\nat 0 query 1\nround 0\n1 [12, 48]\nat 0 query 2\nround 0\n1 [0, 4]\nat 0 query 3\nround 0\n1 [1, 4]\nat 1 query 1\nround 1 price 1/4\n1 [20, 42]\nat 1 query 2\nround 1 price 1/4\n1 [0, 3]\nat 2 query 1\nround 2 price 2/4\n1 [24, 34]\nat 2 query 2\nround 2 price 2/4\n1 2\nat 3 query 1\nround 3 price 3/4\n1 [28, 32]\nat 4 query 3\nround 1 qty 1/2\n1 [1, 2]\nat 5 query 1\nround 4 price 4/4\n1 29\nat 6 query 3\nround 2 qty 2/2\n1 1\nend narrow\n",
+        out: "queries 3\n\
+            1 SELECT SUM(price) FROM t\n\
+            2 SELECT COUNT(*) FROM t WHERE price < 7\n\
+            3 SELECT MIN(qty) FROM t\n\
+            at 0 query 1\nround 0\n1 [12, 48]\n\
+            at 0 query 2\nround 0\n1 [0, 4]\n\
+            at 0 query 3\nround 0\n1 [1, 4]\n\
+            at 1 query 1\nround 1 price 1/4\n1 [20, 42]\n\
+            at 1 query 2\nround 1 price 1/4\n1 [0, 3]\n\
+            at 2 query 1\nround 2 price 2/4\n1 [24, 34]\n\
+            at 2 query 2\nround 2 price 2/4\n1 2\n\
+            at 3 query 1\nround 3 price 3/4\n1 [28, 32]\n\
+            at 4 query 3\nround 1 qty 1/2\n1 [1, 2]\n\
+            at 5 query 1\nround 4 price 4/4\n1 29\n\
+            at 6 query 3\nround 2 qty 2/2\n1 1\n\
+            end narrow\n",
         ..WORKS
     },
     Case {
         words: "session\np.daq\nq.sql\n--rounds\n1\n",
         script: "SELECT SUM(price) FROM t",
-        out: "queries 1\n1 SELECT SUM(price) FROM t\nat 0 query 1\nround 0\n1 [12, 48]\nat 1 query 1\nround 1 price 1/4\n1 [20, 42]\nend rounds\n",
+        out: "queries 1\n\
+            1 SELECT SUM(price) FROM t\n\
+            at 0 query 1\nround 0\n1 [12, 48]\n\
+            at 1 query 1\nround 1 price 1/4\n1 [20, 42]\n\
+            end rounds\n",
         ..WORKS
     },
     // A CR before the end of a line is a space, and a line of spaces is blank.
     Case {
         words: "session\np.daq\nq.sql\n--rounds\n0\n",
         script: "\r\n SELECT SUM(price) FROM t\r\n \t\nSELECT MIN(qty) FROM t\r",
-        out: "queries 2\n1 SELECT SUM(price) FROM t\n2 SELECT MIN(qty) FROM t\nat 0 query 1\nround 0\n1 [12, 48]\nat 0 query 2\nround 0\n1 [1, 4]\nend rounds\n",
+        out: "queries 2\n\
+            1 SELECT SUM(price) FROM t\n\
+            2 SELECT MIN(qty) FROM t\n\
+            at 0 query 1\nround 0\n1 [12, 48]\n\
+            at 0 query 2\nround 0\n1 [1, 4]\n\
+            end rounds\n",
         ..WORKS
     },
     // Each plane is read once: two queries of one column read what one of them reads.
@@ -61,7 +85,18 @@ const CASES: [Case; 20] = [
         words: "session\np.daq\nq.sql\n--width\n6\n",
         script: "SELECT SUM(price) FROM t\nSELECT SUM(price) FROM t\n",
         fails: Some(6),
-        out: "queries 2\n1 SELECT SUM(price) FROM t\n2 SELECT SUM(price) FROM t\nat 0 query 1\nround 0\n1 [12, 48]\nat 0 query 2\nround 0\n1 [12, 48]\nat 1 query 1\nround 1 price 1/4\n1 [20, 42]\nat 1 query 2\nround 1 price 1/4\n1 [20, 42]\nat 2 query 1\nround 2 price 2/4\n1 [24, 34]\nat 2 query 2\nround 2 price 2/4\n1 [24, 34]\nat 3 query 1\nround 3 price 3/4\n1 [28, 32]\nat 3 query 2\nround 3 price 3/4\n1 [28, 32]\nend narrow\n",
+        out: "queries 2\n\
+            1 SELECT SUM(price) FROM t\n\
+            2 SELECT SUM(price) FROM t\n\
+            at 0 query 1\nround 0\n1 [12, 48]\n\
+            at 0 query 2\nround 0\n1 [12, 48]\n\
+            at 1 query 1\nround 1 price 1/4\n1 [20, 42]\n\
+            at 1 query 2\nround 1 price 1/4\n1 [20, 42]\n\
+            at 2 query 1\nround 2 price 2/4\n1 [24, 34]\n\
+            at 2 query 2\nround 2 price 2/4\n1 [24, 34]\n\
+            at 3 query 1\nround 3 price 3/4\n1 [28, 32]\n\
+            at 3 query 2\nround 3 price 3/4\n1 [28, 32]\n\
+            end narrow\n",
         ..WORKS
     },
     Case {
@@ -127,7 +162,13 @@ const CASES: [Case; 20] = [
     Case {
         fails: Some(3),
         status: Status::ReadFault,
-        out: "queries 3\n1 SELECT SUM(price) FROM t\n2 SELECT COUNT(*) FROM t WHERE price < 7\n3 SELECT MIN(qty) FROM t\nat 0 query 1\nround 0\n1 [12, 48]\nat 0 query 2\nround 0\n1 [0, 4]\nat 0 query 3\nround 0\n1 [1, 4]\n",
+        out: "queries 3\n\
+            1 SELECT SUM(price) FROM t\n\
+            2 SELECT COUNT(*) FROM t WHERE price < 7\n\
+            3 SELECT MIN(qty) FROM t\n\
+            at 0 query 1\nround 0\n1 [12, 48]\n\
+            at 0 query 2\nround 0\n1 [0, 4]\n\
+            at 0 query 3\nround 0\n1 [1, 4]\n",
         err: "daq: read fault\n",
         ..WORKS
     },
@@ -143,7 +184,11 @@ const CASES: [Case; 20] = [
         room: 133,
         fails: Some(3),
         status: Status::WriteFault,
-        out: "queries 3\n1 SELECT SUM(price) FROM t\n2 SELECT COUNT(*) FROM t WHERE price < 7\n3 SELECT MIN(qty) FROM t\nat 0 query 1\nround 0\n1 [12, 48",
+        out: "queries 3\n\
+            1 SELECT SUM(price) FROM t\n\
+            2 SELECT COUNT(*) FROM t WHERE price < 7\n\
+            3 SELECT MIN(qty) FROM t\n\
+            at 0 query 1\nround 0\n1 [12, 48",
         err: "daq: write fault\n",
         ..WORKS
     },
@@ -162,7 +207,13 @@ const CASES: [Case; 20] = [
     Case {
         words: "session\np.daq\nq.sql\n--policy\norder\n--rounds\n1\n",
         script: "SELECT MIN(qty) FROM t\nSELECT SUM(price) FROM t\n",
-        out: "queries 2\n1 SELECT MIN(qty) FROM t\n2 SELECT SUM(price) FROM t\nat 0 query 1\nround 0\n1 [1, 4]\nat 0 query 2\nround 0\n1 [12, 48]\nat 1 query 1\nround 1 qty 1/2\n1 [1, 2]\nend rounds\n",
+        out: "queries 2\n\
+            1 SELECT MIN(qty) FROM t\n\
+            2 SELECT SUM(price) FROM t\n\
+            at 0 query 1\nround 0\n1 [1, 4]\n\
+            at 0 query 2\nround 0\n1 [12, 48]\n\
+            at 1 query 1\nround 1 qty 1/2\n1 [1, 2]\n\
+            end rounds\n",
         ..WORKS
     },
 ];

@@ -71,8 +71,6 @@ fn columns_of_each_kind(rt: HostRuntime) -> Result<(), Fail> {
             [2, 0].as_slice(),
         ),
         ("\"v\"\n7", "v:int", 0, 7, 7, [0].as_slice()),
-        ("v\n", "v:int", 0, 0, 0, [].as_slice()),
-        ("v\n", "v:text", 0, 0, 0, [].as_slice()),
         (
             "n\r\n\"a,b\"\r\n\"\"\r\n",
             "n:text",
@@ -86,6 +84,17 @@ fn columns_of_each_kind(rt: HostRuntime) -> Result<(), Fail> {
         assert_eq!(rt; low, base, "at {text}");
         assert_eq!(rt; high, top, "at {text}");
         assert_eq!(rt; got.as_slice(), cells, "at {text}");
+    }
+    Ok(())
+}
+
+#[test]
+fn columns_without_rows(rt: HostRuntime) -> Result<(), Fail> {
+    for schema in ["v:int", "v:text"] {
+        let (low, high, got) = column(rt.alloc(), b"v\n", schema, 0)?;
+        assert_eq!(rt; low, 0, "at {schema}");
+        assert_eq!(rt; high, 0, "at {schema}");
+        assert!(rt; got.is_empty(), "at {schema}");
     }
     Ok(())
 }

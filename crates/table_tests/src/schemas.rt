@@ -119,38 +119,44 @@ fn schemas(rt: HostRuntime) -> Result<(), Fail> {
     assert_eq!(rt; columns[1].name.as_slice(), b"b b".as_slice());
     assert_eq!(rt; columns[1].kind, Kind::Dec(2));
     assert!(rt; !columns[1].nullable);
-    for (text, want) in [
-        ("", SchemaFault::BadItem { at: 0 }),
-        ("a:int,b:flo", SchemaFault::BadItem { at: 6 }),
-        ("a:int,", SchemaFault::BadItem { at: 6 }),
-        ("a:dec10", SchemaFault::BadItem { at: 0 }),
-        ("a:?", SchemaFault::BadItem { at: 0 }),
-        ("a:int,b:int??", SchemaFault::BadItem { at: 6 }),
-        ("a:int ?", SchemaFault::BadItem { at: 0 }),
-        ("a:?int", SchemaFault::BadItem { at: 0 }),
-        (
-            "a:int?,a:int",
-            SchemaFault::RepeatedName {
-                first: 0,
-                second: 1,
-            },
-        ),
-        (
-            "a:int,b:int,b:date,a:int",
-            SchemaFault::RepeatedName {
-                first: 1,
-                second: 2,
-            },
-        ),
-        (
-            "a:int,a:int",
-            SchemaFault::RepeatedName {
-                first: 0,
-                second: 1,
-            },
-        ),
+    Ok(())
+}
+
+#[test]
+fn bad_items(rt: HostRuntime) -> Result<(), Fail> {
+    for (text, at) in [
+        ("", 0),
+        ("a:int,b:flo", 6),
+        ("a:int,", 6),
+        ("a:dec10", 0),
+        ("a:?", 0),
+        ("a:int,b:int??", 6),
+        ("a:int ?", 0),
+        ("a:?int", 0),
     ] {
-        assert_eq!(rt; Schema::parse(alloc, text).err(), Some(want), "at {text}");
+        let want = SchemaFault::BadItem { at };
+        assert_eq!(rt;
+            Schema::parse(rt.alloc(), text).err(),
+            Some(want),
+            "at {text}"
+        );
+    }
+    Ok(())
+}
+
+#[test]
+fn repeated_names(rt: HostRuntime) -> Result<(), Fail> {
+    for (text, first, second) in [
+        ("a:int?,a:int", 0, 1),
+        ("a:int,b:int,b:date,a:int", 1, 2),
+        ("a:int,a:int", 0, 1),
+    ] {
+        let want = SchemaFault::RepeatedName { first, second };
+        assert_eq!(rt;
+            Schema::parse(rt.alloc(), text).err(),
+            Some(want),
+            "at {text}"
+        );
     }
     Ok(())
 }
