@@ -5,7 +5,7 @@ ghost use Rattle.std.specs.Prelude.{◌≡◌, ◌≤◌, ◌<◌, ◌≤ℤ◌,
 use crate::columns::column_head;
 use daq_table::{ColumnHeads, Head};
 use interval_calc::Interval;
-use known_column::{Known, KnownColumns, RowBlock};
+use known_column::{Known, KnownColumns, LentColumns, RowBlock};
 use plane_kernels::{Plane, transpose, validity};
 use query_model::Nullity;
 use std::alloc::{AllocError, Global};
@@ -122,7 +122,13 @@ fn numbers_agree(known: &Known, numbers: &[u64]) -> bool {
 }
 
 // Whether a row of a block is known as the row of the columns from which it came.
-fn same_row(block: &RowBlock, columns: &KnownColumns, column: usize, row: usize, at: usize) -> bool
+fn same_row(
+    block: &RowBlock,
+    columns: &LentColumns<'_>,
+    column: usize,
+    row: usize,
+    at: usize,
+) -> bool
     requires same { block.now.frame.columns ≡ columns.now.frame.columns }
     requires column { column < length columns.now.frame.columns }
     requires row { row < block.now.frame.rows }
@@ -133,7 +139,7 @@ fn same_row(block: &RowBlock, columns: &KnownColumns, column: usize, row: usize,
 }
 
 // Whether all rows of a block are known as those of the columns from this one on.
-fn same_rows(block: &RowBlock, columns: &KnownColumns, from: usize) -> bool
+fn same_rows(block: &RowBlock, columns: &LentColumns<'_>, from: usize) -> bool
     requires same { block.now.frame.columns ≡ columns.now.frame.columns }
     requires two { length columns.now.frame.columns ≡ 2 }
     requires from { from < columns.now.frame.rows }
@@ -153,7 +159,7 @@ fn same_rows(block: &RowBlock, columns: &KnownColumns, from: usize) -> bool
 }
 
 // Whether the blocks of the columns are all their rows.
-fn blocks_agree(columns: &KnownColumns, block: &mut RowBlock) -> bool
+fn blocks_agree(columns: &LentColumns<'_>, block: &mut RowBlock) -> bool
     requires same { block.old.frame.columns ≡ columns.now.frame.columns }
     requires two { length columns.now.frame.columns ≡ 2 }
 {
@@ -183,7 +189,9 @@ fn agrees_after(
     requires two { length columns.old.frame.columns ≡ 2 }
 {
     let taken = take_planes(columns, cells, width, count);
-    taken && numbers_agree(columns.column(1), &cells.numbers) && blocks_agree(columns, block)
+    taken
+        && numbers_agree(columns.column(1), &cells.numbers)
+        && blocks_agree(&columns.lend(), block)
 }
 
 // The same of new columns.
@@ -193,7 +201,7 @@ fn reads(alloc: Global, shape: Shape, rows: usize, count: u8) -> Result<bool, Al
 {
     let mut cells = some_cells(alloc, shape, rows)?;
     let mut columns = open_twice(alloc, shape, rows)?;
-    let mut block = RowBlock::open(alloc, &columns)?;
+    let mut block = RowBlock::open(alloc, &columns.lend())?;
     Ok(agrees_after(&mut columns, &mut block, &mut cells, shape.width, count))
 }
 
@@ -281,7 +289,7 @@ fn tells_apart(columns: &mut KnownColumns, block: &mut RowBlock, cells: &mut Cel
     requires rows { columns.old.frame.rows ≡ 4 }
 {
     let taken = take_planes(columns, cells, 4, 2);
-    block.read(columns, 0);
+    block.read(&columns.lend(), 0);
     let first = block.missing(0, 1) == Nullity::Possibly && block.range(0, 2) == span(3, 12);
     let second = block.missing(1, 1) == Nullity::Always && block.range(1, 2) == span(11, 12);
     let third = block.missing(1, 2) == Nullity::Never && block.range(1, 1) == span(3, 3);
@@ -298,12 +306,51 @@ fn four_rows(alloc: Global) -> Result<bool, AllocError> {
     let mut cells = some_cells(alloc, shape, 4)?;
     cells.numbers = vec![in alloc; 2, 0, 9, 0]?;
     let mut columns = open_twice(alloc, shape, 4)?;
-    let mut block = RowBlock::open(alloc, &columns)?;
+    let mut block = RowBlock::open(alloc, &columns.lend())?;
     Ok(tells_apart(&mut columns, &mut block, &mut cells))
 }
 
 #[test]
 fn planes_of_one_column_leave_the_other(rt: HostRuntime) -> Result<(), Fail> {
     assert!(rt; four_rows(rt.alloc())?);
+    Ok(())
+}
+
+// Whether a row of the columns, lent in the other order, and one of the second, lent alone, are known as before.
+fn lent_row_agrees(columns: &KnownColumns, row: usize) -> bool
+    requires two { length columns.now.frame.columns ≡ 2 }
+    requires row { row < columns.now.frame.rows }
+{
+    let all = columns.lend();
+    let backwards = columns.lend_some(&[1, 0]);
+    let second = columns.lend_some(&[1]);
+    backwards.range(0, row) == all.range(1, row)
+        && backwards.range(1, row) == all.range(0, row)
+        && second.range(0, row) == all.range(1, row)
+        && second.missing(0, row) == all.missing(1, row)
+        && (backwards.len(), second.len(), second.rows()) == (2, 1, all.rows())
+        && backwards.unread(1) == columns.unread(0)
+}
+
+// Two planes of the second column are read.
+fn lent_rows_agree(alloc: Global) -> Result<bool, AllocError> {
+    let shape = Shape {
+        base: 3,
+        top: 12,
+        nullable: true,
+        width: 4,
+    };
+    let mut cells = some_cells(alloc, shape, 4)?;
+    let mut columns = open_twice(alloc, shape, 4)?;
+    let mut agree = take_planes(&mut columns, &mut cells, 4, 2);
+    for row in 0..4 {
+        agree = lent_row_agrees(&columns, row) && agree;
+    }
+    Ok(agree)
+}
+
+#[test]
+fn lent_columns_have_numbers_of_their_own(rt: HostRuntime) -> Result<(), Fail> {
+    assert!(rt; lent_rows_agree(rt.alloc())?);
     Ok(())
 }

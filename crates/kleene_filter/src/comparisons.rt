@@ -10,7 +10,7 @@ ghost use Rattle.kleene_filter.specs.Words.{AreTruthsAt};
 
 use crate::parted::Sides;
 use crate::words::{TruthWords, and, chosen};
-use known_column::KnownColumns;
+use known_column::LentColumns;
 use plane_kernels::Plane;
 use query_model::Comparison;
 use std::alloc::{AllocError, Global};
@@ -38,7 +38,7 @@ impl Compared {
         column: usize,
         op: Comparison,
         value: i128,
-        columns: &KnownColumns,
+        columns: &LentColumns<'_>,
     ) -> Result<Compared, AllocError>
         requires column { column < length columns.now.frame.columns }
         requires unread { (column_at columns.now column).known.read ≡ 0 }
@@ -56,7 +56,7 @@ impl Compared {
     }
 
     // Follows the columns after a plane of one of them.
-    pub(crate) fn follow(&mut self, columns: &KnownColumns, column: usize, plane: &Plane)
+    pub(crate) fn follow(&mut self, columns: &LentColumns<'_>, column: usize, plane: &Plane)
         requires within { self.old.column < length columns.now.frame.columns }
         requires compared { Was (IsCompared self.old) columns.now column plane.now }
         ensures test { KeepsTest self.old self.new }
@@ -70,7 +70,7 @@ impl Compared {
     }
 
     // The truths of the comparison at the rows of a block.
-    pub(crate) fn truths(&self, columns: &KnownColumns, block: usize) -> TruthWords
+    pub(crate) fn truths(&self, columns: &LentColumns<'_>, block: usize) -> TruthWords
         requires within { self.now.column < length columns.now.frame.columns }
         requires compared { IsCompared self.now columns.now }
         requires known { IsKnownTable columns.now }
@@ -89,7 +89,7 @@ impl Ranged {
         column: usize,
         low: i128,
         high: i128,
-        columns: &KnownColumns,
+        columns: &LentColumns<'_>,
     ) -> Result<Ranged, AllocError>
         requires column { column < length columns.now.frame.columns }
         requires unread { (column_at columns.now column).known.read ≡ 0 }
@@ -104,7 +104,7 @@ impl Ranged {
     }
 
     // Follows the columns after a plane of one of them.
-    pub(crate) fn follow(&mut self, columns: &KnownColumns, column: usize, plane: &Plane)
+    pub(crate) fn follow(&mut self, columns: &LentColumns<'_>, column: usize, plane: &Plane)
         requires within { self.old.from.column < length columns.now.frame.columns }
         requires ranged { Was (IsRanged self.old) columns.now column plane.now }
         ensures from { KeepsTest self.old.from self.new.from }
@@ -116,7 +116,7 @@ impl Ranged {
     }
 
     // The truths of whether the column lies between the numbers, at the rows of a block.
-    pub(crate) fn truths(&self, columns: &KnownColumns, block: usize) -> TruthWords
+    pub(crate) fn truths(&self, columns: &LentColumns<'_>, block: usize) -> TruthWords
         requires within { self.now.from.column < length columns.now.frame.columns }
         requires ranged { IsRanged self.now columns.now }
         requires known { IsKnownTable columns.now }

@@ -14,7 +14,7 @@ use crate::judging::pred_truths;
 use crate::masks::{AtomMasks, is_untouched};
 use crate::reads::pred_reads;
 use crate::words::must_hold;
-use known_column::{KnownColumns, KnownRows, RowBlock, blocks_have_their_rows};
+use known_column::{KnownRows, LentColumns, RowBlock, blocks_have_their_rows};
 use plane_kernels::{Mask, Plane};
 use query_model::Pred;
 use std::alloc::{AllocError, Global};
@@ -83,7 +83,7 @@ fn write_word(mask: &mut Mask, block: usize, word: u64)
 fn judge_rows<R: KnownRows>(
     pred: &Pred,
     masks: &[AtomMasks],
-    columns: &KnownColumns,
+    columns: &LentColumns<'_>,
     number: usize,
     rows: &R,
     first: usize,
@@ -110,7 +110,7 @@ fn judge_block(
     pred: &Pred,
     masks: &[AtomMasks],
     by_rows: bool,
-    columns: &KnownColumns,
+    columns: &LentColumns<'_>,
     number: usize,
     block: &mut RowBlock,
     truths: &mut TruthMasks,
@@ -136,7 +136,8 @@ fn judge_block(
         block.read(columns, number);
         judge_rows(pred, masks, columns, number, &*block, 0, truths);
     } else {
-        judge_rows(pred, masks, columns, number, columns, 64 * number, truths);
+        let rows = columns.again();
+        judge_rows(pred, masks, columns, number, &rows, 64 * number, truths);
     }
 }
 
@@ -144,7 +145,7 @@ fn judge_block(
 fn judge_all(
     pred: &Pred,
     masks: &[AtomMasks],
-    columns: &KnownColumns,
+    columns: &LentColumns<'_>,
     block: &mut RowBlock,
     truths: &mut TruthMasks,
 )
@@ -165,7 +166,7 @@ fn judge_all(
 }
 
 // Whether nothing is read of any column.
-fn is_unread(columns: &KnownColumns) -> bool
+fn is_unread(columns: &LentColumns<'_>) -> bool
     ensures { IsTrue result → AreUnread columns.now }
 {
     for column in 0..columns.len() {
@@ -199,7 +200,7 @@ fn truths_of_unread(
     alloc: Global,
     pred: &Pred,
     masks: &[AtomMasks],
-    columns: &KnownColumns,
+    columns: &LentColumns<'_>,
 ) -> Result<TruthMasks, AllocError>
     requires columns { PredReadsBelow (length columns.now.frame.columns) (condition_of pred.now) }
     requires masks { AreMasksOf masks.now 0 (atoms_of (condition_of pred.now)) columns.now }
@@ -209,7 +210,8 @@ fn truths_of_unread(
     ensures may { IfOk result (λ truths. truths.may ≡ map is_possible (truths_under (condition_of pred.now) columns.now)) }
 {
     let rows = columns.rows();
-    let words = pred_truths(pred, masks, 0, columns, 0, columns, 0).words;
+    let each = columns.again();
+    let words = pred_truths(pred, masks, 0, columns, 0, &each, 0).words;
     let must = even_mask(alloc, rows, has_first(must_hold(words)))?;
     let may = even_mask(alloc, rows, has_first(words.may_hold))?;
     Ok(TruthMasks { must, may })
@@ -220,7 +222,7 @@ fn open_truths(
     alloc: Global,
     pred: &Pred,
     masks: &[AtomMasks],
-    columns: &KnownColumns,
+    columns: &LentColumns<'_>,
     block: &mut RowBlock,
 ) -> Result<TruthMasks, AllocError>
     requires columns { PredReadsBelow (length columns.now.frame.columns) (condition_of pred.now) }
@@ -254,7 +256,7 @@ fn room_beside(masks: &[AtomMasks], most: usize) -> usize {
 fn open_each(
     alloc: Global,
     pred: &Pred,
-    columns: &KnownColumns,
+    columns: &LentColumns<'_>,
     most: usize,
     masks: &mut Vec<AtomMasks>,
 ) -> Result<(), AllocError>
@@ -278,7 +280,7 @@ fn open_each(
 }
 
 // Has the masks of each atom follow the columns after a plane of one of them.
-fn follow_each(masks: &mut Vec<AtomMasks>, columns: &KnownColumns, column: usize, plane: &Plane)
+fn follow_each(masks: &mut Vec<AtomMasks>, columns: &LentColumns<'_>, column: usize, plane: &Plane)
     requires { (atoms : List Atom) × WereMasksOf masks.old.items atoms columns.now column plane.now }
     ensures count { length masks.new.items ≡ length masks.old.items }
     ensures follow { (atoms : List Atom) → WereMasksOf masks.old.items atoms columns.now column plane.now → AreMasksOf masks.new.items 0 atoms columns.now }
@@ -295,7 +297,7 @@ impl Filter {
     pub fn open(
         alloc: Global,
         pred: &Pred,
-        columns: &KnownColumns,
+        columns: &LentColumns<'_>,
         block: &mut RowBlock,
         most: usize,
     ) -> Result<Filter, AllocError>
@@ -321,7 +323,7 @@ impl Filter {
     pub fn refresh(
         &mut self,
         pred: &Pred,
-        columns: &KnownColumns,
+        columns: &LentColumns<'_>,
         column: usize,
         plane: &Plane,
         block: &mut RowBlock,

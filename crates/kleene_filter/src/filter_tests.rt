@@ -8,7 +8,7 @@ use crate::Filter;
 use crate::atoms::atom_at;
 use crate::truth_tests::{F, FN, N, T, TF, TFN, TN};
 use daq_table::{ColumnHead, ColumnHeads, Dictionary, Head, Kind, Name};
-use known_column::{KnownColumns, RowBlock};
+use known_column::{KnownColumns, LentColumns, RowBlock};
 use plane_kernels::{Plane, transpose};
 use query_model::{Atom, Comparison, Pred, Truths, Values};
 use std::alloc::{AllocError, Global};
@@ -71,7 +71,7 @@ fn step(
     match columns.take(0, plane) {
         Err(_) => None,
         Ok(()) => {
-            filter.refresh(pred, columns, 0, plane, block);
+            filter.refresh(pred, &columns.lend(), 0, plane, block);
             Some(counts(filter))
         }
     }
@@ -117,8 +117,8 @@ fn followed(
 {
     let mut plane = Plane::blank(alloc, 4)?;
     let mut columns = columns(alloc, nullable)?;
-    let mut block = RowBlock::open(alloc, &columns)?;
-    let mut filter = Filter::open(alloc, pred, &columns, &mut block, 64)?;
+    let mut block = RowBlock::open(alloc, &columns.lend())?;
+    let mut filter = Filter::open(alloc, pred, &columns.lend(), &mut block, 64)?;
     Ok(three_steps(
         &mut filter,
         pred,
@@ -227,7 +227,7 @@ fn null_is_in_no_list_and_out_of_none(rt: HostRuntime) -> Result<(), Fail> {
 }
 
 // The truths of an atom at the four rows.
-fn at_rows(atom: Atom, columns: &KnownColumns) -> [Truths; 4]
+fn at_rows(atom: Atom, columns: &LentColumns<'_>) -> [Truths; 4]
     requires reads { AtomReadsBelow (length columns.now.frame.columns) atom }
     requires rows { columns.now.frame.rows ≡ 4 }
 {
@@ -240,7 +240,7 @@ fn at_rows(atom: Atom, columns: &KnownColumns) -> [Truths; 4]
 }
 
 // What five atoms are at the four rows: two comparisons, BETWEEN, IN and a comparison of both columns.
-fn atoms_at_rows(alloc: Global, columns: &KnownColumns) -> Result<[[Truths; 4]; 5], AllocError>
+fn atoms_at_rows(alloc: Global, columns: &LentColumns<'_>) -> Result<[[Truths; 4]; 5], AllocError>
     requires two { length columns.now.frame.columns ≡ 2 }
     requires rows { columns.now.frame.rows ≡ 4 }
 {
@@ -297,7 +297,7 @@ fn known_atoms(alloc: Global, told: bool) -> Result<[[Truths; 4]; 5], AllocError
         tell_null(&mut columns, 0, &[1, 1, 0, 0], &mut plane);
         tell_null(&mut columns, 1, &[1, 0, 1, 0], &mut plane);
     }
-    atoms_at_rows(alloc, &columns)
+    atoms_at_rows(alloc, &columns.lend())
 }
 
 #[test]

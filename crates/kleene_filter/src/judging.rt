@@ -16,7 +16,7 @@ use crate::atoms::atom_at;
 use crate::masks::AtomMasks;
 use crate::nulls::null_truths;
 use crate::words::{TruthWords, all, and, none, not, or};
-use known_column::{KnownColumns, KnownRows};
+use known_column::{KnownRows, LentColumns};
 use query_model::{Atom, Pred};
 
 // The truths of an atom at so many rows from the first on, row by row.
@@ -38,7 +38,7 @@ fn truths_by_rows<R: KnownRows>(atom: &Atom, rows: &R, first: usize, count: usiz
 fn atom_truths<R: KnownRows>(
     atom: &Atom,
     masks: &AtomMasks,
-    columns: &KnownColumns,
+    columns: &LentColumns<'_>,
     block: usize,
     rows: &R,
     first: usize,
@@ -74,7 +74,7 @@ pub(crate) fn pred_truths<R: KnownRows>(
     pred: &Pred,
     masks: &[AtomMasks],
     at: usize,
-    columns: &KnownColumns,
+    columns: &LentColumns<'_>,
     block: usize,
     rows: &R,
     first: usize,

@@ -9,7 +9,7 @@ ghost use Rattle.kleene_filter.specs.Masks.{Follows, WasFollowed};
 
 use crate::comparisons::{Compared, Ranged};
 use crate::members::Membership;
-use known_column::{Known, KnownColumns};
+use known_column::{Known, LentColumns};
 use plane_kernels::Plane;
 use query_model::{Atom, Comparison};
 use std::alloc::{AllocError, Global};
@@ -39,7 +39,7 @@ impl AtomMasks {
         column: usize,
         op: Comparison,
         value: i128,
-        columns: &KnownColumns,
+        columns: &LentColumns<'_>,
     ) -> Result<AtomMasks, AllocError>
         requires column { column < length columns.now.frame.columns }
         requires known { IsKnownTable columns.now }
@@ -58,7 +58,7 @@ impl AtomMasks {
         column: usize,
         low: i128,
         high: i128,
-        columns: &KnownColumns,
+        columns: &LentColumns<'_>,
     ) -> Result<AtomMasks, AllocError>
         requires column { column < length columns.now.frame.columns }
         requires known { IsKnownTable columns.now }
@@ -76,7 +76,7 @@ impl AtomMasks {
         alloc: Global,
         column: usize,
         values: &[i128],
-        columns: &KnownColumns,
+        columns: &LentColumns<'_>,
     ) -> Result<AtomMasks, AllocError>
         requires column { column < length columns.now.frame.columns }
         requires known { IsKnownTable columns.now }
@@ -93,7 +93,7 @@ impl AtomMasks {
     pub(crate) fn open(
         alloc: Global,
         atom: &Atom,
-        columns: &KnownColumns,
+        columns: &LentColumns<'_>,
         room: usize,
     ) -> Result<AtomMasks, AllocError>
         requires columns { AtomReadsBelow (length columns.now.frame.columns) atom.now }
@@ -139,7 +139,7 @@ impl AtomMasks {
     }
 
     // Follows the columns after a plane of one of them.
-    pub(crate) fn follow(&mut self, columns: &KnownColumns, column: usize, plane: &Plane)
+    pub(crate) fn follow(&mut self, columns: &LentColumns<'_>, column: usize, plane: &Plane)
         requires { (atom : Atom) × WasFollowed self.old atom columns.now column plane.now }
         ensures { (atom : Atom) → WasFollowed self.old atom columns.now column plane.now → Follows self.new atom columns.now }
     {

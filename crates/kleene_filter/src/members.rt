@@ -16,7 +16,7 @@ use crate::nulls::number_truths;
 use crate::parted::{code_of, next_digit};
 use crate::ranges::is_one_of;
 use crate::words::{TruthWords, chosen};
-use known_column::{Known, KnownColumns};
+use known_column::{Known, LentColumns};
 use plane_kernels::{Mask, Plane};
 use query_model::{Truth, Values};
 use std::alloc::{AllocError, Global};
@@ -156,7 +156,7 @@ impl Membership {
         alloc: Global,
         column: usize,
         values: &[i128],
-        columns: &KnownColumns,
+        columns: &LentColumns<'_>,
     ) -> Result<Membership, AllocError>
         requires column { column < length columns.now.frame.columns }
         requires unread { (column_at columns.now column).known.read ≡ 0 }
@@ -178,7 +178,7 @@ impl Membership {
     }
 
     // Follows the columns after a plane of one of them.
-    pub(crate) fn follow(&mut self, columns: &KnownColumns, column: usize, plane: &Plane)
+    pub(crate) fn follow(&mut self, columns: &LentColumns<'_>, column: usize, plane: &Plane)
         requires within { self.old.column < length columns.now.frame.columns }
         requires levels { Was (IsMembership self.old) columns.now column plane.now }
         ensures column { self.new.column ≡ self.old.column }
@@ -193,7 +193,7 @@ impl Membership {
     }
 
     // The truths of whether the column's number is listed, at the rows of a block.
-    pub(crate) fn truths(&self, columns: &KnownColumns, block: usize) -> TruthWords
+    pub(crate) fn truths(&self, columns: &LentColumns<'_>, block: usize) -> TruthWords
         requires within { self.now.column < length columns.now.frame.columns }
         requires levels { IsMembership self.now columns.now }
         requires known { IsKnownTable columns.now }

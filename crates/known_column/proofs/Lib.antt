@@ -12,3 +12,4 @@ pub mod WordDigits
 pub mod OctetDigits
 pub mod Joining
 pub mod TableBlocks
+pub mod Lent

@@ -1,5 +1,7 @@
 -- What several columns of a table are known by: what is declared of them, and what was read of them.
-use Rattle.std.specs.Prelude.{ℕ, ◌≤◌, Bool, List, map}
+use Rattle.std.specs.Prelude.{ℕ, ◌≤◌, ◌<◌, Bool, List, length, map, slice_index, All, IfSome}
+use Rattle.std.specs.declared.option.Option.{Option}
+use Rattle.std.specs.declared.option.Option.TheVariants.{Some, None}
 use Rattle.daq_table.specs.Tables.{Frame, ends_at}
 use Rattle.query_model.specs.Knowledge.{IsKnowledge, Knowledge, known_at, start, taken}
 use Rattle.known_column.specs.Columns.{KnownColumn, unread_column}
@@ -35,6 +37,24 @@ unread_table frame = record { frame = frame; known = start frame }
 -- after the next plane of a column, with these bits
 abbrev pub read_column : KnownTable → ℕ → List Bool → KnownTable
 read_column table c bits = record { frame = table.frame; known = taken table.known c bits }
+
+-- the columns with these numbers, lent in the order of the list
+abbrev pub lent_table : KnownTable → List ℕ → KnownTable
+lent_table table numbers = record { frame = frame_at table.frame numbers; known = map (known_at table.known) numbers }
+
+-- the same, or all columns where no numbers are given
+abbrev pub lent_of : KnownTable → Option (List ℕ) → KnownTable
+lent_of table None = table
+lent_of table (Some numbers) = lent_table table numbers
+
+-- each number is that of a column
+abbrev pub AreNumbers : KnownTable → Option (List ℕ) → Type 0
+AreNumbers table numbers = IfSome numbers (All (λ number. number < length table.frame.columns))
+
+-- the number of a lent column
+abbrev pub number_of : Option (List ℕ) → ℕ → ℕ
+number_of None c = c
+number_of (Some numbers) c = slice_index numbers c
 
 -- what known columns keep: there are few rows, and for each row of each column a prefix that some cell has
 pub record IsKnownTable (table : KnownTable) : Type 0 where

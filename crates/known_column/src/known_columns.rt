@@ -1,20 +1,16 @@
 //! Several columns of a table that are known in part.
 
-ghost use Rattle.std.specs.Prelude.{◌≡◌, ◌<◌, ◌+◌, length, IfOk, OnOk, IfErr, OnErr};
+ghost use Rattle.std.specs.Prelude.{◌≡◌, ◌<◌, ◌+◌, length, All, IfOk, OnOk, IfErr, OnErr};
 ghost use Rattle.std.specs.List.{AllByRecursion};
-ghost use Rattle.interval_calc.specs.Intervals.{interval_of};
 ghost use Rattle.daq_table.specs.Tables.{ends_at, frame_of, planes};
-ghost use Rattle.query_model.specs.Knowledge.{known_at, ranges_of, CanTake};
-ghost use Rattle.query_model.specs.Truths.{IsInside};
-ghost use Rattle.query_model.specs.Validity.{declared_ranges};
+ghost use Rattle.query_model.specs.Knowledge.{known_at, CanTake};
 ghost use Rattle.known_column.specs.Columns.{rows_of_column, IsFirstOver};
-ghost use Rattle.known_column.specs.KnownTables.{column_at, frame_at, read_column, unread_columns, unread_table, IsKnownTable};
+ghost use Rattle.known_column.specs.KnownTables.{column_at, frame_at, lent_table, read_column, unread_columns, unread_table, IsKnownTable};
 
 use crate::known::{Known, OverTop};
+use crate::lent_columns::LentColumns;
 use daq_table::Head;
-use interval_calc::Interval;
 use plane_kernels::Plane;
-use query_model::Nullity;
 use std::alloc::{AllocError, Global};
 use std::marker::Model;
 
@@ -107,22 +103,18 @@ impl KnownColumns {
         self.column(column).unread()
     }
 
-    /// Where a row's number in a column lies, if it is not null.
-    pub fn range(&self, column: usize, row: usize) -> Interval
-        requires column { column < length self.now.frame.columns }
-        requires row { row < self.now.frame.rows }
-        ensures range { interval_of result ≡ (ranges_of self.now.frame self.now.known row column).numbers }
-        ensures within { IsInside (interval_of result) (declared_ranges self.now.frame column).numbers }
+    /// Lends all columns.
+    pub fn lend(&self) -> LentColumns<'_>
+        ensures { result ≡ self.now }
     {
-        self.column(column).range(row)
+        LentColumns::all(self)
     }
 
-    /// Whether a row is null in a column.
-    pub fn missing(&self, column: usize, row: usize) -> Nullity
-        requires column { column < length self.now.frame.columns }
-        requires row { row < self.now.frame.rows }
-        ensures { result ≡ (ranges_of self.now.frame self.now.known row column).null }
+    /// Lends the columns with these numbers, numbered anew in the order of the list.
+    pub fn lend_some<'a>(&'a self, numbers: &'a [usize]) -> LentColumns<'a>
+        requires { All (λ number. number < length self.now.frame.columns) numbers.now }
+        ensures { result ≡ lent_table self.now numbers.now }
     {
-        self.column(column).missing(row)
+        LentColumns::some(self, numbers)
     }
 }

@@ -7,7 +7,7 @@ ghost use Rattle.query_model.specs.Truths.{IsInside};
 ghost use Rattle.query_model.specs.Validity.{declared_ranges};
 ghost use Rattle.known_column.specs.KnownTables.{KnownTable};
 
-use crate::known_columns::KnownColumns;
+use crate::lent_columns::LentColumns;
 use crate::row_block::RowBlock;
 use interval_calc::Interval;
 use query_model::Nullity;
@@ -31,15 +31,15 @@ pub trait KnownRows {
 }
 
 /// Reads one bit of each plane for each call.
-impl KnownRows for KnownColumns {
+impl KnownRows for LentColumns<'_> {
     ghost table = { λ c. c };
 
     fn range(&self, column: usize, row: usize) -> Interval {
-        KnownColumns::range(self, column, row)
+        LentColumns::range(self, column, row)
     }
 
     fn missing(&self, column: usize, row: usize) -> Nullity {
-        KnownColumns::missing(self, column, row)
+        LentColumns::missing(self, column, row)
     }
 }
 

@@ -12,7 +12,7 @@ ghost use Rattle.known_column.specs.KnownTables.{column_at, IsKnownTable};
 ghost use Rattle.known_column.specs.RowBlocks.{block_of, block_of_column, BlocksHaveTheirRows};
 
 use crate::column_block::ColumnBlock;
-use crate::known_columns::KnownColumns;
+use crate::lent_columns::LentColumns;
 use interval_calc::Interval;
 use query_model::Nullity;
 use std::alloc::{AllocError, Global};
@@ -45,7 +45,7 @@ impl Model for RowBlock {
 }
 
 // Room for a block of each column.
-fn open_each(alloc: Global, columns: &KnownColumns) -> Result<Vec<ColumnBlock>, AllocError>
+fn open_each(alloc: Global, columns: &LentColumns<'_>) -> Result<Vec<ColumnBlock>, AllocError>
     ensures { IfOk result (λ blocks. blocks.items ≡ map (λ c. unread_column (ends_at columns.now.frame c) 0) (range_with_len 0 (length columns.now.frame.columns))) }
 {
     let mut blocks = Vec::with_capacity(alloc, columns.len())?;
@@ -56,7 +56,7 @@ fn open_each(alloc: Global, columns: &KnownColumns) -> Result<Vec<ColumnBlock>, 
 }
 
 // Reads a block of each column.
-fn read_each(blocks: &mut [ColumnBlock], columns: &KnownColumns, block: usize)
+fn read_each(blocks: &mut [ColumnBlock], columns: &LentColumns<'_>, block: usize)
     requires columns { length blocks.old ≡ length columns.now.frame.columns }
     requires block { 64 * block < columns.now.frame.rows }
     ensures { blocks.new ≡ map (λ c. block_of_column (column_at columns.now c) block) (range_with_len 0 (length columns.now.frame.columns)) }
@@ -68,7 +68,7 @@ fn read_each(blocks: &mut [ColumnBlock], columns: &KnownColumns, block: usize)
 
 impl RowBlock {
     /// Room for a block of these columns. All of it is taken here.
-    pub fn open(alloc: Global, columns: &KnownColumns) -> Result<RowBlock, AllocError>
+    pub fn open(alloc: Global, columns: &LentColumns<'_>) -> Result<RowBlock, AllocError>
         ensures { IfOk result (λ block. block.frame.columns ≡ columns.now.frame.columns) }
     {
         let blocks = open_each(alloc, columns)?;
@@ -79,7 +79,7 @@ impl RowBlock {
     }
 
     /// Reads the rows of a block: from row 64 * block on.
-    pub fn read(&mut self, columns: &KnownColumns, block: usize)
+    pub fn read(&mut self, columns: &LentColumns<'_>, block: usize)
         requires same { self.old.frame.columns ≡ columns.now.frame.columns }
         requires block { 64 * block < columns.now.frame.rows }
         ensures { self.new ≡ block_of columns.now block }

@@ -71,11 +71,12 @@ pub(crate) fn follow_planes(
 {
     start_is_known();
     let mut plane = Plane::blank(alloc, cells.len())?;
-    let mut block = RowBlock::open(alloc, &columns)?;
-    let mut filter = Filter::open(alloc, pred, &columns, &mut block, 64)?;
+    let lent = columns.lend();
+    let mut block = RowBlock::open(alloc, &lent)?;
+    let mut filter = Filter::open(alloc, pred, &lent, &mut block, 64)?;
     for _ in 0..rounds {
         read_next(&mut columns, cells, &mut plane);
-        filter.refresh(pred, &columns, 0, &plane, &mut block);
+        filter.refresh(pred, &columns.lend(), 0, &plane, &mut block);
     }
     Ok(filter)
 }

@@ -5,11 +5,11 @@ ghost use Rattle.query_model.specs.Meaning.{ReadsBelow};
 ghost use Rattle.query_model.specs.Queries.{term_of};
 ghost use Rattle.row_values.specs.BlockValues.{ArePossible, AreSure};
 
-use known_column::KnownColumns;
+use known_column::LentColumns;
 use query_model::Expr;
 
 // The rows at which the expression is not surely null: bit r of the word is that of row r of the block.
-pub(crate) fn possible_rows(expr: &Expr, columns: &KnownColumns, block: usize) -> u64
+pub(crate) fn possible_rows(expr: &Expr, columns: &LentColumns<'_>, block: usize) -> u64
     requires columns { ReadsBelow (length columns.now.frame.columns) (term_of expr.now) }
     requires block { 64 * block < columns.now.frame.rows }
     ensures { ArePossible (term_of expr.now) columns.now block result }
@@ -24,7 +24,7 @@ pub(crate) fn possible_rows(expr: &Expr, columns: &KnownColumns, block: usize) -
 }
 
 // The rows at which the expression cannot be null.
-pub(crate) fn sure_rows(expr: &Expr, columns: &KnownColumns, block: usize) -> u64
+pub(crate) fn sure_rows(expr: &Expr, columns: &LentColumns<'_>, block: usize) -> u64
     requires columns { ReadsBelow (length columns.now.frame.columns) (term_of expr.now) }
     requires block { 64 * block < columns.now.frame.rows }
     ensures { AreSure (term_of expr.now) columns.now block result }

@@ -9,7 +9,7 @@ use crate::block_values::BlockValues;
 use crate::nulls::null_of;
 use crate::spans::span_of;
 use daq_table::{ColumnHead, ColumnHeads, Dictionary, Head, Kind, Name};
-use known_column::{KnownColumns, RowBlock};
+use known_column::{KnownColumns, LentColumns, RowBlock};
 use plane_kernels::{Plane, transpose, validity};
 use query_model::{Expr, Nullity};
 use std::alloc::{AllocError, Global};
@@ -90,7 +90,7 @@ fn take_next(columns: &mut KnownColumns, cells: &mut Cells) -> bool
 }
 
 // Whether the values of a block are those of a row in it.
-fn same_value(expr: &Expr, columns: &KnownColumns, row: usize, values: &BlockValues) -> bool
+fn same_value(expr: &Expr, columns: &LentColumns<'_>, row: usize, values: &BlockValues) -> bool
     requires columns { ReadsBelow (length columns.now.frame.columns) (term_of expr.now) }
     requires row { row < columns.now.frame.rows }
     requires fits { FitsWide (term_of expr.now) (declared_ranges columns.now.frame) }
@@ -105,7 +105,7 @@ fn same_value(expr: &Expr, columns: &KnownColumns, row: usize, values: &BlockVal
 }
 
 // Whether the values of all blocks are those of their rows.
-fn blocks_agree(expr: &Expr, columns: &KnownColumns, block: &mut RowBlock) -> bool
+fn blocks_agree(expr: &Expr, columns: &LentColumns<'_>, block: &mut RowBlock) -> bool
     requires columns { ReadsBelow (length columns.now.frame.columns) (term_of expr.now) }
     requires fits { FitsWide (term_of expr.now) (declared_ranges columns.now.frame) }
     requires same { block.old.frame.columns ≡ columns.now.frame.columns }
@@ -128,12 +128,12 @@ fn agrees(alloc: Global, expr: &Expr, columns: &mut KnownColumns) -> Result<bool
     requires columns { ReadsBelow (length columns.old.frame.columns) (term_of expr.now) }
     requires fits { FitsWide (term_of expr.now) (declared_ranges columns.old.frame) }
 {
-    let mut block = RowBlock::open(alloc, columns)?;
+    let mut block = RowBlock::open(alloc, &columns.lend())?;
     let mut cells = some_cells(alloc, columns.rows())?;
-    let mut agree = blocks_agree(expr, columns, &mut block);
+    let mut agree = blocks_agree(expr, &columns.lend(), &mut block);
     for _ in 0..WIDTH + 1 {
         agree = take_next(columns, &mut cells) && agree;
-        agree = blocks_agree(expr, columns, &mut block) && agree;
+        agree = blocks_agree(expr, &columns.lend(), &mut block) && agree;
     }
     Ok(agree)
 }

@@ -14,7 +14,7 @@ use crate::short_arithmetic::widened;
 use crate::short_spans::{declared_span, short_spans};
 use crate::spans::span_of;
 use interval_calc::{Interval, exactly};
-use known_column::{KnownColumns, RowBlock, blocks_have_their_rows};
+use known_column::{LentColumns, RowBlock, blocks_have_their_rows};
 use query_model::Expr;
 
 /// For each row of a block whether an expression may have a value there, whether it surely has one (bit r of a word is that of row r),
@@ -27,7 +27,7 @@ pub struct BlockValues {
 }
 
 // The spans of a block's rows, by numbers of 64 bits.
-fn read_short(expr: &Expr, columns: &KnownColumns, number: usize, spans: &mut [Interval; 64])
+fn read_short(expr: &Expr, columns: &LentColumns<'_>, number: usize, spans: &mut [Interval; 64])
     requires columns { ReadsBelow (length columns.now.frame.columns) (term_of expr.now) }
     requires fits { FitsShort (term_of expr.now) (declared_ranges columns.now.frame) }
     requires block { 64 * number < columns.now.frame.rows }
@@ -44,7 +44,7 @@ fn read_short(expr: &Expr, columns: &KnownColumns, number: usize, spans: &mut [I
 // The spans of a block's rows, row by row.
 fn read_wide(
     expr: &Expr,
-    columns: &KnownColumns,
+    columns: &LentColumns<'_>,
     number: usize,
     block: &RowBlock,
     spans: &mut [Interval; 64],
@@ -73,7 +73,13 @@ impl BlockValues {
     }
 
     /// Reads the rows of a block, from row 64 * number on. The digits of all columns are read to `block` where a value may pass 64 bits.
-    pub fn read(&mut self, expr: &Expr, columns: &KnownColumns, number: usize, block: &mut RowBlock)
+    pub fn read(
+        &mut self,
+        expr: &Expr,
+        columns: &LentColumns<'_>,
+        number: usize,
+        block: &mut RowBlock,
+    )
         requires columns { ReadsBelow (length columns.now.frame.columns) (term_of expr.now) }
         requires fits { FitsWide (term_of expr.now) (declared_ranges columns.now.frame) }
         requires number { 64 * number < columns.now.frame.rows }

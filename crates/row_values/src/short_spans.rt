@@ -11,11 +11,11 @@ use crate::short::{ShortInterval, ZERO};
 use crate::short_arithmetic::{Operation, join_each, shortened, widened};
 use crate::short_ranges::column_ranges;
 use interval_calc::{add, exactly, mul, sub};
-use known_column::KnownColumns;
+use known_column::LentColumns;
 use query_model::Expr;
 
 // Where the expression lies by what is declared of its columns, if no value of it or of a part of it can leave 64 bits.
-pub(crate) fn declared_span(expr: &Expr, columns: &KnownColumns) -> Option<ShortInterval>
+pub(crate) fn declared_span(expr: &Expr, columns: &LentColumns<'_>) -> Option<ShortInterval>
     requires { ReadsBelow (length columns.now.frame.columns) (term_of expr.now) }
     ensures fits { IfSome result (λ s. FitsShort (term_of expr.now) (declared_ranges columns.now.frame)) }
     ensures span { IfSome result (λ s. interval_of s ≡ span_of (term_of expr.now) (declared_ranges columns.now.frame)) }
@@ -59,7 +59,7 @@ fn repeat(number: i64, spans: &mut [ShortInterval; 64])
 // Where the expression lies at a block's rows. At a row where it is surely null it is some span inside the declared one.
 pub(crate) fn short_spans(
     expr: &Expr,
-    columns: &KnownColumns,
+    columns: &LentColumns<'_>,
     block: usize,
     spans: &mut [ShortInterval; 64],
 )

@@ -43,7 +43,8 @@ fn columns(alloc: Global) -> Result<KnownColumns, AllocError>
 
 #[test]
 fn columns_and_numbers(rt: HostRuntime) -> Result<(), Fail> {
-    let columns = columns(rt.alloc())?;
+    let kept = columns(rt.alloc())?;
+    let columns = kept.lend();
     let change = span_of(&Expr::Column(0), 0, &columns);
     let number = span_of(&Expr::Literal(-7), 0, &columns);
     assert_eq!(rt; [change, number], [Interval { lo: -3, hi: 2 }, exactly(-7)]);
@@ -53,7 +54,8 @@ fn columns_and_numbers(rt: HostRuntime) -> Result<(), Fail> {
 #[test]
 fn sums(rt: HostRuntime) -> Result<(), Fail> {
     let alloc = rt.alloc();
-    let columns = columns(alloc)?;
+    let kept = columns(alloc)?;
+    let columns = kept.lend();
     let change = Box::new(alloc, Expr::Column(0))?;
     let ten = Box::new(alloc, Expr::Literal(10))?;
     let sum = Expr::Add(change, ten);
@@ -65,7 +67,8 @@ fn sums(rt: HostRuntime) -> Result<(), Fail> {
 #[test]
 fn differences(rt: HostRuntime) -> Result<(), Fail> {
     let alloc = rt.alloc();
-    let columns = columns(alloc)?;
+    let kept = columns(alloc)?;
+    let columns = kept.lend();
     let ten = Box::new(alloc, Expr::Literal(10))?;
     let change = Box::new(alloc, Expr::Column(0))?;
     let rest = Expr::Sub(ten, change);
@@ -76,7 +79,8 @@ fn differences(rt: HostRuntime) -> Result<(), Fail> {
 #[test]
 fn products(rt: HostRuntime) -> Result<(), Fail> {
     let alloc = rt.alloc();
-    let columns = columns(alloc)?;
+    let kept = columns(alloc)?;
+    let columns = kept.lend();
     let change = Box::new(alloc, Expr::Column(0))?;
     let other = Box::new(alloc, Expr::Column(0))?;
     let product = Expr::Mul(change, other);
@@ -87,7 +91,8 @@ fn products(rt: HostRuntime) -> Result<(), Fail> {
 #[test]
 fn a_column_that_may_be_null(rt: HostRuntime) -> Result<(), Fail> {
     let alloc = rt.alloc();
-    let columns = columns(alloc)?;
+    let kept = columns(alloc)?;
+    let columns = kept.lend();
     let change = Box::new(alloc, Expr::Column(0))?;
     let bonus = Box::new(alloc, Expr::Column(1))?;
     let total = Expr::Sub(change, bonus);

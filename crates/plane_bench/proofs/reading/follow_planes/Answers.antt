@@ -3,6 +3,7 @@ use Rattle.std.proofs.Common.{◌≡◌, arith, false, length, subst, sym, ap, �
 use Rattle.std.proofs.lemmas.List.{length-replicate}
 use Rattle.daq_table.specs.Tables.{ends_at}
 use Rattle.query_model.specs.Queries.{condition_of}
+use Rattle.known_column.specs.KnownTables.{KnownTable}
 use Rattle.kleene_filter.specs.Filters.{StandsFor}
 use Rattle.plane_bench.specs.Planes.{truths_after}
 use Rattle.plane_bench.proofs.Steps.{nothing_read}
@@ -14,8 +15,8 @@ loop-init c =
     record {
       read = none;
       rows = ap length c.in_ok-plane.ensures ∙ length-replicate (length c.args.cells.now) false;
-      lent = c.in_ok-filter.ensures.block;
-      filter = subst (StandsFor c.in_ok-filter.filter (condition_of c.args.pred.now)) none c.in_ok-filter.ensures.stands;
+      lent = c.in_ok-filter.ensures.block ∙ ap (λ (t : KnownTable). t.frame.columns) c.lend-lent.ensures;
+      filter = subst (StandsFor c.in_ok-filter.filter (condition_of c.args.pred.now)) (c.lend-lent.ensures ∙ none) c.in_ok-filter.ensures.stands;
     }
 
 pub refresh-requires-clause-stood : goal.refresh-requires-clause-stood
@@ -23,7 +24,7 @@ refresh-requires-clause-stood c = record {
   before = c.loop.columns;
   stood = subst (StandsFor c.loop.filter (condition_of c.args.pred.now)) (sym c.loop.invariant.read) c.loop.invariant.filter;
   could = c.read_next.ensures.legal;
-  taken = c.read_next.ensures.taken;
+  taken = c.lend.ensures ∙ c.read_next.ensures.taken;
 }
 
 pub returns : goal.returns
