@@ -1,5 +1,5 @@
 -- Sums at the rows of a mask, by blocks of 512 rows.
-use Rattle.std.proofs.Common.{◌≡◌, ℕ, ◌+◌, ◌-◌, ◌*◌, ◌/◌, ◌^◌, ◌<◌, ◌≤◌, min, Bool, true, false, ◌&&◌, cond, List, [], ◌∷◌, ◌++◌, length, map, take, drop, get_or, count_by, sum_by, IsTrue, refl, ap, sym, subst, ◌∙◌, arith, length-drop}
+use Rattle.std.proofs.Common.{◌≡◌, ℕ, ◌+◌, ◌-◌, ◌*◌, ◌<◌, ◌≤◌, min, Bool, false, ◌&&◌, cond, List, [], ◌∷◌, ◌++◌, length, map, take, drop, get_or, count_by, sum_by, IsTrue, refl, ap, sym, subst, ◌∙◌, arith, length-drop}
 use Rattle.std.specs.Int.Bits.{bit_and}
 use Rattle.std.specs.Int.Count.{ones}
 use Rattle.std.specs.Simd.Lanes.{zip2}
@@ -7,16 +7,16 @@ use Rattle.std.proofs.Math.Seq.{take-add}
 use Rattle.std.proofs.lemmas.Bool.{false≢true}
 use Rattle.std.proofs.lemmas.List.{drop-map, get_or-drop, get_or-take, length-map, length-take, map-append, take-map, take_all}
 use Rattle.std.proofs.lemmas.List.Sums.{sum_by-append, sum_by-cons}
-use Rattle.plane_kernels.specs.Rows.{bits_of, rows_of, IsPadded}
+use Rattle.plane_kernels.specs.Rows.{bits_of, block_rows, rows_of, IsPadded}
 use Rattle.plane_kernels.proofs.Bitwise.{and_is_bitwise}
 use Rattle.plane_kernels.proofs.RowLemmas.{count-bits_of, length-bits_of, zip2-append}
 use Rattle.query_model.specs.Knowledge.{null_with, IsLegal}
 use Rattle.query_model.specs.Truths.{may_be_number}
-use Rattle.known_column.specs.Columns.{KnownColumn, digit_of, number_of}
+use Rattle.known_column.specs.Columns.{KnownColumn, rows_of_column}
 use Rattle.aggregates.specs.ExtremeRows.{AreBlockRows, AreZero}
-use Rattle.aggregates.specs.Selections.{block_of, has_row, sum_where}
+use Rattle.aggregates.specs.Selections.{block_of, sum_where, IsSound}
 use Rattle.aggregates.proofs.BlockWords.{no_places, row_within}
-use Rattle.aggregates.proofs.EndSums.{Counts}
+use Rattle.aggregates.proofs.EndSums.{Counts, OfColumn}
 use Rattle.aggregates.proofs.MaskSums.{sum_none}
 
 -- ---- rows of two blocks
@@ -37,14 +37,13 @@ count_words n (w ∷ ws) (v ∷ vs) e p q =
     ∙ sym (sum_by-append (λ b. cond b 1 0) both rest)
     ∙ ap (count_by (λ b. b)) (sym (zip2-append (λ a b. a && b) (bits_of k w) (rows_of (n - 64) ws) (bits_of k v) (rows_of (n - 64) vs) same))
 
--- those of a mask and of a plane
-pub count_block : (mask : List Bool) (ps : List ℕ) (digit : ℕ → Bool) (block n : ℕ) (ws vs : List ℕ) (plane : List Bool) → length ws ≡ 8 → length vs ≡ 8 → IsPadded n ws → IsPadded n vs →
-    rows_of n ws ≡ block_of block mask → rows_of n vs ≡ block_of block plane → plane ≡ map digit ps →
-    sum_by ones (zip2 bit_and ws vs) ≡ count_by (λ b. b) (zip2 (λ a b. a && b) (block_of block mask) (map digit (block_of block ps)))
-count_block mask ps digit block n ws vs plane first second p q rows bits is =
+-- those of words and of a plane
+pub count_block : (ps : List ℕ) (digit : ℕ → Bool) (block n : ℕ) (ws vs : List ℕ) (plane : List Bool) → length ws ≡ 8 → length vs ≡ 8 → IsPadded n ws → IsPadded n vs →
+    rows_of n vs ≡ block_of block plane → plane ≡ map digit ps →
+    sum_by ones (zip2 bit_and ws vs) ≡ count_by (λ b. b) (zip2 (λ a b. a && b) (rows_of n ws) (map digit (block_of block ps)))
+count_block ps digit block n ws vs plane first second p q bits is =
     let digits : block_of block plane ≡ map digit (block_of block ps) = ap (block_of block) is ∙ ap (take 512) (drop-map digit (512 * block) ps) ∙ take-map digit 512 (drop (512 * block) ps) in
-    count_words n ws vs (second ∙ sym first) p q ∙ ap (λ r. count_by (λ b. b) (zip2 (λ a b. a && b) r (rows_of n vs))) rows
-    ∙ ap (λ r. count_by (λ b. b) (zip2 (λ a b. a && b) (block_of block mask) r)) (bits ∙ digits)
+    count_words n ws vs (second ∙ sym first) p q ∙ ap (λ r. count_by (λ b. b) (zip2 (λ a b. a && b) (rows_of n ws) r)) (bits ∙ digits)
 
 -- ---- the part of a column in a block
 
@@ -57,19 +56,30 @@ length_block block xs = length-take 512 (drop (512 * block) xs) ∙ ap (min 512)
 get_block : {A : Type 0} (block : ℕ) (xs : List A) (i : ℕ) (d : A) → i < 512 → get_or (block_of block xs) i d ≡ get_or xs (512 * block + i) d
 get_block block xs i d small = get_or-take 512 (drop (512 * block) xs) i d small ∙ get_or-drop (512 * block) xs i d
 
-pub counts_block : (column : KnownColumn) (mask : List Bool) (block : ℕ) → Counts column mask → Counts (column_block column block) (block_of block mask)
-counts_block column mask block h =
+-- rows of a block
+pub of_block : (column : KnownColumn) (rows : List Bool) (block : ℕ) → IsSound column → length rows ≡ block_rows (rows_of_column column) block → OfColumn (column_block column block) rows
+of_block column rows block sound long =
     let ps = column.known.prefixes in
     record {
       sound = record {
         known = record {
-          some_read = h.sound.known.some_read;
-          few_rows = omega (arith, length_block block ps, h.sound.known.few_rows);
-          legal = λ r d below. subst (IsLegal column.ends column.known.read) (sym (get_block block ps r d (omega (arith, below, length_block block ps)))) (h.sound.known.legal (512 * block + r) d (omega (arith, below, length_block block ps)));
+          some_read = sound.known.some_read;
+          few_rows = omega (arith, length_block block ps, sound.known.few_rows);
+          legal = λ r d below. subst (IsLegal column.ends column.known.read) (sym (get_block block ps r d (omega (arith, below, length_block block ps)))) (sound.known.legal (512 * block + r) d (omega (arith, below, length_block block ps)));
         };
-        digits = h.sound.digits;
+        digits = sound.digits;
       };
-      rows = length_block block mask ∙ ap (λ n. min 512 (n - 512 * block)) h.rows ∙ sym (length_block block ps);
+      rows = long ∙ sym (length_block block ps);
+    }
+
+-- rows of a block that may have values
+pub counts_block : (column : KnownColumn) (mask : List Bool) (block : ℕ) → Counts column mask → Counts (column_block column block) (block_of block mask)
+counts_block column mask block h =
+    let ps = column.known.prefixes in
+    let of = of_block column (block_of block mask) block h.sound (length_block block mask ∙ ap (λ n. min 512 (n - 512 * block)) h.rows) in
+    record {
+      sound = of.sound;
+      rows = of.rows;
       values = λ row has.
           let small : row < 512 = omega (arith, row_within (block_of block mask) row has, length_block block mask) in
           subst (λ p. IsTrue (may_be_number (null_with column.ends column.known.read p))) (sym (get_block block ps row 0 small)) (h.values (512 * block + row) (sym (get_block block mask row false small) ∙ has));

@@ -4,9 +4,11 @@ pub mod BlockSums
 pub mod BlockAdding
 pub mod BlockWords
 pub mod BoundFacts
+pub mod EarlyNumbers
 pub mod EndSigns
 pub mod EndSums
 pub mod ExtremeEnds
+pub mod KeptSums
 pub mod MaskSums
 pub mod NumberRows
 pub mod Small

@@ -1,5 +1,6 @@
 pub mod BlockPairs
 pub mod ExtremeRows
+pub mod KeptSums
 pub mod Runnings
 pub mod Selections
 pub mod Tallies

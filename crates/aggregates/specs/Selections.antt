@@ -1,5 +1,5 @@
 -- The rows of a mask, and the ends of the numbers that their values in a column may be.
-use Rattle.std.specs.Prelude.{◌≡◌, ℕ, ◌+◌, ◌-◌, ◌*◌, ◌^◌, ◌≤◌, ℤ, pos, negsuc, ◌≤ℤ◌, Bool, false, cond, ◌&&◌, List, [], ◌∷◌, length, map, take, drop, slice_index_or, IsTrue}
+use Rattle.std.specs.Prelude.{◌≡◌, ℕ, ◌+◌, ◌-◌, ◌*◌, ◌/◌, ◌^◌, ◌≤◌, ℤ, pos, negsuc, ◌≤ℤ◌, Bool, false, cond, ◌&&◌, List, [], ◌∷◌, length, map, take, drop, slice_index_or, IsTrue}
 use Rattle.std.specs.List.{filter, range_with_len}
 use Rattle.interval_calc.specs.Intervals.{Interval}
 use Rattle.daq_table.specs.Tables.{planes, width}
@@ -58,6 +58,14 @@ sum_where (b ∷ mask) (n ∷ numbers) = cond b n 0 + sum_where mask numbers
 -- what stands in a block of 512 rows
 abbrev pub block_of : {A : Type 0} → ℕ → List A → List A
 block_of block rows = take 512 (drop (512 * block) rows)
+
+-- the number that the first digits of a prefix make, those that so many planes gave
+abbrev pub early_number : KnownColumn → ℕ → ℕ → ℕ
+early_number column read prefix = number_of column.ends read (prefix / 2 ^ (column.known.read - read))
+
+-- what so many planes, the first, gave of the numbers at the mask's rows, added up as numbers
+abbrev pub sum_of_first : KnownColumn → ℕ → List Bool → ℕ
+sum_of_first column read mask = sum_where mask (map (early_number column read) column.known.prefixes)
 
 -- what holds of every column: its prefixes are those of cells, and its numbers have at most 64 binary digits
 pub record IsSound (column : KnownColumn) : Type 0 where

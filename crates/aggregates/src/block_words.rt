@@ -15,6 +15,13 @@ pub(crate) fn is_empty(words: &[u64; 8]) -> bool
     u64x8::from_array(*words).reduce_or() == 0
 }
 
+// Whether both words have the same rows.
+pub(crate) fn are_same(words: &[u64; 8], others: &[u64; 8]) -> bool
+    ensures { IsTrue result → words.now ≡ others.now }
+{
+    words == others
+}
+
 // The place of a row that the words have.
 pub(crate) fn first_place(words: &[u64; 8]) -> usize
     requires { ¬ AreZero words.now }

@@ -6,6 +6,7 @@ mod digits;
 mod ends;
 mod extreme_rows;
 mod extremes;
+mod kept_sum;
 mod running;
 mod signs;
 mod sums;
@@ -15,11 +16,14 @@ pub use ends::{
     ExtremeSpan, greatest_ends, greatest_high, least_ends, least_low, negative_lows,
     positive_highs, sum_ends, sum_highs, sum_lows,
 };
+pub use kept_sum::KeptSum;
 pub use running::Running;
 pub use sums::SumSpan;
 pub use tally::Tally;
 
 #[cfg(test)]
 mod block_tests;
+#[cfg(test)]
+mod kept_tests;
 #[cfg(test)]
 mod tests;

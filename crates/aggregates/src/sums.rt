@@ -3,7 +3,8 @@
 ghost use Rattle.std.specs.Prelude.{◌≡◌, ◌≤◌, ◌<◌, ◌+◌, ◌-◌, ◌*◌, ◌^◌, ◌%◌, ◌*ℤ◌, ◌-ℤ◌, nat_abs, ◌+ℤ◌, ◌≤ℤ◌, negsuc, pos, length, map};
 ghost use Rattle.query_model.specs.Answers.{total};
 ghost use Rattle.known_column.specs.Columns.{number_of, rows_of_column};
-ghost use Rattle.aggregates.specs.Selections.{IsSmallSum, IsSound, IsSumOfDigits, MayHaveValues, block_of, highs_in, lows_in, sum_where};
+ghost use Rattle.plane_kernels.specs.Rows.{block_rows, rows_of, IsPadded};
+ghost use Rattle.aggregates.specs.Selections.{IsSmallSum, IsSumOfDigits, MayHaveValues, block_of, early_number, highs_in, lows_in, sum_of_first, sum_where};
 
 use crate::block_words::{count_both, is_empty};
 use crate::digits::number_planes;
@@ -30,10 +31,26 @@ fn multiples(base: i64, count: u64, number: u128, unread: u8) -> i128
     times(base, count) + (number << unread) as i128
 }
 
+// The digits that the first planes gave of the numbers at some rows of a block of 512, added up as numbers.
+pub(crate) fn sum_rows(known: &Known, block: usize, rows: &[u64; 8], read: u8) -> u128
+    requires block { 512 * block < rows_of_column known.now }
+    requires rows { IsPadded (block_rows (rows_of_column known.now) block) rows.now }
+    requires read { read ≤ known.now.known.read }
+    ensures sum { result ≡ sum_where (rows_of (block_rows (rows_of_column known.now) block) rows.now)
+        (map (early_number known.now read) (block_of block known.now.known.prefixes)) }
+    ensures few { result ≤ 2 ^ 88 }
+{
+    let (from, _) = number_planes(known);
+    let mut sum = 0;
+    for j in from.min(read)..read {
+        sum = 2 * sum + u128::from(count_both(rows, &known.plane(j).block(block)));
+    }
+    sum
+}
+
 // The digits that were read of the numbers at the mask's rows of a block of 512, added up as numbers.
 fn sum_block(known: &Known, mask: &Mask, block: usize) -> u128
     requires rows { length mask.now ≡ rows_of_column known.now }
-    requires values { MayHaveValues known.now mask.now }
     requires block { 512 * block < rows_of_column known.now }
     ensures sum { result ≡ sum_where (block_of block mask.now) (map (number_of known.now.ends known.now.known.read) (block_of block known.now.known.prefixes)) }
     ensures few { result ≤ 2 ^ 88 }
@@ -42,18 +59,13 @@ fn sum_block(known: &Known, mask: &Mask, block: usize) -> u128
     if is_empty(&rows) {
         return 0;
     }
-    let (from, to) = number_planes(known);
-    let mut sum = 0;
-    for j in from..to {
-        sum = 2 * sum + u128::from(count_both(&rows, &known.plane(j).block(block)));
-    }
-    sum
+    let (_, read) = number_planes(known);
+    sum_rows(known, block, &rows, read)
 }
 
 // The digits that were read of the numbers at the mask's rows, added up as numbers. Planes are read where the mask has rows.
 fn sum_by_blocks(known: &Known, mask: &Mask) -> u128
     requires rows { length mask.now ≡ rows_of_column known.now }
-    requires values { MayHaveValues known.now mask.now }
     ensures { IsSumOfDigits known.now mask.now result }
 {
     let _planes = number_planes(known);
@@ -65,18 +77,28 @@ fn sum_by_blocks(known: &Known, mask: &Mask) -> u128
     sum
 }
 
-// The same. Each plane is read from its first row to its last.
-fn sum_by_planes(known: &Known, mask: &Mask) -> u128
+// The same, where the sum of what the first planes gave is known. Each other plane is read from its first row to its last.
+pub(crate) fn sum_further(known: &Known, mask: &Mask, first: u128, read: u8) -> u128
     requires rows { length mask.now ≡ rows_of_column known.now }
-    requires values { MayHaveValues known.now mask.now }
+    requires read { read ≤ known.now.known.read }
+    requires first { first ≡ sum_of_first known.now read mask.now }
     ensures { IsSumOfDigits known.now mask.now result }
 {
     let (from, to) = number_planes(known);
-    let mut sum = 0;
-    for j in from..to {
+    let mut sum = first;
+    for j in from.max(read)..to {
         sum = 2 * sum + u128::from(mask.count_plane(known.plane(j)));
     }
     sum
+}
+
+// The same, plane by plane.
+fn sum_by_planes(known: &Known, mask: &Mask) -> u128
+    requires rows { length mask.now ≡ rows_of_column known.now }
+    ensures { IsSumOfDigits known.now mask.now result }
+{
+    let _planes = number_planes(known);
+    sum_further(known, mask, 0, 0)
 }
 
 // Whether more than half of the blocks have rows. Only how fast a sum is found hangs on it.
@@ -95,9 +117,8 @@ fn is_dense(mask: &Mask) -> bool {
 }
 
 // The same, in the way that is faster.
-fn sum_numbers(known: &Known, mask: &Mask) -> u128
+pub(crate) fn sum_numbers(known: &Known, mask: &Mask) -> u128
     requires rows { length mask.now ≡ rows_of_column known.now }
-    requires values { MayHaveValues known.now mask.now }
     ensures { IsSumOfDigits known.now mask.now result }
 {
     let (from, to) = number_planes(known);
@@ -108,18 +129,27 @@ fn sum_numbers(known: &Known, mask: &Mask) -> u128
     }
 }
 
+// The low ends at the mask's rows, added up, where the sum of their digits is known.
+fn lows_by_digits(known: &Known, mask: &Mask, numbers: u128) -> i128
+    requires rows { length mask.now ≡ rows_of_column known.now }
+    requires values { MayHaveValues known.now mask.now }
+    requires numbers { IsSumOfDigits known.now mask.now numbers }
+    ensures sum { result ≡ total (lows_in known.now mask.now) }
+    ensures few { (negsuc 1237940039285380274899124224 ≤ℤ result) × (result ≤ℤ pos 1237940039285380274899124224) }
+{
+    let unread = known.unread();
+    let _rows = known.rows();
+    multiples(known.base(), mask.count(), numbers, unread)
+}
+
 // The low ends at the mask's rows, added up.
 pub(crate) fn add_lows(known: &Known, mask: &Mask) -> i128
     requires rows { length mask.now ≡ rows_of_column known.now }
     requires values { MayHaveValues known.now mask.now }
     ensures sum { result ≡ total (lows_in known.now mask.now) }
     ensures few { (negsuc 1237940039285380274899124224 ≤ℤ result) × (result ≤ℤ pos 1237940039285380274899124224) }
-    ensures sound { IsSound known.now }
 {
-    let numbers = sum_numbers(known, mask);
-    let unread = known.unread();
-    let _rows = known.rows();
-    multiples(known.base(), mask.count(), numbers, unread)
+    lows_by_digits(known, mask, sum_numbers(known, mask))
 }
 
 // How far a range's high end lies above its low end where it does not end at top.
@@ -157,15 +187,17 @@ pub struct SumSpan {
     pub high: i128,
 }
 
-// Both ends at the mask's rows, added up. Their digits are added once: a high end lies above its low end by what is not read.
-pub(crate) fn add_ends(known: &Known, mask: &Mask) -> SumSpan
+// Both ends at the mask's rows, added up, where the sum of their digits is known: a high end lies above its low end by what is not
+// read.
+pub(crate) fn ends_by_digits(known: &Known, mask: &Mask, numbers: u128) -> SumSpan
     requires rows { length mask.now ≡ rows_of_column known.now }
     requires values { MayHaveValues known.now mask.now }
+    requires numbers { IsSumOfDigits known.now mask.now numbers }
     ensures low { result.low ≡ total (lows_in known.now mask.now) }
     ensures high { result.high ≡ total (highs_in known.now mask.now) }
     ensures few { IsSmallSum result.low × IsSmallSum result.high }
 {
-    let low = add_lows(known, mask);
+    let low = lows_by_digits(known, mask, numbers);
     let unread = known.unread();
     let _rows = known.rows();
     let at_top = mask.count_and(known.at_top());
@@ -176,4 +208,15 @@ pub(crate) fn add_ends(known: &Known, mask: &Mask) -> SumSpan
         low,
         high: low + wide as i128,
     }
+}
+
+// Both ends at the mask's rows, added up. Their digits are added once.
+pub(crate) fn add_ends(known: &Known, mask: &Mask) -> SumSpan
+    requires rows { length mask.now ≡ rows_of_column known.now }
+    requires values { MayHaveValues known.now mask.now }
+    ensures low { result.low ≡ total (lows_in known.now mask.now) }
+    ensures high { result.high ≡ total (highs_in known.now mask.now) }
+    ensures few { IsSmallSum result.low × IsSmallSum result.high }
+{
+    ends_by_digits(known, mask, sum_numbers(known, mask))
 }

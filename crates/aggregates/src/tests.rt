@@ -2,7 +2,9 @@
 ghost use Rattle.std.specs.Prelude.{◌≡◌, ◌≢◌, ◌≤◌, ◌<◌, ◌≤ℤ◌, length, FitsSigned, IfOk};
 ghost use Rattle.std.specs.Int.{w16};
 ghost use Rattle.query_model.specs.declared.query.ItemKind.TheVariants.{Avg};
+ghost use Rattle.daq_table.specs.Tables.{planes};
 ghost use Rattle.known_column.specs.Columns.{rows_of_column};
+ghost use Rattle.aggregates.specs.KeptSums.{IsKept};
 ghost use Rattle.aggregates.specs.Selections.{MayHaveValues};
 
 use super::*;
@@ -306,28 +308,39 @@ pub(super) fn partly_read(
     Ok(known)
 }
 
-// Reads the next plane of these cells, where there is one.
-fn read_next(
+// Takes a plane, unless a prefix would then be that of no cell. Sums that are kept stay so.
+fn take_plane(known: &mut Known, plane: &Plane)
+    requires unread { known.old.known.read < planes known.old.ends }
+    requires rows { length plane.now ≡ rows_of_column known.old }
+    ensures { (kept : KeptSum) → IsKept known.old kept → IsKept known.new kept }
+{
+    let _ = known.take(plane);
+}
+
+// Reads the next plane of these cells, where there is one. Sums that are kept stay so.
+pub(super) fn read_next(
     alloc: Global,
     known: &mut Known,
     cells: &[u64],
     nulls: &[bool],
-) -> Result<(), AllocError> {
+) -> Result<(), AllocError>
+    ensures { (kept : KeptSum) → IsKept known.old kept → IsKept known.new kept }
+{
     let mut plane = Plane::blank(alloc, known.rows())?;
     let unread = known.unread();
     let width = known.width();
     if unread > width && nulls.len() == plane.rows() {
         validity(nulls, &mut plane);
-        let _ = known.take(&plane);
+        take_plane(known, &plane);
     } else if unread > 0 && unread <= width && cells.len() == plane.rows() {
         transpose(cells, width, width - unread, &mut plane);
-        let _ = known.take(&plane);
+        take_plane(known, &plane);
     }
     Ok(())
 }
 
 // Those of some rows of a column that may have a value.
-fn rows_of(alloc: Global, known: &Known, chosen: &[usize]) -> Result<Mask, AllocError>
+pub(super) fn rows_of(alloc: Global, known: &Known, chosen: &[usize]) -> Result<Mask, AllocError>
     ensures rows { IfOk result (λ mask. length mask ≡ rows_of_column known.now) }
     ensures values { IfOk result (MayHaveValues known.now) }
 {

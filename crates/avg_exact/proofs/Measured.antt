@@ -7,7 +7,7 @@ use Rattle.daq_table.specs.Tables.{planes, spread}
 use Rattle.query_model.specs.Answers.{total}
 use Rattle.known_column.specs.Columns.{KnownColumn, is_at_top, number_of}
 use Rattle.aggregates.specs.Selections.{highs_in, lows_in}
-use Rattle.aggregates.proofs.EndSums.{Counts, few_planes, highs, lows, sum_fits}
+use Rattle.aggregates.proofs.EndSums.{Counts, few_planes, highs, lows, of_counts, sum_fits}
 use Rattle.aggregates.proofs.MaskSums.{count_both-le, sum_none}
 use Rattle.avg_exact.specs.declared.passes.End.{End}
 use Rattle.avg_exact.specs.declared.passes.End.TheVariants.{Low, High}
@@ -32,7 +32,7 @@ module _ (column : KnownColumn) (rows : List Bool) (m : Measure) (counts : Count
   few_measured =
       let most = count_by-le-length {X = Bool} (λ b. b) rows in
       let both = count_both-le rows (map (is_at_top column.ends column.known.read) column.known.prefixes) in
-      let fits = sum_fits column rows counts in
+      let fits = sum_fits column rows (of_counts column rows counts) in
       record {
         rows = omega (arith, measure.rows_is, most, counts.rows, counts.sound.known.few_rows);
         at_top = omega (arith, measure.rows_is, measure.at_top, both);

@@ -13,11 +13,11 @@ use crate::exact::Exact;
 use crate::passes::End;
 use crate::search::best_choice;
 use crate::ways::{count_uncertain, way_of};
-use round_engine::Engine;
+use round_engine::EngineView;
 
 /// The exact ends of an average under what is known. It takes no memory and sorts nothing: at each end it drops the uncertain rows that do
 /// not help, until none is dropped.
-pub fn exact_average(engine: &Engine, item: usize) -> Exact
+pub fn exact_average(engine: &EngineView<'_>, item: usize) -> Exact
     requires plain { engine.now.query.shape ≡ Plain }
     requires item { item < length engine.now.query.items }
     requires kind { IfSome (slice_get engine.now.query.items item) (λ i. i.kind ≡ Avg) }

@@ -10,7 +10,7 @@ ghost use Rattle.avg_exact.specs.Furthest.{further_of, wanted, IsFurthest};
 use crate::block::Block;
 use crate::passes::End;
 use crate::planes::{Part, is_passed_over, keep, number_planes, part_block};
-use round_engine::Engine;
+use round_engine::EngineView;
 
 // Those of `level` that have this digit, or all of them where none has it, and the digit that they have.
 fn narrowed(level: &Block, digits: &Block, wanted: bool) -> (Block, bool)
@@ -39,7 +39,7 @@ fn wanted(toward: End) -> bool
 
 // The furthest number of a block's rows, digit by digit.
 fn furthest_in_block(
-    engine: &Engine,
+    engine: &EngineView<'_>,
     item: usize,
     column: usize,
     part: Part,
@@ -89,7 +89,7 @@ fn further(toward: End, a: Option<u64>, b: Option<u64>) -> Option<u64>
 
 /// The least number of some rows, or their greatest, toward an end.
 pub(crate) fn furthest(
-    engine: &Engine,
+    engine: &EngineView<'_>,
     item: usize,
     column: usize,
     part: Part,

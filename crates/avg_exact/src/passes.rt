@@ -10,7 +10,7 @@ ghost use Rattle.avg_exact.specs.Passes.{all_rows, certainty_of, end_value, grea
 
 use interval_calc::{Fraction, Interval};
 use query_model::{Nullity, Truth};
-use round_engine::Engine;
+use round_engine::EngineView;
 
 /// An end of an average.
 #[derive(Clone, Copy)]
@@ -138,7 +138,7 @@ fn certainty(truth: Truth, missing: Nullity) -> Option<bool>
 }
 
 // A row, if it may give a value.
-fn value_at(engine: &Engine, item: usize, end: End, row: usize) -> Option<RowValue>
+fn value_at(engine: &EngineView<'_>, item: usize, end: End, row: usize) -> Option<RowValue>
     requires averaged { IsAveraged engine.now item }
     requires row { row < engine.now.frame.rows }
     ensures value { result ≡ option_map value_of (seen_at engine.now item end row) }
@@ -155,7 +155,12 @@ fn value_at(engine: &Engine, item: usize, end: End, row: usize) -> Option<RowVal
 }
 
 /// The certain rows, and the uncertain ones above a fraction.
-pub(crate) fn count_above(engine: &Engine, item: usize, end: End, over: Option<Fraction>) -> Tally
+pub(crate) fn count_above(
+    engine: &EngineView<'_>,
+    item: usize,
+    end: End,
+    over: Option<Fraction>,
+) -> Tally
     requires averaged { IsAveraged engine.now item }
     requires small { IfSome over (λ f. f.den ≤ engine.now.frame.rows) }
     ensures tally { result ≡ tally_of over (all_rows engine.now item end) }
@@ -173,7 +178,7 @@ pub(crate) fn count_above(engine: &Engine, item: usize, end: End, over: Option<F
 }
 
 /// How many rows are uncertain.
-pub(crate) fn count_uncertain(engine: &Engine, item: usize) -> u64
+pub(crate) fn count_uncertain(engine: &EngineView<'_>, item: usize) -> u64
     requires averaged { IsAveraged engine.now item }
     ensures { result ≡ uncertain_count (all_rows engine.now item High) }
 {
@@ -185,7 +190,12 @@ pub(crate) fn count_uncertain(engine: &Engine, item: usize) -> u64
 }
 
 /// The least value of an uncertain row above a fraction.
-pub(crate) fn least_above(engine: &Engine, item: usize, end: End, over: Fraction) -> Option<i128>
+pub(crate) fn least_above(
+    engine: &EngineView<'_>,
+    item: usize,
+    end: End,
+    over: Fraction,
+) -> Option<i128>
     requires averaged { IsAveraged engine.now item }
     requires small { over.den ≤ engine.now.frame.rows }
     ensures least { result ≡ least_taken over (all_rows engine.now item end) }
@@ -199,7 +209,7 @@ pub(crate) fn least_above(engine: &Engine, item: usize, end: End, over: Fraction
 }
 
 /// The greatest value of a row.
-pub(crate) fn greatest(engine: &Engine, item: usize, end: End) -> Option<i128>
+pub(crate) fn greatest(engine: &EngineView<'_>, item: usize, end: End) -> Option<i128>
     requires averaged { IsAveraged engine.now item }
     ensures greatest { result ≡ greatest_high (all_rows engine.now item end) }
     ensures small { IfSome result (λ v. nat_abs v < 2 ^ 127) }

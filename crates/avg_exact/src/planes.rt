@@ -11,7 +11,7 @@ ghost use Rattle.avg_exact.specs.Blocks.{beyond_rows, block_column, column_of, i
 use crate::block::Block;
 use crate::passes::End;
 use known_column::Known;
-use round_engine::Engine;
+use round_engine::EngineView;
 
 /// Some of the rows: the certain ones, or the uncertain ones that an end reaches.
 #[derive(Clone, Copy)]
@@ -41,7 +41,7 @@ pub(crate) fn number_planes(known: &Known) -> (u8, u8)
 }
 
 // The certain rows of a block.
-fn certain_block(engine: &Engine, item: usize, column: usize, block: usize) -> Block
+fn certain_block(engine: &EngineView<'_>, item: usize, column: usize, block: usize) -> Block
     requires over { IsOverColumn engine.now item column }
     requires block { 512 * block < engine.now.frame.rows }
     ensures { result ≡ block_of block (rows_with engine.now item is_sure_row) }
@@ -52,7 +52,7 @@ fn certain_block(engine: &Engine, item: usize, column: usize, block: usize) -> B
 }
 
 // The uncertain rows of a block.
-fn uncertain_block(engine: &Engine, item: usize, column: usize, block: usize) -> Block
+fn uncertain_block(engine: &EngineView<'_>, item: usize, column: usize, block: usize) -> Block
     requires over { IsOverColumn engine.now item column }
     requires block { 512 * block < engine.now.frame.rows }
     ensures { result ≡ block_of block (rows_with engine.now item is_unsure_row) }
@@ -98,7 +98,7 @@ fn digit_of(number: u64, place: u8) -> bool
 
 // The uncertain rows of a block that an end reaches.
 fn reached_block(
-    engine: &Engine,
+    engine: &EngineView<'_>,
     item: usize,
     column: usize,
     end: End,
@@ -128,7 +128,7 @@ fn reached_block(
 
 // Some of the rows of a block.
 pub(crate) fn part_block(
-    engine: &Engine,
+    engine: &EngineView<'_>,
     item: usize,
     column: usize,
     part: Part,
@@ -153,7 +153,7 @@ pub(crate) struct Uncertain {
 }
 
 /// Looks for the uncertain rows.
-pub(crate) fn find_uncertain(engine: &Engine, item: usize, column: usize) -> Uncertain
+pub(crate) fn find_uncertain(engine: &EngineView<'_>, item: usize, column: usize) -> Uncertain
     requires over { IsOverColumn engine.now item column }
     ensures blocks { MarkUncertain engine.now item result.blocks }
     ensures rows { result.rows ≡ count_by (λ b. b) (rows_with engine.now item is_unsure_row) }
@@ -181,7 +181,7 @@ pub(crate) fn is_passed_over(part: Part, blocks: &[bool; 32768], block: usize) -
 
 // The digits of the numbers at some rows of a block, added up as numbers.
 fn add_numbers(
-    engine: &Engine,
+    engine: &EngineView<'_>,
     item: usize,
     column: usize,
     part: Part,
@@ -207,7 +207,7 @@ fn add_numbers(
 
 // What some of the rows of a block come to.
 fn measure_block(
-    engine: &Engine,
+    engine: &EngineView<'_>,
     item: usize,
     column: usize,
     part: Part,
@@ -242,7 +242,7 @@ fn measure_block(
 
 /// What some of the rows come to.
 pub(crate) fn measure_part(
-    engine: &Engine,
+    engine: &EngineView<'_>,
     item: usize,
     column: usize,
     part: Part,

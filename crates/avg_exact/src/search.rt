@@ -9,7 +9,7 @@ ghost use Rattle.avg_exact.specs.Passes.{all_rows, choice_shown, greatest_high, 
 use crate::passes::{End, Tally};
 use crate::ways::{Way, count_above, greatest, least_above};
 use interval_calc::Fraction;
-use round_engine::Engine;
+use round_engine::EngineView;
 
 /// A choice of the uncertain rows from a cut on: the sum of the rows that give a value then, their number, and how many are taken.
 #[derive(Clone, Copy)]
@@ -60,7 +60,7 @@ fn mean(tally: Tally) -> Fraction
 }
 
 // Where a row is certain: the uncertain rows that do not lie above the average of the others are dropped, until none is.
-fn search(engine: &Engine, item: usize, way: &Way, end: End, certain: Tally) -> Choice
+fn search(engine: &EngineView<'_>, item: usize, way: &Way, end: End, certain: Tally) -> Choice
     requires averaged { IsAveraged engine.now item }
     requires way { IsWay engine.now item way.now }
     requires certain { certain ≡ tally_of None (all_rows engine.now item end) }
@@ -100,7 +100,7 @@ fn just_below(value: i128) -> Fraction
 }
 
 // Where none is: the rows of the greatest value.
-fn take_greatest(engine: &Engine, item: usize, way: &Way, end: End, value: i128) -> Choice
+fn take_greatest(engine: &EngineView<'_>, item: usize, way: &Way, end: End, value: i128) -> Choice
     requires averaged { IsAveraged engine.now item }
     requires way { IsWay engine.now item way.now }
     requires uncertain { (tally_of None (all_rows engine.now item end)).rows ≡ 0 }
@@ -119,7 +119,7 @@ fn take_greatest(engine: &Engine, item: usize, way: &Way, end: End, value: i128)
 }
 
 /// The choice of the greatest average, and of those the one that takes the fewest rows. Where no row may count it is the average 0 / 1.
-pub(crate) fn best_choice(engine: &Engine, item: usize, way: &Way, end: End) -> Choice
+pub(crate) fn best_choice(engine: &EngineView<'_>, item: usize, way: &Way, end: End) -> Choice
     requires averaged { IsAveraged engine.now item }
     requires way { IsWay engine.now item way.now }
     ensures best { choice_shown result ≡ high_end (all_rows engine.now item end) }

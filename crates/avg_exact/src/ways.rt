@@ -15,7 +15,7 @@ use crate::thresholds::threshold;
 use interval_calc::Fraction;
 use known_column::Known;
 use query_model::Expr;
-use round_engine::Engine;
+use round_engine::EngineView;
 
 /// The column whose planes are read, what its certain rows come to, and its uncertain rows.
 #[derive(Drop)]
@@ -33,7 +33,7 @@ pub(crate) enum Way {
 }
 
 // The way over the rows of a column.
-fn planes_of(engine: &Engine, item: usize, column: usize) -> Planes
+fn planes_of(engine: &EngineView<'_>, item: usize, column: usize) -> Planes
     requires over { IsOverColumn engine.now item column }
     ensures { ArePlanes engine.now item result }
 {
@@ -46,7 +46,7 @@ fn planes_of(engine: &Engine, item: usize, column: usize) -> Planes
 }
 
 /// The way to pass over the rows of an item.
-pub(crate) fn way_of(engine: &Engine, item: usize) -> Way
+pub(crate) fn way_of(engine: &EngineView<'_>, item: usize) -> Way
     requires averaged { IsAveraged engine.now item }
     ensures { IsWay engine.now item result }
 {
@@ -59,7 +59,7 @@ pub(crate) fn way_of(engine: &Engine, item: usize) -> Way
 
 // What some of the rows come to at an end.
 fn tally_part(
-    engine: &Engine,
+    engine: &EngineView<'_>,
     item: usize,
     column: usize,
     end: End,
@@ -85,7 +85,13 @@ fn tally_part(
 }
 
 // The uncertain rows above a fraction.
-fn count_taken(engine: &Engine, item: usize, planes: &Planes, end: End, over: Fraction) -> Tally
+fn count_taken(
+    engine: &EngineView<'_>,
+    item: usize,
+    planes: &Planes,
+    end: End,
+    over: Fraction,
+) -> Tally
     requires planes { ArePlanes engine.now item planes.now }
     ensures tally { result ≡ taken_tally over (all_rows engine.now item end) }
     ensures few { IsSmallTally result }
@@ -107,7 +113,7 @@ fn count_taken(engine: &Engine, item: usize, planes: &Planes, end: End, over: Fr
 
 // The certain rows, and the uncertain ones above a fraction, by planes.
 fn count_by_planes(
-    engine: &Engine,
+    engine: &EngineView<'_>,
     item: usize,
     planes: &Planes,
     end: End,
@@ -140,7 +146,7 @@ fn count_by_planes(
 
 /// The certain rows, and the uncertain ones above a fraction.
 pub(crate) fn count_above(
-    engine: &Engine,
+    engine: &EngineView<'_>,
     item: usize,
     way: &Way,
     end: End,
@@ -159,7 +165,7 @@ pub(crate) fn count_above(
 }
 
 /// How many rows are uncertain.
-pub(crate) fn count_uncertain(engine: &Engine, item: usize, way: &Way) -> u64
+pub(crate) fn count_uncertain(engine: &EngineView<'_>, item: usize, way: &Way) -> u64
     requires averaged { IsAveraged engine.now item }
     requires way { IsWay engine.now item way.now }
     ensures { result ≡ uncertain_count (all_rows engine.now item High) }
@@ -191,7 +197,7 @@ fn value_of_number(known: &Known, end: End, number: u64) -> i128
 
 // The value at an end of that of some rows whose number lies furthest.
 fn furthest_value(
-    engine: &Engine,
+    engine: &EngineView<'_>,
     item: usize,
     planes: &Planes,
     part: Part,
@@ -226,7 +232,7 @@ fn opposite(end: End) -> End
 
 // The least value of an uncertain row above a fraction, by planes.
 fn least_by_planes(
-    engine: &Engine,
+    engine: &EngineView<'_>,
     item: usize,
     planes: &Planes,
     end: End,
@@ -254,7 +260,7 @@ fn least_by_planes(
 
 /// The least value of an uncertain row above a fraction.
 pub(crate) fn least_above(
-    engine: &Engine,
+    engine: &EngineView<'_>,
     item: usize,
     way: &Way,
     end: End,
@@ -273,7 +279,12 @@ pub(crate) fn least_above(
 }
 
 // The greatest value of a row, where none is certain, by planes.
-fn greatest_by_planes(engine: &Engine, item: usize, planes: &Planes, end: End) -> Option<i128>
+fn greatest_by_planes(
+    engine: &EngineView<'_>,
+    item: usize,
+    planes: &Planes,
+    end: End,
+) -> Option<i128>
     requires planes { ArePlanes engine.now item planes.now }
     requires uncertain { (tally_of None (all_rows engine.now item end)).rows ≡ 0 }
     ensures greatest { result ≡ greatest_high (all_rows engine.now item end) }
@@ -287,7 +298,7 @@ fn greatest_by_planes(engine: &Engine, item: usize, planes: &Planes, end: End) -
 }
 
 /// The greatest value of a row, where none is certain.
-pub(crate) fn greatest(engine: &Engine, item: usize, way: &Way, end: End) -> Option<i128>
+pub(crate) fn greatest(engine: &EngineView<'_>, item: usize, way: &Way, end: End) -> Option<i128>
     requires averaged { IsAveraged engine.now item }
     requires way { IsWay engine.now item way.now }
     requires uncertain { (tally_of None (all_rows engine.now item end)).rows ≡ 0 }

@@ -1,17 +1,12 @@
-use Rattle.std.proofs.Common.{◌≡◌, ◌≤◌, ◌+◌, ◌-◌, ◌*◌, ◌^◌, ◌&&◌, ℕ, List, Bool, map, length, count_by, ap, sym, subst, ◌∙◌, arith}
-use Rattle.std.specs.Simd.Lanes.{zip2}
-use Rattle.std.proofs.lemmas.List.{length-map}
+use Rattle.std.proofs.Common.{◌≡◌, map, ap, sym, subst, ◌∙◌, arith}
 use Rattle.plane_kernels.specs.Rows.{block_rows, rows_of, IsPadded}
-use Rattle.known_column.specs.Columns.{KnownColumn, digit_of, number_of, rows_of_column}
+use Rattle.known_column.specs.Columns.{number_of, rows_of_column}
 use Rattle.aggregates.specs.ExtremeRows.{AreBlockRows}
-use Rattle.aggregates.specs.Selections.{block_of, IsSound, MayHaveValues}
-use Rattle.aggregates.proofs.BlockSums.{column_block, count_block, counts_block, none_in_block}
+use Rattle.aggregates.specs.Selections.{block_of, early_number, sum_where}
+use Rattle.aggregates.proofs.BlockSums.{none_in_block}
 use Rattle.aggregates.proofs.BlockWords.{block_is}
-use Rattle.aggregates.proofs.EndSums.{Counts, short_end, short_few, short_further, short_start, sum_short}
+use Rattle.aggregates.proofs.EarlyNumbers.{all_digits}
 use Rattle.aggregates.proofs.sums.sum_block.Goals as goal
-
-counts : (column : KnownColumn) (mask : List Bool) (block : ℕ) → IsSound column → length mask ≡ rows_of_column column → MayHaveValues column mask → Counts (column_block column block) (block_of block mask)
-counts column mask block sound rows values = counts_block column mask block (record { sound = sound; rows = rows; values = values })
 
 pub returns-then-is_empty : goal.returns-then-is_empty
 returns-then-is_empty c =
@@ -24,44 +19,16 @@ returns-then-is_empty c =
       few = omega arith;
     }
 
-pub loop-j-init : goal.loop-j-init
-loop-j-init c =
-    let known = counts c.args.known.now c.args.mask.now c.args.block c.number_planes-from.ensures.sound c.requires.rows c.requires.values in
-    sym (short_start (column_block c.args.known.now c.args.block) (block_of c.args.block c.args.mask.now) c.number_planes-from.result.0 known c.number_planes-from.ensures.from)
+pub sum_rows-requires-clause-rows : goal.sum_rows-requires-clause-rows
+sum_rows-requires-clause-rows c = subst (λ n. IsPadded (block_rows n c.args.block) c.block-rows.result) c.requires.rows c.block-rows.ensures.padded
 
-pub overflow_mul-sum : goal.overflow_mul-sum
-overflow_mul-sum c =
-    let known = counts c.args.known.now c.args.mask.now c.args.block c.number_planes-from.ensures.sound c.requires.rows c.requires.values in
-    record { fits = omega (arith, c.loop-j.invariant, short_few (column_block c.args.known.now c.args.block) (block_of c.args.block c.args.mask.now) (c.args.known.now.known.read - c.loop-j.j) known) }
-
-pub overflow_add-sum : goal.overflow_add-sum
-overflow_add-sum c =
-    let known = counts c.args.known.now c.args.mask.now c.args.block c.number_planes-from.ensures.sound c.requires.rows c.requires.values in
-    record { fits = omega (arith, c.loop-j.invariant, c.from.ensures, c.count_both.type_inv, short_few (column_block c.args.known.now c.args.block) (block_of c.args.block c.args.mask.now) (c.args.known.now.known.read - c.loop-j.j) known) }
-
-pub loop-j-preserved : goal.loop-j-preserved
-loop-j-preserved c =
-    let column = column_block c.args.known.now c.args.block in
-    let mask = block_of c.args.block c.args.mask.now in
-    let read = c.args.known.now.known.read in
-    let j = c.loop-j.j in
-    let known = counts c.args.known.now c.args.mask.now c.args.block c.number_planes-from.ensures.sound c.requires.rows c.requires.values in
-    let same : length c.plane.result.now ≡ length c.args.mask.now = ap length c.plane.ensures ∙ length-map c.args.known.now.known.prefixes (digit_of read j) ∙ sym c.requires.rows in
-    let further = short_further column mask j known (omega (arith, c.loop-j.auto.j, c.number_planes-from.ensures.from)) (omega (arith, c.loop-j-test.true, c.number_planes-from.ensures.to)) in
-    let bits : c.from.result ≡ count_by (λ b. b) (zip2 (λ a b. a && b) mask (map (digit_of read j) column.known.prefixes)) =
-    c.from.ensures ∙ c.count_both.ensures
-    ∙ count_block c.args.mask.now c.args.known.now.known.prefixes (digit_of read j) c.args.block (block_rows (length c.args.mask.now) c.args.block) c.block-rows.result c.block.result c.plane.result.now (omega arith) (omega arith) c.block-rows.ensures.padded
-    (subst (λ n. IsPadded (block_rows n c.args.block) c.block.result) same c.block.ensures.padded) c.block-rows.ensures.rows
-    (subst (λ n. rows_of (block_rows n c.args.block) c.block.result ≡ block_of c.args.block c.plane.result.now) same c.block.ensures.rows) c.plane.ensures in
-    ap (λ s. 2 * s + c.from.result) c.loop-j.invariant ∙ ap (λ n. 2 * sum_short column mask (read - j) + n) bits ∙ sym further
-
-pub returns : goal.returns
-returns c =
-    let column = column_block c.args.known.now c.args.block in
-    let mask = block_of c.args.block c.args.mask.now in
-    let known = counts c.args.known.now c.args.mask.now c.args.block c.number_planes-from.ensures.sound c.requires.rows c.requires.values in
-    let k = c.args.known.now.known.read - c.loop-j.j in
-    record {
-      sum = c.loop-j.invariant ∙ short_end column mask k known (omega (arith, c.loop-j.auto, c.loop-j-test.false, c.number_planes-from.ensures.to));
-      few = omega (arith, c.loop-j.invariant, short_few column mask k known);
-    }
+pub returns-clause-sum : goal.returns-clause-sum
+returns-clause-sum c =
+    let column = c.args.known.now in
+    let ps = block_of c.args.block column.known.prefixes in
+    let words = c.block-rows.result in
+    let rows : rows_of (block_rows (rows_of_column column) c.args.block) words ≡ block_of c.args.block c.args.mask.now =
+    subst (λ n. rows_of (block_rows n c.args.block) words ≡ block_of c.args.block c.args.mask.now) c.requires.rows c.block-rows.ensures.rows in
+    c.sum_rows.ensures.sum ∙ ap (λ r. sum_where r (map (early_number column c.number_planes-read.result.1) ps)) rows
+    ∙ ap (λ k. sum_where (block_of c.args.block c.args.mask.now) (map (early_number column k) ps)) c.number_planes-read.ensures.to
+    ∙ ap (sum_where (block_of c.args.block c.args.mask.now)) (all_digits column ps)

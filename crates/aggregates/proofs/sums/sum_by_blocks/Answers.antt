@@ -1,9 +1,8 @@
-use Rattle.std.proofs.Common.{◌≡◌, ◌≤◌, ◌+◌, ◌-◌, ◌*◌, ◌^◌, map, ap, sym, subst, ◌∙◌, arith}
+use Rattle.std.proofs.Common.{◌≤◌, ◌-◌, ◌*◌, ◌^◌, sym, subst, ◌∙◌, arith}
 use Rattle.daq_table.specs.Tables.{planes}
 use Rattle.known_column.specs.Columns.{number_of}
-use Rattle.aggregates.specs.Selections.{sum_where}
-use Rattle.aggregates.proofs.BlockSums.{all_blocks, next_block, sum_before}
-use Rattle.aggregates.proofs.EndSums.{Counts, sum_fits}
+use Rattle.aggregates.proofs.BlockSums.{all_blocks, next_block}
+use Rattle.aggregates.proofs.EndSums.{OfColumn, sum_fits}
 use Rattle.aggregates.proofs.sums.sum_by_blocks.Goals as goal
 
 pub loop-block-preserved : goal.loop-block-preserved
@@ -18,8 +17,8 @@ pub returns : goal.returns
 returns c =
     let column = c.args.known.now in
     let mask = c.args.mask.now in
-    let counts : Counts column mask = record { sound = c.number_planes-planes.ensures.sound; rows = c.requires.rows; values = c.requires.values } in
+    let of : OfColumn column mask = record { sound = c.number_planes-planes.ensures.sound; rows = c.requires.rows } in
     let d = planes column.ends - column.known.read in
     let is = c.loop-block.invariant.0 ∙ all_blocks mask column.known.prefixes (number_of column.ends column.known.read) c.loop-block.block c.requires.rows (omega arith) in
-    let fits : c.loop-block.sum * 2 ^ d ≤ 309485009821345068724781056 = subst (λ s. s * 2 ^ d ≤ 309485009821345068724781056) (sym is) (sum_fits column mask counts) in
+    let fits : c.loop-block.sum * 2 ^ d ≤ 309485009821345068724781056 = subst (λ s. s * 2 ^ d ≤ 309485009821345068724781056) (sym is) (sum_fits column mask of) in
     record { adds = is; few = omega (arith, fits); sound = c.number_planes-planes.ensures.sound }

@@ -1,44 +1,10 @@
-use Rattle.std.proofs.Common.{◌≡◌, ◌≤◌, ◌+◌, ◌-◌, ◌*◌, ◌^◌, ◌&&◌, List, Bool, map, length, count_by, ap, sym, subst, ◌∙◌, arith}
-use Rattle.std.specs.Simd.Lanes.{zip2}
-use Rattle.daq_table.specs.Tables.{planes}
-use Rattle.known_column.specs.Columns.{KnownColumn, digit_of, rows_of_column}
-use Rattle.aggregates.specs.Selections.{IsSound, MayHaveValues}
-use Rattle.aggregates.proofs.EndSums.{Counts, short_end, short_few, short_further, short_start, sum_fits, sum_short}
+use Rattle.std.proofs.Common.{sym, ◌∙◌, arith}
+use Rattle.aggregates.proofs.EndSums.{OfColumn, short_early, short_start}
 use Rattle.aggregates.proofs.sums.sum_by_planes.Goals as goal
 
-counts : (column : KnownColumn) (mask : List Bool) → IsSound column → length mask ≡ rows_of_column column → MayHaveValues column mask → Counts column mask
-counts column mask sound rows values = record { sound = sound; rows = rows; values = values }
-
-pub loop-j-init : goal.loop-j-init
-loop-j-init c =
-    let known = counts c.args.known.now c.args.mask.now c.number_planes-from.ensures.sound c.requires.rows c.requires.values in
-    sym (short_start c.args.known.now c.args.mask.now c.number_planes-from.result.0 known c.number_planes-from.ensures.from)
-
-pub overflow_mul-sum : goal.overflow_mul-sum
-overflow_mul-sum c =
-    let known = counts c.args.known.now c.args.mask.now c.number_planes-from.ensures.sound c.requires.rows c.requires.values in
-    record { fits = omega (arith, c.loop-j.invariant, short_few c.args.known.now c.args.mask.now (c.args.known.now.known.read - c.loop-j.j) known) }
-
-pub overflow_add-sum : goal.overflow_add-sum
-overflow_add-sum c =
-    let known = counts c.args.known.now c.args.mask.now c.number_planes-from.ensures.sound c.requires.rows c.requires.values in
-    record { fits = omega (arith, c.loop-j.invariant, c.from.ensures, c.count_plane.type_inv, short_few c.args.known.now c.args.mask.now (c.args.known.now.known.read - c.loop-j.j) known) }
-
-pub loop-j-preserved : goal.loop-j-preserved
-loop-j-preserved c =
+pub sum_further-requires-clause-first : goal.sum_further-requires-clause-first
+sum_further-requires-clause-first c =
     let column = c.args.known.now in
     let mask = c.args.mask.now in
-    let known = counts column mask c.number_planes-from.ensures.sound c.requires.rows c.requires.values in
-    let further = short_further column mask c.loop-j.j known (omega (arith, c.loop-j.auto.j, c.number_planes-from.ensures.from)) (omega (arith, c.loop-j-test.true, c.number_planes-from.ensures.to)) in
-    let bits : c.from.result ≡ count_by (λ b. b) (zip2 (λ a b. a && b) mask (map (digit_of column.known.read c.loop-j.j) column.known.prefixes)) =
-    c.from.ensures ∙ c.count_plane.ensures ∙ ap (λ l. count_by (λ b. b) (zip2 (λ a b. a && b) mask l)) c.plane.ensures in
-    ap (λ s. 2 * s + c.from.result) c.loop-j.invariant ∙ ap (λ n. 2 * sum_short column mask (column.known.read - c.loop-j.j) + n) bits ∙ sym further
-
-pub returns : goal.returns
-returns c =
-    let column = c.args.known.now in
-    let known = counts column c.args.mask.now c.number_planes-from.ensures.sound c.requires.rows c.requires.values in
-    let d = planes column.ends - column.known.read in
-    let is = c.loop-j.invariant ∙ short_end column c.args.mask.now (column.known.read - c.loop-j.j) known (omega (arith, c.loop-j.auto, c.loop-j-test.false, c.number_planes-from.ensures.to)) in
-    let fits : c.loop-j.sum * 2 ^ d ≤ 309485009821345068724781056 = subst (λ s. s * 2 ^ d ≤ 309485009821345068724781056) (sym is) (sum_fits column c.args.mask.now known) in
-    record { adds = is; few = omega (arith, fits); sound = c.number_planes-from.ensures.sound }
+    let of : OfColumn column mask = record { sound = c.number_planes-planes.ensures.sound; rows = c.requires.rows } in
+    sym (short_early column mask 0 of (omega arith) ∙ short_start column mask 0 of (omega arith))

@@ -3,7 +3,7 @@ use Rattle.std.specs.Simd.Lanes.{zip2}
 use Rattle.known_column.specs.Columns.{digit_of}
 use Rattle.aggregates.proofs.BlockSums.{column_block}
 use Rattle.std.proofs.lemmas.List.{length-map}
-use Rattle.aggregates.proofs.EndSums.{Counts, short_end, short_few, short_further, short_start, sum_short}
+use Rattle.aggregates.proofs.EndSums.{Counts, of_counts, short_end, short_few, short_further, short_start, sum_short}
 use Rattle.avg_exact.specs.Blocks.{column_of}
 use Rattle.avg_exact.proofs.RowLists.{digits_are, lends, part_block_counts}
 use Rattle.avg_exact.proofs.planes.add_numbers.Goals as goal
@@ -20,8 +20,8 @@ loop-j-init c =
     let column = column_block (column_of stage at) c.args.block in
     let whole = part_block_counts stage item at over c.args.part c.args.block lent.sound in
     let rows = c.args.rows.now in
-    let counts = subst (Counts column) (sym c.requires.rows) whole in
-    sym (short_start column rows c.number_planes-from.result.0 counts lent.from_is)
+    let counts = of_counts column rows (subst (Counts column) (sym c.requires.rows) whole) in
+    sym (short_start column rows c.number_planes-from.result.0 counts (omega (arith, lent.from_is)))
 
 pub overflow_mul-sum : goal.overflow_mul-sum
 overflow_mul-sum c =
@@ -35,7 +35,7 @@ overflow_mul-sum c =
     let column = column_block (column_of stage at) c.args.block in
     let whole = part_block_counts stage item at over c.args.part c.args.block lent.sound in
     let rows = c.args.rows.now in
-    let counts = subst (Counts column) (sym c.requires.rows) whole in
+    let counts = of_counts column rows (subst (Counts column) (sym c.requires.rows) whole) in
     record { fits = omega (arith, c.loop-j.invariant, short_few column rows (column.known.read - c.loop-j.j) counts) }
 
 pub and-requires : goal.and-requires
@@ -50,7 +50,7 @@ and-requires c =
     let column = column_block (column_of stage at) c.args.block in
     let whole = part_block_counts stage item at over c.args.part c.args.block lent.sound in
     let rows = c.args.rows.now in
-    let counts = subst (Counts column) (sym c.requires.rows) whole in
+    let counts = of_counts column rows (subst (Counts column) (sym c.requires.rows) whole) in
     let digits = digits_are stage item at over c.columns.result.now known c.args.block c.loop-j.j c.plane.result.now c.of_plane-digits.result c.columns.ensures c.column-known.ensures.column
     c.plane.ensures c.of_plane-digits.ensures in
     ap length digits ∙ length-map column.known.prefixes (digit_of column.known.read c.loop-j.j) ∙ sym counts.rows
@@ -67,7 +67,7 @@ overflow_add-sum c =
     let column = column_block (column_of stage at) c.args.block in
     let whole = part_block_counts stage item at over c.args.part c.args.block lent.sound in
     let rows = c.args.rows.now in
-    let counts = subst (Counts column) (sym c.requires.rows) whole in
+    let counts = of_counts column rows (subst (Counts column) (sym c.requires.rows) whole) in
     record { fits = omega (arith, c.loop-j.invariant, c.from.ensures, c.count.type_inv, short_few column rows (column.known.read - c.loop-j.j) counts) }
 
 pub loop-j-preserved : goal.loop-j-preserved
@@ -82,7 +82,7 @@ loop-j-preserved c =
     let column = column_block (column_of stage at) c.args.block in
     let whole = part_block_counts stage item at over c.args.part c.args.block lent.sound in
     let rows = c.args.rows.now in
-    let counts = subst (Counts column) (sym c.requires.rows) whole in
+    let counts = of_counts column rows (subst (Counts column) (sym c.requires.rows) whole) in
     let digits = digits_are stage item at over c.columns.result.now known c.args.block c.loop-j.j c.plane.result.now c.of_plane-digits.result c.columns.ensures c.column-known.ensures.column
     c.plane.ensures c.of_plane-digits.ensures in
     let j = c.loop-j.j in
@@ -103,7 +103,7 @@ returns-clause-sum c =
     let column = column_block (column_of stage at) c.args.block in
     let whole = part_block_counts stage item at over c.args.part c.args.block lent.sound in
     let rows = c.args.rows.now in
-    let counts = subst (Counts column) (sym c.requires.rows) whole in
+    let counts = of_counts column rows (subst (Counts column) (sym c.requires.rows) whole) in
     c.loop-j.invariant ∙ short_end column rows (column.known.read - c.loop-j.j) counts (omega (arith, c.loop-j.auto, c.loop-j-test.false, lent.to_is))
 
 pub returns-clause-few : goal.returns-clause-few
@@ -118,5 +118,5 @@ returns-clause-few c =
     let column = column_block (column_of stage at) c.args.block in
     let whole = part_block_counts stage item at over c.args.part c.args.block lent.sound in
     let rows = c.args.rows.now in
-    let counts = subst (Counts column) (sym c.requires.rows) whole in
+    let counts = of_counts column rows (subst (Counts column) (sym c.requires.rows) whole) in
     omega (arith, c.loop-j.invariant, short_few column rows (column.known.read - c.loop-j.j) counts)

@@ -9,7 +9,7 @@ use Rattle.known_column.specs.Columns.{is_at_top}
 use Rattle.aggregates.specs.Selections.{lows_in}
 use Rattle.aggregates.proofs.MaskSums.{count_both-le}
 use Rattle.aggregates.proofs.EndSums.{Counts, highs}
-use Rattle.aggregates.proofs.sums.add_ends.Goals as goal
+use Rattle.aggregates.proofs.sums.ends_by_digits.Goals as goal
 
 pub overflow_sub-others : goal.overflow_sub-others
 overflow_sub-others c = omega (arith, c.count_and-at_top.ensures, c.count.ensures, count_both-le c.args.mask.now c.at_top.result.now)
@@ -23,7 +23,7 @@ returns-clause-high c =
     let column = c.args.known.now in
     let ends = column.ends in
     let mask = c.args.mask.now in
-    let counts : Counts column mask = record { sound = c.add_lows-low.ensures.sound; rows = c.requires.rows; values = c.requires.values } in
+    let counts : Counts column mask = record { sound = c.requires.numbers.sound; rows = c.requires.rows; values = c.requires.values } in
     let d : c.unread-unread.result ≡ planes ends - column.known.read = omega (arith, c.unread-unread.ensures) in
     let at_top : c.count_and-at_top.result ≡ count_by (λ b. b) (zip2 (λ a b. a && b) mask (map (is_at_top ends column.known.read) column.known.prefixes)) =
     c.count_and-at_top.ensures ∙ ap (λ l. count_by (λ b. b) (zip2 (λ a b. a && b) mask l)) c.at_top.ensures in
@@ -38,12 +38,20 @@ returns-clause-high c =
     let first : c.many_times.result ≡ count_by (λ b. b) (zip2 (λ a b. a && b) mask (map (is_at_top ends column.known.read) column.known.prefixes)) * (spread ends % 2 ^ (planes ends - column.known.read)) =
     c.many_times.ensures.product ∙ ap (λ n. n * c.top_span.result) at_top ∙ ap (λ n. count_by (λ b. b) (zip2 (λ a b. a && b) mask (map (is_at_top ends column.known.read) column.known.prefixes)) * n) span_top in
     let second : c.many_times-2.result ≡ others * (2 ^ (planes ends - column.known.read) - 1) = c.many_times-2.ensures.product ∙ ap (λ n. others * n) span_block in
-    let low = c.add_lows-low.ensures.few.0 in
-    let high = c.add_lows-low.ensures.few.1 in
+    let low = c.lows_by_digits-low.ensures.few.0 in
+    let high = c.lows_by_digits-low.ensures.few.1 in
     let a = c.many_times.ensures.few in
     let b = c.many_times-2.ensures.few in
-    let whole : to_z w128 (of_z w128 (to_z w128 (of_z w128 c.add_lows-low.result) +ℤ to_z w128 (c.many_times.result + c.many_times-2.result))) ≡ c.add_lows-low.result +ℤ pos (c.many_times.result + c.many_times-2.result) = omega (arith, ints) in
-    whole ∙ ap (λ z. z +ℤ pos (c.many_times.result + c.many_times-2.result)) c.add_lows-low.ensures.sum
+    let whole : to_z w128 (of_z w128 (to_z w128 (of_z w128 c.lows_by_digits-low.result) +ℤ to_z w128 (c.many_times.result + c.many_times-2.result))) ≡ c.lows_by_digits-low.result +ℤ pos (c.many_times.result + c.many_times-2.result) = omega (arith, ints) in
+    whole ∙ ap (λ z. z +ℤ pos (c.many_times.result + c.many_times-2.result)) c.lows_by_digits-low.ensures.sum
     ∙ ap (λ n. total (lows_in column mask) +ℤ pos (n + c.many_times-2.result)) first
     ∙ ap (λ n. total (lows_in column mask) +ℤ pos (count_by (λ b. b) (zip2 (λ a b. a && b) mask (map (is_at_top ends column.known.read) column.known.prefixes)) * (spread ends % 2 ^ (planes ends - column.known.read)) + n)) second
     ∙ sym (highs column mask others counts parts)
+
+pub returns-clause-few : goal.returns-clause-few
+returns-clause-few c =
+    let low = c.lows_by_digits-low.ensures.few.0 in
+    let high = c.lows_by_digits-low.ensures.few.1 in
+    let a = c.many_times.ensures.few in
+    let b = c.many_times-2.ensures.few in
+    ((omega (arith, ints, low, high), omega (arith, ints, low, high)), (omega (arith, ints, low, high, a, b), omega (arith, ints, low, high, a, b)))
