@@ -13,10 +13,10 @@ ghost use Rattle.clip_bounds.specs.Sums.{IsItemWithClip, is_always, is_sum};
 use crate::clip::{Clip, clip_of};
 use crate::sums::{clipped_sum, column_of};
 use query_model::{Bound, ItemKind, Nullity};
-use round_engine::Engine;
+use round_engine::EngineView;
 
 // Whether an item is a sum.
-fn is_sum(engine: &Engine, item: usize) -> bool
+fn is_sum(engine: &EngineView<'_>, item: usize) -> bool
     requires { item < length engine.now.query.items }
     ensures { IfSome (slice_get engine.now.query.items item) (λ i. result ≡ is_sum i.kind) }
 {
@@ -50,7 +50,7 @@ fn clipped_ends(clip: Clip, bound: Bound) -> Bound
 }
 
 // The clipped bound of an item with its own bound. To clip the ends of the bound of an extreme is to clip those of its pairs.
-fn clipped_bound(engine: &Engine, item: usize, clip: Clip, plain: Bound) -> Bound
+fn clipped_bound(engine: &EngineView<'_>, item: usize, clip: Clip, plain: Bound) -> Bound
     requires item { item < length engine.now.query.items }
     requires clipped { IfSome (slice_get engine.now.query.items item) (λ i. IsItemWithClip engine.now i clip plain) }
     ensures { IfSome (slice_get engine.now.query.items item) (λ i. result ≡ clipped_in engine.now i clip) }
@@ -66,7 +66,7 @@ fn clipped_bound(engine: &Engine, item: usize, clip: Clip, plain: Bound) -> Boun
 }
 
 // The bound of an item that has this clip.
-fn bound_with(engine: &Engine, item: usize, clip: Clip) -> Bound
+fn bound_with(engine: &EngineView<'_>, item: usize, clip: Clip) -> Bound
     requires item { item < length engine.now.query.items }
     requires clip { IfSome (slice_get engine.now.query.items item) (λ i. clip_of engine.now.query i ≡ Some clip) }
     ensures bound { IfSome (slice_get engine.now.query.items item) (λ i. result ≡ clipped_in engine.now i clip) }
@@ -81,7 +81,7 @@ fn bound_with(engine: &Engine, item: usize, clip: Clip) -> Bound
 
 /// The bound of a sum or an extreme over a bare column whose values the condition itself keeps within a range, and what it says
 /// of the answer; none where the item has no such range. It lies within the bound that `plain` tells. No memory is taken.
-pub fn clip_bound(engine: &Engine, item: usize) -> Option<Bound>
+pub fn clip_bound(engine: &EngineView<'_>, item: usize) -> Option<Bound>
     requires { item < length engine.now.query.items }
     ensures bound { IfSome (slice_get engine.now.query.items item) (λ i.
         result ≡ option_map (clipped_in engine.now i) (clip_of engine.now.query i)) }

@@ -19,7 +19,7 @@ use crate::level::Level;
 use known_column::Known;
 use plane_kernels::Mask;
 use query_model::{Bound, Nullity};
-use round_engine::Engine;
+use round_engine::EngineView;
 
 // A difference of numbers so many times.
 fn times(count: u64, step: i128) -> i128
@@ -32,7 +32,7 @@ fn times(count: u64, step: i128) -> i128
 }
 
 // What is known of the column of an item that has this clip.
-pub(crate) fn column_of<'a>(engine: &'a Engine, item: usize, clip: Clip) -> &'a Known
+pub(crate) fn column_of<'a>(engine: &'a EngineView<'_>, item: usize, clip: Clip) -> &'a Known
     requires item { item < length engine.now.query.items }
     requires clip { IfSome (slice_get engine.now.query.items item) (λ i. clip_of engine.now.query i ≡ Some clip) }
     ensures there { clip.column < length engine.now.frame.columns }
@@ -83,7 +83,7 @@ fn all_steps(level: Level, known: &Known, may: &Mask, step: i128) -> i128
 
 // How far the shares of the least sum move where low ends are clipped: those of the rows whose prefix is that of the clip's low end.
 // Rows that surely pass have no number below it.
-fn low_move(engine: &Engine, item: usize, clip: Clip) -> i128
+fn low_move(engine: &EngineView<'_>, item: usize, clip: Clip) -> i128
     requires item { item < length engine.now.query.items }
     requires clip { IfSome (slice_get engine.now.query.items item) (λ i. clip_of engine.now.query i ≡ Some clip) }
     ensures { IfSome (slice_get engine.now.query.items item) (λ i.
@@ -104,7 +104,7 @@ fn low_move(engine: &Engine, item: usize, clip: Clip) -> i128
 }
 
 // The same for the greatest sum and high ends.
-fn high_move(engine: &Engine, item: usize, clip: Clip) -> i128
+fn high_move(engine: &EngineView<'_>, item: usize, clip: Clip) -> i128
     requires item { item < length engine.now.query.items }
     requires clip { IfSome (slice_get engine.now.query.items item) (λ i. clip_of engine.now.query i ≡ Some clip) }
     ensures { IfSome (slice_get engine.now.query.items item) (λ i.
@@ -135,7 +135,7 @@ fn is_uncertain(null: Nullity) -> bool
 }
 
 // The least sum of the clipped pairs. Where none is certain and each is above 0, it is one low end alone.
-fn least_sum(engine: &Engine, item: usize, clip: Clip, plain: &Bound) -> i128
+fn least_sum(engine: &EngineView<'_>, item: usize, clip: Clip, plain: &Bound) -> i128
     requires item { item < length engine.now.query.items }
     requires sum { IfSome (slice_get engine.now.query.items item) (λ i. IsSumWithClip engine.now i clip plain.now) }
     ensures { IfSome (slice_get engine.now.query.items item) (λ i. result ≡ least_sum (clipped_pairs engine.now i clip)) }
@@ -150,7 +150,7 @@ fn least_sum(engine: &Engine, item: usize, clip: Clip, plain: &Bound) -> i128
 }
 
 // The greatest sum, in the same way.
-fn greatest_sum(engine: &Engine, item: usize, clip: Clip, plain: &Bound) -> i128
+fn greatest_sum(engine: &EngineView<'_>, item: usize, clip: Clip, plain: &Bound) -> i128
     requires item { item < length engine.now.query.items }
     requires sum { IfSome (slice_get engine.now.query.items item) (λ i. IsSumWithClip engine.now i clip plain.now) }
     ensures { IfSome (slice_get engine.now.query.items item) (λ i. result ≡ greatest_sum (clipped_pairs engine.now i clip)) }
@@ -165,7 +165,7 @@ fn greatest_sum(engine: &Engine, item: usize, clip: Clip, plain: &Bound) -> i128
 }
 
 // The clipped bound of a sum, by its own.
-pub(crate) fn clipped_sum(engine: &Engine, item: usize, clip: Clip, plain: &Bound) -> Bound
+pub(crate) fn clipped_sum(engine: &EngineView<'_>, item: usize, clip: Clip, plain: &Bound) -> Bound
     requires item { item < length engine.now.query.items }
     requires sum { IfSome (slice_get engine.now.query.items item) (λ i. IsSumWithClip engine.now i clip plain.now) }
     ensures { IfSome (slice_get engine.now.query.items item) (λ i. result ≡ clipped_in engine.now i clip) }

@@ -15,11 +15,11 @@ use daq_table::Head;
 use outer_world::{Failed, Sink, write_whole};
 use plane_schedule::Extras;
 use query_model::Shape;
-use round_engine::Engine;
+use round_engine::EngineView;
 
 // Writes the lines of the query's form.
 fn write_form<K: Sink>(
-    engine: &Engine,
+    engine: &EngineView<'_>,
     head: &Head,
     list: bool,
     extras: Extras,
@@ -41,7 +41,7 @@ fn write_form<K: Sink>(
 /// of which it is not known yet. Items over all rows have with `extras` more lines. Takes no memory; all was handed over before `Ok`, and a part of the block, from its front, where a
 /// write failed.
 pub fn write_block<K: Sink>(
-    engine: &Engine,
+    engine: &EngineView<'_>,
     head: &Head,
     round: u32,
     last: Option<usize>,

@@ -20,7 +20,7 @@ use daq_table::Head;
 use outer_world::{Failed, Sink, write_pieces, write_whole};
 use plane_schedule::Extras;
 use query_model::{AverageBound, Bound, Face, Item, ItemKind, Nullity, TypedQuery};
-use round_engine::Engine;
+use round_engine::EngineView;
 
 // Whether the aggregate is an average.
 pub(crate) fn is_average(kind: ItemKind) -> bool
@@ -282,7 +282,7 @@ fn write_exact<K: Sink>(
 
 // Writes the line of an item's clipped bound, if its condition clips its column.
 fn write_clip_of<K: Sink>(
-    engine: &Engine,
+    engine: &EngineView<'_>,
     head: &Head,
     place: usize,
     item: &Item,
@@ -306,7 +306,7 @@ fn write_clip_of<K: Sink>(
 
 // Writes the lines that are wanted behind that of an item over all rows.
 pub(crate) fn write_extras<K: Sink>(
-    engine: &Engine,
+    engine: &EngineView<'_>,
     head: &Head,
     extras: Extras,
     place: usize,

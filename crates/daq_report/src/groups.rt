@@ -18,11 +18,11 @@ use crate::scope::Scope;
 use daq_table::Head;
 use outer_world::{Failed, Sink, write_whole};
 use query_model::{Nullity, illegal_cells_are_empty};
-use round_engine::Engine;
+use round_engine::EngineView;
 use row_groups::{CellKeys, cells_tell_keys};
 
 // The keys of a cell that a row may be in: such a cell has keys.
-fn keys_of(engine: &Engine, cell: u32) -> CellKeys
+fn keys_of(engine: &EngineView<'_>, cell: u32) -> CellKeys
     requires grouped { IsGrouped engine.now.query.shape }
     requires cell { cell < cells_in engine.now }
     requires filled { absence_in_cell engine.now cell ≢ Always }
@@ -40,7 +40,7 @@ fn keys_of(engine: &Engine, cell: u32) -> CellKeys
 
 // Writes the keys of a cell, what is known of them, and the lines of the items.
 fn write_group<K: Sink>(
-    engine: &Engine,
+    engine: &EngineView<'_>,
     head: &Head,
     columns: &[u8],
     cell: u32,
@@ -63,7 +63,7 @@ fn write_group<K: Sink>(
 
 // Writes the lines of a cell, if a row may be in it.
 fn write_cell<K: Sink>(
-    engine: &Engine,
+    engine: &EngineView<'_>,
     head: &Head,
     columns: &[u8],
     cell: u32,
@@ -85,7 +85,7 @@ fn write_cell<K: Sink>(
 
 // Writes the lines of the cells, in order.
 pub(crate) fn write_groups<K: Sink>(
-    engine: &Engine,
+    engine: &EngineView<'_>,
     head: &Head,
     columns: &[u8],
     out: &mut K,

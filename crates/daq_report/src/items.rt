@@ -13,11 +13,11 @@ use crate::texts::written_count;
 use daq_table::Head;
 use outer_world::{Failed, Sink, write_whole};
 use query_model::Item;
-use round_engine::Engine;
+use round_engine::EngineView;
 
 // Writes where the answer of an item lies.
 fn write_answer<K: Sink>(
-    engine: &Engine,
+    engine: &EngineView<'_>,
     head: &Head,
     scope: Scope,
     place: usize,
@@ -39,7 +39,7 @@ fn write_answer<K: Sink>(
 
 // Writes the line of an item's answer.
 fn write_answer_line<K: Sink>(
-    engine: &Engine,
+    engine: &EngineView<'_>,
     head: &Head,
     scope: Scope,
     place: usize,
@@ -61,7 +61,7 @@ fn write_answer_line<K: Sink>(
 
 // Writes the lines that are wanted besides.
 fn write_behind<K: Sink>(
-    engine: &Engine,
+    engine: &EngineView<'_>,
     head: &Head,
     scope: Scope,
     place: usize,
@@ -83,7 +83,7 @@ fn write_behind<K: Sink>(
 
 // Writes the lines of an item.
 fn write_item<K: Sink>(
-    engine: &Engine,
+    engine: &EngineView<'_>,
     head: &Head,
     scope: Scope,
     place: usize,
@@ -103,7 +103,7 @@ fn write_item<K: Sink>(
 
 // Writes the lines of the items, numbered from 1.
 pub(crate) fn write_items<K: Sink>(
-    engine: &Engine,
+    engine: &EngineView<'_>,
     head: &Head,
     scope: Scope,
     out: &mut K,

@@ -15,10 +15,10 @@ use crate::texts::written_count;
 use daq_table::{Head, TextBuf};
 use outer_world::{Failed, Sink, write_whole};
 use query_model::{Bound, Face, Standing};
-use round_engine::Engine;
+use round_engine::EngineView;
 
 // The line of the numbers of rows.
-fn written_top(engine: &Engine, limit: u32) -> TextBuf
+fn written_top(engine: &EngineView<'_>, limit: u32) -> TextBuf
     requires { IsTop engine.now.query.shape }
     ensures { result ≡ top_line engine.now limit }
 {
@@ -47,7 +47,7 @@ fn written_row(row: usize, standing: &[u8]) -> TextBuf
 }
 
 // Where the sort key of a row lies.
-fn sort_bound(engine: &Engine, key: u8, row: usize) -> Bound
+fn sort_bound(engine: &EngineView<'_>, key: u8, row: usize) -> Bound
     requires key { key < length engine.now.query.columns }
     requires row { row < engine.now.frame.rows }
     ensures bound { result ≡ bound_of_range (ranges_of engine.now.frame engine.now.known row key) }
@@ -63,7 +63,7 @@ fn sort_bound(engine: &Engine, key: u8, row: usize) -> Bound
 
 // Writes the line of a row.
 fn write_row<K: Sink>(
-    engine: &Engine,
+    engine: &EngineView<'_>,
     head: &Head,
     key: u8,
     row: usize,
@@ -86,7 +86,7 @@ fn write_row<K: Sink>(
 
 // Writes the line of a row, if it is shown.
 fn write_standing<K: Sink>(
-    engine: &Engine,
+    engine: &EngineView<'_>,
     head: &Head,
     key: u8,
     list: bool,
@@ -109,7 +109,7 @@ fn write_standing<K: Sink>(
 }
 
 // Whether a row of a block of 64 may be shown.
-fn may_show(engine: &Engine, list: bool, block: usize) -> bool
+fn may_show(engine: &EngineView<'_>, list: bool, block: usize) -> bool
     requires ranked { IsTop engine.now.query.shape }
     requires block { 64 * block < engine.now.frame.rows }
     ensures { result ≡ false → AreHidden engine.now list (64 * block) (min 64 (engine.now.frame.rows - 64 * block)) }
@@ -119,7 +119,7 @@ fn may_show(engine: &Engine, list: bool, block: usize) -> bool
 
 // Writes the lines of a block of 64 rows. Where none is shown, no row is looked at.
 fn write_rows_in<K: Sink>(
-    engine: &Engine,
+    engine: &EngineView<'_>,
     head: &Head,
     key: u8,
     list: bool,
@@ -147,7 +147,7 @@ fn write_rows_in<K: Sink>(
 
 // Writes the lines of the rows, in order.
 fn write_rows<K: Sink>(
-    engine: &Engine,
+    engine: &EngineView<'_>,
     head: &Head,
     key: u8,
     list: bool,
@@ -168,7 +168,7 @@ fn write_rows<K: Sink>(
 
 // Writes how many rows are among the first, and these rows.
 pub(crate) fn write_ranking<K: Sink>(
-    engine: &Engine,
+    engine: &EngineView<'_>,
     head: &Head,
     key: u8,
     limit: u32,

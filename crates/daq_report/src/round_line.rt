@@ -8,10 +8,10 @@ ghost use Rattle.daq_report.specs.Blocks.{planes_text, round_line};
 
 use crate::texts::{column_at, written_count};
 use daq_table::{Head, TextBuf, planes};
-use round_engine::Engine;
+use round_engine::EngineView;
 
 // How many planes of a column are read, and of how many.
-fn planes_read(engine: &Engine, head: &Head, column: usize) -> (u8, u8)
+fn planes_read(engine: &EngineView<'_>, head: &Head, column: usize) -> (u8, u8)
     requires fits { FitsHead engine.now.query engine.now.frame head.now }
     requires column { column < length engine.now.query.columns }
     ensures read { result.0 ≡ (known_at engine.now.known column).read }
@@ -23,7 +23,7 @@ fn planes_read(engine: &Engine, head: &Head, column: usize) -> (u8, u8)
 }
 
 // Appends the name of a column, how many of its planes are read, and of how many.
-fn append_planes(engine: &Engine, head: &Head, column: usize, text: &mut TextBuf)
+fn append_planes(engine: &EngineView<'_>, head: &Head, column: usize, text: &mut TextBuf)
     requires fits { FitsHead engine.now.query engine.now.frame head.now }
     requires column { column < length engine.now.query.columns }
     requires room { length text.old ≤ 200 }
@@ -41,7 +41,7 @@ fn append_planes(engine: &Engine, head: &Head, column: usize, text: &mut TextBuf
 
 // The line of a round.
 pub(crate) fn written_round(
-    engine: &Engine,
+    engine: &EngineView<'_>,
     head: &Head,
     round: u32,
     last: Option<usize>,

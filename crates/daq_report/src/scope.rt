@@ -8,7 +8,7 @@ ghost use Rattle.daq_report.specs.Items.{IsScope, average_in, bound_in};
 
 use plane_schedule::Extras;
 use query_model::{AverageBound, Bound};
-use round_engine::Engine;
+use round_engine::EngineView;
 
 // All rows, with these lines besides, or those of each key of a cell.
 #[derive(Clone, Copy)]
@@ -19,7 +19,7 @@ pub(crate) enum Scope {
 
 impl Scope {
     // The bound of an item that is no average.
-    pub(crate) fn bound(self, engine: &Engine, item: usize) -> Bound
+    pub(crate) fn bound(self, engine: &EngineView<'_>, item: usize) -> Bound
         requires scope { IsScope engine.now self }
         requires item { item < length engine.now.query.items }
         requires kind { IfSome (slice_get engine.now.query.items item) (λ i. i.kind ≢ Avg) }
@@ -33,7 +33,7 @@ impl Scope {
     }
 
     // The bound of an average.
-    pub(crate) fn average(self, engine: &Engine, item: usize) -> AverageBound
+    pub(crate) fn average(self, engine: &EngineView<'_>, item: usize) -> AverageBound
         requires scope { IsScope engine.now self }
         requires item { item < length engine.now.query.items }
         requires kind { IfSome (slice_get engine.now.query.items item) (λ i. i.kind ≡ Avg) }

@@ -95,7 +95,7 @@ fn step(alloc: Global, engine: &mut Engine, column: usize, bits: [u64; 4]) -> Re
 {
     let mut plane = Plane::blank(alloc, 4)?;
     transpose(&bits, 1, 0, &mut plane);
-    let progress = engine.progress();
+    let progress = engine.view().progress();
     if column < usize::from(progress.columns) && progress.unread[column] > 0 {
         let _ = engine.step(column, &plane);
     }
@@ -109,11 +109,11 @@ fn tell(alloc: Global, engine: &mut Engine) -> Result<[Exact; 3], AllocError>
     requires plain { engine.old.query.shape ≡ Plain }
     requires average { IfSome (slice_get engine.old.query.items 0) (λ item. item.kind ≡ Avg) }
 {
-    let start = exact_average(engine, 0);
+    let start = exact_average(&engine.view(), 0);
     step(alloc, engine, 1, [0, 0, 1, 1])?;
-    let first = exact_average(engine, 0);
+    let first = exact_average(&engine.view(), 0);
     step(alloc, engine, 0, [0, 0, 1, 0])?;
-    let second = exact_average(engine, 0);
+    let second = exact_average(&engine.view(), 0);
     Ok([start, first, second])
 }
 

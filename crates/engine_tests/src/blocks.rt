@@ -19,7 +19,7 @@ use plane_schedule::Extras;
 use query_model::{
     Atom, Comparison, Expr, Face, Item, ItemKind, Items, Pred, Shape, TableColumns, TypedQuery,
 };
-use round_engine::Engine;
+use round_engine::{Engine, EngineView};
 use std::alloc::{AllocError, Global};
 use std::test::Fail;
 
@@ -144,7 +144,7 @@ fn ranked(alloc: Global, head: &Head, limit: u32) -> Result<Engine, AllocError>
 // A sink of so much room, after the block of round 3 was written to it.
 fn sink_after(
     alloc: Global,
-    engine: &Engine,
+    engine: &EngineView<'_>,
     head: &Head,
     last: Option<usize>,
     list: bool,
@@ -171,7 +171,7 @@ fn round_shown(
 {
     let head = market(alloc)?;
     let engine = opened(alloc, &head)?;
-    sink_after(alloc, &engine, &head, last, false, extras, room)
+    sink_after(alloc, &engine.view(), &head, last, false, extras, room)
 }
 
 #[test]
@@ -212,7 +212,15 @@ fn ranking_shown(alloc: Global, limit: u32, list: bool) -> Result<MemSink, Alloc
 {
     let head = market(alloc)?;
     let engine = ranked(alloc, &head, limit)?;
-    sink_after(alloc, &engine, &head, None, list, Extras::none(), 300)
+    sink_after(
+        alloc,
+        &engine.view(),
+        &head,
+        None,
+        list,
+        Extras::none(),
+        300,
+    )
 }
 
 #[test]
@@ -220,7 +228,9 @@ fn blocks_of_a_ranking(rt: HostRuntime) -> Result<(), Fail> {
     let alloc = rt.alloc();
     assert_eq!(rt;
         ranking_shown(alloc, 2, false)?.contents(),
-        b"round 3\ntop 2 certain 2 possible 0\nrow 1 certain ['it''s', 'plum'] or null\nrow 2 certain ['it''s', 'plum'] or null\n".as_slice()
+        b"round 3\ntop 2 certain 2 possible 0\n\
+            row 1 certain ['it''s', 'plum'] or null\nrow 2 certain ['it''s', 'plum'] or null\n"
+            .as_slice()
     );
     assert_eq!(rt;
         ranking_shown(alloc, 1, false)?.contents(),
@@ -228,7 +238,9 @@ fn blocks_of_a_ranking(rt: HostRuntime) -> Result<(), Fail> {
     );
     assert_eq!(rt;
         ranking_shown(alloc, 1, true)?.contents(),
-        b"round 3\ntop 1 certain 0 possible 2\nrow 1 possible ['it''s', 'plum'] or null\nrow 2 possible ['it''s', 'plum'] or null\n".as_slice()
+        b"round 3\ntop 1 certain 0 possible 2\n\
+            row 1 possible ['it''s', 'plum'] or null\nrow 2 possible ['it''s', 'plum'] or null\n"
+            .as_slice()
     );
     Ok(())
 }

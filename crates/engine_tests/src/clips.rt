@@ -16,7 +16,7 @@ use query_model::{
     Atom, Bound, Comparison, Expr, Face, Item, ItemKind, Items, Nullity, Pred, Shape, TableColumns,
     TypedQuery,
 };
-use round_engine::Engine;
+use round_engine::{Engine, EngineView};
 use std::alloc::{AllocError, Global};
 use std::test::Fail;
 
@@ -97,7 +97,7 @@ fn step(alloc: Global, engine: &mut Engine, bits: [u64; 4]) -> Result<(), AllocE
 {
     let mut plane = Plane::blank(alloc, 4)?;
     transpose(&bits, 1, 0, &mut plane);
-    let progress = engine.progress();
+    let progress = engine.view().progress();
     if progress.columns > 0 && progress.unread[0] > 0 {
         let _ = engine.step(0, &plane);
     }
@@ -105,7 +105,7 @@ fn step(alloc: Global, engine: &mut Engine, bits: [u64; 4]) -> Result<(), AllocE
 }
 
 // The clipped bound of each item.
-fn told(engine: &Engine) -> [Option<Bound>; 4]
+fn told(engine: &EngineView<'_>) -> [Option<Bound>; 4]
     requires { length engine.now.query.items ≡ 4 }
 {
     [
@@ -121,15 +121,15 @@ fn told_by_planes(alloc: Global, engine: &mut Engine) -> Result<[[Option<Bound>;
     requires rows { engine.old.frame.rows ≡ 4 }
     requires items { length engine.old.query.items ≡ 4 }
 {
-    let start = told(engine);
+    let start = told(&engine.view());
     step(alloc, engine, [0, 0, 0, 1])?;
-    let first = told(engine);
+    let first = told(&engine.view());
     step(alloc, engine, [0, 0, 1, 0])?;
-    let second = told(engine);
+    let second = told(&engine.view());
     step(alloc, engine, [0, 1, 1, 0])?;
-    let third = told(engine);
+    let third = told(&engine.view());
     step(alloc, engine, [0, 0, 0, 1])?;
-    Ok([start, first, second, third, told(engine)])
+    Ok([start, first, second, third, told(&engine.view())])
 }
 
 fn told_of_prices(alloc: Global) -> Result<[[Option<Bound>; 4]; 5], AllocError> {

@@ -1,4 +1,5 @@
-//! Queries in progress over small tables: bounds, nulls, signs, clipped bounds and exact averages, a block's text, and a source that tells nothing.
+//! Queries in progress over small tables: bounds, nulls, signs, clipped bounds and exact averages, a block's text, and a source
+//! that tells nothing.
 #![tactic(auto)]
 
 #[cfg(test)]

@@ -19,7 +19,7 @@ use query_model::{
     Atom, Bound, Comparison, Expr, Face, Item, ItemKind, Items, Nullity, Pred, Shape, TableColumns,
     TypedQuery,
 };
-use round_engine::Engine;
+use round_engine::{Engine, EngineView};
 use std::alloc::{AllocError, Global};
 use std::test::Fail;
 
@@ -99,7 +99,7 @@ fn step(
 {
     let mut plane = Plane::blank(alloc, 3)?;
     transpose(&bits, 1, 0, &mut plane);
-    let progress = engine.progress();
+    let progress = engine.view().progress();
     if column < usize::from(progress.columns) && progress.unread[column] > 0 {
         Ok(engine.step(column, &plane).err())
     } else {
@@ -147,7 +147,7 @@ fn engine_after(
 type Told = Option<(Bound, Nullity)>;
 
 // The bound of an item that is no average, and whether its argument is null in the second row.
-fn item_at(engine: &Engine, item: usize) -> Told
+fn item_at(engine: &EngineView<'_>, item: usize) -> Told
     requires { engine.now.frame.rows ≡ 3 }
 {
     match engine.query().shape {
@@ -175,7 +175,8 @@ fn told_after(
     requires columns { PredReadsBelow 2 (condition_of pred) }
     requires compared { (head : Head) (query : Query) → CanCompareIn head query (condition_of pred) }
 {
-    let engine = engine_after(alloc, pred, planes, masks)?;
+    let kept = engine_after(alloc, pred, planes, masks)?;
+    let engine = kept.view();
     Ok([
         item_at(&engine, 0),
         item_at(&engine, 1),

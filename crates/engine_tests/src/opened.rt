@@ -97,7 +97,8 @@ fn small_engine(alloc: Global) -> Result<Engine, AllocError>
 type Start = ([Bound; 2], AverageBound, (Truth, Interval, Interval));
 
 fn told_at_the_start(alloc: Global) -> Result<Start, AllocError> {
-    let engine = small_engine(alloc)?;
+    let kept = small_engine(alloc)?;
+    let engine = kept.view();
     Ok((
         [engine.plain(0), engine.plain(1)],
         engine.average(2),
@@ -139,7 +140,7 @@ fn step(engine: &mut Engine, plane: &Plane) -> Option<OverTop>
     requires { length plane.now ≡ engine.old.frame.rows }
     ensures { engine.new.frame.rows ≡ engine.old.frame.rows }
 {
-    let progress = engine.progress();
+    let progress = engine.view().progress();
     if progress.columns > 0 && progress.unread[0] > 0 {
         engine.step(0, plane).err()
     } else {
@@ -159,11 +160,15 @@ fn take_three(engine: &mut Engine, plane: &mut Plane) -> Taken
     let first = step(engine, plane);
     transpose(&[1, 3], 2, 1, plane);
     let second = step(engine, plane);
-    let between = (engine.progress().done, engine.narrow(0));
+    let between = (engine.view().progress().done, engine.view().narrow(0));
     transpose(&[1, 2], 2, 1, plane);
     let third = step(engine, plane);
-    let progress = engine.progress();
-    let last = (progress.unread[0], progress.role[0], engine.narrow(0));
+    let progress = engine.view().progress();
+    let last = (
+        progress.unread[0],
+        progress.role[0],
+        engine.view().narrow(0),
+    );
     ([first, second, third], between, last)
 }
 

@@ -132,7 +132,7 @@ fn next_column(
     ensures fits { FitsHead engine.new.query engine.new.frame source.new.head }
     ensures rows { length plane.new ≡ engine.new.frame.rows }
 {
-    if ending(engine, &Plan::widest()).is_some() {
+    if ending(&engine.view(), &Plan::widest()).is_some() {
         return Ok(None);
     }
     match read_next(

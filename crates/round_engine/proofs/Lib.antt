@@ -12,6 +12,7 @@ pub mod Declared
 pub mod Places
 pub mod Unmoved
 pub mod Walks
+pub mod KeptSums
 pub mod Masked
 pub mod Rows
 pub mod SelectedPairs

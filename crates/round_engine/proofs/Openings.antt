@@ -2,7 +2,7 @@
 use Rattle.std.proofs.Common.{◌≡◌, ◌≢◌, ℕ, zero, suc, ◌+◌, ◌<◌, ◌≤◌, Bool, true, false, List, [], ◌∷◌, ◌++◌, length, length-append, get_or, slice_get, take, Some, refl, sym, ap, subst, ◌∙◌, arith}
 use Rattle.std.specs.List.{AllByRecursion}
 use Rattle.std.proofs.lemmas.List.{length-map, take_more}
-use Rattle.std.proofs.lemmas.Option.{none-some, same_Some, slice_get_within}
+use Rattle.std.proofs.lemmas.Option.{none-some, same_Some}
 use Rattle.daq_table.specs.declared.table_head.Head.{Head}
 use Rattle.daq_table.specs.Tables.{ends_at, frame_of}
 use Rattle.query_model.specs.Queries.{Aggregate, Query}
@@ -12,15 +12,15 @@ use Rattle.query_model.specs.Laws.{StartIsKnowledge}
 use Rattle.query_model.specs.Meaning.{PredReadsBelow, ReadsBelow}
 use Rattle.query_model.specs.Projection.{projected_frame}
 use Rattle.query_model.specs.Validity.{IsValid, IsValidItem, IsValidShape}
-use Rattle.known_column.specs.KnownTables.{KnownTable, unread_table}
+use Rattle.known_column.specs.KnownTables.{KnownTable}
 use Rattle.aggregates.specs.Runnings.{IsBlank, Tallies}
 use Rattle.round_engine.specs.declared.item_bound.ItemBound.{ItemBound}
 use Rattle.round_engine.specs.declared.answers.Answers.{Answers}
 use Rattle.round_engine.specs.declared.answers.Answers.TheVariants.{Totals}
 use Rattle.round_engine.specs.declared.totals.Totals as declared
 use Rattle.round_engine.specs.Engines.{stage_of, AreAnswers, StoodBefore}
-use Rattle.round_engine.specs.Moves.{AreMoved, is_marked, is_moved}
-use Rattle.round_engine.specs.Selected.{HaveRows}
+use Rattle.round_engine.specs.Followers.{AreUnreadFor}
+use Rattle.round_engine.specs.Moves.{AreMoved, is_moved}
 use Rattle.round_engine.specs.Stages.{IsOpenItem, IsOpenQuery, IsOpenShape, IsOpenStage, Stage, stepped}
 use Rattle.round_engine.specs.Totals.{AreTotals, AreTotalsBeside, HaveRoom, IsBoundOf}
 use Rattle.round_engine.proofs.Unmoved.{pairs_unmoved}
@@ -55,10 +55,13 @@ open_query head query valid few = record {
   items = open_items head query query.items valid.items;
 }
 
-pub open_stage : StartIsKnowledge → (head : Head) (query : Query) (columns : KnownTable) → IsValid head query → head.rows ≤ 16777216 → columns ≡ unread_table (projected_frame query (frame_of head)) →
-    IsOpenStage (stage_of query columns)
-open_stage knows head query columns valid few is =
-    subst (λ t. IsOpenStage (stage_of query t)) (sym is) (record { open_query = open_query head query valid few; knowledge = knows (projected_frame query (frame_of head)) })
+pub open_stage : StartIsKnowledge → (query : Query) (columns : KnownTable) → AreUnreadFor query columns → columns.frame.rows ≤ 16777216 → IsOpenStage (stage_of query columns)
+open_stage knows query columns are few =
+    subst (λ t. IsOpenStage (stage_of query t)) (sym are.unread)
+    (record {
+      open_query = open_query are.head query are.valid (subst (λ (t : KnownTable). t.frame.rows ≤ 16777216) are.unread few);
+      knowledge = knows (projected_frame query (frame_of are.head));
+    })
 
 -- ---- lists that agree place by place
 

@@ -1,15 +1,17 @@
--- What an engine keeps: what is known of the query's columns, the truth of its condition at each row, and its answers.
+-- What is kept of a query beside its columns: the truth of its condition at each row, and its answers.
 use Rattle.std.specs.Prelude.{◌≡◌, ℕ, ◌<◌, Bool, List, length, slice_get}
 use Rattle.std.specs.declared.option.Option.TheVariants.{Some}
 use Rattle.kleene_filter.specs.Filters.{StandsFor}
-use Rattle.known_column.specs.KnownTables.{KnownTable}
+use Rattle.known_column.specs.KnownTables.{KnownTable, read_column}
 use Rattle.plane_schedule.specs.declared.progress.Role.{Role}
+use Rattle.query_model.specs.Knowledge.{CanTake}
 use Rattle.query_model.specs.Queries.{Query}
 use Rattle.query_model.specs.declared.query.Shape.TheVariants.{Plain}
 use Rattle.round_engine.specs.declared.answers.Answers.{Answers}
 use Rattle.round_engine.specs.declared.answers.Answers.TheVariants.{Totals, Groups, Ranking}
 use Rattle.round_engine.specs.declared.state.State.{State}
 use Rattle.round_engine.specs.CellAnswers.{AreGroups, AreSomeGroups, HoldGroups}
+use Rattle.round_engine.specs.KeptSums.{AreKept}
 use Rattle.round_engine.specs.Progresses.{role_of}
 use Rattle.round_engine.specs.Rankings.{HoldsOrder, IsRanking}
 use Rattle.round_engine.specs.Selected.{HaveRows}
@@ -24,7 +26,7 @@ stage_of query columns = record { query = query; frame = columns.frame; known = 
 abbrev pub AreAnswers : Stage → Answers → Type 0
 AreAnswers stage (Totals totals) =
     (stage.query.shape ≡ Plain) × AreTotals stage totals.bounds.items × HaveRoom stage.query.items totals.runnings.items
-    × HaveRows stage.frame.rows totals.masks
+    × HaveRows stage.frame.rows totals.masks × AreKept stage totals.kept.items
 AreAnswers stage (Groups groups) = AreGroups stage groups
 AreAnswers stage (Ranking ranking) = IsRanking stage ranking
 
@@ -32,7 +34,7 @@ AreAnswers stage (Ranking ranking) = IsRanking stage ranking
 abbrev pub HoldAnswers : Stage → Answers → Type 0
 HoldAnswers stage (Totals totals) =
     (stage.query.shape ≡ Plain) × (length totals.bounds.items ≡ length stage.query.items) × HaveRoom stage.query.items totals.runnings.items
-    × HaveRows stage.frame.rows totals.masks
+    × HaveRows stage.frame.rows totals.masks × AreKept stage totals.kept.items
 HoldAnswers stage (Groups groups) = HoldGroups stage groups
 HoldAnswers stage (Ranking ranking) = HoldsOrder stage ranking
 
@@ -70,9 +72,17 @@ pub record StoodBefore (stage : Stage) (column : ℕ) (bits : List Bool) (answer
 abbrev pub AreRoles : Query → List Role → Type 0
 AreRoles query roles = (c : ℕ) → c < length query.columns → slice_get roles c ≡ Some (role_of query c)
 
-pub record IsEngine (query : Query) (state : State) : Type 0 where
-  pub open_stage : IsOpenStage (stage_of query state.columns)
-  pub judged : StandsFor state.filter query.pred state.columns
-  pub answered : AreAnswers (stage_of query state.columns) state.answers
+-- what is kept of a query is that of these columns: the truth of its condition at each row, its answers, and what it reads its columns for
+pub record IsKept (query : Query) (columns : KnownTable) (state : State) : Type 0 where
+  pub open_stage : IsOpenStage (stage_of query columns)
+  pub judged : StandsFor state.filter query.pred columns
+  pub answered : AreAnswers (stage_of query columns) state.answers
   pub read_for : AreRoles query state.roles
-  pub lent : state.block.frame.columns ≡ state.columns.frame.columns
+  pub lent : state.block.frame.columns ≡ columns.frame.columns
+
+-- it was that of before these bits were read as the next plane of a column
+pub record WasKept (query : Query) (columns : KnownTable) (column : ℕ) (bits : List Bool) (state : State) : Type 0 where
+  pub before : KnownTable
+  pub kept : IsKept query before state
+  pub legal : CanTake before.frame before.known column bits
+  pub read : columns ≡ read_column before column bits

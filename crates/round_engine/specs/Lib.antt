@@ -7,7 +7,9 @@ pub mod Moves
 pub mod Counts
 pub mod Selected
 pub mod Totals
+pub mod KeptSums
 pub mod OneCell
 pub mod CellAnswers
 pub mod Rankings
 pub mod Engines
+pub mod Followers

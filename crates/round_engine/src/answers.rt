@@ -12,7 +12,7 @@ use crate::moved::moved_items;
 use crate::ranking::Ranking;
 use crate::totals::Totals;
 use kleene_filter::Filter;
-use known_column::{KnownColumns, RowBlock};
+use known_column::{LentColumns, RowBlock};
 use plane_kernels::Plane;
 use query_model::{Shape, TypedQuery};
 use std::alloc::{AllocError, Global};
@@ -32,7 +32,7 @@ impl Answers {
     pub(crate) fn open(
         alloc: Global,
         query: &TypedQuery,
-        columns: &KnownColumns,
+        columns: &LentColumns<'_>,
     ) -> Result<Answers, AllocError>
         requires open_stage { IsOpenStage (stage_of query.now columns.now) }
         requires unread { columns.now ≡ unread_table columns.now.frame }
@@ -56,7 +56,7 @@ impl Answers {
     pub(crate) fn fill(
         &mut self,
         query: &TypedQuery,
-        columns: &KnownColumns,
+        columns: &LentColumns<'_>,
         filter: &Filter,
         block: &mut RowBlock,
     )
@@ -78,7 +78,7 @@ impl Answers {
     pub(crate) fn refresh(
         &mut self,
         query: &TypedQuery,
-        columns: &KnownColumns,
+        columns: &LentColumns<'_>,
         filter: &Filter,
         column: usize,
         plane: &Plane,

@@ -9,7 +9,7 @@ ghost use Rattle.round_engine.specs.Stages.{IsOpenItem, IsOpenStage};
 
 use aggregates::Running;
 use kleene_filter::Filter;
-use known_column::{KnownColumns, RowBlock};
+use known_column::{LentColumns, RowBlock};
 use query_model::{Item, TypedQuery, pairs_are_few, sums_of_items_fit};
 use row_groups::{Cells, cells_tell_keys};
 use row_values::BlockValues;
@@ -27,7 +27,7 @@ fn has_bit(word: u64, bit: usize) -> bool
 fn add_block(
     query: &TypedQuery,
     item: &Item,
-    columns: &KnownColumns,
+    columns: &LentColumns<'_>,
     filter: &Filter,
     number: usize,
     cells: &Cells,
@@ -65,7 +65,7 @@ fn add_block(
 pub(crate) fn fill_cells(
     query: &TypedQuery,
     item: &Item,
-    columns: &KnownColumns,
+    columns: &LentColumns<'_>,
     filter: &Filter,
     block: &mut RowBlock,
     cells: &Cells,

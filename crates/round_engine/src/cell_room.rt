@@ -13,7 +13,7 @@ use crate::group_columns::group_columns;
 use crate::progress::plane_count;
 use aggregates::Running;
 use daq_table::Ends;
-use known_column::KnownColumns;
+use known_column::LentColumns;
 use query_model::{Expr, Face, Item, ItemKind, TypedQuery};
 use row_groups::Cells;
 use std::alloc::{AllocError, Global};
@@ -30,7 +30,7 @@ pub(crate) fn every_row() -> Item
 }
 
 // How many cells there are where all planes of the group columns are read.
-pub(crate) fn most_cells(query: &TypedQuery, columns: &KnownColumns) -> usize
+pub(crate) fn most_cells(query: &TypedQuery, columns: &LentColumns<'_>) -> usize
     requires { IsOpenStage (stage_of query.now columns.now) }
     ensures { result ≡ most_cells (stage_of query.now columns.now) }
 {
@@ -42,7 +42,7 @@ pub(crate) fn most_cells(query: &TypedQuery, columns: &KnownColumns) -> usize
 }
 
 // What is declared of each column.
-fn declared_ends(alloc: Global, columns: &KnownColumns) -> Result<Vec<Ends>, AllocError>
+fn declared_ends(alloc: Global, columns: &LentColumns<'_>) -> Result<Vec<Ends>, AllocError>
     ensures { IfOk result (λ ends. ends.items ≡ columns.now.frame.columns) }
 {
     let mut ends = Vec::with_capacity(alloc, columns.len())?;
@@ -56,7 +56,7 @@ fn declared_ends(alloc: Global, columns: &KnownColumns) -> Result<Vec<Ends>, All
 pub(crate) fn open_cells(
     alloc: Global,
     query: &TypedQuery,
-    columns: &KnownColumns,
+    columns: &LentColumns<'_>,
 ) -> Result<Cells, AllocError>
     requires { IsOpenStage (stage_of query.now columns.now) }
     ensures { IfOk result (λ cells. cells ≡ unread_cells (groups_of query.now.shape) columns.now.frame.columns columns.now.frame.rows) }

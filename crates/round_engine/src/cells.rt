@@ -12,7 +12,7 @@ ghost use Rattle.round_engine.specs.Cells.{AreDeclared, HasCell, IsInCell, Speak
 ghost use Rattle.round_engine.specs.Promises.{IsCertainAverage, IsCertainBound, IsCertainKey, IsShownWithin};
 ghost use Rattle.round_engine.specs.Stages.{IsGrouped};
 
-use crate::engine::Engine;
+use crate::engine_view::EngineView;
 use query_model::{
     AverageBound, Bound, Nullity, average_bounds_become_exact_on_tables,
     average_bounds_contain_on_tables, bounds_are_extremes_on_tables, bounds_become_exact_on_tables,
@@ -21,13 +21,13 @@ use query_model::{
 };
 use row_groups::{CellKeys, cells_tell_keys};
 
-impl Engine {
+impl EngineView<'_> {
     /// How many cells the keys are in: each has the keys whose parts share the digits that were read.
     pub fn cells(&self) -> u32
         requires grouped { IsGrouped self.now.query.shape }
         ensures cells { result ≡ cells_in self.now }
     {
-        self.state.answers.groups().count()
+        self.follower.state.answers.groups().count()
     }
 
     /// What the keys of a cell may be, or none where it has no keys.
@@ -43,7 +43,7 @@ impl Engine {
         keys_have_ranges();
         pairs_go_by_cells();
         cells_tell_keys();
-        self.state.answers.groups().keys(cell)
+        self.follower.state.answers.groups().keys(cell)
     }
 
     /// Whether the keys of a cell are missing in the result: never where a row surely counts for its one key, always where no row
@@ -58,7 +58,7 @@ impl Engine {
         results_are_told_on_tables();
         words_become_exact();
         fitting_heads_have_parts();
-        self.state.answers.groups().absence(cell)
+        self.follower.state.answers.groups().absence(cell)
     }
 
     /// The bound of an item that is no average, for each key of a cell.
@@ -77,7 +77,7 @@ impl Engine {
         bounds_are_extremes_on_tables();
         bounds_become_exact_on_tables();
         fitting_heads_have_parts();
-        self.state.answers.groups().bound(cell, item)
+        self.follower.state.answers.groups().bound(cell, item)
     }
 
     /// The bound of an average, for each key of a cell.
@@ -94,6 +94,6 @@ impl Engine {
         average_bounds_contain_on_tables();
         average_bounds_become_exact_on_tables();
         fitting_heads_have_parts();
-        self.state.answers.groups().average(cell, item)
+        self.follower.state.answers.groups().average(cell, item)
     }
 }

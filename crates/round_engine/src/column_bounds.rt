@@ -1,6 +1,7 @@
 // Bounds of a bare column's items, from the rows that give a value, by masks and planes.
 
-ghost use Rattle.std.specs.Prelude.{◌≡◌, ◌<◌, pos, int_le, if◌then◌else◌, length, count_by, IsFalse, IsTrue};
+ghost use Rattle.std.specs.Prelude.{◌≡◌, ◌<◌, pos, int_le, if◌then◌else◌, length, count_by, IfSome, IsFalse, IsTrue};
+ghost use Rattle.aggregates.specs.KeptSums.{IsKept};
 ghost use Rattle.aggregates.specs.Selections.{highs_in, lows_in, IsSmallSum};
 ghost use Rattle.known_column.specs.Columns.{KnownColumn, rows_of_column};
 ghost use Rattle.query_model.specs.Answers.{answer, total};
@@ -10,9 +11,10 @@ ghost use Rattle.round_engine.specs.Selected.{IsSelection, pairs_in};
 ghost use Rattle.round_engine.specs.Totals.{IsBoundOf};
 
 use crate::item_bound::ItemBound;
+use crate::kept_sums::ends_by_kept;
 use crate::selection::Selected;
 use aggregates::{
-    greatest_ends, greatest_high, least_ends, least_low, negative_lows, positive_highs, sum_ends,
+    KeptSum, greatest_ends, greatest_high, least_ends, least_low, negative_lows, positive_highs,
     sum_highs, sum_lows,
 };
 use interval_calc::Fraction;
@@ -158,13 +160,15 @@ impl Selected<'_> {
     }
 
     // The bound of the sum.
-    fn sum(&self, known: &Known, others: &mut Mask) -> Bound
+    fn sum(&self, known: &Known, others: &mut Mask, kept: &mut Option<KeptSum>) -> Bound
         requires selection { IsSelection known.now self.now }
         requires room { length others.old ≡ rows_of_column known.now }
+        requires kept { IfSome kept.old (IsKept known.now) }
         ensures room { length others.new ≡ rows_of_column known.now }
+        ensures kept { IfSome kept.new (IsKept known.now) }
         ensures bound { result ≡ bound_of Sum (pairs_in known.now self.now) }
     {
-        let certain = sum_ends(known, self.must);
+        let certain = ends_by_kept(kept, known, self.must);
         Bound {
             null: self.nullity(),
             lo: self.least_sum(known, certain.low, others),
@@ -174,15 +178,17 @@ impl Selected<'_> {
 
     // The bound of the average: a sum that is not negative is divided by as many rows as may count for the low end, and by as few
     // as surely count for the high end.
-    fn average(&self, known: &Known, others: &mut Mask) -> AverageBound
+    fn average(&self, known: &Known, others: &mut Mask, kept: &mut Option<KeptSum>) -> AverageBound
         requires selection { IsSelection known.now self.now }
         requires room { length others.old ≡ rows_of_column known.now }
+        requires kept { IfSome kept.old (IsKept known.now) }
         ensures room { length others.new ≡ rows_of_column known.now }
+        ensures kept { IfSome kept.new (IsKept known.now) }
         ensures bound { fractions_of result ≡ average_bound_of (pairs_in known.now self.now) }
     {
         let most = self.may.count().max(1);
         let fewest = self.must.count().max(1);
-        let certain = sum_ends(known, self.must);
+        let certain = ends_by_kept(kept, known, self.must);
         let low = self.least_sum(known, certain.low, others);
         let high = self.greatest_sum(known, certain.high, others);
         AverageBound {
@@ -193,18 +199,26 @@ impl Selected<'_> {
     }
 
     // The bound of an item of this kind.
-    pub(crate) fn bound(&self, kind: ItemKind, known: &Known, others: &mut Mask) -> ItemBound
+    pub(crate) fn bound(
+        &self,
+        kind: ItemKind,
+        known: &Known,
+        others: &mut Mask,
+        kept: &mut Option<KeptSum>,
+    ) -> ItemBound
         requires selection { IsSelection known.now self.now }
         requires room { length others.old ≡ rows_of_column known.now }
+        requires kept { IfSome kept.old (IsKept known.now) }
         ensures room { length others.new ≡ rows_of_column known.now }
+        ensures kept { IfSome kept.new (IsKept known.now) }
         ensures bound { IsBoundOf kind (pairs_in known.now self.now) result }
     {
         match kind {
             ItemKind::Count => ItemBound::Numbers(self.count()),
-            ItemKind::Sum => ItemBound::Numbers(self.sum(known, others)),
+            ItemKind::Sum => ItemBound::Numbers(self.sum(known, others, kept)),
             ItemKind::Min => ItemBound::Numbers(self.least(known)),
             ItemKind::Max => ItemBound::Numbers(self.greatest(known)),
-            ItemKind::Avg => ItemBound::Fractions(self.average(known, others)),
+            ItemKind::Avg => ItemBound::Fractions(self.average(known, others, kept)),
         }
     }
 }

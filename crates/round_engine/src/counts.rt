@@ -11,11 +11,11 @@ ghost use Rattle.round_engine.specs.Totals.{IsTotal};
 use crate::filling::may_be_null;
 use crate::item_bound::ItemBound;
 use kleene_filter::Filter;
-use known_column::KnownColumns;
+use known_column::LentColumns;
 use query_model::{Bound, Item, ItemKind, Nullity, TypedQuery};
 
 // Whether an item counts the rows that pass: it is a count whose argument may not be null.
-pub(crate) fn is_counted(item: &Item, columns: &KnownColumns) -> bool
+pub(crate) fn is_counted(item: &Item, columns: &LentColumns<'_>) -> bool
     requires { IsOpenItem columns.now.frame item.now }
     ensures { result ≡ is_counted columns.now.frame item.now }
 {
@@ -29,7 +29,7 @@ pub(crate) fn is_counted(item: &Item, columns: &KnownColumns) -> bool
 pub(crate) fn bound_of_counts(
     query: &TypedQuery,
     item: &Item,
-    columns: &KnownColumns,
+    columns: &LentColumns<'_>,
     filter: &Filter,
 ) -> ItemBound
     requires open_stage { IsOpenStage (stage_of query.now columns.now) }

@@ -1,14 +1,15 @@
 //! A query in progress.
 
 ghost use Rattle.std.specs.Prelude.{◌≡◌, length, IfOk, IfErr, OnOk, OnErr};
-ghost use Rattle.query_model.specs.Knowledge.{CanTake, IsKnowledge};
+ghost use Rattle.query_model.specs.Knowledge.{CanTake};
 ghost use Rattle.query_model.specs.Validity.{IsValid};
 ghost use Rattle.round_engine.specs.Promises.{LiesWithin, StandingsStay};
-ghost use Rattle.round_engine.specs.Stages.{HasPlane, IsFirstOver, IsOpenQuery, opened, stepped};
+ghost use Rattle.round_engine.specs.Stages.{HasPlane, IsFirstOver, opened, stepped};
 
-use crate::state::State;
+use crate::engine_view::EngineView;
+use crate::follower::Follower;
 use daq_table::Head;
-use known_column::OverTop;
+use known_column::{KnownColumns, OverTop};
 use plane_kernels::Plane;
 use query_model::{TypedQuery, average_bounds_nest, bounds_nest, standings_nest};
 use std::alloc::{AllocError, Global};
@@ -17,22 +18,26 @@ use std::marker::Model;
 // So many comparisons and listed numbers of a condition keep masks where nothing else is said.
 const MASKS: usize = 64;
 
-/// A query, and what is known of its columns after some of their planes. What its items come to is kept along, so that a
+/// A query, its columns, and what is known of them after some of their planes. What its items come to is kept along, so that a
 /// plane changes it in place and takes no memory.
 pub struct Engine {
-    pub(crate) query: TypedQuery,
-    pub(crate) state: State,
+    columns: KnownColumns,
+    follower: Follower,
 }
 
 // A call of its own: a derived drop is proved anew wherever an engine is let go.
 impl Drop for Engine {
     fn drop(self) {
-        let Engine { query: _, state: _ } = self;
+        let Engine {
+            columns: _,
+            follower: _,
+        } = self;
     }
 }
 
 impl Model for Engine {
-    ghost use Rattle.round_engine.specs.Engines.{stage_of, IsEngine};
+    ghost use Rattle.round_engine.specs.Engines.{stage_of};
+    ghost use Rattle.round_engine.specs.Followers.{query_of, Follows};
     ghost use Rattle.round_engine.specs.Stages.{Stage};
     ghost use Rattle.query_model.specs.Codes.{query_code};
     ghost use Rattle.std.specs.Coded.{codes};
@@ -41,9 +46,9 @@ impl Model for Engine {
 
     ghost coded = { Prim.hlevel (codes, query_code) };
 
-    ghost view = { λ e. stage_of e.query e.state.columns };
+    ghost view = { λ e. stage_of (query_of e.follower) e.columns };
 
-    ghost invariant = { λ e. IsEngine e.query e.state };
+    ghost invariant = { λ e. Follows e.columns e.follower };
 }
 
 impl Engine {
@@ -66,10 +71,9 @@ impl Engine {
         requires valid { IsValid head.now query }
         ensures { IfOk result (λ engine. engine ≡ opened query head.now) }
     {
-        match State::open(alloc, &query, head, masks) {
-            Ok(state) => Ok(Engine { query, state }),
-            Err(error) => Err(error),
-        }
+        let columns = KnownColumns::open(alloc, query.columns.as_slice(), head)?;
+        let follower = Follower::open(alloc, query, &columns.lend(), masks)?;
+        Ok(Engine { columns, follower })
     }
 
     /// Takes the next plane of a column of the query. Refused, with nothing changed, where a row's prefix would then be that of no
@@ -87,15 +91,15 @@ impl Engine {
         bounds_nest();
         average_bounds_nest();
         standings_nest();
-        self.state.step(&self.query, column, plane)
+        self.columns.take(column, plane)?;
+        self.follower.refresh(&self.columns.lend(), column, plane);
+        Ok(())
     }
 
-    /// The query.
-    pub fn query(&self) -> &TypedQuery
-        ensures query { result.now ≡ self.now.query }
-        ensures open_query { IsOpenQuery self.now.query self.now.frame }
-        ensures knowledge { IsKnowledge self.now.frame self.now.known }
+    /// What it tells.
+    pub fn view(&self) -> EngineView<'_>
+        ensures { result ≡ self.now }
     {
-        &self.query
+        self.follower.view(self.columns.lend())
     }
 }

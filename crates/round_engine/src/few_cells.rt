@@ -16,7 +16,7 @@ ghost use Rattle.round_engine.specs.Stages.{IsOpenItem, IsOpenStage};
 use crate::one_cell::CellMasks;
 use aggregates::{Running, Tally};
 use kleene_filter::Filter;
-use known_column::KnownColumns;
+use known_column::LentColumns;
 use plane_kernels::Mask;
 use query_model::{Expr, Item, TypedQuery};
 use row_groups::{Cells, cells_tell_keys};
@@ -39,7 +39,7 @@ impl CellMasks {
         &self,
         query: &TypedQuery,
         item: &Item,
-        columns: &KnownColumns,
+        columns: &LentColumns<'_>,
         filter: &Filter,
         cell: u32,
         certain: bool,
@@ -63,7 +63,7 @@ impl CellMasks {
         query: &TypedQuery,
         item: &Item,
         column: u8,
-        columns: &KnownColumns,
+        columns: &LentColumns<'_>,
         filter: &Filter,
         cell: u32,
         certain: bool,
@@ -90,7 +90,7 @@ impl CellMasks {
         &mut self,
         query: &TypedQuery,
         item: &Item,
-        columns: &KnownColumns,
+        columns: &LentColumns<'_>,
         filter: &Filter,
         cells: &Cells,
         single: &[bool],

@@ -13,12 +13,12 @@ ghost use Rattle.round_engine.specs.Totals.{IsFilledBelow};
 
 use aggregates::Running;
 use kleene_filter::Filter;
-use known_column::{KnownColumns, RowBlock};
+use known_column::{LentColumns, RowBlock};
 use query_model::{Expr, Item, TypedQuery, pairs_are_few, sums_of_items_fit};
 use row_values::BlockValues;
 
 // Whether an expression may be null, by what is declared of its columns.
-pub(crate) fn may_be_null(expr: &Expr, columns: &KnownColumns) -> bool
+pub(crate) fn may_be_null(expr: &Expr, columns: &LentColumns<'_>) -> bool
     requires { ReadsBelow (length columns.now.frame.columns) (term_of expr.now) }
     ensures { result ≡ may_be_null (null_of (term_of expr.now) (declared_ranges columns.now.frame)) }
 {
@@ -36,7 +36,7 @@ pub(crate) fn may_be_null(expr: &Expr, columns: &KnownColumns) -> bool
 pub(crate) fn fill_block(
     query: &TypedQuery,
     item: &Item,
-    columns: &KnownColumns,
+    columns: &LentColumns<'_>,
     filter: &Filter,
     number: usize,
     block: &mut RowBlock,

@@ -21,7 +21,7 @@ use crate::one_key::tell_single;
 use crate::totals::is_by_masks;
 use aggregates::Running;
 use kleene_filter::Filter;
-use known_column::{KnownColumns, RowBlock};
+use known_column::{LentColumns, RowBlock};
 use plane_kernels::Plane;
 use query_model::{AverageBound, Bound, Item, ItemKind, Nullity, TypedQuery};
 use row_groups::{
@@ -47,7 +47,7 @@ const FEW_CELLS: u32 = 16;
 fn fill_item(
     query: &TypedQuery,
     item: &Item,
-    columns: &KnownColumns,
+    columns: &LentColumns<'_>,
     filter: &Filter,
     block: &mut RowBlock,
     cells: &Cells,
@@ -79,7 +79,7 @@ fn fill_item(
 // Adds all rows of each marked item anew.
 fn fill_each(
     query: &TypedQuery,
-    columns: &KnownColumns,
+    columns: &LentColumns<'_>,
     filter: &Filter,
     block: &mut RowBlock,
     cells: &Cells,
@@ -121,7 +121,7 @@ impl Groups {
     pub(crate) fn open(
         alloc: Global,
         query: &TypedQuery,
-        columns: &KnownColumns,
+        columns: &LentColumns<'_>,
     ) -> Result<Groups, AllocError>
         requires open_stage { IsOpenStage (stage_of query.now columns.now) }
         requires grouped { IsGrouped query.now.shape }
@@ -150,7 +150,7 @@ impl Groups {
     pub(crate) fn fill(
         &mut self,
         query: &TypedQuery,
-        columns: &KnownColumns,
+        columns: &LentColumns<'_>,
         filter: &Filter,
         block: &mut RowBlock,
     )
@@ -187,7 +187,13 @@ impl Groups {
     }
 
     // Parts the rows where the column whose plane was read is a group column.
-    fn refine(&mut self, query: &TypedQuery, columns: &KnownColumns, column: usize, plane: &Plane)
+    fn refine(
+        &mut self,
+        query: &TypedQuery,
+        columns: &LentColumns<'_>,
+        column: usize,
+        plane: &Plane,
+    )
         requires open_stage { IsOpenStage (stage_of query.now columns.now) }
         requires before { WereGroups (stage_of query.now columns.now) column plane.now self.old }
         requires rows { length plane.now ≡ columns.now.frame.rows }
@@ -206,7 +212,7 @@ impl Groups {
     pub(crate) fn refresh(
         &mut self,
         query: &TypedQuery,
-        columns: &KnownColumns,
+        columns: &LentColumns<'_>,
         filter: &Filter,
         column: usize,
         plane: &Plane,

@@ -15,7 +15,7 @@ ghost use Rattle.round_engine.specs.Stages.{IsOpenItem, IsOpenStage};
 use crate::selection::{Selected, Selection, select_all};
 use aggregates::{Running, Tally};
 use kleene_filter::Filter;
-use known_column::KnownColumns;
+use known_column::LentColumns;
 use plane_kernels::Mask;
 use query_model::{Expr, Item, TypedQuery};
 use std::alloc::{AllocError, Global};
@@ -53,7 +53,7 @@ fn count_sure(filter: &Filter, certain: bool) -> u64
 fn count_rows(
     query: &TypedQuery,
     item: &Item,
-    columns: &KnownColumns,
+    columns: &LentColumns<'_>,
     filter: &Filter,
     certain: bool,
 ) -> Tally
@@ -89,7 +89,7 @@ impl CellMasks {
         query: &TypedQuery,
         item: &Item,
         column: u8,
-        columns: &KnownColumns,
+        columns: &LentColumns<'_>,
         filter: &Filter,
         certain: bool,
     ) -> Tally
@@ -121,7 +121,7 @@ impl CellMasks {
         &mut self,
         query: &TypedQuery,
         item: &Item,
-        columns: &KnownColumns,
+        columns: &LentColumns<'_>,
         filter: &Filter,
         certain: bool,
         running: &mut Running,

@@ -3,11 +3,11 @@
 ghost use Rattle.std.specs.Prelude.{◌≡◌, ◌≤◌, ◌<◌, ◌+◌, ℕ, length, slice_index};
 ghost use Rattle.daq_table.specs.Tables.{ends_at, planes};
 ghost use Rattle.query_model.specs.Knowledge.{known_at, IsKnowledge};
-ghost use Rattle.round_engine.specs.Engines.{stage_of, IsEngine};
+ghost use Rattle.round_engine.specs.Engines.{stage_of, IsKept};
 ghost use Rattle.round_engine.specs.Progresses.{IsProgress, planes_read};
 
 use crate::state::State;
-use known_column::{Known, KnownColumns};
+use known_column::{Known, LentColumns};
 use plane_schedule::Progress;
 use query_model::TypedQuery;
 
@@ -20,7 +20,7 @@ pub(crate) fn plane_count(known: &Known) -> u8
 }
 
 // The unread planes of each column, and how many planes were read of all.
-fn planes_of(columns: &KnownColumns) -> ([u8; 16], u32)
+fn planes_of(columns: &LentColumns<'_>) -> ([u8; 16], u32)
     requires few { length columns.now.frame.columns ≤ 16 }
     requires known { IsKnowledge columns.now.frame columns.now.known }
     ensures unread { (c : ℕ) → c < length columns.now.frame.columns
@@ -39,13 +39,13 @@ fn planes_of(columns: &KnownColumns) -> ([u8; 16], u32)
 }
 
 impl State {
-    pub(crate) fn progress(&self, query: &TypedQuery) -> Progress
-        requires { IsEngine query.now self.now }
-        ensures { IsProgress (stage_of query.now self.now.columns) result }
+    pub(crate) fn progress(&self, query: &TypedQuery, columns: &LentColumns<'_>) -> Progress
+        requires { IsKept query.now columns.now self.now }
+        ensures { IsProgress (stage_of query.now columns.now) result }
     {
-        let (unread, done) = planes_of(&self.columns);
+        let (unread, done) = planes_of(columns);
         Progress {
-            columns: self.columns.len() as u8,
+            columns: columns.len() as u8,
             unread,
             role: self.roles,
             unknown: self.filter.unknown(),

@@ -9,7 +9,7 @@ ghost use Rattle.round_engine.specs.Rankings.{HoldsOrder, IsRanking, WasRanking}
 ghost use Rattle.round_engine.specs.Stages.{IsOpenStage, Stage};
 
 use kleene_filter::{Filter, pred_reads};
-use known_column::KnownColumns;
+use known_column::LentColumns;
 use plane_kernels::Plane;
 use query_model::TypedQuery;
 use std::alloc::{AllocError, Global};
@@ -41,7 +41,7 @@ impl Ranking {
     }
 
     // Judges each row anew.
-    pub(crate) fn judge(&mut self, query: &TypedQuery, columns: &KnownColumns, filter: &Filter)
+    pub(crate) fn judge(&mut self, query: &TypedQuery, columns: &LentColumns<'_>, filter: &Filter)
         requires open_stage { IsOpenStage (stage_of query.now columns.now) }
         requires judged { filter.now.truths ≡ truths_under query.now.pred columns.now }
         requires holds { HoldsOrder (stage_of query.now columns.now) self.old }
@@ -53,7 +53,7 @@ impl Ranking {
     }
 
     // Judges each row anew after a plane of the sort key, where the same rows pass.
-    fn follow(&mut self, query: &TypedQuery, columns: &KnownColumns, plane: &Plane)
+    fn follow(&mut self, query: &TypedQuery, columns: &LentColumns<'_>, plane: &Plane)
         requires open_stage { IsOpenStage (stage_of query.now columns.now) }
         requires before { WasRanking (stage_of query.now columns.now) self.old.key plane.now self.old }
         requires unread { stands_in (columns_of_pred query.now.pred) self.old.key ≡ false }
@@ -68,7 +68,7 @@ impl Ranking {
     pub(crate) fn refresh(
         &mut self,
         query: &TypedQuery,
-        columns: &KnownColumns,
+        columns: &LentColumns<'_>,
         filter: &Filter,
         column: usize,
         plane: &Plane,

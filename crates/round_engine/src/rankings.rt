@@ -8,13 +8,13 @@ ghost use Rattle.query_model.specs.Validity.{FitsHead, IsTop};
 ghost use Rattle.round_engine.specs.Promises.{IsCertainStanding};
 ghost use Rattle.topk_bounds.specs.Standings.{is_certain, is_possible};
 
-use crate::engine::Engine;
+use crate::engine_view::EngineView;
 use plane_kernels::Mask;
 use query_model::{
     Standing, fitting_heads_have_parts, standings_are_right_on_tables, standings_become_exact,
 };
 
-impl Engine {
+impl EngineView<'_> {
     /// What is known of whether a row is among the first.
     pub fn standing(&self, row: usize) -> Standing
         requires ranked { IsTop self.now.query.shape }
@@ -25,7 +25,7 @@ impl Engine {
         standings_are_right_on_tables();
         standings_become_exact();
         fitting_heads_have_parts();
-        self.state.answers.ranking().top.standing(row)
+        self.follower.state.answers.ranking().top.standing(row)
     }
 
     /// The rows that are among the first for certain.
@@ -33,7 +33,7 @@ impl Engine {
         requires ranked { IsTop self.now.query.shape }
         ensures { result.now ≡ map (λ r. is_certain (standing_under self.now.query self.now.frame self.now.known r)) (rows_of self.now.frame) }
     {
-        self.state.answers.ranking().top.certain()
+        self.follower.state.answers.ranking().top.certain()
     }
 
     /// The rows of which it is not known yet.
@@ -41,6 +41,6 @@ impl Engine {
         requires ranked { IsTop self.now.query.shape }
         ensures { result.now ≡ map (λ r. is_possible (standing_under self.now.query self.now.frame self.now.known r)) (rows_of self.now.frame) }
     {
-        self.state.answers.ranking().top.possible()
+        self.follower.state.answers.ranking().top.possible()
     }
 }

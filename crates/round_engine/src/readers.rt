@@ -14,7 +14,7 @@ ghost use Rattle.round_engine.specs.Narrowness.{is_narrow};
 ghost use Rattle.round_engine.specs.Progresses.{IsProgress};
 ghost use Rattle.round_engine.specs.Promises.{IsCertainAverage, IsCertainBound, IsShownWithin};
 
-use crate::engine::Engine;
+use crate::engine_view::EngineView;
 use interval_calc::Interval;
 use plane_schedule::Progress;
 use query_model::{
@@ -24,7 +24,7 @@ use query_model::{
 };
 use row_values::{null_of, span_of};
 
-impl Engine {
+impl EngineView<'_> {
     /// The bound of an item that is no average: what is computed from the prefixes alone, and what it says of the answer.
     pub fn plain(&self, item: usize) -> Bound
         requires plain { self.now.query.shape ≡ Plain }
@@ -40,7 +40,7 @@ impl Engine {
         bounds_are_extremes_on_tables();
         bounds_become_exact_on_tables();
         fitting_heads_have_parts();
-        self.state.answers.totals().bound(item)
+        self.follower.state.answers.totals().bound(item)
     }
 
     /// The bound of an average.
@@ -56,7 +56,7 @@ impl Engine {
         average_bounds_contain_on_tables();
         average_bounds_become_exact_on_tables();
         fitting_heads_have_parts();
-        self.state.answers.totals().average(item)
+        self.follower.state.answers.totals().average(item)
     }
 
     /// Whether each item's answer is known to be there or not, and where it is there, the ends of its bound are at most so far apart.
@@ -64,14 +64,16 @@ impl Engine {
         requires { width < 2 ^ 63 }
         ensures { result ≡ is_narrow width self.now }
     {
-        self.state.answers.is_narrow(width)
+        self.follower.state.answers.is_narrow(width)
     }
 
     /// How far the query has come.
     pub fn progress(&self) -> Progress
         ensures { IsProgress self.now result }
     {
-        self.state.progress(&self.query)
+        self.follower
+            .state
+            .progress(&self.follower.query, &self.columns)
     }
 
     /// What is known of the condition at a row.
@@ -79,9 +81,9 @@ impl Engine {
         requires { row < self.now.frame.rows }
         ensures { result ≡ truth_of self.now.query.pred (ranges_of self.now.frame self.now.known row) }
     {
-        if self.state.filter.must().get(row) {
+        if self.follower.state.filter.must().get(row) {
             Truth::True
-        } else if self.state.filter.may().get(row) {
+        } else if self.follower.state.filter.may().get(row) {
             Truth::Unknown
         } else {
             Truth::False
@@ -95,8 +97,9 @@ impl Engine {
         ensures { IfSome (slice_get self.now.query.items item) (λ i.
             interval_of result ≡ span_of i.arg (ranges_of self.now.frame self.now.known row)) }
     {
-        let item = &self.query.items.as_slice()[item];
-        span_of(&item.arg, row, &self.state.columns)
+        let query = &self.follower.query;
+        let item = &query.items.as_slice()[item];
+        span_of(&item.arg, row, &self.columns)
     }
 
     /// Whether the argument of an item is null at a row.
@@ -106,8 +109,9 @@ impl Engine {
         ensures { IfSome (slice_get self.now.query.items item) (λ i.
             result ≡ null_of i.arg (ranges_of self.now.frame self.now.known row)) }
     {
-        let item = &self.query.items.as_slice()[item];
-        null_of(&item.arg, row, &self.state.columns)
+        let query = &self.follower.query;
+        let item = &query.items.as_slice()[item];
+        null_of(&item.arg, row, &self.columns)
     }
 
     /// Where the value of a column lies at a row, if it is not null.
@@ -118,7 +122,7 @@ impl Engine {
         ensures declared { Within (declared_range (ends_at self.now.frame column)).numbers (interval_of result).low
             × Within (declared_range (ends_at self.now.frame column)).numbers (interval_of result).high }
     {
-        self.state.columns.range(column, row)
+        self.columns.range(column, row)
     }
 
     /// Whether the value of a column is null at a row.
@@ -127,6 +131,6 @@ impl Engine {
         requires row { row < self.now.frame.rows }
         ensures { result ≡ (ranges_of self.now.frame self.now.known row column).null }
     {
-        self.state.columns.missing(column, row)
+        self.columns.missing(column, row)
     }
 }

@@ -1,6 +1,8 @@
 // Items over a bare column, told by masks.
 
-ghost use Rattle.std.specs.Prelude.{◌≡◌, IfOk};
+ghost use Rattle.std.specs.Prelude.{◌≡◌, IfOk, IfSome};
+ghost use Rattle.aggregates.specs.KeptSums.{IsKept};
+ghost use Rattle.known_column.specs.KnownTables.{column_at};
 ghost use Rattle.query_model.specs.declared.query.Shape.TheVariants.{Plain};
 ghost use Rattle.kleene_filter.specs.Filters.{truths_under};
 ghost use Rattle.query_model.specs.Queries.{Column};
@@ -11,8 +13,9 @@ ghost use Rattle.round_engine.specs.Totals.{IsTotal};
 
 use crate::item_bound::ItemBound;
 use crate::selection::{Selection, select_all};
+use aggregates::KeptSum;
 use kleene_filter::Filter;
-use known_column::KnownColumns;
+use known_column::LentColumns;
 use plane_kernels::Mask;
 use query_model::{Item, TypedQuery};
 use std::alloc::{AllocError, Global};
@@ -40,8 +43,9 @@ impl RowMasks {
         query: &TypedQuery,
         item: &Item,
         column: u8,
-        columns: &KnownColumns,
+        columns: &LentColumns<'_>,
         filter: &Filter,
+        kept: &mut Option<KeptSum>,
     ) -> ItemBound
         requires open_stage { IsOpenStage (stage_of query.now columns.now) }
         requires plain { query.now.shape ≡ Plain }
@@ -49,7 +53,9 @@ impl RowMasks {
         requires judged { filter.now.truths ≡ truths_under query.now.pred columns.now }
         requires column { item.now.arg ≡ Column column }
         requires room { HaveRows columns.now.frame.rows self.old }
+        requires kept { IfSome kept.old (IsKept (column_at columns.now column)) }
         ensures room { HaveRows columns.now.frame.rows self.new }
+        ensures kept { IfSome kept.new (IsKept (column_at columns.now column)) }
         ensures bound { IsTotal (stage_of query.now columns.now) item.now result }
     {
         let known = columns.column(column as usize);
@@ -57,9 +63,9 @@ impl RowMasks {
             self.selection.select(filter, known);
             self.selection
                 .lend()
-                .bound(item.kind, known, &mut self.others)
+                .bound(item.kind, known, &mut self.others, kept)
         } else {
-            select_all(filter, known).bound(item.kind, known, &mut self.others)
+            select_all(filter, known).bound(item.kind, known, &mut self.others, kept)
         }
     }
 }

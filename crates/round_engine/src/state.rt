@@ -1,19 +1,13 @@
-// What is kept of a query's columns, its condition and its answers.
+// What is kept of a query's condition and its answers, beside its columns.
 
-ghost use Rattle.std.specs.Prelude.{◌≡◌, length, IfOk, IfErr, OnOk, OnErr};
-ghost use Rattle.daq_table.specs.Tables.{frame_of};
-ghost use Rattle.known_column.specs.KnownTables.{read_column, unread_table};
-ghost use Rattle.query_model.specs.Knowledge.{CanTake};
-ghost use Rattle.query_model.specs.Projection.{projected_frame};
-ghost use Rattle.query_model.specs.Validity.{IsValid};
-ghost use Rattle.round_engine.specs.Engines.{stage_of, IsEngine};
-ghost use Rattle.round_engine.specs.Stages.{HasPlane, IsFirstOver};
+ghost use Rattle.std.specs.Prelude.{IfOk};
+ghost use Rattle.round_engine.specs.Engines.{IsKept, WasKept};
+ghost use Rattle.round_engine.specs.Followers.{AreUnreadFor};
 
 use crate::answers::Answers;
 use crate::roles::roles_of;
-use daq_table::Head;
 use kleene_filter::Filter;
-use known_column::{KnownColumns, OverTop, RowBlock};
+use known_column::{LentColumns, RowBlock};
 use plane_kernels::Plane;
 use plane_schedule::Role;
 use query_model::{TypedQuery, start_is_knowledge, taken_is_knowledge};
@@ -22,7 +16,6 @@ use std::alloc::{AllocError, Global};
 // The block lends its room wherever rows are read.
 #[derive(Drop)]
 pub(crate) struct State {
-    pub(crate) columns: KnownColumns,
     pub(crate) block: RowBlock,
     pub(crate) filter: Filter,
     pub(crate) answers: Answers,
@@ -30,25 +23,24 @@ pub(crate) struct State {
 }
 
 impl State {
-    // Nothing is read of the query's columns, in a table with that head. So many comparisons and listed numbers keep masks.
+    // Nothing is read of the query's columns. So many comparisons and listed numbers keep masks.
     pub(crate) fn open(
         alloc: Global,
         query: &TypedQuery,
-        head: &Head,
+        columns: &LentColumns<'_>,
         masks: usize,
     ) -> Result<State, AllocError>
-        requires valid { IsValid head.now query.now }
-        ensures kept { IfOk result (IsEngine query.now) }
-        ensures unread { IfOk result (λ state. state.columns ≡ unread_table (projected_frame query.now (frame_of head.now))) }
+        requires unread { AreUnreadFor query.now columns.now }
+        ensures kept { IfOk result (IsKept query.now columns.now) }
     {
         start_is_knowledge();
-        let columns = KnownColumns::open(alloc, query.columns.as_slice(), head)?;
-        let mut block = RowBlock::open(alloc, &columns)?;
-        let filter = Filter::open(alloc, &query.pred, &columns, &mut block, masks)?;
-        let mut answers = Answers::open(alloc, query, &columns)?;
-        answers.fill(query, &columns, &filter, &mut block);
+        // Its clause says that there are few rows.
+        let _rows = columns.rows();
+        let mut block = RowBlock::open(alloc, columns)?;
+        let filter = Filter::open(alloc, &query.pred, columns, &mut block, masks)?;
+        let mut answers = Answers::open(alloc, query, columns)?;
+        answers.fill(query, columns, &filter, &mut block);
         Ok(State {
-            columns,
             block,
             filter,
             answers,
@@ -56,29 +48,22 @@ impl State {
         })
     }
 
-    // Takes the next plane of a column.
-    pub(crate) fn step(
+    // Follows the columns after a plane of one of them was taken.
+    pub(crate) fn refresh(
         &mut self,
         query: &TypedQuery,
+        columns: &LentColumns<'_>,
         column: usize,
         plane: &Plane,
-    ) -> Result<(), OverTop>
-        requires kept { IsEngine query.now self.old }
-        requires plane { HasPlane (stage_of query.now self.old.columns) column }
-        requires rows { length plane.now ≡ self.old.columns.frame.rows }
-        ensures kept { IsEngine query.now self.new }
-        ensures taken { OnOk result (self.new.columns ≡ read_column self.old.columns column plane.now) }
-        ensures legal { OnOk result (CanTake self.old.columns.frame self.old.columns.known column plane.now) }
-        ensures unchanged { OnErr result (self.new ≡ self.old) }
-        ensures over { IfErr result (λ e. IsFirstOver (stage_of query.now self.old.columns) column plane.now e.row) }
+    )
+        requires before { WasKept query.now columns.now column plane.now self.old }
+        ensures kept { IsKept query.now columns.now self.new }
     {
         taken_is_knowledge();
-        self.columns.take(column, plane)?;
         let block = &mut self.block;
         self.filter
-            .refresh(&query.pred, &self.columns, column, plane, block);
+            .refresh(&query.pred, columns, column, plane, block);
         self.answers
-            .refresh(query, &self.columns, &self.filter, column, plane, block);
-        Ok(())
+            .refresh(query, columns, &self.filter, column, plane, block);
     }
 }

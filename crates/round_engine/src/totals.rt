@@ -9,6 +9,7 @@ ghost use Rattle.query_model.specs.Bounds.{Pair};
 ghost use Rattle.query_model.specs.Queries.{term_of};
 ghost use Rattle.round_engine.specs.declared.item_bound.ItemBound.TheVariants.{Fractions, Numbers};
 ghost use Rattle.round_engine.specs.Engines.{stage_of};
+ghost use Rattle.round_engine.specs.KeptSums.{AreKept, HoldSums, IsKeptOf};
 ghost use Rattle.round_engine.specs.Narrowness.{is_narrow};
 ghost use Rattle.round_engine.specs.Moves.{is_marked};
 ghost use Rattle.round_engine.specs.Selected.{HaveRows, is_by_masks, is_column};
@@ -18,20 +19,22 @@ ghost use Rattle.round_engine.specs.Totals.{AreBlank, AreFilled, AreFilledBelow,
 use crate::counts::{bound_of_counts, is_counted};
 use crate::filling::fill_block;
 use crate::item_bound::ItemBound;
+use crate::kept_sums::open_sums;
 use crate::row_masks::RowMasks;
-use aggregates::Running;
+use aggregates::{KeptSum, Running};
 use kleene_filter::Filter;
-use known_column::{KnownColumns, RowBlock};
+use known_column::{LentColumns, RowBlock};
 use query_model::{AverageBound, Bound, Expr, Item, ItemKind, Nullity, TypedQuery, pairs_are_few};
 use row_values::BlockValues;
 use std::alloc::{AllocError, Global};
 
-// The bound of each item, and room to add its rows one by one, or to tell it by masks.
+// The bound of each item, room to add its rows one by one or to tell it by masks, and what is kept of its sum.
 #[derive(Drop)]
 pub(crate) struct Totals {
     bounds: Vec<ItemBound>,
     runnings: Vec<Running>,
     masks: RowMasks,
+    kept: Vec<Option<KeptSum>>,
 }
 
 // Leaves room for the rows of each item, of which none is added.
@@ -45,7 +48,7 @@ fn begin_each(query: &TypedQuery, runnings: &mut [Running])
 }
 
 // Whether an expression is a bare column.
-fn is_column(expr: &Expr) -> bool
+pub(crate) fn is_column(expr: &Expr) -> bool
     ensures { result ≡ is_column (term_of expr.now) }
 {
     match expr {
@@ -55,7 +58,7 @@ fn is_column(expr: &Expr) -> bool
 }
 
 // Whether masks tell the bound of an item.
-pub(crate) fn is_by_masks(item: &Item, columns: &KnownColumns) -> bool
+pub(crate) fn is_by_masks(item: &Item, columns: &LentColumns<'_>) -> bool
     requires { IsOpenItem columns.now.frame item.now }
     ensures { result ≡ is_by_masks columns.now.frame item.now }
 {
@@ -63,7 +66,7 @@ pub(crate) fn is_by_masks(item: &Item, columns: &KnownColumns) -> bool
 }
 
 // The marked items whose rows are added one by one: those whose bound no masks tell.
-fn added_items(query: &TypedQuery, columns: &KnownColumns, marks: &[bool; 16]) -> [bool; 16]
+fn added_items(query: &TypedQuery, columns: &LentColumns<'_>, marks: &[bool; 16]) -> [bool; 16]
     requires { IsOpenStage (stage_of query.now columns.now) }
     ensures { AreAdded columns.now.frame query.now.items marks.now result }
 {
@@ -79,7 +82,7 @@ fn added_items(query: &TypedQuery, columns: &KnownColumns, marks: &[bool; 16]) -
 // Adds the rows of a block to each marked item.
 fn add_block(
     query: &TypedQuery,
-    columns: &KnownColumns,
+    columns: &LentColumns<'_>,
     filter: &Filter,
     number: usize,
     marks: &[bool; 16],
@@ -128,7 +131,7 @@ fn some_marked(marks: &[bool; 16]) -> bool
 // Adds all rows to each marked item of which none is added. A block of whose rows none may pass is not read.
 fn fill_each(
     query: &TypedQuery,
-    columns: &KnownColumns,
+    columns: &LentColumns<'_>,
     filter: &Filter,
     block: &mut RowBlock,
     marks: &[bool; 16],
@@ -178,10 +181,11 @@ fn bound_of_rows(item: &Item, running: &Running) -> ItemBound
 fn bound_of_item(
     query: &TypedQuery,
     item: &Item,
-    columns: &KnownColumns,
+    columns: &LentColumns<'_>,
     filter: &Filter,
     running: &Running,
     masks: &mut RowMasks,
+    kept: &mut Option<KeptSum>,
 ) -> ItemBound
     requires open_stage { IsOpenStage (stage_of query.now columns.now) }
     requires plain { query.now.shape ≡ Plain }
@@ -190,11 +194,13 @@ fn bound_of_item(
     requires filled { is_by_masks columns.now.frame item.now ≡ false
         → IsFilledBelow (stage_of query.now columns.now) item.now columns.now.frame.rows running.now }
     requires room { HaveRows columns.now.frame.rows masks.old }
+    requires kept { IsKeptOf (stage_of query.now columns.now) item.now kept.old }
     ensures room { HaveRows columns.now.frame.rows masks.new }
+    ensures kept { IsKeptOf (stage_of query.now columns.now) item.now kept.new }
     ensures bound { IsTotal (stage_of query.now columns.now) item.now result }
 {
     match &item.arg {
-        Expr::Column(column) => masks.bound(query, item, *column, columns, filter),
+        Expr::Column(column) => masks.bound(query, item, *column, columns, filter, kept),
         _ if is_counted(item, columns) => bound_of_counts(query, item, columns, filter),
         _ => bound_of_rows(item, running),
     }
@@ -203,11 +209,12 @@ fn bound_of_item(
 // Computes the bound of each marked item.
 fn tell_each(
     query: &TypedQuery,
-    columns: &KnownColumns,
+    columns: &LentColumns<'_>,
     filter: &Filter,
     marks: &[bool; 16],
     runnings: &[Running],
     masks: &mut RowMasks,
+    kept: &mut [Option<KeptSum>],
     bounds: &mut [ItemBound],
 )
     requires open_stage { IsOpenStage (stage_of query.now columns.now) }
@@ -215,14 +222,24 @@ fn tell_each(
     requires judged { filter.now.truths ≡ truths_under query.now.pred columns.now }
     requires filled { AreFilled (stage_of query.now columns.now) marks.now runnings.now }
     requires room { HaveRows columns.now.frame.rows masks.old }
+    requires kept { AreKept (stage_of query.now columns.now) kept.old }
     requires beside { AreTotalsBeside (stage_of query.now columns.now) marks.now bounds.old }
     ensures room { HaveRows columns.now.frame.rows masks.new }
+    ensures kept { AreKept (stage_of query.now columns.now) kept.new }
     ensures totals { AreTotals (stage_of query.now columns.now) bounds.new }
 {
     for i in 0..bounds.len() {
         if marks[i] {
             let item = &query.items.as_slice()[i];
-            bounds[i] = bound_of_item(query, item, columns, filter, &runnings[i], masks);
+            bounds[i] = bound_of_item(
+                query,
+                item,
+                columns,
+                filter,
+                &runnings[i],
+                masks,
+                &mut kept[i],
+            );
         }
     }
 }
@@ -233,6 +250,7 @@ impl Totals {
         ensures count { IfOk result (λ totals. length totals.bounds.items ≡ length items.now) }
         ensures room { IfOk result (λ totals. HaveRoom items.now totals.runnings.items) }
         ensures masks { IfOk result (λ totals. HaveRows rows totals.masks) }
+        ensures kept { IfOk result (λ totals. HoldSums rows items.now totals.kept.items) }
     {
         let none = Bound {
             null: Nullity::Always,
@@ -245,10 +263,12 @@ impl Totals {
             runnings.push(Running::open(alloc, item.kind, 1)?)?;
         }
         let masks = RowMasks::open(alloc, rows)?;
+        let kept = open_sums(alloc, items, rows)?;
         Ok(Totals {
             bounds,
             runnings,
             masks,
+            kept,
         })
     }
 
@@ -256,7 +276,7 @@ impl Totals {
     pub(crate) fn fill(
         &mut self,
         query: &TypedQuery,
-        columns: &KnownColumns,
+        columns: &LentColumns<'_>,
         filter: &Filter,
         block: &mut RowBlock,
         marks: &[bool; 16],
@@ -267,11 +287,13 @@ impl Totals {
         requires beside { AreTotalsBeside (stage_of query.now columns.now) marks.now self.old.bounds.items }
         requires room { HaveRoom query.now.items self.old.runnings.items }
         requires masks { HaveRows columns.now.frame.rows self.old.masks }
+        requires kept { AreKept (stage_of query.now columns.now) self.old.kept.items }
         requires same { block.old.frame.columns ≡ columns.now.frame.columns }
         ensures same { block.new.frame.columns ≡ columns.now.frame.columns }
         ensures totals { AreTotals (stage_of query.now columns.now) self.new.bounds.items }
         ensures room { HaveRoom query.now.items self.new.runnings.items }
         ensures masks { HaveRows columns.now.frame.rows self.new.masks }
+        ensures kept { AreKept (stage_of query.now columns.now) self.new.kept.items }
     {
         begin_each(query, &mut self.runnings);
         let added = added_items(query, columns, marks);
@@ -283,6 +305,7 @@ impl Totals {
             marks,
             &self.runnings,
             &mut self.masks,
+            &mut self.kept,
             &mut self.bounds,
         );
     }

@@ -20,7 +20,7 @@ use daq_table::{Head, planes};
 use plane_kernels::Plane;
 use plane_schedule::{Chooser, Ending, Plan, Progress, policies_choose};
 use query_model::{taken_is_knowledge, valid_queries_name_columns};
-use round_engine::Engine;
+use round_engine::{Engine, EngineView};
 
 /// Why a round was not read. Columns are those of the table; all numbers count from 0.
 #[derive(Drop, Debug, PartialEq, Eq)]
@@ -36,7 +36,7 @@ pub enum StepFault<E> {
 }
 
 /// Why the rounds of the plan end here; none where they go on, and then a plane is unread.
-pub fn ending(engine: &Engine, plan: &Plan) -> Option<Ending>
+pub fn ending(engine: &EngineView<'_>, plan: &Plan) -> Option<Ending>
     requires { plan.now.width < 2 ^ 63 }
     ensures ending { result ≡ ending_at plan.now engine.now }
     ensures unread { IfNone result (HasUnread (outlook_at engine.now)) }
@@ -48,7 +48,7 @@ pub fn ending(engine: &Engine, plan: &Plan) -> Option<Ending>
 }
 
 // The table's column that a column of the query is, and the number of its next plane.
-fn next_place(engine: &Engine, head: &Head, number: usize) -> (usize, u8)
+fn next_place(engine: &EngineView<'_>, head: &Head, number: usize) -> (usize, u8)
     requires fits { FitsHead engine.now.query engine.now.frame head.now }
     requires plane { HasPlane engine.now number }
     ensures column { result.0 ≡ slice_index engine.now.query.columns number }
@@ -91,7 +91,7 @@ fn take_next<S: PlaneSource>(
         (S.fails source.old source.new (slice_index engine.old.query.columns number) (known_at engine.old.known number).read)) }
     ensures over { IfErr result (λ fault. OnOverTop fault (IsOverTop (S.told source.old) engine.old plane.new number)) }
 {
-    let (column, next) = next_place(engine, source.head(), number);
+    let (column, next) = next_place(&engine.view(), source.head(), number);
     match source.read(column, next, plane) {
         Ok(()) => match engine.step(number, plane) {
             Ok(()) => Ok(()),
@@ -155,8 +155,9 @@ pub fn read_next<S: PlaneSource, F: Fn(&Progress) -> usize>(
     policies_choose();
     rounds_have_planes();
     // The query's clause says that what is known is a knowledge.
-    let _query = engine.query();
-    let Some(number) = chooser.next(&engine.progress()) else {
+    let view = engine.view();
+    let _query = view.query();
+    let Some(number) = chooser.next(&view.progress()) else {
         unreachable!()
     };
     match take_next(engine, source, number, plane) {

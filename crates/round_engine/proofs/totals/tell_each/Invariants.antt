@@ -1,5 +1,6 @@
 use Rattle.std.proofs.Common.{◌≢◌, true}
 use Rattle.round_engine.specs.Engines.{stage_of}
+use Rattle.round_engine.specs.KeptSums.{IsKeptOf}
 use Rattle.round_engine.specs.Moves.{is_marked}
 use Rattle.round_engine.specs.Selected.{HaveRows}
 use Rattle.round_engine.specs.Totals.{IsTotal}
@@ -13,4 +14,5 @@ invariant-loop-i l = record {
       (λ i item bound. IsTotal (stage_of l.query l.columns) item bound)
       l.query.items l.bounds l.i;
   room : HaveRows l.columns.frame.rows l.masks;
+  sums : Walks (λ i item kept. IsKeptOf (stage_of l.query l.columns) item kept) (λ i item kept. IsKeptOf (stage_of l.query l.columns) item kept) l.query.items l.kept l.i;
 }
