@@ -1,15 +1,15 @@
--- Which column of a query a plane goes to, and what its refusal says of the others.
-use Rattle.std.proofs.Common.{◌≡◌, ◌≢◌, ℕ, ◌+◌, ◌<◌, ◌≤◌, ◌==◌, Bool, true, false, if◌then◌else◌, Option, Some, None, List, length, get_or, refl, sym, ap, ◌∙◌, subst, arith, IsFalse, slice_index}
+-- Which column of a query a plane goes to, and what its refusal says of others.
+use Rattle.std.proofs.Common.{◌≡◌, ◌≢◌, ℕ, ◌+◌, ◌<◌, ◌≤◌, ◌==◌, Bool, true, false, if◌then◌else◌, Option, Some, None, List, length, get_or, refl, sym, ◌∙◌, subst, arith, IsFalse, slice_index}
 use Rattle.std.proofs.lemmas.Bool.{eqb-true, eq-eqb}
 use Rattle.std.proofs.lemmas.Grind.{common_steps}
 use Rattle.std.proofs.lemmas.List.Quantifiers.{position-Some}
 use Rattle.std.proofs.lemmas.List.Sums.{fails_before_first}
 use Rattle.std.specs.List.{position, position_or_len}
 use Rattle.known_column.specs.Columns.{KnownColumn}
-use Rattle.query_model.specs.Knowledge.{CanTake, IsLegal, longer}
+use Rattle.query_model.specs.Knowledge.{IsLegal, longer}
 use Rattle.round_engine.specs.Narrowness.{is_narrow}
 use Rattle.round_engine.specs.Stages.{IsFirstOver, Stage}
-use Rattle.multi_session.specs.Members.{Knows, column_of}
+use Rattle.multi_session.specs.Members.{column_of}
 use Rattle.multi_session.specs.Sessions.{awaited, own_column}
 
 if_some : (b : Bool) (o : Option ℕ) (c : ℕ) → (if b then None else o) ≡ Some c → IsFalse b × (o ≡ Some c)
@@ -25,13 +25,6 @@ own_there columns place c e =
     let there = position-Some (λ column. column == place) columns c 0 e in
     (there.0, eqb-true (get_or columns c 0) place there.1)
 
--- what is known of the column that a query awaits
-pub awaited_known : (width place : ℕ) (told : ℕ → KnownColumn) (stage : Stage) (c : ℕ) → Knows width told stage → awaited width place stage ≡ Some c → column_of stage c ≡ told place
-awaited_known width place told stage c knows e =
-    let (wide, own) = awaited_own width place stage c e in
-    let (inside, there) = own_there stage.query.columns place c own in
-    knows wide c inside ∙ ap told there
-
 -- ---- refused planes
 
 -- two columns of which the same is known refuse the same planes, at the same row
@@ -41,11 +34,6 @@ over_alike a b c d bits row same rows over = record {
   over = λ legal. over.over (subst (λ (k : KnownColumn). IsLegal k.ends (k.known.read + 1) (slice_index (longer k.known.prefixes bits) row)) (sym same) legal);
   first = λ r h. subst (λ (k : KnownColumn). IsLegal k.ends (k.known.read + 1) (slice_index (longer k.known.prefixes bits) r)) same (over.first r h);
 }
-
--- and none of them takes it
-pub none_takes : (a b : Stage) (c d : ℕ) (bits : List Bool) (row : ℕ) → column_of a c ≡ column_of b d → a.frame.rows ≡ b.frame.rows → IsFirstOver a c bits row → CanTake b.frame b.known d bits → ⊥
-none_takes a b c d bits row same rows over takes =
-    let there = over_alike a b c d bits row same rows over in there.over (takes.legal row there.in_range)
 
 -- ---- columns that differ
 

@@ -1,39 +1,18 @@
 -- Each step is read by some query, so there are no more steps than reads of all queries.
-use Rattle.std.proofs.Common.{◌≡◌, ℕ, zero, suc, ◌+◌, ◌^◌, ◌<◌, ◌≤◌, Bool, Option, Some, None, List, [], ◌∷◌, length, map, get_or, set, refl, sym, ap, subst, arith, sum, sum_by}
+use Rattle.std.proofs.Common.{◌≡◌, ℕ, zero, suc, ◌+◌, ◌^◌, ◌<◌, ◌≤◌, Bool, Option, Some, None, List, [], ◌∷◌, length, map, get_or, set, refl, sym, ap, ◌∙◌, subst, arith, sum, sum_by, slice_get}
 use Rattle.std.proofs.lemmas.List.{get_or-map, length-map, map-set}
 use Rattle.std.proofs.lemmas.List.Sums.{sum_by-cons, sum_by-le, sum_by-set}
+use Rattle.std.proofs.lemmas.Option.{same_Some}
+use Rattle.std.specs.List.{All}
+use Rattle.std.specs.Option.{option_map_or}
+use Rattle.known_column.specs.KnownTables.{KnownTable}
 use Rattle.query_model.specs.Knowledge.{ColumnKnowledge, Knowledge, known_at, longer_column, taken}
 use Rattle.round_engine.specs.Progresses.{planes_read}
-use Rattle.round_engine.specs.Stages.{IsOpenStage, Stage}
+use Rattle.round_engine.specs.Stages.{IsOpenStage, Stage, stepped}
 use Rattle.multi_session.specs.declared.member.Member.{Member}
-use Rattle.multi_session.specs.Members.{AreMembers, HandedBelow, HasFewPlanes, IsMember, member_after}
-use Rattle.multi_session.specs.Sessions.{awaited}
+use Rattle.multi_session.specs.Members.{HasFewPlanes, IsMember, earlier_table, stage_in, stages_of}
+use Rattle.multi_session.specs.Sessions.{awaited, followed}
 use Rattle.multi_session.proofs.Awaiting.{awaited_own, own_there}
-use Rattle.multi_session.proofs.Keeping.{columns_known, member_none, member_some}
-
--- ---- sums
-
-sum_grows : {X : Type 0} (f : X → ℕ) (xs ys : List X) → length xs ≡ length ys →
-    ((k : ℕ) (d : X) → k < length xs → f (get_or xs k d) ≤ f (get_or ys k d)) → sum_by f xs ≤ sum_by f ys
-sum_grows f [] [] long grows = omega arith
-sum_grows f [] (y ∷ ys) long grows = absurd (omega arith)
-sum_grows f (x ∷ xs) [] long grows = absurd (omega arith)
-sum_grows f (x ∷ xs) (y ∷ ys) long grows =
-    let rest = sum_grows f xs ys (omega arith) (λ k d h. grows (suc k) d (omega arith)) in
-    let first = grows 0 x (omega arith) in
-    omega (arith, rest, first, sum_by-cons f x xs, sum_by-cons f y ys)
-
-sum_grows_more : {X : Type 0} (f : X → ℕ) (xs ys : List X) (i : ℕ) (e : X) → length xs ≡ length ys → i < length xs →
-    ((k : ℕ) (d : X) → k < length xs → f (get_or xs k d) ≤ f (get_or ys k d)) → f (get_or xs i e) + 1 ≤ f (get_or ys i e) → sum_by f xs + 1 ≤ sum_by f ys
-sum_grows_more f [] ys i e long h grows more = absurd (omega arith)
-sum_grows_more f (x ∷ xs) [] i e long h grows more = absurd (omega arith)
-sum_grows_more f (x ∷ xs) (y ∷ ys) zero e long h grows more =
-    let rest = sum_grows f xs ys (omega arith) (λ k d h. grows (suc k) d (omega arith)) in
-    omega (arith, rest, more, sum_by-cons f x xs, sum_by-cons f y ys)
-sum_grows_more f (x ∷ xs) (y ∷ ys) (suc i) e long h grows more =
-    let rest = sum_grows_more f xs ys i e (omega arith) (omega arith) (λ k d h. grows (suc k) d (omega arith)) more in
-    let first = grows 0 x (omega arith) in
-    omega (arith, rest, first, sum_by-cons f x xs, sum_by-cons f y ys)
 
 -- ---- planes read
 
@@ -41,7 +20,7 @@ abbrev counts_of : Knowledge → List ℕ
 counts_of known = map (λ column. column.read) known
 
 -- a plane that is taken is one more
-pub one_more_read : (known : Knowledge) (c : ℕ) (bits : List Bool) → c < length known → planes_read (taken known c bits) ≡ planes_read known + 1
+one_more_read : (known : Knowledge) (c : ℕ) (bits : List Bool) → c < length known → planes_read (taken known c bits) ≡ planes_read known + 1
 one_more_read known c bits h =
     let nothing : ColumnKnowledge = record { read = 0; prefixes = [] } in
     let counts = counts_of known in
@@ -72,54 +51,75 @@ few_read stage is few =
         let fits = few k column in
         omega (arith, here, within, fits)
 
-abbrev pub reads_of : Member → ℕ
-reads_of m = planes_read m.engine.known
+abbrev pub reads_of : Stage → ℕ
+reads_of stage = planes_read stage.known
 
 -- so there are few steps
-pub few_steps : (width rows steps : ℕ) (members : List Member) → AreMembers width rows members → length members ≤ 16 → steps ≤ sum_by reads_of members → steps + 1 < 2 ^ 32
-few_steps width rows steps members are sixteen counted =
-    let all = sum_by-le reads_of 1040 members (λ k d h. few_read (get_or members k d).engine (are.each k d h).open_stage (are.each k d h).few) in
-    omega (arith, all, sixteen, counted)
+pub few_steps : (width steps : ℕ) (places : List ℕ) (table : KnownTable) (members : List Member) → All (IsMember width steps places table) members → length members ≤ 16 →
+    steps ≤ sum_by reads_of (stages_of table members) → steps + 1 < 2 ^ 32
+few_steps width steps places table members each sixteen counted =
+    let all = sum_by-le reads_of 1040 (stages_of table members) few in
+    let long = length-map members (stage_in table) in
+    omega (arith, all, sixteen, counted, long)
+  where
+    few : (k : ℕ) (d : Stage) → k < length (stages_of table members) → reads_of (get_or (stages_of table members) k d) ≤ 1040
+    few = by members each
+      where
+        by : (ms : List Member) → All (IsMember width steps places table) ms → (k : ℕ) (d : Stage) → k < length (stages_of table ms) → reads_of (get_or (stages_of table ms) k d) ≤ 1040
+        by [] each k d h = absurd (omega arith)
+        by (m ∷ ms) each zero d h = (let is = each 0 m (omega arith) in few_read (stage_in table m) is.open_stage is.few)
+        by (m ∷ ms) each (suc k) d h = by ms (λ j e i. each (suc j) e (omega arith)) k d (omega arith)
 
 -- ---- a step
 
-reads_after : (width place step rows : ℕ) (bits : List Bool) (told : _) (m : Member) → IsMember width rows told m → (o : Option ℕ) → awaited width place m.engine ≡ o →
-    reads_of m ≤ reads_of (member_after width place bits step m)
-reads_after width place step rows bits told m is None e =
-    let same = member_none width place step bits m e in
-    let counts = ap reads_of same in omega (arith, counts)
-reads_after width place step rows bits told m is (Some c) e =
-    let same : reads_of (member_after width place bits step m) ≡ planes_read (taken m.engine.known c bits) = ap reads_of (member_some width place step c bits m e) in
-    let own = awaited_own width place m.engine c e in
-    let there = own_there m.engine.query.columns place c own.1 in
-    let one = one_more_read m.engine.known c bits (columns_known m.engine is.open_stage c there.0) in
-    omega (arith, same, one)
+columns_known : (stage : Stage) → IsOpenStage stage → (c : ℕ) → c < length stage.query.columns → c < length stage.known
+columns_known stage is c h = let a = is.open_query.columns in let b = is.knowledge.columns in omega (arith, a, b)
 
-one_read : (width place step rows : ℕ) (bits : List Bool) (told : _) (m : Member) → IsMember width rows told m → (c : ℕ) → awaited width place m.engine ≡ Some c →
-    reads_of m + 1 ≤ reads_of (member_after width place bits step m)
-one_read width place step rows bits told m is c e =
-    let same : reads_of (member_after width place bits step m) ≡ planes_read (taken m.engine.known c bits) = ap reads_of (member_some width place step c bits m e) in
-    let own = awaited_own width place m.engine c e in
-    let there = own_there m.engine.query.columns place c own.1 in
-    let one = one_more_read m.engine.known c bits (columns_known m.engine is.open_stage c there.0) in
-    omega (arith, same, one)
+module _ (width place : ℕ) (bits : List Bool) where
+  follows_none : (s : Stage) → awaited width place s ≡ None → reads_of (followed width place bits s) ≡ reads_of s
+  follows_none s e = ap (λ o. reads_of (option_map_or (λ c. stepped s c bits) o s)) e
 
--- a plane that some query awaits is one more read
-pub one_more_step : (width place step rows steps : ℕ) (bits : List Bool) (old new : List Member) → AreMembers width rows old →
-    HandedBelow width place bits step old new (length old) → (i : ℕ) (e : Member) (c : ℕ) → i < length old → awaited width place (get_or old i e).engine ≡ Some c →
-    steps ≤ sum_by reads_of old → steps + 1 ≤ sum_by reads_of new
-one_more_step width place step rows steps bits old new are handed i e c h waits counted =
-    let more = sum_grows_more reads_of old new i e (sym handed.wide) h grows here in omega (arith, more, counted)
+  follows_some : (s : Stage) → IsOpenStage s → (own : ℕ) → awaited width place s ≡ Some own → reads_of (followed width place bits s) ≡ reads_of s + 1
+  follows_some s is own e =
+      let (wide, here) = awaited_own width place s own e in
+      let there = own_there s.query.columns place own here in
+      ap (λ o. reads_of (option_map_or (λ c. stepped s c bits) o s)) e ∙ one_more_read s.known own bits (columns_known s is own there.0)
+
+  no_less : (s : Stage) → IsOpenStage s → reads_of s ≤ reads_of (followed width place bits s)
+  no_less s is = by (awaited width place s) refl
+    where
+      by : (o : Option ℕ) → awaited width place s ≡ o → reads_of s ≤ reads_of (followed width place bits s)
+      by None e = let same = follows_none s e in omega (arith, same)
+      by (Some own) e = let more = follows_some s is own e in omega (arith, more)
+
+  all_read : (stages : List Stage) → All IsOpenStage stages → sum_by reads_of stages ≤ sum_by reads_of (map (followed width place bits) stages)
+  all_read [] each = omega arith
+  all_read (s ∷ ss) each =
+      let first = no_less s (each 0 s (omega arith)) in
+      let rest = all_read ss (λ k d h. each (suc k) d (omega arith)) in
+      omega (arith, first, rest, sum_by-cons reads_of s ss, sum_by-cons reads_of (followed width place bits s) (map (followed width place bits) ss))
+
+  -- a plane that some query awaits is one more read
+  pub one_more_step : (stages : List Stage) → All IsOpenStage stages → (k : ℕ) (stage : Stage) (own : ℕ) → slice_get stages k ≡ Some stage → awaited width place stage ≡ Some own →
+      sum_by reads_of stages + 1 ≤ sum_by reads_of (map (followed width place bits) stages)
+  one_more_step [] each k stage own there waits = cc
+  one_more_step (s ∷ ss) each zero stage own there waits =
+      let first = follows_some s (each 0 s (omega arith)) own (ap (awaited width place) (same_Some s stage there) ∙ waits) in
+      let rest = all_read ss (λ k d h. each (suc k) d (omega arith)) in
+      omega (arith, first, rest, sum_by-cons reads_of s ss, sum_by-cons reads_of (followed width place bits s) (map (followed width place bits) ss))
+  one_more_step (s ∷ ss) each (suc k) stage own there waits =
+      let first = no_less s (each 0 s (omega arith)) in
+      let rest = one_more_step ss (λ j d h. each (suc j) d (omega arith)) k stage own there waits in
+      omega (arith, first, rest, sum_by-cons reads_of s ss, sum_by-cons reads_of (followed width place bits s) (map (followed width place bits) ss))
+
+-- ---- the reads of a query
+
+-- they are the planes that it took of its columns
+pub counts_read : (table : KnownTable) (numbers counts : List ℕ) → length counts ≡ length numbers → planes_read (earlier_table table numbers counts).known ≡ sum counts
+counts_read table numbers counts long = ap sum (same numbers counts long)
   where
-    grows : (k : ℕ) (d : Member) → k < length old → reads_of (get_or old k d) ≤ reads_of (get_or new k d)
-    grows k d inside =
-        let m : Member = get_or old k d in
-        let is : get_or new k d ≡ member_after width place bits step m = handed.took k d inside in
-        let less = reads_after width place step rows bits are.told m (are.each k d inside) (awaited width place m.engine) refl in
-        subst (λ (n : Member). reads_of m ≤ reads_of n) (sym is) less
-
-    here : reads_of (get_or old i e) + 1 ≤ reads_of (get_or new i e)
-    here =
-        let m : Member = get_or old i e in
-        let is : get_or new i e ≡ member_after width place bits step m = handed.took i e h in
-        subst (λ (n : Member). reads_of m + 1 ≤ reads_of n) (sym is) (one_read width place step rows bits are.told m (are.each i e h) c waits)
+    same : (numbers counts : List ℕ) → length counts ≡ length numbers → counts_of (earlier_table table numbers counts).known ≡ counts
+    same [] [] long = refl
+    same [] (k ∷ ks) long = absurd (omega arith)
+    same (n ∷ ns) [] long = absurd (omega arith)
+    same (n ∷ ns) (k ∷ ks) long = rw (same ns ks (omega arith)) refl

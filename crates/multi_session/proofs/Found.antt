@@ -1,93 +1,201 @@
--- The first query that awaits a plane, and what it says of the others that await it.
-use Rattle.std.proofs.Common.{◌≡◌, ℕ, zero, suc, ◌-◌, ◌<◌, Option, Some, None, List, [], ◌∷◌, length, get_or, refl, sym, ap, ◌∙◌, subst, arith}
+-- The queries that await a plane, among the stages of a session: the first of them, and what each knows of the column.
+use Rattle.std.proofs.Common.{◌≡◌, ◌⊎◌, inl, inr, ℕ, zero, suc, ◌+◌, ◌-◌, ◌<◌, ◌≤◌, Bool, true, if◌then◌else◌, is_some, Option, Some, None, option_map, List, [], ◌∷◌, length, get_or, refl, sym, ap, ◌∙◌, subst, arith, slice_get, slice_index}
+use Rattle.std.proofs.lemmas.Option.{same_Some, slice_get-get_or, slice_get-map, slice_get_cases}
+use Rattle.std.proofs.lemmas.List.{length-map}
+use Rattle.std.specs.List.{All}
 use Rattle.std.specs.Option.{option_map_or}
-use Rattle.daq_table.specs.Tables.{planes}
+use Rattle.daq_table.specs.Tables.{ends_at, planes}
+use Rattle.known_column.specs.Columns as columns
 use Rattle.known_column.specs.Columns.{KnownColumn}
-use Rattle.round_engine.specs.Stages.{HasPlane}
+use Rattle.known_column.specs.KnownTables.{KnownTable, column_at}
+use Rattle.query_model.specs.Knowledge.{CanTake, IsLegal, known_at, longer}
+use Rattle.round_engine.specs.Stages.{IsFirstOver, Stage}
 use Rattle.multi_session.specs.declared.member.Member.{Member}
-use Rattle.multi_session.specs.Members.{AllAwaiting, AreMembers, stages_of}
-use Rattle.multi_session.specs.Sessions.{awaited, unread_in, unread_of}
-use Rattle.multi_session.proofs.Awaiting.{awaited_known, awaited_own, own_there}
+use Rattle.multi_session.specs.Members.{AreColumns, IsAbreast, IsMember, column_of, stage_in, stages_of}
+use Rattle.multi_session.specs.Sessions.{awaited, own_column, unread_in, unread_of}
+use Rattle.multi_session.proofs.Awaiting.{awaited_own}
+use Rattle.multi_session.proofs.Following.{column_now, own_number}
 
--- a query that awaits a plane of the column, and the planes that are unread
-pub record Found (width place : ℕ) (members : List Member) : Type 0 where
+-- ---- the first query that awaits a plane
+
+pub record Found (width place : ℕ) (stages : List Stage) : Type 0 where
   pub number : ℕ
-  pub member : Member
-  pub column : ℕ
-  pub inside : number < length members
-  pub waits : (d : Member) → awaited width place (get_or members number d).engine ≡ Some column
-  pub unread : (d : Member) → unread_of (get_or members number d).engine column ≡ unread_in width place (stages_of members)
+  pub stage : Stage
+  pub own : ℕ
+  pub there : slice_get stages number ≡ Some stage
+  pub waits : awaited width place stage ≡ Some own
+  pub unread : unread_of stage own ≡ unread_in width place stages
 
-unread_first : (width place c : ℕ) (m : Member) (ms : List Member) → awaited width place m.engine ≡ Some c → unread_in width place (stages_of (m ∷ ms)) ≡ unread_of m.engine c
-unread_first width place c m ms e = ap (λ o. option_map_or (unread_of m.engine) o (unread_in width place (stages_of ms))) e
-
-unread_rest : (width place : ℕ) (m : Member) (ms : List Member) → awaited width place m.engine ≡ None → unread_in width place (stages_of (m ∷ ms)) ≡ unread_in width place (stages_of ms)
-unread_rest width place m ms e = ap (λ o. option_map_or (unread_of m.engine) o (unread_in width place (stages_of ms))) e
-
-found_first : (width place c : ℕ) (m : Member) (ms : List Member) → awaited width place m.engine ≡ Some c → Found width place (m ∷ ms)
-found_first width place c m ms e = record {
+found_first : (width place own : ℕ) (s : Stage) (ss : List Stage) → awaited width place s ≡ Some own → Found width place (s ∷ ss)
+found_first width place own s ss e = record {
   number = 0;
-  member = m;
-  column = c;
-  inside = omega arith;
-  waits = λ d. e;
-  unread = λ d. sym (unread_first width place c m ms e);
+  stage = s;
+  own = own;
+  there = refl;
+  waits = e;
+  unread = sym (ap (λ o. option_map_or (unread_of s) o (unread_in width place ss)) e);
 }
 
--- where a plane is unread, or some query awaits one, there is a first that does
-pub found : (width place : ℕ) (members : List Member) → 0 < unread_in width place (stages_of members) → Found width place members
+found_later : (width place : ℕ) (s : Stage) (ss : List Stage) → awaited width place s ≡ None → Found width place ss → Found width place (s ∷ ss)
+found_later width place s ss e rest = record {
+  number = suc rest.number;
+  stage = rest.stage;
+  own = rest.own;
+  there = rest.there;
+  waits = rest.waits;
+  unread = rest.unread ∙ sym (ap (λ o. option_map_or (unread_of s) o (unread_in width place ss)) e);
+}
+
+-- where a plane is unread
+pub found : (width place : ℕ) (stages : List Stage) → 0 < unread_in width place stages → Found width place stages
 found width place [] some = absurd (omega arith)
-found width place (m ∷ ms) some = by (awaited width place m.engine) refl (found width place ms)
+found width place (s ∷ ss) some = by (awaited width place s) refl (found width place ss)
   where
-    by : (o : Option ℕ) → awaited width place m.engine ≡ o → (0 < unread_in width place (stages_of ms) → Found width place ms) → Found width place (m ∷ ms)
-    by None e ih =
-        let rest = ih (subst (λ n. 0 < n) (unread_rest width place m ms e) some) in
-        record {
-          number = suc rest.number;
-          member = rest.member;
-          column = rest.column;
-          inside = let h = rest.inside in omega arith;
-          waits = rest.waits;
-          unread = λ d. rest.unread d ∙ sym (unread_rest width place m ms e);
-        }
-    by (Some c) e ih = found_first width place c m ms e
+    by : (o : Option ℕ) → awaited width place s ≡ o → (0 < unread_in width place ss → Found width place ss) → Found width place (s ∷ ss)
+    by None e later = found_later width place s ss e (later (subst (λ n. 0 < n) (ap (λ o. option_map_or (unread_of s) o (unread_in width place ss)) e) some))
+    by (Some own) e later = found_first width place own s ss e
 
-pub found_with : (width place : ℕ) (members : List Member) (k : ℕ) (d : Member) (c : ℕ) → k < length members → awaited width place (get_or members k d).engine ≡ Some c → Found width place members
-found_with width place [] k d c h waits = absurd (omega arith)
-found_with width place (m ∷ ms) zero d c h waits = found_first width place c m ms waits
-found_with width place (m ∷ ms) (suc k) d c h waits = by (awaited width place m.engine) refl (found_with width place ms k d c (omega arith) waits)
+-- where some query awaits one
+pub found_with : (width place : ℕ) (stages : List Stage) (k : ℕ) (stage : Stage) (own : ℕ) → slice_get stages k ≡ Some stage → awaited width place stage ≡ Some own → Found width place stages
+found_with width place [] k stage own there waits = cc
+found_with width place (s ∷ ss) zero stage own there waits = found_first width place own s ss (ap (awaited width place) (same_Some s stage there) ∙ waits)
+found_with width place (s ∷ ss) (suc k) stage own there waits = by (awaited width place s) refl (found_with width place ss k stage own there waits)
   where
-    by : (o : Option ℕ) → awaited width place m.engine ≡ o → Found width place ms → Found width place (m ∷ ms)
-    by None e rest = record {
-      number = suc rest.number;
-      member = rest.member;
-      column = rest.column;
-      inside = let h = rest.inside in omega arith;
-      waits = rest.waits;
-      unread = λ d. rest.unread d ∙ sym (unread_rest width place m ms e);
+    by : (o : Option ℕ) → awaited width place s ≡ o → Found width place ss → Found width place (s ∷ ss)
+    by None e later = found_later width place s ss e later
+    by (Some first) e later = found_first width place first s ss e
+
+-- ---- the member behind a stage
+
+pub record Behind (table : KnownTable) (members : List Member) (k : ℕ) (stage : Stage) : Type 0 where
+  pub member : Member
+  pub inside : k < length members
+  pub there : get_or members k member ≡ member
+  pub stands : stage_in table member ≡ stage
+
+none_is_some : {X : Type 0} (x : X) (P : Type 0) → None ≡ Some x → P
+none_is_some x P e = cc
+
+pub behind : (table : KnownTable) (members : List Member) (k : ℕ) (stage : Stage) → slice_get (stages_of table members) k ≡ Some stage → Behind table members k stage
+behind table members k stage there = by (slice_get_cases members k).1
+  where
+    mapped : option_map (stage_in table) (slice_get members k) ≡ Some stage
+    mapped = sym (slice_get-map (stage_in table) members k) ∙ there
+
+    by : ((m : Member) × (k < length members) × (slice_get members k ≡ Some m) × (get_or members k m ≡ m)) ⊎ ((length members ≤ k) × (slice_get members k ≡ None)) →
+        Behind table members k stage
+    by (inl (m, inside, is, same)) = record {
+      member = m;
+      inside = inside;
+      there = same;
+      stands = same_Some (stage_in table m) stage (sym (ap (option_map (stage_in table)) is) ∙ mapped);
     }
-    by (Some own) e rest = found_first width place own m ms e
+    by (inr (past, none)) = none_is_some stage (Behind table members k stage) (sym (ap (option_map (stage_in table)) none) ∙ mapped)
 
-abbrev left_of : KnownColumn → ℕ
+-- what holds of each member's stage holds of each stage
+pub of_each : (table : KnownTable) (members : List Member) (P : Stage → Type 0) → All (λ m. P (stage_in table m)) members →
+    (k : ℕ) (stage : Stage) → slice_get (stages_of table members) k ≡ Some stage → P stage
+of_each table members P all k stage there =
+    let b = behind table members k stage there in
+    subst P b.stands (subst (λ m. P (stage_in table m)) b.there (all k b.member b.inside))
+
+-- ---- what is known of the column
+
+-- a query's column is that of the session
+pub record IsColumn (table : KnownTable) (column : ℕ) (stage : Stage) (own : ℕ) : Type 0 where
+  pub inside : own < length stage.frame.columns
+  pub same : column_of stage own ≡ column_at table column
+  pub rows : stage.frame.rows ≡ table.frame.rows
+
+-- a query that awaits a plane of a column knows of it what the session does
+pub awaits_column : (width steps column : ℕ) (places : List ℕ) (table : KnownTable) (m : Member) → AreColumns places table → column < length places →
+    IsMember width steps places table m → (own : ℕ) → awaited width (slice_index places column) (stage_in table m) ≡ Some own → IsColumn table column (stage_in table m) own
+awaits_column width steps column places table m columns inside is own waits =
+    let (wide, here) = awaited_own width (slice_index places column) (stage_in table m) own waits in
+    let at : IsAbreast table m = is.abreast (inl (is.finished ∙ wide)) in
+    let (below, number) = own_number places m.numbers.items m.follower.query.columns column is.named columns.once inside is.inside own here in
+    record {
+      inside = subst (λ n. own < n) (sym (length-map m.numbers.items (ends_at table.frame))) below;
+      same = column_now table m own at below ∙ ap (column_at table) number;
+      rows = refl;
+    }
+
+abbrev pub left_of : KnownColumn → ℕ
 left_of k = planes k.ends - k.known.read
 
--- all that await it have the same planes of the column unread
-pub unread_alike : (width place rows : ℕ) (members : List Member) → AreMembers width rows members → (k : ℕ) (d : Member) (c : ℕ) → k < length members →
-    awaited width place (get_or members k d).engine ≡ Some c → unread_of (get_or members k d).engine c ≡ unread_in width place (stages_of members)
-unread_alike width place rows members are k d c h waits =
-    let f = found_with width place members k d c h waits in
-    let first : Member = get_or members f.number d in
-    let this : Member = get_or members k d in
-    let there = awaited_known width place are.told first.engine f.column (are.each f.number d f.inside).knows (f.waits d) in
-    let here = awaited_known width place are.told this.engine c (are.each k d h).knows waits in
-    ap left_of (here ∙ sym there) ∙ f.unread d
+module _ (width steps column : ℕ) (places : List ℕ) (table : KnownTable) (members : List Member) (columns : AreColumns places table) (inside : column < length places)
+    (each : All (IsMember width steps places table) members) where
+  -- all that await it
+  pub all_columns : (k : ℕ) (stage : Stage) → slice_get (stages_of table members) k ≡ Some stage → (own : ℕ) → awaited width (slice_index places column) stage ≡ Some own → IsColumn table column stage own
+  all_columns = of_each table members (λ stage. (own : ℕ) → awaited width (slice_index places column) stage ≡ Some own → IsColumn table column stage own)
+      (λ k d h. awaits_column width steps column places table (get_or members k d) columns inside (each k d h))
 
--- so each of them has one, where one has
-pub all_have_planes : (width place rows : ℕ) (members : List Member) → AreMembers width rows members → 0 < unread_in width place (stages_of members) → AllAwaiting width place HasPlane members
-all_have_planes width place rows members are some k d h c waits =
-    let this : Member = get_or members k d in
-    let own = awaited_own width place this.engine c waits in
-    let there = own_there this.engine.query.columns place c own.1 in
-    let inside = (are.each k d h).open_stage.open_query.columns in
-    let left = unread_alike width place rows members are k d c h waits in
-    record { column = (let t = there.0 in omega (arith, t, inside)); unread = omega (arith, left, some) }
+  -- have as many planes of it unread
+  pub first_unread : Found width (slice_index places column) (stages_of table members) → unread_in width (slice_index places column) (stages_of table members) ≡ left_of (column_at table column)
+  first_unread f = sym f.unread ∙ ap left_of (all_columns f.number f.stage f.there f.own f.waits).same
+
+  pub unread_alike : (k : ℕ) (stage : Stage) → slice_get (stages_of table members) k ≡ Some stage → (own : ℕ) → awaited width (slice_index places column) stage ≡ Some own →
+      unread_in width (slice_index places column) (stages_of table members) ≡ unread_of stage own
+  unread_alike k stage there own waits =
+      first_unread (found_with width (slice_index places column) (stages_of table members) k stage own there waits)
+      ∙ sym (ap left_of (all_columns k stage there own waits).same)
+
+-- a plane that the session's column takes is one that the query's column takes
+pub can_take : (table : KnownTable) (column : ℕ) (stage : Stage) (own : ℕ) (bits : List Bool) → IsColumn table column stage own → CanTake table.frame table.known column bits →
+    CanTake stage.frame stage.known own bits
+can_take table column stage own bits is legal = record {
+  column = is.inside;
+  unread = subst (λ (k : KnownColumn). k.known.read < planes k.ends) (sym is.same) legal.unread;
+  rows = legal.rows ∙ sym is.rows;
+  legal = λ r h. subst (λ (k : KnownColumn). IsLegal k.ends (k.known.read + 1) (slice_index (longer k.known.prefixes bits) r)) (sym is.same) (legal.legal r (subst (λ n. r < n) is.rows h));
+}
+
+-- and one that is refused is refused there
+pub first_over : (table : KnownTable) (column : ℕ) (stage : Stage) (own row : ℕ) (bits : List Bool) → IsColumn table column stage own →
+    columns.rows_of_column (column_at table column) ≡ table.frame.rows → columns.IsFirstOver (column_at table column) bits row → IsFirstOver stage own bits row
+first_over table column stage own row bits is rows over = record {
+  in_range = subst (λ n. row < n) (rows ∙ sym is.rows) over.in_range;
+  over = λ legal. over.over (subst (λ (k : KnownColumn). columns.StaysLegal k bits row) is.same legal);
+  first = λ r h. subst (λ (k : KnownColumn). columns.StaysLegal k bits r) (sym is.same) (over.first r h);
+}
+
+-- ---- what a member is asked
+
+module _ (width steps : ℕ) (places : List ℕ) (table : KnownTable) (m : Member) (is : IsMember width steps places table m) (place : ℕ) where
+  -- what it awaits is what its stage awaits
+  pub awaits_is : (o : Option ℕ) → o ≡ (if m.finished then None else own_column m.follower.query place) → awaited width place (stage_in table m) ≡ o
+  awaits_is o e = sym (e ∙ ap (λ b. if b then None else own_column m.follower.query place) is.finished)
+
+some_of : (o : Option ℕ) → is_some o ≡ true → (own : ℕ) × (o ≡ Some own)
+some_of None e = cc
+some_of (Some own) e = (own, refl)
+
+module _ (width steps column : ℕ) (places : List ℕ) (table : KnownTable) (members : List Member) (columns : AreColumns places table) (inside : column < length places)
+    (each : All (IsMember width steps places table) members) (k : ℕ) (m : Member) (below : k < length members) (is : m ≡ get_or members k m)
+    (place : ℕ) (there : place ≡ slice_index places column) (o : Option ℕ) (asked : o ≡ (if m.finished then None else own_column m.follower.query place)) (some : is_some o ≡ true) where
+  member : IsMember width steps places table m
+  member = subst (IsMember width steps places table) (sym is) (each k m below)
+
+  own : (own : ℕ) × (o ≡ Some own)
+  own = some_of o some
+
+  waits : awaited width (slice_index places column) (stage_in table m) ≡ Some own.0
+  waits = sym (ap (λ p. awaited width p (stage_in table m)) there) ∙ awaits_is width steps places table m member place o asked ∙ own.1
+
+  stands : slice_get (stages_of table members) k ≡ Some (stage_in table m)
+  stands = slice_get-map (stage_in table) members k ∙ ap (option_map (stage_in table)) (slice_get-get_or members k m below ∙ ap Some (sym is))
+
+  -- the unread planes of the column, where a member awaits one
+  pub unread_here : (unread : ℕ) → unread + (known_at table.known column).read ≡ planes (ends_at table.frame column) →
+      unread ≡ unread_in width (slice_index places column) (stages_of table members)
+  unread_here unread e =
+      let first = first_unread width steps column places table members columns inside each (found_with width (slice_index places column) (stages_of table members) k (stage_in table m) own.0 stands waits) in
+      omega (arith, e, first)
+
+  -- are few
+  pub few_here : (unread : ℕ) → unread + (known_at table.known column).read ≡ planes (ends_at table.frame column) → unread ≤ 65
+  few_here unread e =
+      let here = awaits_column width steps column places table m columns inside member own.0 waits in
+      let few = member.few own.0 here.inside in
+      let same : planes (ends_at (stage_in table m).frame own.0) ≡ planes (ends_at table.frame column) = ap (λ (k : KnownColumn). planes k.ends) here.same in
+      omega (arith, e, few, same)

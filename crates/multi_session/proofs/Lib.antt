@@ -1,11 +1,14 @@
 pub mod Awaiting
+pub mod Keeping
+pub mod Earlier
+pub mod Following
+pub mod Named
+pub mod Found
 pub mod Handing
 pub mod Alone
-pub mod Keeping
 pub mod Counting
-pub mod Found
 pub mod Telling
 pub mod Opening
 pub mod Stepping
 pub mod Progressing
-pub mod Columns
+pub mod Within

@@ -1,141 +1,150 @@
 -- A step of a session is one of each of its members.
-use Rattle.std.proofs.Common.{◌≡◌, ℕ, suc, ◌+◌, ◌<◌, ◌≤◌, ◌==◌, Bool, Option, Some, None, option_map, List, [], ◌∷◌, length, map, get_or, slice_get, slice_index, refl, sym, ap, ◌∙◌, subst, arith, sum_by}
-use Rattle.std.proofs.lemmas.Bool.{eq-eqb, ne_eqb}
-use Rattle.std.proofs.lemmas.List.{get_or-map, get_or_read, length-map, same_lists}
-use Rattle.std.proofs.lemmas.Option.{get_or_from_slice_get, same_Some, slice_get-map, slice_get_within}
-use Rattle.std.specs.Prelude.{is_some}
+use Rattle.std.proofs.Common.{◌≡◌, ◌⊎◌, inl, inr, ℕ, zero, suc, ◌+◌, ◌<◌, ◌≤◌, ◌==◌, Bool, true, false, if◌then◌else◌, Some, List, [], ◌∷◌, length, map, get_or, refl, sym, ap, ◌∙◌, subst, arith, is_some, option_map, slice_get, slice_index, sum_by, IsFalse}
+use Rattle.std.proofs.lemmas.Bool.{eq-eqb, eqb-true, ne_eqb}
+use Rattle.std.proofs.lemmas.Option.{same_Some, slice_get-get_or, slice_get-map}
+use Rattle.std.proofs.lemmas.Simd.{map-map}
 use Rattle.std.specs.List.{All}
-use Rattle.std.specs.Option.{option_map_or}
+use Rattle.std.specs.Prelude.{IfSome}
+use Rattle.daq_table.specs.Tables.{ends_at, planes}
+use Rattle.known_column.specs.KnownTables.{KnownTable, column_at, read_column}
 use Rattle.plane_schedule.specs.Choices.{IsUnread}
-use Rattle.round_engine.specs.Stages.{Stage, stepped}
+use Rattle.query_model.specs.Knowledge.{CanTake, known_at}
+use Rattle.query_model.specs.Laws.{TakenIsKnowledge}
+use Rattle.round_engine.specs.Narrowness.{is_narrow}
+use Rattle.round_engine.specs.Stages.{IsOpenStage, Stage}
 use Rattle.multi_session.specs.declared.member.Member.{Member}
-use Rattle.multi_session.specs.Members.{AllAwaiting, HandedBelow, IsSession, member_after, session_of, stages_of}
+use Rattle.multi_session.specs.Members.{AreColumns, HandedBelow, IsAbreast, IsMember, IsSession, WasHanded, session_of, stage_in, stages_of}
 use Rattle.multi_session.specs.Sessions.{Awaits, Session, awaited, followed, session_outlook, session_stepped, unread_in}
 use Rattle.multi_session.proofs.Counting.{one_more_step, reads_of}
-use Rattle.multi_session.proofs.Found.{Found}
-use Rattle.multi_session.proofs.Keeping.{member_none, member_some, members_kept}
+use Rattle.multi_session.proofs.Following.{same_stage}
+use Rattle.multi_session.proofs.Found.{Found, IsColumn, all_columns, found, left_of, first_unread}
 
--- ---- one member
+-- ---- lists
 
-engine_after : (width place step : ℕ) (bits : List Bool) (m : Member) → (member_after width place bits step m).engine ≡ followed width place bits m.engine
-engine_after width place step bits m = by (awaited width place m.engine) refl
-  where
-    by : (o : Option ℕ) → awaited width place m.engine ≡ o → (member_after width place bits step m).engine ≡ followed width place bits m.engine
-    by None e = ap (λ (n : Member). n.engine) (member_none width place step bits m e) ∙ sym (ap (λ o. option_map_or (λ c. stepped m.engine c bits) o m.engine) e)
-    by (Some c) e = ap (λ (n : Member). n.engine) (member_some width place step c bits m e) ∙ sym (ap (λ o. option_map_or (λ d. stepped m.engine d bits) o m.engine) e)
+maps_alike : {X Y Z : Type 0} (f : X → Z) (g : Y → Z) (xs : List X) (ys : List Y) → length xs ≡ length ys →
+    ((k : ℕ) (d : X) (e : Y) → k < length xs → f (get_or xs k d) ≡ g (get_or ys k e)) → map f xs ≡ map g ys
+maps_alike f g [] [] long each = refl
+maps_alike f g [] (y ∷ ys) long each = absurd (omega arith)
+maps_alike f g (x ∷ xs) [] long each = absurd (omega arith)
+maps_alike f g (x ∷ xs) (y ∷ ys) long each = rw (each 0 x y (omega arith), maps_alike f g xs ys (omega arith) (λ k d e h. each (suc k) d e (omega arith))) refl
 
--- it went to those that awaited it
-moved_after : (width place steps : ℕ) (bits : List Bool) (m : Member) → m.moved ≤ steps →
-    ((member_after width place bits (steps + 1) m).moved == steps + 1) ≡ is_some (awaited width place m.engine)
-moved_after width place steps bits m past = by (awaited width place m.engine) refl
-  where
-    by : (o : Option ℕ) → awaited width place m.engine ≡ o → ((member_after width place bits (steps + 1) m).moved == steps + 1) ≡ is_some (awaited width place m.engine)
-    by None e =
-        ap (λ (n : Member). n.moved == steps + 1) (member_none width place (steps + 1) bits m e)
-        ∙ ne_eqb m.moved (steps + 1) (λ same. absurd (omega arith))
-        ∙ sym (ap is_some e)
-    by (Some c) e =
-        ap (λ (n : Member). n.moved == steps + 1) (member_some width place (steps + 1) c bits m e)
-        ∙ eq-eqb (steps + 1) (steps + 1) refl
-        ∙ sym (ap is_some e)
+-- ---- the column that is read
 
-past_after : (width place steps : ℕ) (bits : List Bool) (m : Member) → m.moved ≤ steps → (member_after width place bits (steps + 1) m).moved ≤ steps + 1
-past_after width place steps bits m past = by (awaited width place m.engine) refl
-  where
-    by : (o : Option ℕ) → awaited width place m.engine ≡ o → (member_after width place bits (steps + 1) m).moved ≤ steps + 1
-    by None e = let same = ap (λ (n : Member). n.moved) (member_none width place (steps + 1) bits m e) in omega (arith, same, past)
-    by (Some c) e = let same = ap (λ (n : Member). n.moved) (member_some width place (steps + 1) c bits m e) in omega (arith, same)
+pub place_inside : (places : List ℕ) (table : KnownTable) (column : ℕ) → AreColumns places table → column < length places → column < length table.frame.columns
+place_inside places table column are h = let all = are.count in omega (arith, h, all)
+
+-- some plane of it is unread
+pub plane_left : (width steps column : ℕ) (places : List ℕ) (table : KnownTable) (members : List Member) → IsSession width places table members steps →
+    IsUnread (session_outlook (session_of width places table members steps)) column → (known_at table.known column).read < planes (ends_at table.frame column)
+plane_left width steps column places table members is unread =
+    let f = found width (slice_index places column) (stages_of table members) unread.unread in
+    let left : unread_in width (slice_index places column) (stages_of table members) ≡ left_of (column_at table column) =
+    first_unread width steps column places table members is.columns unread.column is.each f in
+    let some = unread.unread in
+    omega (arith, left, some)
+
+-- one more plane of it is read
+pub columns_more : (places : List ℕ) (table : KnownTable) (column : ℕ) (bits : List Bool) → TakenIsKnowledge → AreColumns places table →
+    CanTake table.frame table.known column bits → AreColumns places (read_column table column bits)
+columns_more places table column bits law are legal = record {
+  count = are.count;
+  once = are.once;
+  known = record { few_rows = are.known.few_rows; knowledge = law table.frame table.known column bits are.known.knowledge legal };
+}
 
 -- ---- all members
 
-handed_all : (width place step : ℕ) (bits : List Bool) (old new : List Member) → HandedBelow width place bits step old new (length old) → new ≡ map (member_after width place bits step) old
-handed_all width place step bits old new handed =
-    let after = member_after width place bits step in
-    same_lists new (map after old) (handed.wide ∙ sym (length-map old after)) (λ k d h.
-    let inside : k < length old = subst (λ n. k < n) handed.wide h in
-    handed.took k d inside ∙ sym (get_or-map after old k d d inside))
+module _ (width steps column : ℕ) (places : List ℕ) (bits : List Bool) (before : KnownTable) (old new : List Member) (is : IsSession width places before old steps)
+    (legal : CanTake before.frame before.known column bits)
+    (handed : HandedBelow width (steps + 1) (slice_index places column) places bits (read_column before column bits) old new (length old)) where
+  stood : (k : ℕ) (e : Member) → k < length old → stage_in (read_column before column bits) (get_or old k e) ≡ stage_in before (get_or old k e)
+  stood k e h = same_stage width steps column places bits before (get_or old k e) is.columns legal (is.each k e h)
 
-stages_after : (width place step : ℕ) (bits : List Bool) (members : List Member) → stages_of (map (member_after width place bits step) members) ≡ map (followed width place bits) (stages_of members)
-stages_after width place step bits [] = refl
-stages_after width place step bits (m ∷ ms) = rw (engine_after width place step bits m, stages_after width place step bits ms) refl
+  -- the default of a list plays no part
+  was : (k : ℕ) (d e : Member) → k < length new →
+      WasHanded width (steps + 1) (slice_index places column) places bits (read_column before column bits) (get_or old k e) (get_or new k d)
+  was k d e h =
+      let below : k < length old = subst (λ n. k < n) handed.wide h in
+      subst (WasHanded width (steps + 1) (slice_index places column) places bits (read_column before column bits) (get_or old k e))
+      (get_or_any new k e d h) (handed.handed k e below)
+    where
+      get_or_any : {X : Type 0} (xs : List X) (k : ℕ) (a b : X) → k < length xs → get_or xs k a ≡ get_or xs k b
+      get_or_any [] k a b h = absurd (omega arith)
+      get_or_any (x ∷ xs) zero a b h = refl
+      get_or_any (x ∷ xs) (suc k) a b h = get_or_any xs k a b (omega arith)
 
-all_moved : (width place steps : ℕ) (bits : List Bool) (members : List Member) → All (λ (m : Member). m.moved ≤ steps) members →
-    map (λ (m : Member). m.moved == steps + 1) (map (member_after width place bits (steps + 1)) members) ≡ map (λ (stage : Stage). is_some (awaited width place stage)) (stages_of members)
-all_moved width place steps bits [] past = refl
-all_moved width place steps bits (m ∷ ms) past =
-    rw (moved_after width place steps bits m (past 0 m (omega arith)), all_moved width place steps bits ms (λ k d h. past (suc k) d (omega arith))) refl
+  stages_after : stages_of (read_column before column bits) new ≡ map (followed width (slice_index places column) bits) (stages_of before old)
+  stages_after =
+      maps_alike (stage_in (read_column before column bits)) (λ m. followed width (slice_index places column) bits (stage_in before m)) new old handed.wide
+      (λ k d e h. (was k d e h).stage ∙ ap (followed width (slice_index places column) bits) (stood k e (subst (λ n. k < n) handed.wide h)))
+      ∙ sym (map-map (followed width (slice_index places column) bits) (stage_in before) old)
 
--- what the session stands for after a step
-pub session_after : (width rows column steps : ℕ) (columns : List ℕ) (bits : List Bool) (old new : List Member) → All (λ (m : Member). m.moved ≤ steps) old →
-    HandedBelow width (get_or columns column 0) bits (steps + 1) old new (length old) →
-    session_of width rows columns new (steps + 1) ≡ session_stepped (session_of width rows columns old steps) column bits
-session_after width rows column steps columns bits old new past handed =
-    let place = get_or columns column 0 in
-    let is = handed_all width place (steps + 1) bits old new handed in
-    let stages : stages_of new ≡ map (followed width place bits) (stages_of old) = ap stages_of is ∙ stages_after width place (steps + 1) bits old in
-    let moved : map (λ (m : Member). m.moved == steps + 1) new ≡ map (λ (stage : Stage). is_some (awaited width place stage)) (stages_of old) =
-    ap (map (λ (m : Member). m.moved == steps + 1)) is ∙ all_moved width place steps bits old past in
-    ap (λ (ss : List Stage). record { width = width; rows = rows; columns = columns; stages = ss; moved = map (λ (m : Member). m.moved == steps + 1) new; steps = steps + 1 }) stages
-    ∙ ap (λ (ms : List Bool). record { width = width; rows = rows; columns = columns; stages = map (followed width place bits) (stages_of old); moved = ms; steps = steps + 1 }) moved
+  moved_after : map (λ (m : Member). m.moved == steps + 1) new ≡ map (λ (stage : Stage). is_some (awaited width (slice_index places column) stage)) (stages_of before old)
+  moved_after =
+      maps_alike (λ (m : Member). m.moved == steps + 1) (λ m. is_some (awaited width (slice_index places column) (stage_in before m))) new old handed.wide
+      (λ k d e h.
+      let below : k < length old = subst (λ n. k < n) handed.wide h in
+      ap (λ n. n == steps + 1) ((was k d e h).moved ∙ ap (λ s. if is_some (awaited width (slice_index places column) s) then steps + 1 else (get_or old k e).moved) (stood k e below))
+      ∙ tells (is_some (awaited width (slice_index places column) (stage_in before (get_or old k e)))) (get_or old k e).moved (is.each k e below).past)
+      ∙ sym (map-map (λ (stage : Stage). is_some (awaited width (slice_index places column) stage)) (stage_in before) old)
+    where
+      tells : (b : Bool) (moved : ℕ) → moved ≤ steps → ((if b then steps + 1 else moved) == steps + 1) ≡ b
+      tells true moved past = eq-eqb (steps + 1) (steps + 1) refl
+      tells false moved past = ne_eqb moved (steps + 1) (λ same. absurd (omega arith))
 
--- what a session keeps is kept
-pub session_kept : (width rows column steps : ℕ) (columns : List ℕ) (bits : List Bool) (old new : List Member) → IsSession width rows columns old steps →
-    HandedBelow width (get_or columns column 0) bits (steps + 1) old new (length old) → Found width (get_or columns column 0) old →
-    IsSession width rows columns new (steps + 1)
-session_kept width rows column steps columns bits old new is handed f =
-    let place = get_or columns column 0 in
-    record {
-      narrow = is.narrow;
-      few_columns = is.few_columns;
-      few_members = subst (λ n. n ≤ 16) (sym handed.wide) is.few_members;
-      alike = members_kept width place (steps + 1) rows bits old new is.alike handed;
-      past = past;
-      counted = counted;
-    }
-  where
-    past : (k : ℕ) (d : Member) → k < length new → (get_or new k d).moved ≤ steps + 1
-    past k d h =
-        let inside : k < length old = subst (λ n. k < n) handed.wide h in
-        subst (λ (m : Member). m.moved ≤ steps + 1) (sym (handed.took k d inside))
-        (past_after width (get_or columns column 0) steps bits (get_or old k d) (is.past k d inside))
+  -- what the session stands for after a step
+  pub session_after : session_of width places (read_column before column bits) new (steps + 1) ≡ session_stepped (session_of width places before old steps) column bits
+  session_after =
+      ap (λ ss. let s : Session = record { width = width; rows = before.frame.rows; columns = places; stages = ss; moved = map (λ (m : Member). m.moved == steps + 1) new; steps = steps + 1 } in s) stages_after
+      ∙ ap (λ ms. let s : Session = record { width = width; rows = before.frame.rows; columns = places; stages = map (followed width (slice_index places column) bits) (stages_of before old); moved = ms; steps = steps + 1 } in s) moved_after
 
-    counted : steps + 1 ≤ sum_by reads_of new
-    counted = one_more_step width (get_or columns column 0) (steps + 1) rows steps bits old new is.alike handed f.number f.member f.column f.inside (f.waits f.member) is.counted
+  all_open : (ms : List Member) → All (IsMember width steps places before) ms → All IsOpenStage (stages_of before ms)
+  all_open [] each k d h = absurd (omega arith)
+  all_open (m ∷ ms) each zero d h = (each 0 m (omega arith)).open_stage
+  all_open (m ∷ ms) each (suc k) d h = all_open ms (λ j e i. each (suc j) e (omega arith)) k d (omega arith)
 
--- ---- queries by their numbers
-
--- what holds of each member that awaits a plane holds of each query of the session that does
-pub of_query : (width place : ℕ) (P : Stage → ℕ → Type 0) (members : List Member) → AllAwaiting width place P members →
-    (k : ℕ) (stage : Stage) (own : ℕ) → slice_get (stages_of members) k ≡ Some stage → awaited width place stage ≡ Some own → P stage own
-of_query width place P members all k stage own there waits = by (slice_get members k) refl (sym (slice_get-map (λ (m : Member). m.engine) members k) ∙ there)
-  where
-    by : (o : Option Member) → slice_get members k ≡ o → option_map (λ (m : Member). m.engine) o ≡ Some stage → P stage own
-    by None e is = cc
-    by (Some m) e is =
-        let same : m.engine ≡ stage = same_Some m.engine stage is in
-        let here : get_or members k m ≡ m = get_or_from_slice_get members k m m e in
-        let inside = slice_get_within members k m e in
-        let engine : (get_or members k m).engine ≡ stage = ap (λ (n : Member). n.engine) here ∙ same in
-        subst (λ (s : Stage). P s own) engine (all k m inside own (ap (awaited width place) engine ∙ waits))
+  -- what a session keeps is kept
+  pub session_kept : TakenIsKnowledge → Found width (slice_index places column) (stages_of before old) → IsSession width places (read_column before column bits) new (steps + 1)
+  session_kept law f = record {
+    narrow = is.narrow;
+    columns = columns_more places before column bits law is.columns legal;
+    few_columns = is.few_columns;
+    few_members = subst (λ n. n ≤ 16) (sym handed.wide) is.few_members;
+    each = λ k d h. (was k d d h).kept;
+    counted =
+        let more = one_more_step width (slice_index places column) bits (stages_of before old) (all_open old is.each) f.number f.stage f.own f.there f.waits in
+        let after = ap (λ (ss : List Stage). sum_by reads_of ss) stages_after in
+        let counted = is.counted in
+        omega (arith, more, after, counted);
+  }
 
 -- ---- as the session is seen
 
--- the place of a column
-pub place_is : (s : Session) (width rows : ℕ) (columns : List ℕ) (members : List Member) (steps column place : ℕ) → session_of width rows columns members steps ≡ s →
-    column < length s.columns → place ≡ get_or columns column place → place ≡ get_or columns column 0
-place_is s width rows columns members steps column place view inside there =
-    get_or_read columns column place (subst (λ (t : Session). column < length t.columns) (sym view) inside) there 0
+-- what is known of the columns that its queries await
+pub of_awaits : (width steps column : ℕ) (places : List ℕ) (table : KnownTable) (members : List Member) → IsSession width places table members steps → column < length places →
+    (stage : Stage) (own : ℕ) → Awaits (session_of width places table members steps) column stage own → IsColumn table column stage own
+of_awaits width steps column places table members is inside stage own awaits =
+    all_columns width steps column places table members is.columns inside is.each awaits.query stage awaits.there own awaits.reads
 
--- what holds of each member that awaits the plane, of each query that does
-pub of_awaits : (s : Session) (width rows : ℕ) (columns : List ℕ) (members : List Member) (steps column place : ℕ) → session_of width rows columns members steps ≡ s →
-    place ≡ get_or columns column 0 → (P : Stage → ℕ → Type 0) → AllAwaiting width place P members → (stage : Stage) (own : ℕ) → Awaits s column stage own → P stage own
-of_awaits s width rows columns members steps column place view there P all stage own awaits =
-    let inside : Awaits (session_of width rows columns members steps) column stage own = subst (λ (t : Session). Awaits t column stage own) (sym view) awaits in
-    of_query width place P members all inside.query stage own inside.there (subst (λ p. awaited width p stage ≡ Some own) (sym there) inside.reads)
+-- ---- a member by its number
 
--- some plane of the column is unread, so a query awaits it
-pub unread_is : (s : Session) (width rows : ℕ) (columns : List ℕ) (members : List Member) (steps column place : ℕ) → session_of width rows columns members steps ≡ s →
-    place ≡ get_or columns column 0 → IsUnread (session_outlook s) column → 0 < unread_in width place (stages_of members)
-unread_is s width rows columns members steps column place view there unread =
-    subst (λ p. 0 < unread_in width p (stages_of members)) (sym there)
-    (subst (λ (t : Session). 0 < unread_in t.width (slice_index t.columns column) t.stages) (sym view) unread.unread)
+module _ (width steps : ℕ) (places : List ℕ) (table : KnownTable) (members : List Member) (is : IsSession width places table members steps)
+    (k : ℕ) (m : Member) (inside : k < length members) (there : m ≡ get_or members k m) where
+  pub member_is : IsMember width steps places table m
+  member_is = subst (IsMember width steps places table) (sym there) (is.each k m inside)
+
+  pub stands : slice_get (stages_of table members) k ≡ Some (stage_in table m)
+  stands = slice_get-map (stage_in table) members k ∙ ap (option_map (stage_in table)) (slice_get-get_or members k m inside ∙ ap Some (sym there))
+
+  moved_is : slice_get (map (λ (n : Member). n.moved == steps) members) k ≡ Some (m.moved == steps)
+  moved_is = slice_get-map (λ (n : Member). n.moved == steps) members k ∙ ap (option_map (λ (n : Member). n.moved == steps)) (slice_get-get_or members k m inside ∙ ap Some (sym there))
+
+  -- what is known of the columns is what it took of them
+  pub is_abreast_now : (s : Session) → session_of width places table members steps ≡ s →
+      (slice_get s.moved k ≡ Some true) ⊎ IfSome (slice_get s.stages k) (λ stage. IsFalse (is_narrow s.width stage)) → IsAbreast table m
+  is_abreast_now s view current =
+      by (subst (λ (t : Session). (slice_get t.moved k ≡ Some true) ⊎ IfSome (slice_get t.stages k) (λ stage. IsFalse (is_narrow t.width stage))) (sym view) current)
+    where
+      by : (slice_get (map (λ (n : Member). n.moved == steps) members) k ≡ Some true) ⊎ IfSome (slice_get (stages_of table members) k) (λ stage. IsFalse (is_narrow width stage)) → IsAbreast table m
+      by (inl e) = member_is.abreast (inr (eqb-true m.moved steps (same_Some (m.moved == steps) true (sym moved_is ∙ e))))
+      by (inr wide) = member_is.abreast (inl (member_is.finished ∙ subst (λ o. IfSome o (λ stage. IsFalse (is_narrow width stage))) stands wide))

@@ -2,6 +2,7 @@
 //! where it would stand alone.
 #![tactic(auto)]
 
+mod columns;
 mod limits;
 mod member;
 mod members;

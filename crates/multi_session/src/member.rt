@@ -1,65 +1,94 @@
 //! A query of a session.
 
-ghost use Rattle.std.specs.Prelude.{◌≡◌, ◌<◌, ◌^◌, ℕ, Some, IfOk, IfErr, OnOk, OnErr, length};
-ghost use Rattle.daq_table.specs.Tables.{frame_of};
-ghost use Rattle.query_model.specs.Knowledge.{CanTake};
+ghost use Rattle.std.specs.Prelude.{◌≡◌, ◌≤◌, ◌<◌, ◌^◌, IfOk, if◌then◌else◌, length, replicate, sum, slice_index};
+ghost use Rattle.std.specs.declared.option.Option.TheVariants.{None};
+ghost use Rattle.daq_table.specs.declared.table_head.Head.{Head};
 ghost use Rattle.query_model.specs.Validity.{IsValid};
-ghost use Rattle.round_engine.specs.Narrowness.{is_narrow};
-ghost use Rattle.round_engine.specs.Stages.{HasPlane, IsFirstOver, IsOpenStage, opened};
-ghost use Rattle.multi_session.specs.Sessions.{awaited, own_column};
-ghost use Rattle.multi_session.specs.Members.{AwaitingAre, IsMember, member_after, unread_at};
+ghost use Rattle.round_engine.specs.Stages.{IsOpenStage};
+ghost use Rattle.multi_session.specs.Sessions.{own_column};
+ghost use Rattle.multi_session.specs.Members.{AreColumns, AreUnread, IsAbreast, IsBehind, IsOpened, IsReady, WasHanded, judged, stage_in};
 
-use daq_table::Head;
-use known_column::OverTop;
+use crate::columns::Columns;
 use plane_kernels::Plane;
 use query_model::TypedQuery;
-use round_engine::Engine;
+use round_engine::{EngineView, Follower};
 use std::alloc::{AllocError, Global};
 
-// A query, whether a round of it was narrow, and the number of the last step that went to it: 0 before the first.
+// A query, the session's numbers of its columns and how many planes of each it took, whether a round of it was narrow, and the number of
+// the last step that went to it: 0 before the first.
 #[derive(Drop)]
 pub(crate) struct Member {
-    pub(crate) engine: Engine,
+    follower: Follower,
+    numbers: Vec<usize>,
+    counts: Vec<u8>,
     pub(crate) finished: bool,
     pub(crate) moved: u32,
 }
 
+// So many counts, each of them 0.
+fn no_counts(alloc: Global, count: usize) -> Result<Vec<u8>, AllocError>
+    ensures { IfOk result (λ counts. counts.items ≡ replicate count 0) }
+{
+    vec![in alloc; 0; count]
+}
+
 impl Member {
-    // The query over tables with that head, of which nothing is read. So many comparisons and listed numbers of its condition keep masks.
+    // The query over the columns of a session of which nothing is read. So many comparisons and listed numbers of its condition keep masks.
     pub(crate) fn open(
         alloc: Global,
         query: TypedQuery,
-        head: &Head,
+        columns: &Columns,
         width: u64,
         masks: usize,
     ) -> Result<Member, AllocError>
-        requires valid { IsValid head.now query }
         requires width { width < 2 ^ 63 }
-        ensures engine { IfOk result (λ member. member.engine ≡ opened query head.now) }
-        ensures moved { IfOk result (λ member. member.moved ≡ 0) }
-        ensures kept { IfOk result (IsMember width head.now.rows (unread_at (frame_of head.now))) }
+        requires known { AreColumns columns.now.places.items columns.now.known }
+        requires ready { IsReady columns.now.places.items columns.now.known query }
+        ensures { IfOk result (λ member. (head : Head) → IsValid head query → AreUnread head columns.now.places.items columns.now.known
+            → IsOpened query head width columns.now.places.items columns.now.known member) }
     {
-        match Engine::open_within(alloc, query, head, masks) {
-            Ok(engine) => {
-                // Their clauses say what is known of a stage, and that its columns have few planes.
-                let _query = engine.query();
-                let _progress = engine.progress();
-                let finished = engine.narrow(width);
-                Ok(Member {
-                    engine,
-                    finished,
-                    moved: 0,
-                })
-            }
-            Err(error) => Err(error),
-        }
+        let numbers = columns.numbers(alloc, query.columns.as_slice())?;
+        let counts = no_counts(alloc, numbers.len())?;
+        let follower = Follower::open(alloc, query, &columns.known.lend_some(&numbers), masks)?;
+        let mut member = Member {
+            follower,
+            numbers,
+            counts,
+            finished: false,
+            moved: 0,
+        };
+        // Its clauses say that its columns have few planes.
+        let _progress = member.view(columns).progress();
+        member.judge(columns, width);
+        Ok(member)
+    }
+
+    // The query as it stands, where it took all planes of its columns that were read.
+    pub(crate) fn view<'a>(&'a self, columns: &'a Columns) -> EngineView<'a>
+        requires { IsAbreast columns.now.known self.now }
+        ensures { result ≡ stage_in columns.now.known self.now }
+    {
+        self.follower.view(columns.known.lend_some(&self.numbers))
+    }
+
+    // Finds whether the query is finished.
+    fn judge(&mut self, columns: &Columns, width: u64)
+        requires width { width < 2 ^ 63 }
+        requires abreast { IsAbreast columns.now.known self.old }
+        ensures judged { self.new ≡ judged width columns.now.known self.old }
+        ensures open_stage { IsOpenStage (stage_in columns.now.known self.old) }
+    {
+        let view = self.view(columns);
+        // Its clauses say that the stage is open.
+        let _query = view.query();
+        self.finished = view.narrow(width);
     }
 
     // The query's number of a column of the table, if it reads it.
     pub(crate) fn own(&self, place: usize) -> Option<usize>
-        ensures { result ≡ own_column self.now.engine.query place }
+        ensures { result ≡ own_column self.now.follower.query place }
     {
-        self.engine
+        self.follower
             .query()
             .columns
             .as_slice()
@@ -68,41 +97,46 @@ impl Member {
     }
 
     // The same where the query is not finished.
-    pub(crate) fn awaited(&self, width: u64, place: usize) -> Option<usize>
-        requires { self.now.finished ≡ is_narrow width self.now.engine }
-        ensures { result ≡ awaited width place self.now.engine }
+    pub(crate) fn awaited(&self, place: usize) -> Option<usize>
+        ensures { result ≡ (if self.now.finished then None else own_column self.now.follower.query place) }
     {
         if self.finished { None } else { self.own(place) }
     }
 
-    // Takes the next plane of a column of the table, if the query awaits it.
+    // The number of the query's own reads.
+    pub(crate) fn reads(&self) -> u32
+        requires { length self.now.counts.items ≤ 16 }
+        ensures { result ≡ sum self.now.counts.items }
+    {
+        let mut reads = 0;
+        for count in &self.counts {
+            reads += u32::from(*count);
+        }
+        reads
+    }
+
+    // Takes the plane that a column of the session just took, if the query awaits it.
     pub(crate) fn follow(
         &mut self,
-        width: u64,
-        place: usize,
+        columns: &Columns,
+        column: usize,
         plane: &Plane,
         step: u32,
-    ) -> Result<(), OverTop>
+        width: u64,
+    )
         requires width { width < 2 ^ 63 }
-        requires finished { self.old.finished ≡ is_narrow width self.old.engine }
-        requires open_stage { IsOpenStage self.old.engine }
-        requires plane { AwaitingAre width place HasPlane self.old }
-        requires rows { length plane.now ≡ self.old.engine.frame.rows }
-        ensures taken { OnOk result (self.new ≡ member_after width place plane.now step self.old) }
-        ensures open_stage { OnOk result (IsOpenStage self.new.engine) }
-        ensures legal { OnOk result (AwaitingAre width place (λ stage c. CanTake stage.frame stage.known c plane.now) self.old) }
-        ensures unchanged { OnErr result (self.new ≡ self.old) }
-        ensures over { IfErr result (λ e. (c : ℕ) × (awaited width place self.old.engine ≡ Some c)
-            × IsFirstOver self.old.engine c plane.now e.row) }
+        requires column { column < length columns.now.places.items }
+        requires behind { IsBehind width step column columns.now.places.items plane.now columns.now.known self.old }
+        ensures { WasHanded width step (slice_index columns.now.places.items column) columns.now.places.items plane.now
+            columns.now.known self.old self.new }
     {
-        let Some(column) = self.awaited(width, place) else {
-            return Ok(());
+        let Some(own) = self.awaited(columns.places[column]) else {
+            return;
         };
-        self.engine.step(column, plane)?;
-        // Its clauses say that the stage is open.
-        let _query = self.engine.query();
-        self.finished = self.engine.narrow(width);
+        self.follower
+            .refresh(&columns.known.lend_some(&self.numbers), own, plane);
+        self.counts[own] += 1;
         self.moved = step;
-        Ok(())
+        self.judge(columns, width);
     }
 }

@@ -1,14 +1,13 @@
 //! The queries of a session, one after another.
 
-ghost use Rattle.std.specs.Prelude.{◌≡◌, ◌<◌, ◌^◌, IfOk, IfErr, OnOk, OnErr, length};
+ghost use Rattle.std.specs.Prelude.{◌≡◌, ◌<◌, ◌^◌, IfOk, length, slice_index};
 ghost use Rattle.std.specs.List.{All};
+ghost use Rattle.daq_table.specs.declared.table_head.Head.{Head};
 ghost use Rattle.query_model.specs.Validity.{IsValid};
-ghost use Rattle.round_engine.specs.Stages.{HasPlane, IsFirstOver};
-ghost use Rattle.multi_session.specs.Members.{AllAwaiting, AreMembers, AreOpened, HandedBelow};
+ghost use Rattle.multi_session.specs.Members.{AreColumns, AreOpened, AreUnread, HandedBelow, IsBehind, IsReady};
 
+use crate::columns::Columns;
 use crate::member::Member;
-use daq_table::Head;
-use known_column::OverTop;
 use plane_kernels::Plane;
 use query_model::TypedQuery;
 use std::alloc::{AllocError, Global};
@@ -16,43 +15,44 @@ use std::alloc::{AllocError, Global};
 // The comparisons and listed numbers that keep masks, of all queries together.
 const MASKS: usize = 64;
 
-// The queries over tables with that head, of which nothing is read.
+// The queries over the columns of a session of which nothing is read.
 pub(crate) fn open_each(
     alloc: Global,
     queries: Vec<TypedQuery>,
-    head: &Head,
+    columns: &Columns,
     width: u64,
 ) -> Result<Vec<Member>, AllocError>
-    requires valid { All (IsValid head.now) queries.items }
     requires width { width < 2 ^ 63 }
-    ensures { IfOk result (λ members. AreOpened queries.items head.now width members.items) }
+    requires known { AreColumns columns.now.places.items columns.now.known }
+    requires ready { All (IsReady columns.now.places.items columns.now.known) queries.items }
+    ensures { IfOk result (λ members. (head : Head) → All (IsValid head) queries.items
+        → AreUnread head columns.now.places.items columns.now.known
+        → AreOpened queries.items head width columns.now.places.items columns.now.known members.items) }
 {
     let masks = MASKS / queries.len().max(1);
     let mut members = Vec::with_capacity(alloc, queries.len())?;
     for query in queries {
-        members.push(Member::open(alloc, query, head, width, masks)?)?;
+        members.push(Member::open(alloc, query, columns, width, masks)?)?;
     }
     Ok(members)
 }
 
-// Hands the next plane of a column of the table to each query that awaits it. These know the same of the column, so the first of them
-// decides for all whether it is refused.
+// Hands the plane that a column of the session just took to each query that awaits it.
 pub(crate) fn hand(
     members: &mut [Member],
-    width: u64,
-    place: usize,
+    columns: &Columns,
+    column: usize,
     plane: &Plane,
     step: u32,
-) -> Result<(), OverTop>
+    width: u64,
+)
     requires width { width < 2 ^ 63 }
-    requires kept { AreMembers width (length plane.now) members.old }
-    requires planes { AllAwaiting width place HasPlane members.old }
-    ensures handed { OnOk result (HandedBelow width place plane.now step members.old members.new (length members.old)) }
-    ensures unchanged { OnErr result (members.new ≡ members.old) }
-    ensures over { IfErr result (λ e. AllAwaiting width place (λ stage c. IsFirstOver stage c plane.now e.row) members.old) }
+    requires column { column < length columns.now.places.items }
+    requires behind { All (IsBehind width step column columns.now.places.items plane.now columns.now.known) members.old }
+    ensures { HandedBelow width step (slice_index columns.now.places.items column) columns.now.places.items plane.now columns.now.known
+        members.old members.new (length members.old) }
 {
     for number in 0..members.len() {
-        members[number].follow(width, place, plane, step)?;
+        members[number].follow(columns, column, plane, step, width);
     }
-    Ok(())
 }

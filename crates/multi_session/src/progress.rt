@@ -7,6 +7,7 @@ ghost use Rattle.round_engine.specs.Stages.{Stage};
 ghost use Rattle.multi_session.specs.Members.{AreSomeMembers, stages_of};
 ghost use Rattle.multi_session.specs.Sessions.{Awaits, IsSessionProgress, TellsColumns, first_role, role_in, session_outlook, unknown_in, unread_in, unread_of};
 
+use crate::columns::Columns;
 use crate::member::Member;
 use crate::session::Session;
 use plane_schedule::{Progress, Role};
@@ -22,60 +23,62 @@ fn first_role(a: Role, b: Role) -> Role
     }
 }
 
-// The unread planes of a column of the table.
-fn unread_in(members: &[Member], width: u64, place: usize) -> u8
-    requires { AreSomeMembers width members.now }
-    ensures unread { result ≡ unread_in width place (stages_of members.now) }
+// The unread planes of a column of the session, where some query awaits them.
+fn unread_in(members: &[Member], columns: &Columns, column: usize, width: u64) -> u8
+    requires kept { AreSomeMembers width columns.now.places.items columns.now.known members.now }
+    requires column { column < length columns.now.places.items }
+    ensures unread { result ≡ unread_in width (slice_index columns.now.places.items column) (stages_of columns.now.known members.now) }
     ensures few { result ≤ 65 }
 {
     for member in members {
-        if let Some(own) = member.awaited(width, place) {
-            return member.engine.progress().unread[own];
+        if member.awaited(columns.places[column]).is_some() {
+            return columns.known.unread(column);
         }
     }
     0
 }
 
 // What a column of the table is read for.
-fn role_in(members: &[Member], width: u64, place: usize) -> Role
-    requires { AreSomeMembers width members.now }
-    ensures { result ≡ role_in width place (stages_of members.now) }
+fn role_in(members: &[Member], columns: &Columns, place: usize, width: u64) -> Role
+    requires { AreSomeMembers width columns.now.places.items columns.now.known members.now }
+    ensures { result ≡ role_in width place (stages_of columns.now.known members.now) }
 {
     let mut role = Role::Value;
     for member in members {
-        if let Some(own) = member.awaited(width, place) {
-            role = first_role(role, member.engine.progress().role[own]);
+        if let Some(own) = member.awaited(place) {
+            role = first_role(role, member.view(columns).progress().role[own]);
         }
     }
     role
 }
 
 // At how many rows the condition of a query is unknown, of those that are not finished.
-fn unknown_in(members: &[Member], width: u64) -> u64
-    requires kept { AreSomeMembers width members.now }
+fn unknown_in(members: &[Member], columns: &Columns, width: u64) -> u64
+    requires kept { AreSomeMembers width columns.now.places.items columns.now.known members.now }
     requires few { length members.now ≤ 16 }
-    ensures { result ≡ unknown_in width (stages_of members.now) }
+    ensures { result ≡ unknown_in width (stages_of columns.now.known members.now) }
 {
     let mut unknown = 0;
     for member in members {
         if !member.finished {
-            unknown += member.engine.progress().unknown;
+            unknown += member.view(columns).progress().unknown;
         }
     }
     unknown
 }
 
-// The unread planes and the role of each column of the table at these places.
-fn told_of(members: &[Member], width: u64, places: &[usize]) -> ([u8; 16], [Role; 16])
-    requires kept { AreSomeMembers width members.now }
-    requires few { length places.now ≤ 16 }
-    ensures { TellsColumns width places.now (stages_of members.now) (length places.now) result.0 result.1 }
+// The unread planes and the role of each column of the session.
+fn told_of(members: &[Member], columns: &Columns, width: u64) -> ([u8; 16], [Role; 16])
+    requires kept { AreSomeMembers width columns.now.places.items columns.now.known members.now }
+    requires few { length columns.now.places.items ≤ 16 }
+    ensures { TellsColumns width columns.now.places.items (stages_of columns.now.known members.now)
+        (length columns.now.places.items) result.0 result.1 }
 {
     let mut unread = [0u8; 16];
     let mut role = [Role::Value; 16];
-    for (column, place) in places.iter().enumerate() {
-        unread[column] = unread_in(members, width, *place);
-        role[column] = role_in(members, width, *place);
+    for (column, place) in columns.places.iter().enumerate() {
+        unread[column] = unread_in(members, columns, column, width);
+        role[column] = role_in(members, columns, *place, width);
     }
     (unread, role)
 }
@@ -90,12 +93,12 @@ impl Session {
             → slice_index result.unread column ≡ unread_of stage own }
         ensures known { (query : ℕ) (stage : Stage) → slice_get self.now.stages query ≡ Some stage → IsKnowledge stage.frame stage.known }
     {
-        let (unread, role) = told_of(&self.members, self.width, &self.columns);
+        let (unread, role) = told_of(&self.members, &self.columns, self.width);
         Progress {
-            columns: self.columns.len() as u8,
+            columns: self.columns.places.len() as u8,
             unread,
             role,
-            unknown: unknown_in(&self.members, self.width),
+            unknown: unknown_in(&self.members, &self.columns, self.width),
             done: self.steps,
         }
     }

@@ -1,6 +1,6 @@
 //! Several queries over one list of plane reads.
 
-ghost use Rattle.std.specs.Prelude.{◌≡◌, ◌≢◌, ◌+◌, ◌<◌, ◌^◌, ℕ, [], ◌∷◌, ◌++◌, List, length, slice_get, slice_index, Some, IfOk, IfErr, IfSome, OnOk, OnErr};
+ghost use Rattle.std.specs.Prelude.{◌≡◌, ◌≢◌, ◌+◌, ◌<◌, ◌^◌, ◌⊎◌, ℕ, [], ◌∷◌, ◌++◌, true, IsFalse, List, length, slice_get, slice_index, Some, IfOk, IfErr, IfSome, OnOk, OnErr};
 ghost use Rattle.std.specs.declared.option.Option.TheVariants.{None};
 ghost use Rattle.std.specs.List.{AllByRecursion};
 ghost use Rattle.daq_table.specs.declared.table_head.Head.{Head};
@@ -15,25 +15,25 @@ ghost use Rattle.multi_session.specs.Alone.{StandsFor, alone};
 ghost use Rattle.multi_session.specs.Limits.{RefusesSession, limit_passed};
 ghost use Rattle.multi_session.specs.Sessions.{Awaits, own_column, session_opened, session_outlook, session_stepped};
 
+use crate::columns::Columns;
 use crate::limits::{SessionFault, columns_within};
 use crate::member::Member;
 use crate::members::{hand, open_each};
 use daq_table::Head;
 use known_column::OverTop;
 use plane_kernels::Plane;
-use query_model::TypedQuery;
-use round_engine::Engine;
+use query_model::{TypedQuery, taken_is_knowledge};
+use round_engine::EngineView;
 use std::alloc::Global;
 use std::marker::Model;
 
 /// Queries over the planes of one table. Each step reads one plane, for all queries that await it: those that are not finished and read its
 /// column. A query is finished from its first narrow round on. A session stands for the list of its steps, which it does not keep.
-/// Its columns are numbered in the order in which the queries name them first.
+/// Its columns are numbered in the order in which the queries name them first; what is known of them is kept once, for all queries.
 #[derive(Drop)]
 pub struct Session {
     pub(crate) width: u64,
-    rows: usize,
-    pub(crate) columns: Vec<usize>,
+    pub(crate) columns: Columns,
     pub(crate) members: Vec<Member>,
     pub(crate) steps: u32,
 }
@@ -48,9 +48,9 @@ impl Model for Session {
 
     ghost coded = { Prim.hlevel (codes, query_code) };
 
-    ghost view = { λ s. session_of s.width s.rows s.columns.items s.members.items s.steps };
+    ghost view = { λ s. session_of s.width s.columns.places.items s.columns.known s.members.items s.steps };
 
-    ghost invariant = { λ s. IsSession s.width s.rows s.columns.items s.members.items s.steps };
+    ghost invariant = { λ s. IsSession s.width s.columns.places.items s.columns.known s.members.items s.steps };
 }
 
 impl Session {
@@ -70,11 +70,11 @@ impl Session {
         ensures within { OnOk result (limit_passed head.now.rows queries.items ≡ None) }
         ensures refused { IfErr result (RefusesSession head.now.rows queries.items) }
     {
-        let columns = columns_within(alloc, head.rows, &queries)?;
-        let members = open_each(alloc, queries, head, width)?;
+        let places = columns_within(alloc, head.rows, &queries)?;
+        let columns = Columns::open(alloc, places, head)?;
+        let members = open_each(alloc, queries, &columns, width)?;
         Ok(Session {
             width,
-            rows: head.rows as usize,
             columns,
             members,
             steps: 0,
@@ -95,14 +95,17 @@ impl Session {
         ensures over { IfErr result (λ e. (stage : Stage) (own : ℕ) → Awaits self.old column stage own
             → IsFirstOver stage own plane.now e.row) }
     {
+        taken_is_knowledge();
         let step = self.steps + 1;
+        self.columns.known.take(column, plane)?;
         hand(
             &mut self.members,
-            self.width,
-            self.columns[column],
+            &self.columns,
+            column,
             plane,
             step,
-        )?;
+            self.width,
+        );
         self.steps = step;
         Ok(())
     }
@@ -119,7 +122,7 @@ impl Session {
         requires { column < length self.now.columns }
         ensures { result ≡ slice_index self.now.columns column }
     {
-        self.columns[column]
+        self.columns.places[column]
     }
 
     /// Whether a round of a query was narrow.
@@ -143,7 +146,7 @@ impl Session {
         requires { query < length self.now.stages }
         ensures { IfSome (slice_get self.now.stages query) (λ stage. result ≡ planes_read stage.known) }
     {
-        self.members[query].engine.progress().done
+        self.members[query].reads()
     }
 
     /// A query's number of a column of the session, if it reads it.
@@ -153,17 +156,19 @@ impl Session {
         ensures { IfSome (slice_get self.now.stages query) (λ stage.
             result ≡ own_column stage.query (slice_index self.now.columns column)) }
     {
-        self.members[query].own(self.columns[column])
+        self.members[query].own(self.columns.places[column])
     }
 
-    /// A query. Whatever other queries there are, it stands where it would alone, after the planes of its own reads: those of its columns
-    /// up to its first narrow round.
-    pub fn engine(&self, query: usize) -> &Engine
-        requires { query < length self.now.stages }
-        ensures stage { slice_get self.now.stages query ≡ Some result.now }
+    /// A query that is not finished, or to which the last step went. Whatever other queries there are, it stands where it would alone,
+    /// after the planes of its own reads: those of its columns up to its first narrow round.
+    pub fn view(&self, query: usize) -> EngineView<'_>
+        requires query { query < length self.now.stages }
+        requires current { (slice_get self.now.moved query ≡ Some true)
+            ⊎ IfSome (slice_get self.now.stages query) (λ stage. IsFalse (is_narrow self.now.width stage)) }
+        ensures stage { slice_get self.now.stages query ≡ Some result }
         ensures alone { (queries : List Query) (head : Head) (steps : List Step) → StandsFor queries head steps self.now
-            → IfSome (slice_get queries query) (λ q. result.now ≡ alone self.now.width head steps q) }
+            → IfSome (slice_get queries query) (λ q. result ≡ alone self.now.width head steps q) }
     {
-        &self.members[query].engine
+        self.members[query].view(&self.columns)
     }
 }

@@ -5,6 +5,7 @@ use Rattle.std.proofs.lemmas.Option.{slice_get-get_or, slice_get-map}
 use Rattle.daq_table.specs.declared.table_head.Head.{Head}
 use Rattle.daq_table.specs.Tables.{Frame, frame_of}
 use Rattle.multi_session.proofs.Awaiting.{awaited_own, own_there}
+use Rattle.multi_session.proofs.Named.{get_before, get_last}
 use Rattle.multi_session.specs.Sessions.{awaited}
 use Rattle.plane_schedule.specs.Choices.{IsUnread}
 use Rattle.plane_schedule.specs.Plans.{first_ending}
@@ -16,7 +17,7 @@ use Rattle.query_model.specs.Queries.{Query}
 use Rattle.round_engine.specs.Narrowness.{is_narrow}
 use Rattle.round_engine.specs.Progresses.{planes_read}
 use Rattle.round_engine.specs.Stages.{Stage}
-use Rattle.session_rounds.proofs.Lists.{all_there, get_before, get_last}
+use Rattle.session_rounds.proofs.Lists.{all_there}
 use Rattle.session_rounds.proofs.Own.{after, own_none, own_some, read_times, times, times_same}
 use Rattle.session_rounds.specs.Laws.{AreAlone, QueriesStandAlone, SessionsAreCertain}
 use Rattle.session_rounds.specs.Steps.{AreSteps, own_read, own_reads, places_read, plan_alone, stage_in}

@@ -8,6 +8,7 @@ use Rattle.daq_table.specs.declared.table_head.Head.{Head}
 use Rattle.daq_table.specs.Tables.{ends_at, ends_of, frame_of, planes}
 use Rattle.known_column.specs.Columns.{KnownColumn}
 use Rattle.multi_session.proofs.Awaiting.{awaited_own, over_alike, own_there}
+use Rattle.multi_session.proofs.Named.{get_before, get_last}
 use Rattle.multi_session.specs.Members.{column_of}
 use Rattle.multi_session.specs.Sessions.{Awaits, Session, columns_named, session_outlook}
 use Rattle.plane_schedule.specs.Choices.{HasUnread, IsUnread}
@@ -21,7 +22,7 @@ use Rattle.query_model.specs.Validity.{IsValid}
 use Rattle.round_engine.specs.Narrowness.{is_narrow}
 use Rattle.round_engine.specs.Stages.{IsFirstOver, Stage}
 use Rattle.session_rounds.proofs.Begun.{sessions_begin}
-use Rattle.session_rounds.proofs.Lists.{all_there, get_before, get_last}
+use Rattle.session_rounds.proofs.Lists.{all_there}
 use Rattle.session_rounds.proofs.Outlooks.{AreAlike, awaits_some, choice_of}
 use Rattle.session_rounds.proofs.Short.{sessions_are_short}
 use Rattle.session_rounds.proofs.Standing.{Found, are_columns, first_awaits, found, found_with, from_map, next_unread, one_step_more}

@@ -1,8 +1,8 @@
 pub mod Judging
 pub mod Lists
-pub mod Named
 pub mod Own
 pub mod Standing
+pub mod Agreeing
 pub mod Begun
 pub mod Alone
 pub mod Outlooks

@@ -41,24 +41,3 @@ count_of_images f c (x ∷ xs) tells =
         by : (x ≡ c) ⊎ (x ≢ c) → (f x == f c) ≡ (x == c)
         by (inl e) = eq-eqb (f x) (f c) (ap f e) ∙ sym (eq-eqb x c e)
         by (inr n) = ne_eqb (f x) (f c) (λ e. n (tells 0 (omega arith) e)) ∙ sym (ne_eqb x c n)
-
--- ---- numbers that stand once
-
--- two places of one number are one
-abbrev pub StandOnce : List ℕ → Type 0
-StandOnce xs = (i j : ℕ) → i < length xs → j < length xs → get_or xs i 0 ≡ get_or xs j 0 → i ≡ j
-
--- the number stands in the list
-abbrev pub Stands : List ℕ → ℕ → Type 0
-Stands xs x = (i : ℕ) × (i < length xs) × (get_or xs i 0 ≡ x)
-
-pub get_last : (xs : List ℕ) (c n : ℕ) → n ≡ length xs → get_or (xs ++ c ∷ []) n 0 ≡ c
-get_last [] c zero h = refl
-get_last [] c (suc n) h = absurd (omega arith)
-get_last (x ∷ xs) c zero h = absurd (omega arith)
-get_last (x ∷ xs) c (suc n) h = get_last xs c n (omega arith)
-
-pub get_before : {X : Type 0} (xs ys : List X) (n : ℕ) (d : X) → n < length xs → get_or (xs ++ ys) n d ≡ get_or xs n d
-get_before [] ys n d h = absurd (omega arith)
-get_before (x ∷ xs) ys zero d h = refl
-get_before (x ∷ xs) ys (suc n) d h = get_before xs ys n d (omega arith)

@@ -6,6 +6,7 @@ use Rattle.std.proofs.lemmas.Option.{slice_get-map}
 use Rattle.daq_table.specs.declared.table_head.Head.{Head}
 use Rattle.daq_table.specs.Tables.{ends_at, frame_of}
 use Rattle.multi_session.proofs.Awaiting.{awaited_own, own_there}
+use Rattle.multi_session.proofs.Named.{get_before, get_last}
 use Rattle.multi_session.specs.Sessions.{Awaits, Session, followed, session_outlook, session_stepped}
 use Rattle.plane_schedule.specs.Choices.{Chooses}
 use Rattle.plane_schedule.specs.Laws.{ChoicesAreOne}
@@ -13,7 +14,7 @@ use Rattle.plane_schedule.specs.declared.policy.Plan.{Plan}
 use Rattle.query_model.specs.Knowledge.{ColumnKnowledge, IsKnowledge, IsLegal, known_at, longer_column, taken}
 use Rattle.query_model.specs.Queries.{Query}
 use Rattle.round_engine.specs.Stages.{IsFirstOver, Stage}
-use Rattle.session_rounds.proofs.Lists.{all_there, get_before, get_last}
+use Rattle.session_rounds.proofs.Lists.{all_there}
 use Rattle.session_rounds.proofs.Standing.{Found, are_columns, first_awaits, found, from_map, next_unread, same_session, session_more}
 use Rattle.session_rounds.proofs.Taking.{followed_some}
 use Rattle.session_rounds.specs.Laws.{SessionsAreOne}

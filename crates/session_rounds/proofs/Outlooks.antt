@@ -4,6 +4,7 @@ use Rattle.std.proofs.lemmas.Option.{slice_get-map}
 use Rattle.std.specs.List.{position}
 use Rattle.multi_session.proofs.Awaiting.{no_own, own_there}
 use Rattle.multi_session.proofs.Keeping.{stands_once}
+use Rattle.multi_session.proofs.Named.{columns_stand}
 use Rattle.multi_session.specs.Sessions.{Awaits, IsSessionProgress, Session, awaited, columns_named, own_column, session_outlook, unread_in, unread_of}
 use Rattle.plane_schedule.proofs.Same.{AreSame, same_choice, turned, unread_there}
 use Rattle.plane_schedule.specs.Choices.{Chooses, HasChoice, HasUnread, IsUnread, outlook_of}
@@ -17,7 +18,6 @@ use Rattle.query_model.specs.Knowledge.{IsKnowledge}
 use Rattle.query_model.specs.Validity.{no_repeats}
 use Rattle.round_engine.specs.Narrowness.{is_narrow}
 use Rattle.round_engine.specs.Stages.{Stage}
-use Rattle.session_rounds.proofs.Named.{columns_stand}
 use Rattle.session_rounds.specs.Steps.{IsUnlisted}
 use Rattle.table_rounds.specs.Headline.{RoundsHavePlanes}
 

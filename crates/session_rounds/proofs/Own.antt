@@ -26,7 +26,7 @@ times c reads = count_by (λ d. d == c) reads
 pub times_same : (reads : List ℕ) (d c : ℕ) → d ≡ c → times c (reads ++ d ∷ []) ≡ times c reads + 1
 times_same reads d c e = sum_by_push (λ k. cond (k == c) 1 0) reads d ∙ ap (λ b. times c reads + cond b 1 0) (eq-eqb d c e)
 
-times_other : (reads : List ℕ) (d c : ℕ) → d ≢ c → times c (reads ++ d ∷ []) ≡ times c reads
+pub times_other : (reads : List ℕ) (d c : ℕ) → d ≢ c → times c (reads ++ d ∷ []) ≡ times c reads
 times_other reads d c n =
     let push = sum_by_push (λ k. cond (k == c) 1 0) reads d in
     let none : cond (d == c) 1 0 ≡ 0 = ap {B = ℕ} (λ b. cond b 1 0) (ne_eqb d c n) in

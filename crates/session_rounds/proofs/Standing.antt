@@ -7,6 +7,7 @@ use Rattle.std.specs.Option.{is_some, option_map_or}
 use Rattle.daq_table.specs.declared.table_head.Head.{Head}
 use Rattle.daq_table.specs.Tables.{Frame, frame_of}
 use Rattle.multi_session.proofs.Awaiting.{awaited_own}
+use Rattle.multi_session.proofs.Named.{columns_once, get_before, get_last}
 use Rattle.multi_session.specs.Sessions.{Awaits, Session, awaited, columns_named, followed, session_outlook, session_stepped, unread_in, unread_of}
 use Rattle.plane_schedule.proofs.Same.{choice_is_unread}
 use Rattle.plane_schedule.specs.Choices.{Chooses, IsUnread}
@@ -14,8 +15,7 @@ use Rattle.plane_schedule.specs.declared.policy.Plan.{Plan}
 use Rattle.query_model.specs.Knowledge.{known_at}
 use Rattle.query_model.specs.Queries.{Query}
 use Rattle.round_engine.specs.Stages.{Stage, stepped}
-use Rattle.session_rounds.proofs.Lists.{count_of_images, get_before, get_last, same_maps}
-use Rattle.session_rounds.proofs.Named.{columns_once}
+use Rattle.session_rounds.proofs.Lists.{count_of_images, same_maps}
 use Rattle.session_rounds.proofs.Own.{counted, read_awaited, same_own, stage_none, stage_some, times}
 use Rattle.session_rounds.specs.Reading.{next_number, read_in}
 use Rattle.session_rounds.specs.Steps.{AreFollowed, AreSteps, IsLegalSession, ending_in, is_moved, number_after, own_reads, place_of, places_read, session_after, stage_in}
@@ -152,7 +152,7 @@ module _ (width : ℕ) (queries : List Query) (head : Head) (bits : Planes) wher
   get_of_take (x ∷ xs) (suc n) (suc k) h = let (inside, same) = get_of_take xs n k (omega (arith, h)) in (omega (arith, inside), same)
 
   -- a column's planes are those of its place
-  times_of_place : (reads : List ℕ) (n column : ℕ) → AreColumns queries reads → column < length (columns_named queries) →
+  pub times_of_place : (reads : List ℕ) (n column : ℕ) → AreColumns queries reads → column < length (columns_named queries) →
       times (place_of queries column) (take n (places_read queries reads)) ≡ number_after reads n column
   times_of_place reads n column are inside =
       ap (times (place_of queries column)) (take-map (place_of queries) n reads)

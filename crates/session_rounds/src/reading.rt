@@ -12,7 +12,7 @@ ghost use Rattle.round_engine.specs.Narrowness.{is_narrow};
 ghost use Rattle.round_engine.specs.Stages.{Stage};
 ghost use Rattle.multi_session.specs.Sessions.{Awaits, session_outlook, session_stepped};
 ghost use Rattle.session_rounds.specs.Reading.{FitsSession, IsNextStep, IsOverTop, OfNext, StopsNext, next_number, next_places};
-ghost use Rattle.session_rounds.specs.Steps.{IsUnlisted, IsWide, ending_in, planes_left};
+ghost use Rattle.session_rounds.specs.Steps.{IsLegalSession, IsUnlisted, IsWide, ending_in, planes_left};
 ghost use Rattle.table_rounds.specs.Sources.{IsPlane, OnFailed, OnOverTop, OnRefused, StepHandsOver};
 
 use daq_table::{Head, planes};
@@ -128,6 +128,7 @@ pub fn read_next<S: PlaneSource, F: Fn(&Progress) -> usize>(
         → HasChoice policy (session_outlook session.old) → Chooses policy (session_outlook session.old) column) }
     ensures taken { IfOk result (λ column. session.new ≡ session_stepped session.old column plane.new) }
     ensures fewer { OnOk result (planes_left session.new < planes_left session.old) }
+    ensures legal { OnOk result (IsLegalSession session.new) }
     ensures next { IfOk result (λ column. (plan : Plan) → Follows F.Fn chooser.now.choose plan.policy → IsUnlisted plan.policy
         → IsNone (ending_in plan session.old)
         → IsNextStep plan (S.told source.old) (S.places source.old) (S.shows source.old) session.old session.new

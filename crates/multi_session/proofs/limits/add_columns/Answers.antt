@@ -3,7 +3,7 @@ use Rattle.std.proofs.lemmas.List.Sums.{fold_more}
 use Rattle.std.specs.List.{list_any}
 use Rattle.kleene_filter.specs.Filters.{stands_in}
 use Rattle.multi_session.specs.Sessions.{with_column}
-use Rattle.multi_session.proofs.Columns.{with_new, with_old}
+use Rattle.multi_session.proofs.Within.{with_new, with_old}
 use Rattle.multi_session.proofs.limits.add_columns.Goals as goal
 use Rattle.multi_session.proofs.limits.add_columns.Goals.{then-not-contains+in_ok-push, else-not-contains}
 

@@ -3,10 +3,14 @@ use Rattle.std.proofs.Common.{subst, sym}
 use Rattle.multi_session.specs.Sessions.{session_outlook}
 use Rattle.plane_schedule.specs.Choices.{Chooses, HasChoice}
 use Rattle.session_rounds.specs.Reading.{FitsSession, next_places}
+use Rattle.session_rounds.specs.Steps.{IsLegalSession}
+use Rattle.query_model.specs.Knowledge.{IsKnowledge}
+use Rattle.round_engine.specs.Stages.{Stage}
 use Rattle.session_rounds.proofs.Fitting.{fits_stepped}
 use Rattle.session_rounds.proofs.Going.{next_step, stops_next}
+use Rattle.session_rounds.proofs.Lists.{all_of}
 use Rattle.session_rounds.proofs.Outlooks.{choice_back, choice_of, choice_there, unread_back}
-use Rattle.session_rounds.proofs.Taking.{fewer_left}
+use Rattle.session_rounds.proofs.Taking.{fewer_left, legal_stepped}
 use Rattle.table_rounds.specs.Sources.{StepHandsOver}
 use Rattle.session_rounds.proofs.reading.read_next.Goals as goal
 
@@ -25,6 +29,12 @@ returns-in-Ok-clause-fewer g c =
     let s = c.args.session.now in
     let unread = unread_back s c.progress.result c.in-Some.column c.progress.ensures.progress c.in-Some.ensures.unread in
     fewer_left s c.take_next.new.session c.in-Some.column c.take_next.new.plane c.progress.ensures.known c.in-Ok.ensures.legal unread c.in-Ok.ensures.taken
+
+pub returns-in-Ok-clause-legal : goal.returns-in-Ok-clause-legal
+returns-in-Ok-clause-legal g c =
+    let s = c.args.session.now in
+    subst IsLegalSession (sym c.in-Ok.ensures.taken)
+    (legal_stepped c.taken_is_knowledge.ensures s c.in-Some.column c.take_next.new.plane (all_of (λ (s : Stage). IsKnowledge s.frame s.known) s.stages c.progress.ensures.known) c.in-Ok.ensures.legal)
 
 pub returns-in-Ok-clause-next : goal.returns-in-Ok-clause-next
 returns-in-Ok-clause-next g c = λ plan follows unlisted going.

@@ -2,10 +2,24 @@
 use Rattle.std.proofs.Common.{◌≡◌, ◌≢◌, ◌⊎◌, inl, inr, ℕ, zero, suc, ◌+◌, ◌<◌, ◌≤◌, ◌==◌, ◌||◌, Bool, true, false, if◌then◌else◌, Some, List, [], ◌∷◌, ◌++◌, length, get_or, refl, sym, ap, ◌∙◌, subst, arith, length-append, fold, slice_get}
 use Rattle.std.proofs.lemmas.Bool.{cases_lt, eq-eqb, eqb-true}
 use Rattle.std.proofs.lemmas.Option.{same_Some}
-use Rattle.std.specs.List.{flat_map, list_any}
+use Rattle.std.proofs.lemmas.List.Elements.{All-append, All-push}
+use Rattle.std.specs.List.{All, flat_map, list_any}
 use Rattle.multi_session.specs.Sessions.{columns_named, with_column}
 use Rattle.query_model.specs.Queries.{Query}
-use Rattle.session_rounds.proofs.Lists.{StandOnce, Stands, get_before, get_last}
+use Rattle.multi_session.specs.Members.{StandOnce, Stands}
+
+-- ---- lists
+
+pub get_last : (xs : List ℕ) (c n : ℕ) → n ≡ length xs → get_or (xs ++ c ∷ []) n 0 ≡ c
+get_last [] c zero h = refl
+get_last [] c (suc n) h = absurd (omega arith)
+get_last (x ∷ xs) c zero h = absurd (omega arith)
+get_last (x ∷ xs) c (suc n) h = get_last xs c n (omega arith)
+
+pub get_before : {X : Type 0} (xs ys : List X) (n : ℕ) (d : X) → n < length xs → get_or (xs ++ ys) n d ≡ get_or xs n d
+get_before [] ys n d h = absurd (omega arith)
+get_before (x ∷ xs) ys zero d h = refl
+get_before (x ∷ xs) ys (suc n) d h = get_before xs ys n d (omega arith)
 
 -- ---- one column more
 
@@ -101,3 +115,22 @@ columns_once queries = all_once (flat_map (λ q. q.columns) queries) [] (λ i j 
 pub columns_stand : (queries : List Query) (k : ℕ) (query : Query) (place : ℕ) → slice_get queries k ≡ Some query → Stands query.columns place →
     Stands (columns_named queries) place
 columns_stand queries k query place e stands = all_stand (flat_map (λ q. q.columns) queries) [] place (of_query queries k query place e stands)
+
+-- what holds of each column of each query holds of each of the session
+with_holds : (P : ℕ → Type 0) (xs : List ℕ) (p : ℕ) → All P xs → P p → All P (with_column xs p)
+with_holds P xs p all here = by (is_in xs p)
+  where
+    by : (b : Bool) → All P (chosen b xs p)
+    by true = all
+    by false = All-push P xs p all here
+
+pub all_hold : (P : ℕ → Type 0) (ps xs : List ℕ) → All P xs → All P ps → All P (fold with_column xs ps)
+all_hold P [] xs all more = all
+all_hold P (p ∷ ps) xs all more = all_hold P ps (with_column xs p) (with_holds P xs p all (more 0 p (omega arith))) (λ k d h. more (suc k) d (omega arith))
+
+flat_holds : (P : ℕ → Type 0) (queries : List Query) → All (λ (q : Query). All P q.columns) queries → All P (flat_map (λ (q : Query). q.columns) queries)
+flat_holds P [] each = λ k d h. absurd (omega arith)
+flat_holds P (q ∷ qs) each = All-append P q.columns (flat_map (λ (q : Query). q.columns) qs) (each 0 q (omega arith)) (flat_holds P qs (λ k d h. each (suc k) d (omega arith)))
+
+pub columns_hold : (P : ℕ → Type 0) (queries : List Query) → All (λ (q : Query). All P q.columns) queries → All P (columns_named queries)
+columns_hold P queries each = all_hold P (flat_map (λ (q : Query). q.columns) queries) [] (λ k d h. absurd (omega arith)) (flat_holds P queries each)
