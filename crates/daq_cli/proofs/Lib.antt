@@ -38,4 +38,5 @@ pub mod Numbered
 pub mod SessionQueries
 pub mod StepBlocks
 pub mod SessionSteps
+pub mod SomeSteps
 pub mod ShownAlone

@@ -3,7 +3,7 @@ use Rattle.std.proofs.Common.{◌≡◌, ℕ, List, refl, subst, arith, inl, inr
 use Rattle.command_line.specs.Commands.{Load}
 use Rattle.daq_table.specs.Tables.{Contents}
 use Rattle.outer_world.specs.Device.{Rose, SourceState, SinkState}
-use Rattle.daq_cli.specs.Inputs.{InputCause, ReadsTable, StopsAtInput, input_step, schema_step}
+use Rattle.daq_cli.specs.Inputs.{InputCause, ReadsTable, StopsAtInput, input_step}
 use Rattle.daq_cli.specs.Inputs as inputs
 use Rattle.daq_cli.specs.Stores.{WritesTable}
 use Rattle.daq_cli.specs.Worlds.{whole}

@@ -23,9 +23,12 @@ text_there f xs place x h is = slice_get-map f xs place ∙ ap (option_map f) (s
 -- ---- texts
 
 -- the same texts
-pub numbered_same : {A : Type 0} (text other : ℕ → A → List ℕ) → ((number : ℕ) (x : A) → text number x ≡ other number x) → (number : ℕ) (xs : List A) → numbered text number xs ≡ numbered other number xs
-numbered_same text other same number [] = refl
-numbered_same text other same number (x ∷ xs) = ap (λ l. l ++ numbered text (number + 1) xs) (same number x) ∙ ap (λ l. other number x ++ l) (numbered_same text other same (number + 1) xs)
+pub numbered_same : {A : Type 0} (text other : ℕ → A → List ℕ) (xs : List A) → ((place : ℕ) (x : A) → slice_get xs place ≡ Some x → (number : ℕ) → text number x ≡ other number x) → (number : ℕ) →
+    numbered text number xs ≡ numbered other number xs
+numbered_same text other [] same number = refl
+numbered_same text other (x ∷ xs) same number =
+    ap (λ l. l ++ numbered text (number + 1) xs) (same 0 x refl number)
+    ∙ ap (λ l. other number x ++ l) (numbered_same text other xs (λ place y there. same (suc place) y there) (number + 1))
 
 module _ {A : Type 0} (text : ℕ → A → List ℕ) where
   -- one more

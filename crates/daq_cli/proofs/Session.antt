@@ -162,8 +162,8 @@ module _ (law : StepsAreExact) (words : line.Session) (side side' : SourceState)
     cause_shown why (at_queries queries file has shown o) =
         inl (inl (inr (queries, script_told side side' script told queries has.read, inr (file, opened_told planes planes' bytes held file has.opens, shown))))
     cause_shown why (no_memory queries file has o) = inr (inl (inl refl))
-    cause_shown why (at_write opened begun rose cut) = inr (inr ((opened, begun), rose, refl))
-    cause_shown why (at_plane opened begun fault is cause stopped) =
+    cause_shown why (at_write opened begun rose written cut) = inr (inr ((opened, begun), rose, refl))
+    cause_shown why (at_plane opened begun fault is cause written stopped) =
         by (plane_shown words side side' planes opened planes' out out' begun script bytes told held fault why is (if_told (λ b. Stopped words side side' planes opened planes' out out' begun b fault) planes.held bytes held stopped))
       where
         by : (planes_step words.options (asked words side side' planes opened planes' out out' begun script bytes told held) bytes).shows why ⊎ Rose planes.faults planes'.faults →
@@ -182,8 +182,8 @@ module _ (law : StepsAreExact) (words : line.Session) (side side' : SourceState)
   script_shown why other script told (at_file queries read stop o) r = absurd ((law.script script).apart queries other (script_told side side' script told queries read) r)
   script_shown why other script told (at_queries queries file has shown o) r = absurd ((law.script script).apart queries other (script_told side side' script told queries has.read) r)
   script_shown why other script told (no_memory queries file has o) r = inr (inl refl)
-  script_shown why other script told (at_write opened begun rose cut) r = absurd ((law.script script).apart begun.queries other (script_told side side' script told begun.queries begun.has_opened.read) r)
-  script_shown why other script told (at_plane opened begun fault is cause stopped) r =
+  script_shown why other script told (at_write opened begun rose written cut) r = absurd ((law.script script).apart begun.queries other (script_told side side' script told begun.queries begun.has_opened.read) r)
+  script_shown why other script told (at_plane opened begun fault is cause written stopped) r =
       absurd ((law.script script).apart begun.queries other (script_told side side' script told begun.queries begun.has_opened.read) r)
 
   -- what is shown is the cause, unless memory runs out, a read fails or the report of the steps before is not written
@@ -217,5 +217,5 @@ session_unwritten words side side' planes planes' out out' why (at_script cause 
 session_unwritten words side side' planes planes' out out' why (at_file queries read stop o) = inl o
 session_unwritten words side side' planes planes' out out' why (at_queries queries file has shown o) = inl o
 session_unwritten words side side' planes planes' out out' why (no_memory queries file has o) = inl o
-session_unwritten words side side' planes planes' out out' why (at_write opened begun rose cut) = inr (inr refl)
-session_unwritten words side side' planes planes' out out' why (at_plane opened begun fault is cause stopped) = inr (inl (opened, begun))
+session_unwritten words side side' planes planes' out out' why (at_write opened begun rose written cut) = inr (inr refl)
+session_unwritten words side side' planes planes' out out' why (at_plane opened begun fault is cause written stopped) = inr (inl (opened, begun))

@@ -31,7 +31,7 @@ use Rattle.table_rounds.specs.declared.reading.StepFault.TheVariants.{Source, Ov
 use Rattle.daq_cli.specs.Faults as of
 use Rattle.daq_cli.specs.Report.{CausesAfter, HasStopCause}
 use Rattle.daq_cli.specs.Scripts.{ReadsScript, Scripted}
-use Rattle.daq_cli.specs.SessionReport.{EndsSession, queries_lines}
+use Rattle.daq_cli.specs.SessionReport.{EndsSession, EndsStepsOverSome, queries_lines}
 use Rattle.daq_cli.specs.Steps.{StopsStep, each}
 use Rattle.daq_cli.specs.commands.Query.{StopsAfter}
 use Rattle.daq_cli.specs.commands.Session.{AreAllCertain, AskedTogether, BeginsSteps, HasOpened, SessionCause, Sessions, ShowsLimit, asked_together, printed_forms, together_step, typing_step, at_file, at_queries, at_write, at_plane, no_memory}
@@ -128,14 +128,19 @@ module _ (words : line.Session) (side side' : SourceState) (planes opened planes
       EndsSession (queries_lines (printed_forms begun.queries)) begun.file.head begun.plan begun.typed (bits_at begun.file.head bytes) (plane_places begun.file.head) (IsUnpadded begun.file.head bytes)
       (StopsAfter begun.file.head opened planes') result out out' (option_map laid opened.pieces) (option_map laid planes'.pieces)
 
+  -- what was written, told or not
+  abbrev Written : Result (Unit {0}) (Stop PlaneFault) → Type 0
+  Written result = EndsStepsOverSome (queries_lines (printed_forms begun.queries)) begun.file.head begun.plan begun.typed result out out'
+
   headline : (bytes reads : List ℕ) → AreSteps begun.plan begun.typed begun.file.head (bits_at begun.file.head bytes) reads →
       AreAllCertain begun.plan begun.typed begun.file.head (bits_at begun.file.head bytes) reads
   headline bytes reads steps = λ n query there cells has. certain begun.plan begun.typed begun.file.head (bits_at begun.file.head bytes) reads n query cells valid longs steps there has
 
-  pub session_done : IfSome opened.held (Ends (Ok tt)) → Sessions words side side' planes planes' out out'
-  session_done ends = record {
+  pub session_done : Written (Ok tt) → IfSome opened.held (Ends (Ok tt)) → Sessions words side side' planes planes' out out'
+  session_done written ends = record {
     opened = opened;
     begun = begun;
+    written = written;
     completed = told_before planes opened begun.has_opened.same _ _ (λ bytes steps. record { steps = steps; headline = headline bytes steps.reads steps.steps.steps }) ends;
   }
 
@@ -145,13 +150,13 @@ module _ (words : line.Session) (side side' : SourceState) (planes opened planes
   stop_steps bytes causes (Source error) reads handed (next, followed, failed, rest) = followed.steps
   stop_steps bytes causes (OverTop column plane row) reads handed (refused, all) = refused.followed.steps
 
-  pub session_stop : (stop : Stop PlaneFault) (why : Refusal) → why ≡ of.stop stop → HasStopCause (StopsAfter begun.file.head opened planes') (Err stop) out out' → IfSome opened.held (Ends (Err stop)) →
-      SessionCause words side side' planes planes' out out' why
-  session_stop Failed why is cause ends =
+  pub session_stop : (stop : Stop PlaneFault) (why : Refusal) → why ≡ of.stop stop → HasStopCause (StopsAfter begun.file.head opened planes') (Err stop) out out' → Written (Err stop) →
+      IfSome opened.held (Ends (Err stop)) → SessionCause words side side' planes planes' out out' why
+  session_stop Failed why is cause written ends =
       subst (SessionCause words side side' planes planes' out out') (sym is)
-      (at_write opened begun cause (told_before planes opened begun.has_opened.same _ _ (λ bytes steps. record { steps = steps; headline = headline bytes steps.reads steps.steps }) ends))
-  session_stop (Step fault) why is cause ends =
-      at_plane opened begun fault is cause
+      (at_write opened begun cause written (told_before planes opened begun.has_opened.same _ _ (λ bytes steps. record { steps = steps; headline = headline bytes steps.reads steps.steps }) ends))
+  session_stop (Step fault) why is cause written ends =
+      at_plane opened begun fault is cause written
       (told_before planes opened begun.has_opened.same _ _ (λ bytes steps. record {
         steps = steps;
         headline = headline bytes steps.reads (stop_steps bytes (StopsAfter begun.file.head opened planes' steps.at) fault steps.reads steps.more steps.stop);

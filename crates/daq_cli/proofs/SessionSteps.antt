@@ -133,7 +133,7 @@ module _ (plan : Plan) (head : Head) (queries : List Query) (bits : Planes) (pla
       }
 
   -- the last of the steps so far is written whole, or in part
-  last_whole : (lines reads : List ℕ) (old mid new : SinkState) → Writes whole old mid (lines ++ steps_below head plan queries bits reads (length reads)) →
+  pub last_whole : (lines reads : List ℕ) (old mid new : SinkState) → Writes whole old mid (lines ++ steps_below head plan queries bits reads (length reads)) →
       Writes whole mid new (last_step head plan queries bits reads) → Writes whole old new (lines ++ steps_text head plan queries bits reads)
   last_whole lines reads old mid new begun last =
       subst (Writes whole old new) (append_assoc lines (steps_below head plan queries bits reads (length reads)) (last_step head plan queries bits reads)) (writes_both tt whole old mid new _ _ begun last)
@@ -225,7 +225,7 @@ step_stops_since plan queries head bits places causes others (OverTop column pla
 -- ---- the lines of the queries before the steps
 
 module _ (lines : List ℕ) (head : Head) (plan : Plan) (queries : List Query) (bits : Planes) (places : Places) (shows : OfPlanes) where
-  fails_after : (reads : List ℕ) (old mid new : SinkState) → Writes whole old mid lines → FailsInStep [] head plan queries bits reads mid new → FailsInStep lines head plan queries bits reads old new
+  pub fails_after : (reads : List ℕ) (old mid new : SinkState) → Writes whole old mid lines → FailsInStep [] head plan queries bits reads mid new → FailsInStep lines head plan queries bits reads old new
   fails_after [] old mid new first fails = writes_both tt partly old mid new lines (steps_text head plan queries bits []) first fails
   fails_after (c ∷ reads) old mid new first (next, begun, last) = (next, writes_both tt whole old mid next lines (steps_below head plan queries bits (c ∷ reads) (length (c ∷ reads))) first begun, last)
 

@@ -46,13 +46,13 @@ is_same a b e = grind (arith, nat_tests)
 is_other : (a b : ℕ) → a ≢ b → (a == b) ≡ false
 is_other a b n = grind (arith, nat_tests)
 
-in_its_place : (bits : Planes) (column number : ℕ) (plane : List Bool) → with_plane bits column number plane column number ≡ plane
+pub in_its_place : (bits : Planes) (column number : ℕ) (plane : List Bool) → with_plane bits column number plane column number ≡ plane
 unfolding with_plane
 in_its_place bits column number plane =
     ap (λ b. if b && number == number then plane else bits column number) (is_same column column refl)
     ∙ ap (λ b. if b then plane else bits column number) (is_same number number refl)
 
-elsewhere : (bits : Planes) (column number : ℕ) (plane : List Bool) (c j : ℕ) → ((c ≡ column) → (j ≡ number) → ⊥) → with_plane bits column number plane c j ≡ bits c j
+pub elsewhere : (bits : Planes) (column number : ℕ) (plane : List Bool) (c j : ℕ) → ((c ≡ column) → (j ≡ number) → ⊥) → with_plane bits column number plane c j ≡ bits c j
 unfolding with_plane
 elsewhere bits column number plane c j apart = by (cases_eq c column)
   where

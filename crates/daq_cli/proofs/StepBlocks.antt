@@ -58,7 +58,8 @@ module _ (head : Head) (plan : Plan) (queries : List Query) (bits : Planes) wher
       let places = places_read queries reads in
       let long : length places ≡ length reads = length-map reads (λ c. get_or (columns_named queries) c 0) in
       ap (λ (ps : List ℕ). numbered (block_at head plan bits ps step) 1 queries) (map-append (λ c. get_or (columns_named queries) c 0) reads more)
-      ∙ numbered_same (block_at head plan bits (places ++ places_read queries more) step) (block_at head plan bits places step) (block_before head plan bits places (places_read queries more) step (omega (arith, h, long))) 1 queries
+      ∙ numbered_same (block_at head plan bits (places ++ places_read queries more) step) (block_at head plan bits places step) queries
+      (λ place query there number. block_before head plan bits places (places_read queries more) step (omega (arith, h, long)) number query) 1
 
   pub no_steps : (reads : List ℕ) → steps_below head plan queries bits reads 0 ≡ []
   unfolding steps_below

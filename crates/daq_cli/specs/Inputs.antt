@@ -57,7 +57,8 @@ pub record ShowsTable (columns : List SchemaColumn) (bytes : List ℕ) (why : Re
   pub faulty : tables.Refuses bytes columns limits fault
 
 abbrev pub table_step : List SchemaColumn → List ℕ → Step Contents
-table_step columns bytes = record { accepts = IsTableText columns bytes; shows = λ why. ShowsLength bytes why ⊎ ShowsTable columns bytes why }
+table_step columns bytes =
+    record { accepts = IsTableText columns bytes; shows = λ why. ShowsLength bytes why ⊎ ShowsTable columns bytes why }
 
 -- the schema, and then the table of these bytes
 abbrev pub input_step : List ℕ → List ℕ → Step Contents
@@ -86,5 +87,6 @@ pub record StopsAtInput {A : Type 0} (step : List ℕ → Step A) (input input' 
 pub data InputCause (schema : List ℕ) (input input' : SourceState) : Refusal → Type 0 where
   at_schema : {why : Refusal} → (schema_step schema).shows why → input' ≡ input → InputCause schema input input' why
   at_bytes : {why : Refusal} → StopsAtInput (input_step schema) input input' why → InputCause schema input input' why
-  read_fault : IsSchema schema → Rose input.faults input'.faults → Takes input input' 0 most_bytes → InputCause schema input input' ReadFault
+  read_fault : IsSchema schema → Rose input.faults input'.faults → Takes input input' 0 most_bytes →
+      InputCause schema input input' ReadFault
   no_memory : Takes input input' 0 most_bytes → InputCause schema input input' NoMemory

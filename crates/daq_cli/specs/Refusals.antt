@@ -37,7 +37,8 @@ abbrev pub schema_fault_text : SchemaFault → List ℕ
 schema_fault_text (schema.BadItem at) = codes "table refused: schema item at " ++ signed_decimal (pos at)
 schema_fault_text (schema.TooMany count) = codes "table refused: " ++ signed_decimal (pos count) ++ codes " schema items"
 schema_fault_text (schema.RepeatedName first second) =
-    codes "table refused: schema items " ++ signed_decimal (pos (first + 1)) ++ codes " and " ++ signed_decimal (pos (second + 1)) ++ codes " have one name"
+    codes "table refused: schema items " ++ signed_decimal (pos (first + 1)) ++ codes " and " ++ signed_decimal (pos (second + 1))
+    ++ codes " have one name"
 schema_fault_text schema.NoMemory = codes "no memory"
 
 abbrev pub table_fault_text : TableFault → List ℕ
@@ -46,10 +47,13 @@ table_fault_text (table.HeaderDiffers column) = codes "table refused: header dif
 table_fault_text (table.TooManyRows limit) = codes "table refused: more than " ++ signed_decimal (pos limit) ++ codes " rows"
 table_fault_text (table.TooManyCells count) = codes "table refused: " ++ signed_decimal (pos count) ++ codes " cells"
 table_fault_text (table.UnequalLength entry got want) =
-    codes "table refused: record " ++ signed_decimal (pos (entry + 1)) ++ codes " has " ++ signed_decimal (pos got) ++ codes " fields, not " ++ signed_decimal (pos want)
+    codes "table refused: record " ++ signed_decimal (pos (entry + 1)) ++ codes " has " ++ signed_decimal (pos got)
+    ++ codes " fields, not " ++ signed_decimal (pos want)
 table_fault_text (table.BadCell entry column) =
-    codes "table refused: record " ++ signed_decimal (pos (entry + 1)) ++ codes " column " ++ signed_decimal (pos (column + 1)) ++ codes " is no value of its kind"
-table_fault_text (table.TooManyNames column) = codes "table refused: column " ++ signed_decimal (pos (column + 1)) ++ codes " has too many names"
+    codes "table refused: record " ++ signed_decimal (pos (entry + 1)) ++ codes " column " ++ signed_decimal (pos (column + 1))
+    ++ codes " is no value of its kind"
+table_fault_text (table.TooManyNames column) =
+    codes "table refused: column " ++ signed_decimal (pos (column + 1)) ++ codes " has too many names"
 table_fault_text table.NoMemory = codes "no memory"
 
 abbrev pub type_fault_text : TypeFault → List ℕ
@@ -67,8 +71,10 @@ type_fault_text (typing.TooWide item) = codes "query refused: item " ++ signed_d
 type_fault_text typing.NoMemory = codes "no memory"
 
 abbrev pub reads_fault_text : ReadsFault → List ℕ
-reads_fault_text (reads.UnknownName place) = codes "query refused: read " ++ signed_decimal (pos (place + 1)) ++ codes " names no column of the query"
-reads_fault_text (reads.PastEnd place) = codes "query refused: read " ++ signed_decimal (pos (place + 1)) ++ codes " is past its column's last plane"
+reads_fault_text (reads.UnknownName place) =
+    codes "query refused: read " ++ signed_decimal (pos (place + 1)) ++ codes " names no column of the query"
+reads_fault_text (reads.PastEnd place) =
+    codes "query refused: read " ++ signed_decimal (pos (place + 1)) ++ codes " is past its column's last plane"
 reads_fault_text reads.NoMemory = codes "no memory"
 
 -- places count from 0, from the script's first byte
@@ -86,8 +92,9 @@ session_fault_text (session.TooLarge cells) = codes "query refused: " ++ signed_
 session_fault_text session.NoMemory = codes "no memory"
 
 -- in a line of a script, which counts from 1, a query is refused as it is alone
-abbrev pub at_line : ℕ → List ℕ → List ℕ
-at_line line alone = codes "query refused: line " ++ signed_decimal (pos line) ++ codes ": " ++ drop (length (codes "query refused: ")) alone
+abbrev pub line_fault_text : ℕ → List ℕ → List ℕ
+line_fault_text line alone =
+    codes "query refused: line " ++ signed_decimal (pos line) ++ codes ": " ++ drop (length (codes "query refused: ")) alone
 
 -- places count from 0, from the file's first byte
 abbrev pub file_fault_text : FileFault → List ℕ
@@ -95,14 +102,16 @@ file_fault_text file.BadMagic = codes "file refused: not a plane file"
 file_fault_text (file.UnknownVersion found) = codes "file refused: version " ++ signed_decimal (pos found)
 file_fault_text (file.BadHead at) = codes "file refused: bad head at " ++ signed_decimal (pos at)
 file_fault_text (file.LimitPassed at) = codes "file refused: limit passed at " ++ signed_decimal (pos at)
-file_fault_text (file.WrongSize found wanted) = codes "file refused: size " ++ signed_decimal (pos found) ++ codes ", not " ++ signed_decimal (pos wanted)
+file_fault_text (file.WrongSize found wanted) =
+    codes "file refused: size " ++ signed_decimal (pos found) ++ codes ", not " ++ signed_decimal (pos wanted)
 file_fault_text file.WentShort = codes "file refused: the store ended early"
 file_fault_text file.Fault = codes "read fault"
 file_fault_text file.NoMemory = codes "no memory"
 
 -- the plane of a column, each counted from 1
 abbrev pub plane_text : ℕ → ℕ → List ℕ
-plane_text column plane = codes "file refused: column " ++ signed_decimal (pos (column + 1)) ++ codes " plane " ++ signed_decimal (pos (plane + 1))
+plane_text column plane =
+    codes "file refused: column " ++ signed_decimal (pos (column + 1)) ++ codes " plane " ++ signed_decimal (pos (plane + 1))
 
 abbrev pub over_top_text : ℕ → ℕ → ℕ → List ℕ
 over_top_text column plane row = plane_text column plane ++ codes " row " ++ signed_decimal (pos (row + 1)) ++ codes " passes its top"
@@ -120,8 +129,8 @@ fault_text (File fault) = file_fault_text fault
 fault_text (PadBits column plane) = plane_text column plane ++ codes " has pad bits"
 fault_text (OverTop column plane row) = over_top_text column plane row
 fault_text (Script fault) = script_fault_text fault
-fault_text (LineQuery line fault) = at_line line (text_fault_text fault)
-fault_text (LineTyping line fault) = at_line line (type_fault_text fault)
+fault_text (LineQuery line fault) = line_fault_text line (text_fault_text fault)
+fault_text (LineTyping line fault) = line_fault_text line (type_fault_text fault)
 fault_text (Session fault) = session_fault_text fault
 fault_text ReadFault = codes "read fault"
 fault_text WriteFault = codes "write fault"
@@ -164,4 +173,5 @@ code_of s.NoMemory = 8
 -- the refusal's line was written and the status is its own, or a part of the line was written and the status is WriteFault
 abbrev pub IsTold : Refusal → Status → SinkState → SinkState → Type 0
 IsTold why status err err' =
-    ((status ≡ status_of why) × Writes whole err err' (fault_line why)) ⊎ ((status ≡ s.WriteFault) × Writes partly err err' (fault_line why))
+    ((status ≡ status_of why) × Writes whole err err' (fault_line why))
+    ⊎ ((status ≡ s.WriteFault) × Writes partly err err' (fault_line why))

@@ -28,7 +28,8 @@ block_of head plan query bits reads round =
 -- the blocks of the rounds below a number
 unfoldable pub blocks_below : Head → Plan → TypedQuery → Planes → List ℕ → ℕ → List ℕ
 blocks_below head plan query bits reads zero = []
-blocks_below head plan query bits reads (suc round) = blocks_below head plan query bits reads round ++ block_of head plan query bits reads round
+blocks_below head plan query bits reads (suc round) =
+    blocks_below head plan query bits reads round ++ block_of head plan query bits reads round
 
 -- the first line of a report shows the printed form of the query
 abbrev pub query_line : List ℕ → List ℕ
@@ -47,7 +48,8 @@ end_line (Some ending) = ending_line ending
 -- the block of the last of these rounds, and the end line where the rounds end with it
 abbrev pub last_text : Head → Plan → TypedQuery → Planes → List ℕ → List ℕ
 last_text head plan query bits reads =
-    block_of head plan query bits reads (length reads) ++ end_line (ending_at plan (stage_after query (frame_of head) bits reads (length reads)))
+    block_of head plan query bits reads (length reads)
+    ++ end_line (ending_at plan (stage_after query (frame_of head) bits reads (length reads)))
 
 -- the blocks of these rounds, and the end line where they end
 abbrev pub rounds_text : Head → Plan → TypedQuery → Planes → List ℕ → List ℕ
@@ -111,8 +113,8 @@ pub record Stops {E : Type 0} (line : List ℕ) (head : Head) (plan : Plan) (que
   pub handed : Appends at to more
 
 -- what becomes of the rounds
-abbrev pub EndsRounds : {E : Type 0} → List ℕ → Head → Plan → TypedQuery → Planes → Places → OfPlanes → CausesAfter E → Result (Unit {0}) (Stop E)
-    → SinkState → SinkState → Option (List ℕ) → Option (List ℕ) → Type 0
+abbrev pub EndsRounds : {E : Type 0} → List ℕ → Head → Plan → TypedQuery → Planes → Places → OfPlanes → CausesAfter E
+    → Result (Unit {0}) (Stop E) → SinkState → SinkState → Option (List ℕ) → Option (List ℕ) → Type 0
 EndsRounds line head plan query bits places shows causes (Ok done) old new from to =
     Finishes line head plan query bits places shows old new from to
 EndsRounds line head plan query bits places shows causes (Err Failed) old new from to =
@@ -121,8 +123,8 @@ EndsRounds line head plan query bits places shows causes (Err (Step fault)) old 
     Stops line head plan query bits places shows causes fault old new from to
 
 -- the same of a source that may tell its planes, where it does
-abbrev pub EndsTold : {E : Type 0} → List ℕ → Plan → TypedQuery → ToldPlanes → Places → OfPlanes → CausesAfter E → Result (Unit {0}) (Stop E)
-    → SinkState → SinkState → Option (List ℕ) → Option (List ℕ) → Type 0
+abbrev pub EndsTold : {E : Type 0} → List ℕ → Plan → TypedQuery → ToldPlanes → Places → OfPlanes → CausesAfter E
+    → Result (Unit {0}) (Stop E) → SinkState → SinkState → Option (List ℕ) → Option (List ℕ) → Type 0
 EndsTold line plan query told places shows causes result old new from to =
     IfSome told.bits (λ bits. EndsRounds line told.head plan query bits places shows causes result old new from to)
 

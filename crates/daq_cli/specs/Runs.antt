@@ -76,7 +76,8 @@ pub data CommandAccepts (before : WorldState) : Command → Task → Type 0 wher
   of_session : (s : Session) (text : List ℕ) → SessionAccepts s before.side.left before.planes.held text →
       CommandAccepts before (session s) (inquire text)
   of_info : (i : Info) (file : Opened) → InfoAccepts before.planes.held file → CommandAccepts before (info i) (describe file)
-  of_upgrade : (u : Upgrade) (table : Contents) → UpgradeAccepts before.planes.held table → CommandAccepts before (upgrade u) (store upgraded table)
+  of_upgrade : (u : Upgrade) (table : Contents) → UpgradeAccepts before.planes.held table →
+      CommandAccepts before (upgrade u) (store upgraded table)
 
 -- it was done to its end
 abbrev pub IsFulfilled : Task → WorldState → WorldState → Type 0
@@ -131,7 +132,8 @@ pub record IsDone (words : List (List ℕ)) (before after : WorldState) : Type 0
 -- why the run stops
 pub data IsCause (words : List (List ℕ)) (before after : WorldState) : Refusal → Type 0 where
   usage : (place : ℕ) → GoesWrong words place → IsCause words before after (Usage place)
-  of_command : {why : Refusal} (command : Command) → IsCommand words command → StopsFor command before after why → IsCause words before after why
+  of_command : {why : Refusal} (command : Command) → IsCommand words command → StopsFor command before after why →
+      IsCause words before after why
 
 -- the words show the refusal, or they do with what the input, the script or the store tells
 pub data Shows (words : List (List ℕ)) (before : WorldState) : Refusal → Type 0 where
@@ -185,7 +187,8 @@ EndsSo words why status before after =
 
 -- a write failed
 abbrev pub WriteFails : WorldState → WorldState → Type 0
-WriteFails before after = Rose before.made.faults after.made.faults ⊎ Rose before.out.faults after.out.faults ⊎ Rose before.err.faults after.err.faults
+WriteFails before after =
+    Rose before.made.faults after.made.faults ⊎ Rose before.out.faults after.out.faults ⊎ Rose before.err.faults after.err.faults
 
 -- the run does what is asked for, unless memory runs out or a device fails
 abbrev pub Completes : List (List ℕ) → Task → Status → WorldState → WorldState → Type 0

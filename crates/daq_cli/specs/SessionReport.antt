@@ -1,5 +1,5 @@
 -- The text of the report of a session: its queries, for each step the blocks of the queries to which it went, and why its steps ended.
-use Rattle.std.specs.Prelude.{◌≡◌, ℕ, zero, suc, ◌+◌, Ok, Err, IfSome, List, [], ◌∷◌, ◌++◌, length, map, slice_get, slice_index, codes, decimal, if◌then◌else◌}
+use Rattle.std.specs.Prelude.{◌≡◌, ℕ, zero, suc, ◌+◌, Ok, Err, IfSome, IsSome, IsNone, List, [], ◌∷◌, ◌++◌, length, map, slice_get, slice_index, codes, decimal, if◌then◌else◌}
 use Rattle.std.specs.Io.KnownBytes.{Appends}
 use Rattle.std.specs.declared.option.Option.{Option}
 use Rattle.std.specs.declared.option.Option.TheVariants.{Some, None}
@@ -9,6 +9,7 @@ use Rattle.daq_table.specs.declared.table_head.Head.{Head}
 use Rattle.multi_session.specs.Sessions.{Session, own_column}
 use Rattle.outer_world.specs.Device.{SinkState}
 use Rattle.outer_world.specs.Whole.{Writes}
+use Rattle.plane_schedule.specs.declared.policy.Ending.{Ending}
 use Rattle.plane_schedule.specs.declared.policy.Plan.{Plan}
 use Rattle.query_model.specs.Queries.{Query}
 use Rattle.session_rounds.specs.Reading.{OfEachStep, StopsAt, places_of_steps}
@@ -172,3 +173,28 @@ abbrev pub EndsToldSession : {E : Type 0} → List ℕ → Plan → List Query �
     → Result (Unit {0}) (Stop E) → SinkState → SinkState → Option (List ℕ) → Option (List ℕ) → Type 0
 EndsToldSession lines plan queries told places shows causes result old new from to =
     IfSome told.bits (λ bits. EndsSession lines told.head plan queries bits places shows causes result old new from to)
+
+-- ---- what holds of each source, told or not
+
+-- steps over some planes, which come to this, were written behind these lines
+pub record WritesStepsOverSome (lines : List ℕ) (head : Head) (plan : Plan) (queries : List Query) (come : Option Ending → Type 0)
+    (old new : SinkState) : Type 0 where
+  pub bits : Planes
+  pub reads : List ℕ
+  pub steps : AreSteps plan queries head bits reads
+  pub come_to : come (ending_in plan (session_after plan.width queries head bits reads (length reads)))
+  pub written : Writes whole old new (lines ++ steps_text head plan queries bits reads)
+
+-- a write failed in the last of steps over some planes
+pub record FailsStepsOverSome (lines : List ℕ) (head : Head) (plan : Plan) (queries : List Query) (old new : SinkState) : Type 0 where
+  pub bits : Planes
+  pub reads : List ℕ
+  pub steps : AreSteps plan queries head bits reads
+  pub written : FailsInStep lines head plan queries bits reads old new
+
+-- what was written is of steps over some planes: of all; or a write failed in the last; or they go on, but the next plane is not taken
+abbrev pub EndsStepsOverSome : {E : Type 0} → List ℕ → Head → Plan → List Query → Result (Unit {0}) (Stop E)
+    → SinkState → SinkState → Type 0
+EndsStepsOverSome lines head plan queries (Ok done) old new = WritesStepsOverSome lines head plan queries IsSome old new
+EndsStepsOverSome lines head plan queries (Err Failed) old new = FailsStepsOverSome lines head plan queries old new
+EndsStepsOverSome lines head plan queries (Err (Step fault)) old new = WritesStepsOverSome lines head plan queries IsNone old new

@@ -2,7 +2,7 @@
 
 ghost use Rattle.std.specs.Prelude.{◌≡◌, ◌≤◌, ◌+◌, ◌++◌, length, pos};
 ghost use Rattle.std.specs.Fmt.{signed_decimal};
-ghost use Rattle.daq_cli.specs.Refusals.{at_line, file_fault_text, over_top_text, plane_text, reads_fault_text, schema_fault_text, script_fault_text, session_fault_text, table_fault_text, text_fault_text, type_fault_text};
+ghost use Rattle.daq_cli.specs.Refusals.{file_fault_text, line_fault_text, over_top_text, plane_text, reads_fault_text, schema_fault_text, script_fault_text, session_fault_text, table_fault_text, text_fault_text, type_fault_text};
 
 use csv_load::TableFault;
 use daq_table::{SchemaFault, TextBuf, written_number};
@@ -73,7 +73,7 @@ pub(crate) fn written_session_fault(fault: &SessionFault) -> TextBuf
 // What is said of the query in a line of a script, by what is said of it alone.
 pub(crate) fn written_at_line(line: usize, alone: &[u8]) -> TextBuf
     requires { length alone.now ≤ 160 }
-    ensures text { result ≡ at_line line alone.now }
+    ensures text { result ≡ line_fault_text line alone.now }
     ensures short { length result ≤ 500 }
 {
     let mut text = with_number(b"query refused: line ", counted(line), b": ");

@@ -39,7 +39,7 @@ pub fn steps_are_exact()
     sessions_are_one();
 }
 
-/// The words of an `ask`, of a `load`, they with the bytes of an input, the words of a `demo` and the bytes of a store are
+/// Words alone, words with an input, with a store, or with a script and a store, the bytes of a script and those of a store are
 /// accepted or show a refusal: nothing falls between.
 pub fn steps_are_complete()
     ensures { StepsAreComplete }

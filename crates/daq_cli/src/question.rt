@@ -117,7 +117,8 @@ pub(crate) fn prepare(
 ) -> Result<Prepared, Refusal>
     requires printable { IsUtf8 (printed (query_of query.now)) }
     requires width { options.now.width < 2 ^ 63 }
-    ensures planned { IfOk result (λ p. IsPlanned (asked_with (query_of query.now) (options_of options.now) head.now) p.engine.query p.plan) }
+    ensures planned { IfOk result (λ p.
+        IsPlanned (asked_with (query_of query.now) (options_of options.now) head.now) p.engine.query p.plan) }
     ensures valid { IfOk result (λ p. IsValid head.now p.engine.query) }
     ensures opened { IfOk result (λ p. p.engine ≡ opened p.engine.query head.now) }
     ensures text { IfOk result (λ p. string_bytes p.sql ≡ printed (query_of query.now)) }

@@ -1,12 +1,17 @@
 //! The report of a query: its line, a block for each round of a plan, and why the rounds ended.
 
-ghost use Rattle.std.specs.Prelude.{◌≡◌, ◌^◌, ◌<◌, [], OnOk, OnErr, length};
+ghost use Rattle.std.specs.Prelude.{◌≡◌, ◌^◌, ◌<◌, [], IfNone, IfSome, OnOk, OnErr, length};
+ghost use Rattle.daq_report.specs.Blocks.{block_text};
 ghost use Rattle.daq_table.specs.ValueTexts.{HeadHasTexts};
 ghost use Rattle.outer_world.specs.Whole.{Writes};
+ghost use Rattle.plane_schedule.specs.Choices.{HasUnread};
 ghost use Rattle.plane_schedule.specs.Keeping.{Follows, Keeps};
 ghost use Rattle.plane_schedule.specs.Plans.{IsReadable};
-ghost use Rattle.query_model.specs.Validity.{IsValid};
+ghost use Rattle.query_model.specs.Knowledge.{IsKnowledge};
+ghost use Rattle.query_model.specs.Validity.{FitsHead, IsValid};
+ghost use Rattle.round_engine.specs.Progresses.{planes_read};
 ghost use Rattle.round_engine.specs.Stages.{opened};
+ghost use Rattle.table_rounds.specs.Rounds.{ending_at, outlook_at};
 ghost use Rattle.daq_cli.specs.Questions.{ReportsRounds};
 ghost use Rattle.daq_cli.specs.Report.{EndsOverSome, EndsTold, FailsSince, HasStopCause, ending_line, query_line};
 ghost use Rattle.daq_cli.specs.Worlds.{partly, whole};
@@ -15,7 +20,7 @@ ghost use Rattle.sql_text.specs.Tree.{Query};
 
 use crate::stop::Stop;
 use daq_report::write_block;
-use daq_table::Table;
+use daq_table::{Head, Table};
 use outer_world::{Failed, Sink, write_pieces, write_whole};
 use plane_kernels::Plane;
 use plane_schedule::{
@@ -45,6 +50,42 @@ pub(crate) fn write_ending<K: Sink>(ending: Ending, out: &mut K) -> Result<(), F
         Ending::Rounds => write_whole(out, b"end rounds\n"),
         Ending::Reads => write_whole(out, b"end reads\n"),
     }
+}
+
+// Why the rounds of the plan end where the query stands; none where they go on, and then a plane is unread.
+fn ending_here(engine: &Engine, plan: &Plan) -> Option<Ending>
+    requires { plan.now.width < 2 ^ 63 }
+    ensures ending { result ≡ ending_at plan.now engine.now }
+    ensures unread { IfNone result (HasUnread (outlook_at engine.now)) }
+{
+    ending(&engine.view(), plan)
+}
+
+// Writes the block of the round at which the query stands, whose last read was of this column of its own.
+fn write_round<K: Sink>(
+    engine: &Engine,
+    plan: &Plan,
+    head: &Head,
+    last: Option<usize>,
+    out: &mut K,
+) -> Result<(), Failed>
+    requires fits { FitsHead engine.now.query engine.now.frame head.now }
+    requires texts { HeadHasTexts head.now }
+    requires last { IfSome last (λ c. c < length engine.now.query.columns) }
+    ensures { Writes result (K.state out.old) (K.state out.new)
+        (block_text head.now plan.now.list plan.now.extras engine.now (planes_read engine.now.known) last) }
+{
+    let view = engine.view();
+    let round = view.progress().done;
+    write_block(&view, head, round, last, plan.list, plan.extras, out)
+}
+
+// A view's clause says that what is known is a knowledge.
+fn tell_known(engine: &Engine)
+    ensures { IsKnowledge engine.now.frame engine.now.known }
+{
+    let view = engine.view();
+    let _query = view.query();
 }
 
 // Writes the blocks of the rounds of a plan, whose policy the chooser follows, and the line that says why they ended. Nothing is
@@ -79,16 +120,8 @@ fn write_rounds<S: PlaneSource, F: Fn(&Progress) -> usize, K: Sink>(
     policies_choose();
     let mut last = None;
     'rounds: loop {
-        let ended = ending(engine, plan);
-        write_block(
-            engine,
-            source.head(),
-            engine.progress().done,
-            last,
-            plan.list,
-            plan.extras,
-            out,
-        )?;
+        let ended = ending_here(engine, plan);
+        write_round(engine, plan, source.head(), last, out)?;
         match ended {
             Some(why) => {
                 write_ending(why, out)?;
@@ -96,8 +129,7 @@ fn write_rounds<S: PlaneSource, F: Fn(&Progress) -> usize, K: Sink>(
             }
             None => {
                 last = Some(read_next(engine, source, chooser, plane)?);
-                // The query's clause says that what is known is a knowledge.
-                let _query = engine.query();
+                tell_known(engine);
             }
         }
     }

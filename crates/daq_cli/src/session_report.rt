@@ -15,7 +15,7 @@ ghost use Rattle.session_rounds.specs.Reading.{FitsSession};
 ghost use Rattle.session_rounds.specs.Steps.{IsAfter, IsUnlisted, places_read};
 ghost use Rattle.table_rounds.specs.Rounds.{Planes, column_read};
 ghost use Rattle.daq_cli.specs.Report.{FailsSince, HasStopCause};
-ghost use Rattle.daq_cli.specs.SessionReport.{EndsToldSession, QueriesAreShownAlone, at_line, block_at, blocks_at, count_line, numbered, numbered_line, own_of, queries_lines, queries_of};
+ghost use Rattle.daq_cli.specs.SessionReport.{EndsStepsOverSome, EndsToldSession, QueriesAreShownAlone, at_line, block_at, blocks_at, count_line, numbered, numbered_line, own_of, queries_lines, queries_of};
 
 use crate::counts::written_count;
 use crate::report::write_ending;
@@ -25,8 +25,10 @@ use daq_table::Head;
 use multi_session::Session;
 use outer_world::{Failed, Sink, write_pieces};
 use plane_kernels::Plane;
-use plane_schedule::{Chooser, Plan, Policy, Progress, filter_first, in_order, widest};
-use round_engine::Engine;
+use plane_schedule::{
+    Chooser, Plan, Policy, Progress, filter_first, in_order, policies_choose, widest,
+};
+use round_engine::EngineView;
 use session_rounds::{ending, queries_stand_alone, read_next, sessions_begin};
 use table_rounds::{PlaneSource, rounds_are_counted};
 
@@ -96,7 +98,7 @@ fn write_at<K: Sink>(step: u32, number: u64, out: &mut K) -> Result<(), Failed>
 // Writes the block of a query with this number at a step, behind its line. The query's last read was of this column of its own.
 fn write_own<K: Sink>(
     plan: &Plan,
-    engine: &Engine,
+    engine: &EngineView<'_>,
     step: u32,
     number: u64,
     head: &Head,
@@ -151,7 +153,7 @@ fn write_moved<K: Sink>(
     let own = last_own(session, query, last);
     write_own(
         plan,
-        session.engine(query),
+        &session.view(query),
         step,
         query as u64 + 1,
         head,
@@ -202,11 +204,14 @@ fn write_steps<S: PlaneSource, F: Fn(&Progress) -> usize, K: Sink>(
     requires follows { Follows F.Fn chooser.now.choose plan.now.policy }
     ensures since { S.since source.old source.new }
     ensures cause { HasStopCause (FailsSince S.handed S.since S.fails source.old source.new) result (K.state out.old) (K.state out.new) }
+    ensures written { EndsStepsOverSome [] (S.told source.old).head plan.now (queries_of session.old) result
+        (K.state out.old) (K.state out.new) }
     ensures ends { EndsToldSession [] plan.now (queries_of session.old) (S.told source.old) (S.places source.old) (S.shows source.old)
         (FailsSince S.handed S.since S.fails source.old source.new) result
         (K.state out.old) (K.state out.new) (S.handed source.old) (S.handed source.new) }
 {
     sessions_begin();
+    policies_choose();
     let mut last = None;
     'steps: loop {
         let ended = ending(session, plan);
@@ -237,6 +242,8 @@ fn write_planned<S: PlaneSource, K: Sink>(
     requires ready { S.is_ready source.old }
     ensures since { S.since source.old source.new }
     ensures cause { HasStopCause (FailsSince S.handed S.since S.fails source.old source.new) result (K.state out.old) (K.state out.new) }
+    ensures written { EndsStepsOverSome [] (S.told source.old).head plan.now (queries_of session.old) result
+        (K.state out.old) (K.state out.new) }
     ensures ends { EndsToldSession [] plan.now (queries_of session.old) (S.told source.old) (S.places source.old) (S.shows source.old)
         (FailsSince S.handed S.since S.fails source.old source.new) result
         (K.state out.old) (K.state out.new) (S.handed source.old) (S.handed source.new) }
@@ -287,6 +294,8 @@ pub(crate) fn write_session<S: PlaneSource, K: Sink>(
     requires ready { S.is_ready source.old }
     ensures since { S.since source.old source.new }
     ensures cause { HasStopCause (FailsSince S.handed S.since S.fails source.old source.new) result (K.state out.old) (K.state out.new) }
+    ensures written { EndsStepsOverSome (queries_lines (map string_bytes sqls.now)) (S.told source.old).head plan.now
+        (queries_of session.old) result (K.state out.old) (K.state out.new) }
     ensures ends { EndsToldSession (queries_lines (map string_bytes sqls.now)) plan.now (queries_of session.old) (S.told source.old)
         (S.places source.old) (S.shows source.old) (FailsSince S.handed S.since S.fails source.old source.new) result
         (K.state out.old) (K.state out.new) (S.handed source.old) (S.handed source.new) }

@@ -20,7 +20,9 @@ words_step ask = then (sql_step ask.sql) (λ query. schema_step ask.schema)
 
 -- and where the input has these bytes: then its table, and the question to it
 abbrev pub ask_step : Ask → List ℕ → Step Question
-ask_step ask bytes = then (sql_step ask.sql) (λ query. then (schema_step ask.schema) (λ columns. then (table_step columns bytes) (λ table. question_step query ask.options table)))
+ask_step ask bytes =
+    then (sql_step ask.sql) (λ query. then (schema_step ask.schema) (λ columns.
+    then (table_step columns bytes) (λ table. question_step query ask.options table)))
 
 -- the words are not refused
 abbrev pub AcceptsWords : Ask → Type 0
@@ -48,6 +50,7 @@ pub record Asks (ask : Ask) (extent : Extent) (input input' : SourceState) (out 
 pub data AskCause (ask : Ask) (input input' : SourceState) (out out' : SinkState) : Refusal → Type 0 where
   at_words : {why : Refusal} → (words_step ask).shows why → input' ≡ input → out' ≡ out → AskCause ask input input' out out' why
   at_input : {why : Refusal} → StopsAtInput (ask_step ask) input input' why → out' ≡ out → AskCause ask input input' out out' why
-  read_fault : AcceptsWords ask → Rose input.faults input'.faults → Takes input input' 0 most_bytes → out' ≡ out → AskCause ask input input' out out' ReadFault
+  read_fault : AcceptsWords ask → Rose input.faults input'.faults → Takes input input' 0 most_bytes → out' ≡ out →
+      AskCause ask input input' out out' ReadFault
   write_fault : Asks ask partly input input' out out' → AskCause ask input input' out out' WriteFault
   no_memory : length ask.sql ≤ 4096 → Takes input input' 0 most_bytes → out' ≡ out → AskCause ask input input' out out' NoMemory

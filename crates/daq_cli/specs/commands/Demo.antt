@@ -29,7 +29,8 @@ generator_step seed rows = record { accepts = IsGenerated seed rows; shows = Sho
 
 -- the SQL, then the generator, then the question
 abbrev pub demo_step : Demo → Step Question
-demo_step demo = then (sql_step demo.sql) (λ query. then (generator_step demo.seed demo.rows) (λ table. question_step query demo.options table))
+demo_step demo =
+    then (sql_step demo.sql) (λ query. then (generator_step demo.seed demo.rows) (λ table. question_step query demo.options table))
 
 -- the report of the question was written, whole or in part
 pub record Demonstrates (demo : Demo) (extent : Extent) (out out' : SinkState) : Type 0 where

@@ -36,7 +36,8 @@ column_front number column =
 -- and then its least and its greatest value
 abbrev pub column_line : ℕ → ColumnHead → List ℕ
 column_line number column =
-    column_front number column ++ (codes " from " ++ (text_of_value column column.base ++ (codes " to " ++ (text_of_value column column.top ++ codes "\n"))))
+    column_front number column
+    ++ (codes " from " ++ (text_of_value column column.base ++ (codes " to " ++ (text_of_value column column.top ++ codes "\n"))))
 
 -- the columns, numbered from this number on
 abbrev pub column_lines : ℕ → List ColumnHead → List ℕ

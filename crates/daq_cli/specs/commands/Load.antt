@@ -37,6 +37,8 @@ pub record Loads (load : Load) (input input' : SourceState) (made made' out out'
 
 -- why a `load` stops; but for a failed write nothing was written
 pub data LoadCause (load : Load) (input input' : SourceState) (made made' out out' : SinkState) : Refusal → Type 0 where
-  at_input : {why : Refusal} → InputCause load.schema input input' why → made' ≡ made → out' ≡ out → LoadCause load input input' made made' out out' why
-  at_table : {why : Refusal} (table : Contents) → ReadsTable load.schema input input' table → StoreCause loaded table made made' out out' why
+  at_input : {why : Refusal} → InputCause load.schema input input' why → made' ≡ made → out' ≡ out →
+      LoadCause load input input' made made' out out' why
+  at_table : {why : Refusal} (table : Contents) → ReadsTable load.schema input input' table →
+      StoreCause loaded table made made' out out' why
       → LoadCause load input input' made made' out out' why

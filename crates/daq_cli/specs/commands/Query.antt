@@ -115,23 +115,27 @@ StopsAfter head opened last at column number fault =
     (mid : StoreState) × HoldsSame opened mid × (option_map laid mid.pieces ≡ at) × StopsReading head column number mid last fault
 
 -- what becomes of rounds over the store of a file with that head, where it tells its bytes, behind the line of the query
-abbrev pub EndsFile : List ℕ → Plan → TypedQuery → Head → Result (Unit {0}) (Stop PlaneFault) → StoreState → StoreState → SinkState → SinkState → Type 0
+abbrev pub EndsFile : List ℕ → Plan → TypedQuery → Head → Result (Unit {0}) (Stop PlaneFault) → StoreState → StoreState
+    → SinkState → SinkState → Type 0
 EndsFile text plan typed head result opened last out out' =
-    IfSome opened.held (λ bytes. EndsRounds (query_line text) head plan typed (bits_at head bytes) (plane_places head) (IsUnpadded head bytes)
-    (StopsAfter head opened last) result out out' (option_map laid opened.pieces) (option_map laid last.pieces))
+    IfSome opened.held (λ bytes. EndsRounds (query_line text) head plan typed (bits_at head bytes) (plane_places head)
+    (IsUnpadded head bytes) (StopsAfter head opened last) result out out' (option_map laid opened.pieces) (option_map laid last.pieces))
 
-module _ (words : line.Query) (planes opened planes' : StoreState) (out out' : SinkState) (begun : Begins words planes opened) (bytes : List ℕ) where
+module _ (words : line.Query) (planes opened planes' : StoreState) (out out' : SinkState) (begun : Begins words planes opened)
+    (bytes : List ℕ) where
   -- the report of all rounds was written, each of whose intervals is certain; behind the head the places of the planes read were handed
   -- over, each once, in order, and no others; and none of these has a bit past its last row
   pub record Completed : Type 0 where
     pub rounds : Finishes (query_line (printed begun.query)) begun.file.head begun.plan begun.typed (bits_at begun.file.head bytes)
-        (plane_places begun.file.head) (IsUnpadded begun.file.head bytes) out out' (option_map laid opened.pieces) (option_map laid planes'.pieces)
+        (plane_places begun.file.head) (IsUnpadded begun.file.head bytes) out out'
+        (option_map laid opened.pieces) (option_map laid planes'.pieces)
     pub headline : AreCertainOf begun.typed (frame_of begun.file.head) (bits_at begun.file.head bytes) rounds.reads
 
   -- a write failed in the last of these rounds, for which no plane past theirs was read
   pub record CutOff : Type 0 where
     pub rounds : Fails (query_line (printed begun.query)) begun.file.head begun.plan begun.typed (bits_at begun.file.head bytes)
-        (plane_places begun.file.head) (IsUnpadded begun.file.head bytes) out out' (option_map laid opened.pieces) (option_map laid planes'.pieces)
+        (plane_places begun.file.head) (IsUnpadded begun.file.head bytes) out out'
+        (option_map laid opened.pieces) (option_map laid planes'.pieces)
     pub headline : AreCertainOf begun.typed (frame_of begun.file.head) (bits_at begun.file.head bytes) rounds.reads
 
   -- the plane after these rounds, whose blocks were written, was not read, or is refused
@@ -164,9 +168,10 @@ pub data QueryCause (words : line.Query) (planes planes' : StoreState) (out out'
   at_write : (opened : StoreState) (begun : Begins words planes opened) → Rose out.faults out'.faults →
       FailsOverSome (query_line (printed begun.query)) begun.file.head begun.plan begun.typed out out' →
       IfSome planes.held (CutOff words planes opened planes' out out' begun) → QueryCause words planes planes' out out' WriteFault
-  at_plane : {why : Refusal} (opened : StoreState) (begun : Begins words planes opened) (fault : StepFault PlaneFault) → why ≡ of.step fault →
-      PlaneCause begun.file.head opened planes' fault →
+  at_plane : {why : Refusal} (opened : StoreState) (begun : Begins words planes opened) (fault : StepFault PlaneFault) →
+      why ≡ of.step fault → PlaneCause begun.file.head opened planes' fault →
       WritesOverSome (query_line (printed begun.query)) begun.file.head begun.plan begun.typed IsNone out out' →
-      IfSome planes.held (λ bytes. Stopped words planes opened planes' out out' begun bytes fault) → QueryCause words planes planes' out out' why
+      IfSome planes.held (λ bytes. Stopped words planes opened planes' out out' begun bytes fault) →
+      QueryCause words planes planes' out out' why
   no_memory : length words.sql ≤ 4096 → (planes' ≡ planes ⊎ ((file : Opened) × Opens planes planes' file)) → out' ≡ out →
       QueryCause words planes planes' out out' NoMemory

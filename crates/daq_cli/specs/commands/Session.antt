@@ -1,5 +1,5 @@
 -- `session`: the queries of a script over the planes that a file holds. Each plane is read once, for all queries that await it.
-use Rattle.std.specs.Prelude.{◌≡◌, ◌≢◌, ◌⊎◌, ℕ, List, IfSome, length, map, option_map, slice_get, Some}
+use Rattle.std.specs.Prelude.{◌≡◌, ◌≢◌, ◌⊎◌, ℕ, List, IfSome, IsSome, IsNone, length, map, option_map, slice_get, Some}
 use Rattle.std.specs.declared.option.Option.{Option}
 use Rattle.std.specs.declared.option.Option.TheVariants.{None}
 use Rattle.std.specs.declared.result.Result.{Result}
@@ -33,7 +33,7 @@ use Rattle.daq_cli.specs.Faults as of
 use Rattle.daq_cli.specs.Files.{StopsOpening, file_step}
 use Rattle.daq_cli.specs.Questions.{extras_of}
 use Rattle.daq_cli.specs.Scripts.{ReadsScript, ScriptCause, Scripted, queries_step}
-use Rattle.daq_cli.specs.SessionReport.{EndsSession, FailsSession, FinishesSession, StopsSession, queries_lines, session_report}
+use Rattle.daq_cli.specs.SessionReport.{EndsSession, FailsSession, FailsStepsOverSome, FinishesSession, StopsSession, WritesStepsOverSome, queries_lines, session_report}
 use Rattle.daq_cli.specs.Steps.{Step, each, then}
 use Rattle.daq_cli.specs.commands.Query.{AreCertainOf, PlaneCause, StopsAfter, refusal_at}
 use Rattle.daq_cli.specs.declared.refusal.Refusal.{Refusal}
@@ -192,13 +192,15 @@ module _ (words : line.Session) (side side' : SourceState) (planes opened planes
         (StopsAfter begun.file.head opened planes') fault out out' (option_map laid opened.pieces) (option_map laid planes'.pieces)
     pub headline : AreAllCertain begun.plan begun.typed begun.file.head (bits_at begun.file.head bytes) steps.reads
 
--- a `session` was done
+-- a `session` was done. Told or not, the report is that of all steps over some planes
 pub record Sessions (words : line.Session) (side side' : SourceState) (planes planes' : StoreState) (out out' : SinkState) : Type 0 where
   pub opened : StoreState
   pub begun : BeginsSteps words side side' planes opened
+  pub written : WritesStepsOverSome (queries_lines (printed_forms begun.queries)) begun.file.head begun.plan begun.typed IsSome out out'
   pub completed : IfSome planes.held (Completed words side side' planes opened planes' out out' begun)
 
--- why a `session` stops. Before its first step nothing was written
+-- why a `session` stops. Before its first step nothing was written; from then on, told or not, steps over some planes, and in a failed
+-- write a part of the last
 pub data SessionCause (words : line.Session) (side side' : SourceState) (planes planes' : StoreState) (out out' : SinkState)
     : Refusal → Type 0 where
   at_script : {why : Refusal} → ScriptCause side side' why → planes' ≡ planes → out' ≡ out →
@@ -210,9 +212,11 @@ pub data SessionCause (words : line.Session) (side side' : SourceState) (planes 
   no_memory : (queries : List Scripted) (file : Opened) → HasOpened side side' planes planes' queries file → out' ≡ out →
       SessionCause words side side' planes planes' out out' NoMemory
   at_write : (opened : StoreState) (begun : BeginsSteps words side side' planes opened) → Rose out.faults out'.faults →
+      FailsStepsOverSome (queries_lines (printed_forms begun.queries)) begun.file.head begun.plan begun.typed out out' →
       IfSome planes.held (CutOff words side side' planes opened planes' out out' begun) →
       SessionCause words side side' planes planes' out out' WriteFault
   at_plane : {why : Refusal} (opened : StoreState) (begun : BeginsSteps words side side' planes opened) (fault : StepFault PlaneFault) →
       why ≡ of.step fault → PlaneCause begun.file.head opened planes' fault →
+      WritesStepsOverSome (queries_lines (printed_forms begun.queries)) begun.file.head begun.plan begun.typed IsNone out out' →
       IfSome planes.held (λ bytes. Stopped words side side' planes opened planes' out out' begun bytes fault) →
       SessionCause words side side' planes planes' out out' why

@@ -54,6 +54,7 @@ pub record StopsTable (planes planes' : StoreState) (why : Refusal) : Type 0 whe
 
 -- why an `upgrade` stops; but for a failed write nothing was written
 pub data UpgradeCause (planes planes' : StoreState) (made made' out out' : SinkState) : Refusal → Type 0 where
-  at_file : {why : Refusal} → StopsTable planes planes' why → made' ≡ made → out' ≡ out → UpgradeCause planes planes' made made' out out' why
+  at_file : {why : Refusal} → StopsTable planes planes' why → made' ≡ made → out' ≡ out →
+      UpgradeCause planes planes' made made' out out' why
   at_table : {why : Refusal} (table : Contents) → ReadsTable planes planes' table → StoreCause upgraded table made made' out out' why
       → UpgradeCause planes planes' made made' out out' why

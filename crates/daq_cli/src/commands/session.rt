@@ -16,7 +16,7 @@ ghost use Rattle.sql_text.specs.Tree.{query_of};
 ghost use Rattle.daq_cli.specs.Report.{HasStopCause};
 ghost use Rattle.daq_cli.specs.ScriptValues.{scripted_of};
 ghost use Rattle.daq_cli.specs.Scripts.{AcceptsScript};
-ghost use Rattle.daq_cli.specs.SessionReport.{queries_of};
+ghost use Rattle.daq_cli.specs.SessionReport.{EndsStepsOverSome, queries_lines, queries_of};
 ghost use Rattle.daq_cli.specs.commands.Query.{StopsAfter};
 ghost use Rattle.daq_cli.specs.commands.Session.{EndsSteps, HasOpened, SessionCause, Sessions};
 
@@ -55,6 +55,8 @@ fn report_planes<P: Store, K: Sink>(
     ensures same { HoldsSame (P.state source.old.store.now) (P.state source.new.store.now) }
     ensures cause { HasStopCause (StopsAfter source.old.file.now.head (P.state source.old.store.now) (P.state source.new.store.now)) result
         (K.state out.old) (K.state out.new) }
+    ensures written { EndsStepsOverSome (queries_lines (map string_bytes sqls.now)) source.old.file.now.head plan.now
+        (queries_of session.old) result (K.state out.old) (K.state out.new) }
     ensures ends { EndsSteps (map string_bytes sqls.now) plan.now (queries_of session.old) source.old.file.now.head result
         (P.state source.old.store.now) (P.state source.new.store.now) (K.state out.old) (K.state out.new) }
 {
@@ -80,6 +82,8 @@ fn report_file<P: Store, K: Sink>(
     requires unlisted { IsUnlisted plan.now.policy }
     ensures same { HoldsSame (P.state planes.old) (P.state planes.new) }
     ensures cause { HasStopCause (StopsAfter file.now.head (P.state planes.old) (P.state planes.new)) result
+        (K.state out.old) (K.state out.new) }
+    ensures written { EndsStepsOverSome (queries_lines (map string_bytes sqls.now)) file.now.head plan.now (queries_of session.old) result
         (K.state out.old) (K.state out.new) }
     ensures ends { EndsSteps (map string_bytes sqls.now) plan.now (queries_of session.old) file.now.head result
         (P.state planes.old) (P.state planes.new) (K.state out.old) (K.state out.new) }

@@ -6,6 +6,7 @@ use Rattle.daq_report.specs.Blocks.{block_text}
 use Rattle.daq_table.specs.Tables.{frame_of}
 use Rattle.outer_world.specs.Whole.{Writes}
 use Rattle.plane_schedule.specs.Plans.{IsReadable}
+use Rattle.round_engine.specs.Progresses.{planes_read}
 use Rattle.table_rounds.proofs.Reached.{columns_of_part}
 use Rattle.table_rounds.specs.Rounds.{IsAfter, ending_at}
 use Rattle.table_rounds.specs.Sources.{IsNextRound, StopsAt, StopsNext, next_places}
@@ -38,8 +39,8 @@ rounds-init g c =
       last = tt;
     }
 
-pub returns-in_err-write_block-clause-ends : goal.returns-in_err-write_block-clause-ends
-returns-in_err-write_block-clause-ends g c =
+pub returns-in_err-write_round-clause-ends : goal.returns-in_err-write_round-clause-ends
+returns-in_err-write_round-clause-ends g c =
     let told = g.S.PlaneSource.told c.args.source.now in
     let places = g.S.PlaneSource.places c.args.source.now in
     let shows = g.S.PlaneSource.shows c.args.source.now in
@@ -49,8 +50,8 @@ returns-in_err-write_block-clause-ends g c =
     let head_is = c.head.ensures.head ∙ ap (λ t. t.head) c.rounds.invariant.told in
     rw (p.1, p.2) (if_some told.bits _ _
     (λ bits reached. block_in_part plan told.head query bits places shows c.rounds.engine c.rounds.last _ _ _ _ _ reached
-    (subst (Writes partly _ _) (ap (λ h. block_text h plan.list plan.extras c.rounds.engine c.progress.result.done c.rounds.last) head_is
-    ∙ block_is plan told.head query bits places shows c.rounds_are_counted.ensures c.rounds.engine c.rounds.last _ _ _ _ c.progress.result.done reached c.progress.ensures.done) (as_partly _ _ _ _ c.in_err-write_block.ensures)))
+    (subst (Writes partly _ _) (ap (λ h. block_text h plan.list plan.extras c.rounds.engine (planes_read c.rounds.engine.known) c.rounds.last) head_is
+    ∙ block_is plan told.head query bits places shows c.rounds_are_counted.ensures c.rounds.engine c.rounds.last _ _ _ _ (planes_read c.rounds.engine.known) reached refl) (as_partly _ _ _ _ c.in_err-write_round.ensures)))
     c.rounds.invariant.reached)
 
 pub returns-in_err-write_ending-in-Some-clause-ends : goal.returns-in_err-write_ending-in-Some-clause-ends
@@ -64,8 +65,8 @@ returns-in_err-write_ending-in-Some-clause-ends g c =
     let head_is = c.head.ensures.head ∙ ap (λ t. t.head) c.rounds.invariant.told in
     rw (p.1, p.2) (if_some told.bits _ _
     (λ bits reached. line_in_part plan told.head query bits places shows c.rounds.engine c.rounds.last c.in-Some.why _ _ _ _ _ _ reached
-    (subst (Writes whole _ _) (ap (λ h. block_text h plan.list plan.extras c.rounds.engine c.progress.result.done c.rounds.last) head_is
-    ∙ block_is plan told.head query bits places shows c.rounds_are_counted.ensures c.rounds.engine c.rounds.last _ _ _ _ c.progress.result.done reached c.progress.ensures.done) (as_whole _ _ _ _ c.in_ok-write_block.ensures))
+    (subst (Writes whole _ _) (ap (λ h. block_text h plan.list plan.extras c.rounds.engine (planes_read c.rounds.engine.known) c.rounds.last) head_is
+    ∙ block_is plan told.head query bits places shows c.rounds_are_counted.ensures c.rounds.engine c.rounds.last _ _ _ _ (planes_read c.rounds.engine.known) reached refl) (as_whole _ _ _ _ c.in_ok-write_round.ensures))
     (sym c.in-Some.ensures.ending) (as_partly _ _ _ _ c.in_err-write_ending-in-Some.ensures))
     c.rounds.invariant.reached)
 
@@ -92,8 +93,8 @@ returns-in_err-read_next-in-None-clause-ends g c =
     rw (p.1, p.2) (if_both told.bits (λ bits. Reached plan told.head query bits places shows engine c.rounds.last (g.K.Sink.state c.args.out.now) (g.K.Sink.state c.rounds.out) (g.S.PlaneSource.handed c.args.source.now) at)
     (λ bits. (reads : List ℕ) → IsAfter plan engine.query (frame_of told.head) bits reads engine → (handed : List ℕ) × StopsAt plan engine.query (frame_of told.head) bits places fails reads fault handed × Appends at to handed) _
     (λ bits reached step. stopped plan told.head query bits places shows causes engine.query c.rounds.invariant.query engine c.rounds.last fault _ _ _ _ _ _ reached
-    (subst (Writes whole _ _) (ap (λ h. block_text h plan.list plan.extras engine c.progress.result.done c.rounds.last) head_is
-    ∙ block_is plan told.head query bits places shows c.rounds_are_counted.ensures engine c.rounds.last _ _ _ _ c.progress.result.done reached c.progress.ensures.done) (as_whole _ _ _ _ c.in_ok-write_block.ensures))
+    (subst (Writes whole _ _) (ap (λ h. block_text h plan.list plan.extras engine (planes_read c.rounds.engine.known) c.rounds.last) head_is
+    ∙ block_is plan told.head query bits places shows c.rounds_are_counted.ensures engine c.rounds.last _ _ _ _ (planes_read c.rounds.engine.known) reached refl) (as_whole _ _ _ _ c.in_ok-write_round.ensures))
     going (λ reads after.
     let (handed, stops, grown) = step reads after in
     (handed, stops_since plan engine.query (frame_of told.head) bits places fails (causes at) fault (λ column number error failed. (c.rounds.source, c.rounds.invariant.since, refl, failed)) reads handed stops, grown))
@@ -111,8 +112,8 @@ returns-in-Some-clause-ends g c =
     let head_is = c.head.ensures.head ∙ ap (λ t. t.head) c.rounds.invariant.told in
     if_some told.bits _ _
     (λ bits reached. all_written plan told.head query bits places shows c.rounds.engine c.rounds.last c.in-Some.why _ _ _ _ _ _ reached
-    (subst (Writes whole _ _) (ap (λ h. block_text h plan.list plan.extras c.rounds.engine c.progress.result.done c.rounds.last) head_is
-    ∙ block_is plan told.head query bits places shows c.rounds_are_counted.ensures c.rounds.engine c.rounds.last _ _ _ _ c.progress.result.done reached c.progress.ensures.done) (as_whole _ _ _ _ c.in_ok-write_block.ensures))
+    (subst (Writes whole _ _) (ap (λ h. block_text h plan.list plan.extras c.rounds.engine (planes_read c.rounds.engine.known) c.rounds.last) head_is
+    ∙ block_is plan told.head query bits places shows c.rounds_are_counted.ensures c.rounds.engine c.rounds.last _ _ _ _ (planes_read c.rounds.engine.known) reached refl) (as_whole _ _ _ _ c.in_ok-write_round.ensures))
     (sym c.in-Some.ensures.ending) (as_whole _ _ _ _ c.in_ok-write_ending-in-Some.ensures))
     c.rounds.invariant.reached
 
@@ -138,20 +139,20 @@ rounds-preserved g c =
       reached = if_both told.bits (λ bits. Reached plan told.head query bits places shows engine c.rounds.last (g.K.Sink.state c.args.out.now) (g.K.Sink.state c.rounds.out) (g.S.PlaneSource.handed c.args.source.now) (g.S.PlaneSource.handed c.rounds.source))
           (λ bits. (reads : List ℕ) → IsAfter plan engine.query (frame_of told.head) bits reads engine → IsAfter plan engine.query (frame_of told.head) bits (reads ++ column ∷ []) new) _
           (λ bits reached step. read_further plan told.head query bits places shows engine.query c.rounds.invariant.query engine new c.rounds.last column _ _ _ _ _ _ reached
-          (subst (Writes whole _ _) (ap (λ h. block_text h plan.list plan.extras engine c.progress.result.done c.rounds.last) head_is
-          ∙ block_is plan told.head query bits places shows c.rounds_are_counted.ensures engine c.rounds.last _ _ _ _ c.progress.result.done reached c.progress.ensures.done) (as_whole _ _ _ _ c.in_ok-write_block.ensures))
+          (subst (Writes whole _ _) (ap (λ h. block_text h plan.list plan.extras engine (planes_read c.rounds.engine.known) c.rounds.last) head_is
+          ∙ block_is plan told.head query bits places shows c.rounds_are_counted.ensures engine c.rounds.last _ _ _ _ (planes_read c.rounds.engine.known) reached refl) (as_whole _ _ _ _ c.in_ok-write_round.ensures))
           step inside
           (subst (λ ps. Appends (g.S.PlaneSource.handed c.rounds.source) (g.S.PlaneSource.handed c.read_next.new.source) (next_places ps engine column)) c.rounds.invariant.places c.in_ok-read_next-in-None.ensures.handed)
           (g.met.S.PlaneSource.shows_before c.args.source.now c.rounds.source _ _ c.rounds.invariant.since c.in_ok-read_next-in-None.ensures.shown))
           c.rounds.invariant.reached next;
-      some = next_some plan told.head query c.rounds_are_counted.ensures engine c.rounds.last _ _ _ _ _ (record { head_is = head_is; done_is = c.progress.ensures.done }) c.rounds.invariant.some
-          (as_whole _ _ _ _ c.in_ok-write_block.ensures) going c.rounds_have_planes.ensures c.policies_choose.ensures c.requires.valid.distinct
+      some = next_some plan told.head query c.rounds_are_counted.ensures engine c.rounds.last _ _ _ _ _ (record { head_is = head_is; done_is = refl }) c.rounds.invariant.some
+          (as_whole _ _ _ _ c.in_ok-write_round.ensures) going c.rounds_have_planes.ensures c.policies_choose.ensures c.requires.valid.distinct
           (subst (IsReadable plan.policy) (ap (λ s. s.frame) c.requires.opened) c.requires.readable) new column c.read_next.new.plane (c.in_ok-read_next-in-None.ensures.chosen plan.policy c.requires.follows)
-          below c.query-query.ensures.knowledge c.in_ok-read_next-in-None.ensures.taken;
+          below c.tell_known.ensures c.in_ok-read_next-in-None.ensures.taken;
       told = c.read_next.ensures.told ∙ c.rounds.invariant.told;
       ready = c.read_next.ensures.ready;
       since = g.met.S.PlaneSource.since_both c.args.source.now c.rounds.source c.read_next.new.source c.rounds.invariant.since c.read_next.ensures.since;
-      later = (let before = c.rounds.invariant.later in let after = c.in_ok-write_block.ensures.cause.later in omega (arith, before, after));
+      later = (let before = c.rounds.invariant.later in let after = c.in_ok-write_round.ensures.cause.later in omega (arith, before, after));
       places = c.read_next.ensures.places ∙ c.rounds.invariant.places;
       query = c.read_next.ensures.query ∙ c.rounds.invariant.query;
       frame = c.read_next.ensures.frame ∙ c.rounds.invariant.frame;
@@ -161,16 +162,16 @@ rounds-preserved g c =
 
 -- ---- whatever is told
 
-pub returns-in_err-write_block-clause-cause : goal.returns-in_err-write_block-clause-cause
-returns-in_err-write_block-clause-cause g c =
+pub returns-in_err-write_round-clause-cause : goal.returns-in_err-write_round-clause-cause
+returns-in_err-write_round-clause-cause g c =
     let p = err_from_is_err_and c.from_residual.result c.from_residual.ensures.1 in
-    rw (p.1, p.2) (rose_later _ _ _ c.rounds.invariant.later c.in_err-write_block.ensures.cause.failed)
+    rw (p.1, p.2) (rose_later _ _ _ c.rounds.invariant.later c.in_err-write_round.ensures.cause.failed)
 
 pub returns-in_err-write_ending-in-Some-clause-cause : goal.returns-in_err-write_ending-in-Some-clause-cause
 returns-in_err-write_ending-in-Some-clause-cause g c =
     let p = err_from_is_err_and c.from_residual-in_err-write_ending-in-Some.result c.from_residual-in_err-write_ending-in-Some.ensures.1 in
     let before = c.rounds.invariant.later in
-    let block = c.in_ok-write_block.ensures.cause.later in
+    let block = c.in_ok-write_round.ensures.cause.later in
     rw (p.1, p.2) (rose_later _ _ _ (omega (arith, before, block)) c.in_err-write_ending-in-Some.ensures.cause.failed)
 
 pub returns-in_err-read_next-in-None-clause-cause : goal.returns-in_err-read_next-in-None-clause-cause
@@ -185,13 +186,13 @@ returns-in_err-read_next-in-None-clause-since g c =
 
 -- ---- what was written
 
-pub returns-in_err-write_block-clause-written : goal.returns-in_err-write_block-clause-written
-returns-in_err-write_block-clause-written g c =
+pub returns-in_err-write_round-clause-written : goal.returns-in_err-write_round-clause-written
+returns-in_err-write_round-clause-written g c =
     let told = g.S.PlaneSource.told c.args.source.now in
     let p = err_from_is_err_and c.from_residual.result c.from_residual.ensures.1 in
     let head_is = c.head.ensures.head ∙ ap (λ t. t.head) c.rounds.invariant.told in
     rw (p.1, p.2) (block_part_some c.args.plan.now told.head c.args.engine.now.query c.rounds_are_counted.ensures c.rounds.engine c.rounds.last _ _ _ _ _
-    (record { head_is = head_is; done_is = c.progress.ensures.done }) c.rounds.invariant.some (as_partly _ _ _ _ c.in_err-write_block.ensures))
+    (record { head_is = head_is; done_is = refl }) c.rounds.invariant.some (as_partly _ _ _ _ c.in_err-write_round.ensures))
 
 pub returns-in_err-write_ending-in-Some-clause-written : goal.returns-in_err-write_ending-in-Some-clause-written
 returns-in_err-write_ending-in-Some-clause-written g c =
@@ -199,7 +200,7 @@ returns-in_err-write_ending-in-Some-clause-written g c =
     let p = err_from_is_err_and c.from_residual-in_err-write_ending-in-Some.result c.from_residual-in_err-write_ending-in-Some.ensures.1 in
     let head_is = c.head.ensures.head ∙ ap (λ t. t.head) c.rounds.invariant.told in
     rw (p.1, p.2) (line_part_some c.args.plan.now told.head c.args.engine.now.query c.rounds_are_counted.ensures c.rounds.engine c.rounds.last _ _ _ _ _
-    (record { head_is = head_is; done_is = c.progress.ensures.done }) c.rounds.invariant.some (as_whole _ _ _ _ c.in_ok-write_block.ensures) c.in-Some.why _ (sym c.in-Some.ensures.ending)
+    (record { head_is = head_is; done_is = refl }) c.rounds.invariant.some (as_whole _ _ _ _ c.in_ok-write_round.ensures) c.in-Some.why _ (sym c.in-Some.ensures.ending)
     (as_partly _ _ _ _ c.in_err-write_ending-in-Some.ensures))
 
 pub returns-in_err-read_next-in-None-clause-written : goal.returns-in_err-read_next-in-None-clause-written
@@ -209,12 +210,12 @@ returns-in_err-read_next-in-None-clause-written g c =
     let head_is = c.head.ensures.head ∙ ap (λ t. t.head) c.rounds.invariant.told in
     let going : IsNone (ending_at c.args.plan.now c.rounds.engine) = subst IsNone c.in-None.ensures.ending refl in
     rw (p.1, p.2) (stopped_some c.args.plan.now told.head c.args.engine.now.query c.rounds_are_counted.ensures c.rounds.engine c.rounds.last _ _ _ _ _
-    (record { head_is = head_is; done_is = c.progress.ensures.done }) c.rounds.invariant.some (as_whole _ _ _ _ c.in_ok-write_block.ensures) going)
+    (record { head_is = head_is; done_is = refl }) c.rounds.invariant.some (as_whole _ _ _ _ c.in_ok-write_round.ensures) going)
 
 pub returns-in-Some-clause-written : goal.returns-in-Some-clause-written
 returns-in-Some-clause-written g c =
     let told = g.S.PlaneSource.told c.args.source.now in
     let head_is = c.head.ensures.head ∙ ap (λ t. t.head) c.rounds.invariant.told in
     written_some c.args.plan.now told.head c.args.engine.now.query c.rounds_are_counted.ensures c.rounds.engine c.rounds.last _ _ _ _ _
-    (record { head_is = head_is; done_is = c.progress.ensures.done }) c.rounds.invariant.some (as_whole _ _ _ _ c.in_ok-write_block.ensures) c.in-Some.why _ (sym c.in-Some.ensures.ending)
+    (record { head_is = head_is; done_is = refl }) c.rounds.invariant.some (as_whole _ _ _ _ c.in_ok-write_round.ensures) c.in-Some.why _ (sym c.in-Some.ensures.ending)
     (as_whole _ _ _ _ c.in_ok-write_ending-in-Some.ensures)

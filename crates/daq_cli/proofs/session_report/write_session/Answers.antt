@@ -6,6 +6,7 @@ use Rattle.daq_cli.specs.Report.{FailsSince}
 use Rattle.daq_cli.specs.SessionReport.{queries_lines, queries_of}
 use Rattle.daq_cli.proofs.Loops.{all_some, as_partly, as_whole, cause_after, if_some}
 use Rattle.daq_cli.proofs.SessionSteps.{after_lines, in_lines}
+use Rattle.daq_cli.proofs.SomeSteps.{after_lines_some, in_lines_some}
 use Rattle.daq_cli.proofs.session_report.write_session.Goals as goal
 
 pub returns-in_err-write_queries-clause-ends : goal.returns-in_err-write_queries-clause-ends
@@ -31,3 +32,18 @@ returns-in_err-write_queries-clause-since g c = g.met.S.PlaneSource.since_itself
 
 pub returns-clause-cause : goal.returns-clause-cause
 returns-clause-cause g c = cause_after _ c.write_planned.result _ _ _ c.in_ok-write_queries.ensures.cause.later c.write_planned.ensures.cause
+
+-- ---- what was written
+
+pub returns-in_err-write_queries-clause-written : goal.returns-in_err-write_queries-clause-written
+returns-in_err-write_queries-clause-written g c =
+    let told = g.S.PlaneSource.told c.args.source.now in
+    let p = err_from_is_err_and c.from_residual.result c.from_residual.ensures.1 in
+    rw (p.1, p.2) (in_lines_some (queries_lines (map string_bytes c.args.sqls.now)) c.args.plan.now told.head (queries_of c.args.session.now) _ _ c.sessions_begin.ensures
+    (as_partly _ _ _ _ c.in_err-write_queries.ensures))
+
+pub returns-clause-written : goal.returns-clause-written
+returns-clause-written g c =
+    let told = g.S.PlaneSource.told c.args.source.now in
+    after_lines_some (queries_lines (map string_bytes c.args.sqls.now)) c.args.plan.now told.head (queries_of c.args.session.now) c.write_planned.result _ _ _
+    (as_whole _ _ _ _ c.in_ok-write_queries.ensures) c.write_planned.ensures.written

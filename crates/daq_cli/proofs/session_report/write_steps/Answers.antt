@@ -4,6 +4,8 @@ use Rattle.std.specs.Io.KnownBytes.{Appends}
 use Rattle.std.proofs.lemmas.Result.{err_from_is_err_and}
 use Rattle.daq_table.specs.declared.table_head.Head.{Head}
 use Rattle.query_model.specs.Queries.{Query}
+use Rattle.session_rounds.proofs.Fitting.{fits_opened}
+use Rattle.session_rounds.proofs.Outlooks.{choice_of}
 use Rattle.session_rounds.specs.Reading.{FitsSession, IsNext, IsNextStep, StopsAt, StopsNext}
 use Rattle.session_rounds.specs.Steps.{IsAfter, ending_in}
 use Rattle.daq_cli.specs.Report.{FailsSince}
@@ -11,8 +13,8 @@ use Rattle.daq_cli.specs.SessionReport.{queries_of}
 use Rattle.daq_cli.specs.Worlds.{partly, whole}
 use Rattle.daq_cli.proofs.Loops.{all_some, as_partly, as_whole, if_both, if_some, rose_later}
 use Rattle.daq_cli.proofs.Rounds.{cause_since, refused_before}
-use Rattle.daq_cli.proofs.SessionQueries.{fits_opened}
 use Rattle.daq_cli.proofs.SessionSteps.{ReachedStep, WritesStep, all_steps_written, blocks_in_part, end_in_part, first_step, step_further, step_stops_since, stopped_at}
+use Rattle.daq_cli.proofs.SomeSteps.{blocks_part_some, end_part_some, first_some_step, next_some_step, steps_stopped_some, steps_written_some}
 use Rattle.daq_cli.proofs.session_report.write_steps.Goals as goal
 
 pub steps-init : goal.steps-init
@@ -26,12 +28,13 @@ steps-init g c =
     record {
       reached = all_some told.bits _ (λ bits. first_step plan told.head queries bits places shows session (g.K.Sink.state c.args.out.now) (g.S.PlaneSource.handed c.args.source.now)
           (subst (λ s. IsAfter plan queries told.head bits [] s) (sym c.requires.opened) (c.sessions_begin.ensures plan queries told.head bits)));
+      some = first_some_step plan told.head queries session (g.K.Sink.state c.args.out.now) c.sessions_begin.ensures c.requires.opened;
       told = refl;
       ready = c.requires.ready;
       since = g.met.S.PlaneSource.since_itself c.args.source.now;
       later = omega arith;
       places = refl;
-      fits = fits_opened session told.head plan.width c.requires.valid c.requires.opened;
+      fits = subst (λ s. FitsSession s told.head) (sym c.requires.opened) (fits_opened queries told.head plan.width c.requires.valid);
       width = sym (ap (λ s. s.width) c.requires.opened);
       rows = c.requires.rows;
       last = tt;
@@ -157,6 +160,10 @@ steps-preserved g c =
           step_further plan told.head queries bits places shows s new last column _ _ _ _ _ _ r (step queries bits r.reads r.after r.last_is) next.after next.handed
           (g.met.S.PlaneSource.shows_before c.args.source.now c.steps.source _ _ c.steps.invariant.since next.shown))
           c.steps.invariant.reached next;
+      some = next_some_step plan told.head queries s last _ _ _ c.steps.invariant.some step going new column c.read_next.new.plane
+          (c.in_ok-read_next-in-None.ensures.chosen plan.policy c.requires.follows
+          (choice_of c.policies_choose.ensures plan.policy s c.requires.unlisted (c.in-None.ensures.unread told.head c.steps.invariant.fits)))
+          c.in_ok-read_next-in-None.ensures.legal taken;
       told = c.read_next.ensures.told ∙ c.steps.invariant.told;
       ready = c.read_next.ensures.ready;
       since = g.met.S.PlaneSource.since_both c.args.source.now c.steps.source c.read_next.new.source c.steps.invariant.since c.read_next.ensures.since;
@@ -191,6 +198,64 @@ returns-in_err-read_next-in-None-clause-cause g c =
 pub returns-in_err-read_next-in-None-clause-since : goal.returns-in_err-read_next-in-None-clause-since
 returns-in_err-read_next-in-None-clause-since g c =
     g.met.S.PlaneSource.since_both c.args.source.now c.steps.source c.read_next.new.source c.steps.invariant.since c.read_next.ensures.since
+
+-- ---- what was written
+
+pub returns-in_err-write_step-clause-written : goal.returns-in_err-write_step-clause-written
+returns-in_err-write_step-clause-written g c =
+    let told = g.S.PlaneSource.told c.args.source.now in
+    let plan = c.args.plan.now in
+    let s = c.steps.session in
+    let last = c.steps.last in
+    let head_is = c.head.ensures.head ∙ ap (λ t. t.head) c.steps.invariant.told in
+    let p = err_from_is_err_and c.from_residual.result c.from_residual.ensures.1 in
+    let step : WritesStep told.head plan s last partly (g.K.Sink.state c.steps.out) (g.K.Sink.state c.write_step.new.out) =
+    subst (λ (h : Head). WritesStep h plan s last partly (g.K.Sink.state c.steps.out) (g.K.Sink.state c.write_step.new.out)) head_is
+    (λ queries bits reads after is. as_partly _ _ _ _ (c.in_err-write_step.ensures.blocks queries bits reads after is)) in
+    rw (p.1, p.2) (blocks_part_some plan told.head (queries_of c.args.session.now) s last _ _ _ c.steps.invariant.some step)
+
+pub returns-in_err-write_ending-in-Some-clause-written : goal.returns-in_err-write_ending-in-Some-clause-written
+returns-in_err-write_ending-in-Some-clause-written g c =
+    let told = g.S.PlaneSource.told c.args.source.now in
+    let plan = c.args.plan.now in
+    let s = c.steps.session in
+    let last = c.steps.last in
+    let head_is = c.head.ensures.head ∙ ap (λ t. t.head) c.steps.invariant.told in
+    let step : WritesStep told.head plan s last whole (g.K.Sink.state c.steps.out) (g.K.Sink.state c.write_step.new.out) =
+    subst (λ (h : Head). WritesStep h plan s last whole (g.K.Sink.state c.steps.out) (g.K.Sink.state c.write_step.new.out)) head_is
+    (λ queries bits reads after is. as_whole _ _ _ _ (c.in_ok-write_step.ensures.blocks queries bits reads after is)) in
+    let p = err_from_is_err_and c.from_residual-in_err-write_ending-in-Some.result c.from_residual-in_err-write_ending-in-Some.ensures.1 in
+    rw (p.1, p.2) (end_part_some plan told.head (queries_of c.args.session.now) s last _ _ _ c.steps.invariant.some step c.in-Some.why _ (sym c.in-Some.ensures.ending)
+    (as_partly _ _ _ _ c.in_err-write_ending-in-Some.ensures))
+
+pub returns-in_err-read_next-in-None-clause-written : goal.returns-in_err-read_next-in-None-clause-written
+returns-in_err-read_next-in-None-clause-written g c =
+    let told = g.S.PlaneSource.told c.args.source.now in
+    let plan = c.args.plan.now in
+    let s = c.steps.session in
+    let last = c.steps.last in
+    let head_is = c.head.ensures.head ∙ ap (λ t. t.head) c.steps.invariant.told in
+    let step : WritesStep told.head plan s last whole (g.K.Sink.state c.steps.out) (g.K.Sink.state c.write_step.new.out) =
+    subst (λ (h : Head). WritesStep h plan s last whole (g.K.Sink.state c.steps.out) (g.K.Sink.state c.write_step.new.out)) head_is
+    (λ queries bits reads after is. as_whole _ _ _ _ (c.in_ok-write_step.ensures.blocks queries bits reads after is)) in
+    let p = err_from_is_err_and c.from_residual-in_err-read_next-in-None.result c.from_residual-in_err-read_next-in-None.ensures.1 in
+    let going : IsNone (ending_in plan s) = subst IsNone c.in-None.ensures.ending refl in
+    rw (p.1, p.2) (steps_stopped_some plan told.head (queries_of c.args.session.now) s last _ _ _ c.steps.invariant.some step going)
+
+pub returns-in-Some-clause-written : goal.returns-in-Some-clause-written
+returns-in-Some-clause-written g c =
+    let told = g.S.PlaneSource.told c.args.source.now in
+    let plan = c.args.plan.now in
+    let s = c.steps.session in
+    let last = c.steps.last in
+    let head_is = c.head.ensures.head ∙ ap (λ t. t.head) c.steps.invariant.told in
+    let step : WritesStep told.head plan s last whole (g.K.Sink.state c.steps.out) (g.K.Sink.state c.write_step.new.out) =
+    subst (λ (h : Head). WritesStep h plan s last whole (g.K.Sink.state c.steps.out) (g.K.Sink.state c.write_step.new.out)) head_is
+    (λ queries bits reads after is. as_whole _ _ _ _ (c.in_ok-write_step.ensures.blocks queries bits reads after is)) in
+    steps_written_some plan told.head (queries_of c.args.session.now) s last _ _ _ c.steps.invariant.some step c.in-Some.why _ (sym c.in-Some.ensures.ending)
+    (as_whole _ _ _ _ c.in_ok-write_ending-in-Some.ensures)
+
+-- ---- what is asked of a call
 
 pub write_step-requires-clause-fits : goal.write_step-requires-clause-fits
 write_step-requires-clause-fits g c = subst (FitsSession c.steps.session) (sym (c.head.ensures.head ∙ ap (λ t. t.head) c.steps.invariant.told)) c.steps.invariant.fits

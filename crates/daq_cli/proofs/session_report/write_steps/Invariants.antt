@@ -4,6 +4,7 @@ use Rattle.session_rounds.specs.Reading.{FitsSession}
 use Rattle.session_rounds.specs.Steps.{planes_left}
 use Rattle.daq_cli.specs.SessionReport.{queries_of}
 use Rattle.daq_cli.proofs.SessionSteps.{ReachedStep}
+use Rattle.daq_cli.proofs.SomeSteps.{ReachedSomeStep}
 use Rattle.daq_cli.proofs.session_report.write_steps.Given as goal
 
 abbrev pub invariant-steps : goal.invariant-steps
@@ -14,6 +15,7 @@ invariant-steps g l =
     record {
       reached : IfSome table.bits (λ bits. ReachedStep l.plan table.head (queries_of l.initial.session) bits places shows l.session l.last
           (g.K.Sink.state l.initial.out) (g.K.Sink.state l.out) (g.S.PlaneSource.handed l.initial.source) (g.S.PlaneSource.handed l.source));
+      some : ReachedSomeStep l.plan table.head (queries_of l.initial.session) l.session l.last (g.K.Sink.state l.initial.out) (g.K.Sink.state l.out);
       told : g.S.PlaneSource.told l.source ≡ table;
       ready : g.S.PlaneSource.is_ready l.source;
       since : g.S.PlaneSource.since l.initial.source l.source;

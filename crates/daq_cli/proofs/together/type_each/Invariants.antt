@@ -1,5 +1,4 @@
 -- The queries so far are typed.
-use Rattle.std.proofs.Common.{map}
 use Rattle.session_rounds.specs.Laws.{AreValid}
 use Rattle.daq_cli.specs.ScriptValues.{scripted_of}
 use Rattle.daq_cli.specs.commands.Session.{typing_step}

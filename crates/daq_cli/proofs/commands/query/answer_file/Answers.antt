@@ -12,8 +12,7 @@ use Rattle.table_rounds.specs.Headline.{AreOfLongs}
 use Rattle.daq_cli.specs.Questions.{IsPlanned, StopsPlanning, asked_with}
 use Rattle.daq_cli.specs.Report.{EndsOverSome, EndsRounds, WritesOverSome, query_line}
 use Rattle.daq_cli.specs.commands.Query.{Begins, StopsAfter}
-use Rattle.daq_cli.proofs.Causes.{text_shown}
-use Rattle.daq_cli.proofs.QueryCauses.{query_done, query_file, query_plan, query_stop, query_text}
+use Rattle.daq_cli.proofs.QueryCauses.{query_done, query_plan, query_stop}
 use Rattle.daq_cli.proofs.commands.query.answer_file.Goals as goal
 
 pub returns-in_err-prepared-clause-refused : goal.returns-in_err-prepared-clause-refused

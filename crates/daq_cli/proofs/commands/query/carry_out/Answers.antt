@@ -1,17 +1,9 @@
 -- Why each step of a `query` stops it, and what it comes to.
-use Rattle.std.proofs.Common.{◌∙◌, subst, IfSome, Ok, Err, option_map}
 use Rattle.std.proofs.lemmas.Result.{err_from_is_err_and}
 use Rattle.command_line.specs.Values.{query_of}
-use Rattle.file_rounds.specs.Told.{IsUnpadded, bits_at}
-use Rattle.outer_world.specs.Whole.{laid}
-use Rattle.plane_file.specs.Places.{plane_places}
-use Rattle.query_model.specs.Validity.{IsValid}
 use Rattle.sql_text.specs.Tree as sql
-use Rattle.daq_cli.specs.Questions.{IsPlanned, StopsPlanning, asked_with}
-use Rattle.daq_cli.specs.Report.{EndsRounds, query_line}
-use Rattle.daq_cli.specs.commands.Query.{Begins, StopsAfter}
 use Rattle.daq_cli.proofs.Causes.{text_shown}
-use Rattle.daq_cli.proofs.QueryCauses.{query_done, query_file, query_plan, query_stop, query_text}
+use Rattle.daq_cli.proofs.QueryCauses.{query_file, query_text}
 use Rattle.daq_cli.proofs.commands.query.carry_out.Goals as goal
 
 pub returns-in_err-query-clause-refused : goal.returns-in_err-query-clause-refused

@@ -1,5 +1,5 @@
 -- Why each step of a `session` stops it, and what it comes to.
-use Rattle.std.proofs.Common.{◌∙◌, ap, map, subst, Ok, Err}
+use Rattle.std.proofs.Common.{◌∙◌, ap, map, subst, IsSome, Ok, Err}
 use Rattle.std.proofs.lemmas.Result.{err_from_is_err_and}
 use Rattle.std.specs.Prelude.{string_bytes}
 use Rattle.command_line.specs.Values.{session_of}
@@ -7,7 +7,7 @@ use Rattle.daq_table.specs.Tables.{frame_of}
 use Rattle.session_rounds.specs.Laws.{AreValid}
 use Rattle.table_rounds.specs.Headline.{AreOfLongs}
 use Rattle.daq_cli.specs.ScriptValues.{scripted_of}
-use Rattle.daq_cli.specs.SessionReport.{queries_of}
+use Rattle.daq_cli.specs.SessionReport.{EndsStepsOverSome, WritesStepsOverSome, queries_lines, queries_of}
 use Rattle.daq_cli.specs.Steps.{StopsStep}
 use Rattle.daq_cli.specs.commands.Session.{BeginsSteps, EndsSteps, asked_together, together_step}
 use Rattle.daq_cli.proofs.SessionCauses.{session_done, session_queries, session_stop}
@@ -44,8 +44,9 @@ returns-in_err-report_file-clause-refused g c before side first has =
     let longs = subst (λ h. AreOfLongs (frame_of h)) c.head-head.ensures.head c.heads_are_of_longs.ensures in
     let stop = c.in_err-report_file.field-0.0 in
     let ends = subst (λ l. EndsSteps l made.plan (queries_of made.session) file.head (Err stop) opened last old new) (ap (map string_bytes) c.deref.ensures.value ∙ c.in_ok-together.ensures.texts) c.in_err-report_file.ensures.ends in
+    let written = subst (λ l. EndsStepsOverSome (queries_lines l) file.head made.plan (queries_of made.session) (Err stop) old new) (ap (map string_bytes) c.deref.ensures.value ∙ c.in_ok-together.ensures.texts) c.in_err-report_file.ensures.written in
     let p = err_from_is_err_and c.from_residual-in_err-report_file.result c.from_residual-in_err-report_file.ensures.1 in
-    rw p.1 (session_stop asked before side first opened last old new begun c.sessions_are_certain.ensures valid longs stop p.0 p.2 c.in_err-report_file.ensures.cause ends)
+    rw p.1 (session_stop asked before side first opened last old new begun c.sessions_are_certain.ensures valid longs stop p.0 p.2 c.in_err-report_file.ensures.cause written ends)
 
 pub returns-clause-done : goal.returns-clause-done
 returns-clause-done g c before side first has =
@@ -69,4 +70,5 @@ returns-clause-done g c before side first has =
     let valid = subst (λ h. AreValid h (queries_of made.session)) c.head-head.ensures.head c.in_ok-together.ensures.valid in
     let longs = subst (λ h. AreOfLongs (frame_of h)) c.head-head.ensures.head c.heads_are_of_longs.ensures in
     let ends = subst (λ l. EndsSteps l made.plan (queries_of made.session) file.head (Ok tt) opened last old new) (ap (map string_bytes) c.deref.ensures.value ∙ c.in_ok-together.ensures.texts) c.in_ok-report_file.ensures.ends in
-    session_done asked before side first opened last old new begun c.sessions_are_certain.ensures valid longs ends
+    let written = subst (λ l. WritesStepsOverSome (queries_lines l) file.head made.plan (queries_of made.session) IsSome old new) (ap (map string_bytes) c.deref.ensures.value ∙ c.in_ok-together.ensures.texts) c.in_ok-report_file.ensures.written in
+    session_done asked before side first opened last old new begun c.sessions_are_certain.ensures valid longs written ends
