@@ -13,3 +13,4 @@ pub mod OctetDigits
 pub mod Joining
 pub mod TableBlocks
 pub mod Lent
+pub mod CutPlanes

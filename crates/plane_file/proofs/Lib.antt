@@ -1,7 +1,6 @@
 pub mod Appended
 pub mod Handed
 pub mod Bounds
-pub mod Cuts
 pub mod Lengths
 pub mod OneTable
 pub mod Parts

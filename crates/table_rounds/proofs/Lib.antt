@@ -1,4 +1,3 @@
-pub mod Cuts
 pub mod Counts
 pub mod Narrow
 pub mod Outlooks

@@ -4,7 +4,7 @@ use Rattle.daq_table.specs.Tables.{ends_at, frame_of, planes}
 use Rattle.plane_file.specs.ColumnReading.{ReadsPlanes, StopsInColumn}
 use Rattle.plane_file.specs.TableReading.{IsPlane}
 use Rattle.plane_file.specs.declared.table_fault.ReadTable.{ReadTable}
-use Rattle.plane_file.proofs.Cuts.{declared}
+use Rattle.known_column.proofs.CutPlanes.{declared}
 use Rattle.plane_file.proofs.ColumnSteps.{column_starves_first, next_read, next_stops, same_on, same_store, unread}
 use Rattle.plane_file.proofs.column_reading.read_known.Goals as goal
 

@@ -3,7 +3,7 @@ use Rattle.std.proofs.Common.{◌≡◌, suc, ◌-◌, ◌<◌, map, not, length
 use Rattle.std.proofs.lemmas.List.{length-map}
 use Rattle.daq_table.specs.Tables.{ends_at, ends_of, frame_of, width}
 use Rattle.query_model.specs.Knowledge.{bit_at}
-use Rattle.plane_file.proofs.Cuts.{declared, digit, digits_left, plain_plane, null_plane, number_plane}
+use Rattle.known_column.proofs.CutPlanes.{declared, digit, digits_left, plain_plane, null_plane, number_plane}
 use Rattle.plane_file.proofs.planes.cut.Goals as goal
 
 pub returns-then-not-head-clause-bits : goal.returns-then-not-head-clause-bits

@@ -1,7 +1,7 @@
 -- What is declared of the column is what was looked up.
 use Rattle.std.proofs.Common.{sym, ap, ◌∙◌}
 use Rattle.daq_table.specs.Tables.{planes}
-use Rattle.plane_file.proofs.Cuts.{declared}
+use Rattle.known_column.proofs.CutPlanes.{declared}
 use Rattle.plane_file.proofs.planes.planes_of.Goals as goal
 
 pub returns : goal.returns

@@ -1,21 +1,16 @@
-use Rattle.std.proofs.Common.{◌≡◌, ℕ, suc, ◌-◌, ◌<◌, map, not, length, [], get_or, arith, subst, sym, ap, ◌∙◌, IsTrue, IsFalse}
+-- A plane is cut from the numbers of the column, or from its marks of null.
+use Rattle.std.proofs.Common.{◌≡◌, suc, ◌-◌, ◌<◌, map, not, length, [], get_or, arith, subst, sym, ap, ◌∙◌, IsTrue, IsFalse}
 use Rattle.std.proofs.lemmas.List.{length-map}
-use Rattle.daq_table.proofs.TableCells.{ends_read}
-use Rattle.daq_table.specs.declared.table_head.Head.{Head}
-use Rattle.daq_table.specs.Tables.{Contents, ends_at, ends_of, frame_of, width}
+use Rattle.daq_table.specs.Tables.{ends_at, ends_of, frame_of, width}
 use Rattle.query_model.specs.Knowledge.{bit_at}
-use Rattle.table_rounds.proofs.Cuts.{digit, digits_left, plain_plane, null_plane, number_plane}
+use Rattle.known_column.proofs.CutPlanes.{declared, digit, digits_left, plain_plane, null_plane, number_plane}
 use Rattle.table_rounds.proofs.cutting.cut.Goals as goal
-
--- what is declared of the column that was looked up
-declared : (table : Contents) (head : Head) (column : ℕ) (found : _) → head ≡ table.head → column < length table.head.columns → found ≡ get_or head.columns column found → ends_at (frame_of table.head) column ≡ ends_of found
-declared table head column found e lt is = ends_read table.head.columns column found lt (subst (λ (h : Head). found ≡ get_or h.columns column found) e is)
 
 pub returns-then-not-head : goal.returns-then-not-head
 returns-then-not-head c =
     let table = c.args.table.now in
     let at = rw c.as_slice.ensures at c.index-as_slice-column.is in
-    let ends = declared table c.head.result.now c.args.column c.index-as_slice-column.result c.head.ensures.head c.requires.column at in
+    let ends = declared table.head c.head.result.now c.args.column c.index-as_slice-column.result c.head.ensures.head c.requires.column at in
     let cells = get_or table.cells c.args.column [] in
     c.transpose.ensures ∙ ap (λ d. map (digit d c.args.number) c.column.result.now) (c.width-digits.ensures.digits ∙ sym (ap width ends))
     ∙ ap (map (digit (width (ends_at (frame_of table.head) c.args.column)) c.args.number)) c.column.ensures
@@ -25,7 +20,7 @@ pub returns-then-number-eq0 : goal.returns-then-number-eq0
 returns-then-number-eq0 c =
     let table = c.args.table.now in
     let at = rw c.as_slice.ensures at c.index-as_slice-column.is in
-    let ends = declared table c.head.result.now c.args.column c.index-as_slice-column.result c.head.ensures.head c.requires.column at in
+    let ends = declared table.head c.head.result.now c.args.column c.index-as_slice-column.result c.head.ensures.head c.requires.column at in
     let cells = get_or table.cells c.args.column [] in
     let nullable = subst (λ e. IsTrue e.nullable) (sym ends) c.if-not-head.false in
     let declared_in : c.args.column < length (frame_of table.head).columns = omega (arith, c.requires.column, length-map table.head.columns ends_of) in
@@ -38,7 +33,7 @@ pub returns-else-number-eq0 : goal.returns-else-number-eq0
 returns-else-number-eq0 c =
     let table = c.args.table.now in
     let at = rw c.as_slice.ensures at c.index-as_slice-column.is in
-    let ends = declared table c.head.result.now c.args.column c.index-as_slice-column.result c.head.ensures.head c.requires.column at in
+    let ends = declared table.head c.head.result.now c.args.column c.index-as_slice-column.result c.head.ensures.head c.requires.column at in
     let cells = get_or table.cells c.args.column [] in
     let nullable = subst (λ e. IsTrue e.nullable) (sym ends) c.if-not-head.false in
     let number : c.args.number ≡ suc (c.args.number - 1) = omega (arith, c.if-number-eq0.false) in
