@@ -9,6 +9,7 @@ mod extremes;
 mod kept_sum;
 mod running;
 mod signs;
+mod spans;
 mod sums;
 mod tally;
 
@@ -18,6 +19,7 @@ pub use ends::{
 };
 pub use kept_sum::KeptSum;
 pub use running::Running;
+pub use spans::{lows_of_rows, spans_of_rows};
 pub use sums::SumSpan;
 pub use tally::Tally;
 

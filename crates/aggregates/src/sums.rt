@@ -1,6 +1,6 @@
 // Sums of the ends at some rows, by counts of rows, block by block and plane by plane.
 
-ghost use Rattle.std.specs.Prelude.{◌≡◌, ◌≤◌, ◌<◌, ◌+◌, ◌-◌, ◌*◌, ◌^◌, ◌%◌, ◌*ℤ◌, ◌-ℤ◌, nat_abs, ◌+ℤ◌, ◌≤ℤ◌, negsuc, pos, length, map};
+ghost use Rattle.std.specs.Prelude.{◌≡◌, ◌≤◌, ◌<◌, ◌*◌, ◌^◌, ◌≤ℤ◌, negsuc, pos, length, map};
 ghost use Rattle.query_model.specs.Answers.{total};
 ghost use Rattle.known_column.specs.Columns.{number_of, rows_of_column};
 ghost use Rattle.plane_kernels.specs.Rows.{block_rows, rows_of, IsPadded};
@@ -8,28 +8,9 @@ ghost use Rattle.aggregates.specs.Selections.{IsSmallSum, IsSumOfDigits, MayHave
 
 use crate::block_words::{count_both, is_empty};
 use crate::digits::number_planes;
+use crate::spans::{lows_of_rows, spans_of_rows};
 use known_column::Known;
 use plane_kernels::Mask;
-
-// A number so many times.
-fn times(number: i64, count: u64) -> i128
-    requires { count ≤ 16777216 }
-    ensures product { result ≡ number *ℤ pos count }
-    ensures few { (negsuc 309485009821345068724781056 ≤ℤ result) × (result ≤ℤ pos 309485009821345068724781056) }
-{
-    i128::from(number) * i128::from(count)
-}
-
-// A number so many times, and another that so many digits follow.
-fn multiples(base: i64, count: u64, number: u128, unread: u8) -> i128
-    requires count { count ≤ 16777216 }
-    requires unread { unread ≤ 65 }
-    requires few { number * 2 ^ unread ≤ 2 ^ 89 }
-    ensures sum { result ≡ (base *ℤ pos count) +ℤ pos (number * 2 ^ unread) }
-    ensures few { (negsuc 1237940039285380274899124224 ≤ℤ result) × (result ≤ℤ pos 1237940039285380274899124224) }
-{
-    times(base, count) + (number << unread) as i128
-}
 
 // The digits that the first planes gave of the numbers at some rows of a block of 512, added up as numbers.
 pub(crate) fn sum_rows(known: &Known, block: usize, rows: &[u64; 8], read: u8) -> u128
@@ -139,7 +120,7 @@ fn lows_by_digits(known: &Known, mask: &Mask, numbers: u128) -> i128
 {
     let unread = known.unread();
     let _rows = known.rows();
-    multiples(known.base(), mask.count(), numbers, unread)
+    lows_of_rows(known.base(), mask.count(), numbers, unread)
 }
 
 // The low ends at the mask's rows, added up.
@@ -150,34 +131,6 @@ pub(crate) fn add_lows(known: &Known, mask: &Mask) -> i128
     ensures few { (negsuc 1237940039285380274899124224 ≤ℤ result) × (result ≤ℤ pos 1237940039285380274899124224) }
 {
     lows_by_digits(known, mask, sum_numbers(known, mask))
-}
-
-// How far a range's high end lies above its low end where it does not end at top.
-fn block_span(unread: u8) -> u128
-    requires { unread ≤ 65 }
-    ensures span { result ≡ 2 ^ unread - 1 }
-    ensures few { result ≤ 36893488147419103232 }
-{
-    (1u128 << unread) - 1
-}
-
-// The same at top's prefix.
-fn top_span(base: i64, top: i64, unread: u8) -> u128
-    requires { unread ≤ 65 }
-    ensures span { result ≡ nat_abs (top -ℤ base) % 2 ^ unread }
-    ensures few { result ≤ 36893488147419103232 }
-{
-    u128::from(top.abs_diff(base)) % (1u128 << unread)
-}
-
-// A span so many times.
-fn many_times(count: u64, span: u128) -> u128
-    requires count { count ≤ 16777216 }
-    requires span { span ≤ 36893488147419103232 }
-    ensures product { result ≡ count * span }
-    ensures few { result ≤ 618970019642690137449562112 }
-{
-    u128::from(count) * span
 }
 
 /// The ends at some rows, added up.
@@ -201,12 +154,10 @@ pub(crate) fn ends_by_digits(known: &Known, mask: &Mask, numbers: u128) -> SumSp
     let unread = known.unread();
     let _rows = known.rows();
     let at_top = mask.count_and(known.at_top());
-    let others = mask.count() - at_top;
-    let wide = many_times(at_top, top_span(known.base(), known.top(), unread))
-        + many_times(others, block_span(unread));
+    let spans = spans_of_rows(known.base(), known.top(), unread, mask.count(), at_top);
     SumSpan {
         low,
-        high: low + wide as i128,
+        high: low + spans as i128,
     }
 }
 
