@@ -32,6 +32,7 @@ use Rattle.session_rounds.specs.Laws.{AreValid, SessionsHaveAnEnd}
 use Rattle.session_rounds.specs.Outcomes.{EndIn, Passes}
 use Rattle.session_rounds.specs.Reading.{OfEachStep, OfStep}
 use Rattle.session_rounds.specs.Steps.{AreFollowed, AreRefused, AreSteps, IsUnlisted, ending_in, number_after, place_of, places_read, session_after, stage_in}
+use Rattle.table_rounds.proofs.Going.{first_failure}
 use Rattle.table_rounds.proofs.Listing.{all_at}
 use Rattle.table_rounds.proofs.Outlooks.{not_narrow}
 use Rattle.table_rounds.specs.Headline.{RoundsBegin, RoundsHavePlanes}
@@ -50,21 +51,6 @@ one_fails test (x ∷ xs) e = by (test x) refl e (one_fails test xs)
         (k : ℕ) × (y : _) × (slice_get (x ∷ xs) k ≡ Some y) × IsFalse (test y)
     by false here fails later = (0, x, refl, here)
     by true here fails later = let (k, y, there, is) = later fails in (suc k, y, there, is)
-
--- the first number below a limit at which a test fails, if there is one
-first_failure : (test : ℕ → Bool) (n : ℕ) → ((r : ℕ) × (r < n) × IsFalse (test r) × ((s : ℕ) → s < r → IsTrue (test s))) ⊎ ((r : ℕ) → r < n → IsTrue (test r))
-first_failure test zero = inr (λ r h. absurd (omega arith))
-first_failure test (suc n) = by (first_failure test n) (cases_Bool (test n))
-  where
-    by : (((r : ℕ) × (r < n) × IsFalse (test r) × ((s : ℕ) → s < r → IsTrue (test s))) ⊎ ((r : ℕ) → r < n → IsTrue (test r))) → (IsTrue (test n) ⊎ IsFalse (test n)) →
-        ((r : ℕ) × (r < suc n) × IsFalse (test r) × ((s : ℕ) → s < r → IsTrue (test s))) ⊎ ((r : ℕ) → r < suc n → IsTrue (test r))
-    by (inl (r, inside, fails, first)) last = inl (r, omega (arith, inside), fails, first)
-    by (inr all) (inr fails) = inl (n, omega arith, fails, all)
-    by (inr all) (inl holds) = inr (λ r h. to r h (cases_lt r n))
-      where
-        to : (r : ℕ) → r < suc n → ((r < n) ⊎ (n ≤ r)) → IsTrue (test r)
-        to r h (inl less) = all r less
-        to r h (inr le) = let same : n ≡ r = omega (arith, h, le) in subst (λ k. IsTrue (test k)) same holds
 
 -- ---- what holds of each plane that steps read
 

@@ -124,7 +124,7 @@ one_round_more plan query frame bits reads c followed legal = record {
         subst (λ s. IsKnowledge (part_of query frame) s.known) (sym (same_before query frame bits reads (c ∷ []) round before)) (followed.rounds.legal round before)
 
 -- the first number below a limit at which a test fails, if there is one
-first_failure : (test : ℕ → Bool) (n : ℕ) → ((r : ℕ) × (r < n) × IsFalse (test r) × ((s : ℕ) → s < r → IsTrue (test s))) ⊎ ((r : ℕ) → r < n → IsTrue (test r))
+pub first_failure : (test : ℕ → Bool) (n : ℕ) → ((r : ℕ) × (r < n) × IsFalse (test r) × ((s : ℕ) → s < r → IsTrue (test s))) ⊎ ((r : ℕ) → r < n → IsTrue (test r))
 first_failure test zero = inr (λ r h. absurd (omega arith))
 first_failure test (suc n) = by (first_failure test n) (cases_Bool (test n))
   where
