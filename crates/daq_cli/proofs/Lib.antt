@@ -29,6 +29,7 @@ pub mod Blocks
 pub mod Rounds
 pub mod SomePlanes
 pub mod Loops
+pub mod StopCauses
 pub mod Tables
 pub mod Signed
 pub mod Spelled

@@ -19,10 +19,10 @@ use Rattle.round_engine.specs.Progresses.{planes_read}
 use Rattle.round_engine.specs.Stages.{Stage}
 use Rattle.table_rounds.specs.Headline.{RoundsAreCounted}
 use Rattle.table_rounds.specs.Rounds.{IsAfter, Planes, column_read, ending_at, stage_after}
-use Rattle.table_rounds.specs.Sources.{Causes, OfEach, OfNext, OfPlanes, OnFailed, OnRefused, Places, StopsAt, next_places, places_of}
+use Rattle.table_rounds.specs.Sources.{Causes, OfEach, OfNext, OfPlanes, OnRefused, Places, StopsAt, next_places, places_of}
 use Rattle.table_rounds.specs.declared.reading.StepFault.{StepFault}
 use Rattle.table_rounds.specs.declared.reading.StepFault.TheVariants.{Source, OverTop}
-use Rattle.daq_cli.specs.Report.{CausesAfter, Fails, FailsInLast, FailsSince, Finishes, Stops, block_of, blocks_below, end_line, ending_line, last_text, rounds_text}
+use Rattle.daq_cli.specs.Report.{CausesAfter, Fails, FailsInLast, Finishes, Stops, block_of, blocks_below, end_line, ending_line, last_text, rounds_text}
 use Rattle.daq_cli.proofs.Blocks.{blocks_before, column_last, next_block, no_blocks}
 
 -- the blocks of the rounds so far but for the last are written: these columns were read, that is what is known, and the places of their planes were handed over
@@ -181,13 +181,6 @@ pub stops_since : {E : Type 0} (plan : Plan) (query : TypedQuery) (frame : Frame
     StopsAt plan query frame bits places causes reads fault handed → StopsAt plan query frame bits places others reads fault handed
 stops_since plan query frame bits places causes others (Source error) weaker reads handed (next, followed, failed, rest) = (next, followed, weaker _ _ error failed, rest)
 stops_since plan query frame bits places causes others (OverTop column plane row) weaker reads handed stop = stop
-
--- a source that fails at a step fails so as the one that it was at first
-pub cause_since : {S E : Type 0} (handed : S → Option (List ℕ)) (since : S → S → Type 0) (fails : S → S → Causes E) (first mid last : S) (fault : StepFault E) → since first mid →
-    OnFailed fault (λ error. (column : ℕ) × (number : ℕ) × fails mid last column number error) →
-    OnFailed fault (λ error. (at : Option (List ℕ)) × (column : ℕ) × (number : ℕ) × FailsSince handed since fails first last at column number error)
-cause_since handed since fails first mid last (Source error) before (column, number, failed) = (handed mid, column, number, (mid, before, refl, failed))
-cause_since handed since fails first mid last (OverTop column plane row) before failed = tt
 
 -- what a source's planes show they showed before, of a plane that is refused
 pub refused_before : {E : Type 0} (fault : StepFault E) (shows before : OfPlanes) → ((column number : ℕ) → shows column number → before column number) → OnRefused fault shows → OnRefused fault before

@@ -11,10 +11,11 @@ use Rattle.table_rounds.proofs.Reached.{columns_of_part}
 use Rattle.table_rounds.specs.Rounds.{IsAfter, ending_at}
 use Rattle.table_rounds.specs.Sources.{IsNextRound, StopsAt, StopsNext, next_places}
 use Rattle.daq_cli.specs.Worlds.{partly, whole}
-use Rattle.daq_cli.proofs.Loops.{all_some, as_partly, as_whole, if_both, if_some, rose_later}
+use Rattle.daq_cli.proofs.Loops.{all_some, as_partly, as_whole, if_both, if_some}
 use Rattle.daq_cli.specs.Report.{FailsSince}
-use Rattle.daq_cli.proofs.Rounds.{Reached, all_written, block_in_part, block_is, cause_since, first_reached, line_in_part, read_further, refused_before, stopped, stops_since}
+use Rattle.daq_cli.proofs.Rounds.{Reached, all_written, block_in_part, block_is, first_reached, line_in_part, read_further, refused_before, stopped, stops_since}
 use Rattle.daq_cli.proofs.SomePlanes.{block_part_some, first_some, line_part_some, next_some, stopped_some, written_some}
+use Rattle.daq_cli.proofs.StopCauses.{step_failed, write_failed}
 use Rattle.daq_cli.proofs.report.write_rounds.Goals as goal
 
 pub rounds-init : goal.rounds-init
@@ -164,21 +165,17 @@ rounds-preserved g c =
 
 pub returns-in_err-write_round-clause-cause : goal.returns-in_err-write_round-clause-cause
 returns-in_err-write_round-clause-cause g c =
-    let p = err_from_is_err_and c.from_residual.result c.from_residual.ensures.1 in
-    rw (p.1, p.2) (rose_later _ _ _ c.rounds.invariant.later c.in_err-write_round.ensures.cause.failed)
+    write_failed _ c.from_residual.result _ _ _ c.from_residual.ensures.1 c.rounds.invariant.later c.in_err-write_round.ensures.cause.failed
 
 pub returns-in_err-write_ending-in-Some-clause-cause : goal.returns-in_err-write_ending-in-Some-clause-cause
 returns-in_err-write_ending-in-Some-clause-cause g c =
-    let p = err_from_is_err_and c.from_residual-in_err-write_ending-in-Some.result c.from_residual-in_err-write_ending-in-Some.ensures.1 in
-    let before = c.rounds.invariant.later in
-    let block = c.in_ok-write_round.ensures.cause.later in
-    rw (p.1, p.2) (rose_later _ _ _ (omega (arith, before, block)) c.in_err-write_ending-in-Some.ensures.cause.failed)
+    write_failed _ c.from_residual-in_err-write_ending-in-Some.result _ _ _ c.from_residual-in_err-write_ending-in-Some.ensures.1
+    (omega (arith, c.rounds.invariant.later, c.in_ok-write_round.ensures.cause.later)) c.in_err-write_ending-in-Some.ensures.cause.failed
 
 pub returns-in_err-read_next-in-None-clause-cause : goal.returns-in_err-read_next-in-None-clause-cause
 returns-in_err-read_next-in-None-clause-cause g c =
-    let p = err_from_is_err_and c.from_residual-in_err-read_next-in-None.result c.from_residual-in_err-read_next-in-None.ensures.1 in
-    rw (p.1, p.2) (cause_since g.S.PlaneSource.handed g.S.PlaneSource.since g.S.PlaneSource.fails c.args.source.now c.rounds.source c.read_next.new.source c.in_err-read_next-in-None.field-0.0
-    c.rounds.invariant.since c.in_err-read_next-in-None.ensures.failed)
+    step_failed g.S.PlaneSource.handed g.S.PlaneSource.since g.S.PlaneSource.fails c.args.source.now c.rounds.source c.read_next.new.source c.in_err-read_next-in-None.field-0.0
+    c.from_residual-in_err-read_next-in-None.result _ _ c.from_residual-in_err-read_next-in-None.ensures.1 c.rounds.invariant.since c.in_err-read_next-in-None.ensures.failed
 
 pub returns-in_err-read_next-in-None-clause-since : goal.returns-in_err-read_next-in-None-clause-since
 returns-in_err-read_next-in-None-clause-since g c =

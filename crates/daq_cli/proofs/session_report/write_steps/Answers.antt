@@ -11,10 +11,11 @@ use Rattle.session_rounds.specs.Steps.{IsAfter, ending_in}
 use Rattle.daq_cli.specs.Report.{FailsSince}
 use Rattle.daq_cli.specs.SessionReport.{queries_of}
 use Rattle.daq_cli.specs.Worlds.{partly, whole}
-use Rattle.daq_cli.proofs.Loops.{all_some, as_partly, as_whole, if_both, if_some, rose_later}
-use Rattle.daq_cli.proofs.Rounds.{cause_since, refused_before}
+use Rattle.daq_cli.proofs.Loops.{all_some, as_partly, as_whole, if_both, if_some}
+use Rattle.daq_cli.proofs.Rounds.{refused_before}
 use Rattle.daq_cli.proofs.SessionSteps.{ReachedStep, WritesStep, all_steps_written, blocks_in_part, end_in_part, first_step, step_further, step_stops_since, stopped_at}
 use Rattle.daq_cli.proofs.SomeSteps.{blocks_part_some, end_part_some, first_some_step, next_some_step, steps_stopped_some, steps_written_some}
+use Rattle.daq_cli.proofs.StopCauses.{step_failed, write_failed}
 use Rattle.daq_cli.proofs.session_report.write_steps.Goals as goal
 
 pub steps-init : goal.steps-init
@@ -179,21 +180,17 @@ steps-preserved g c =
 
 pub returns-in_err-write_step-clause-cause : goal.returns-in_err-write_step-clause-cause
 returns-in_err-write_step-clause-cause g c =
-    let p = err_from_is_err_and c.from_residual.result c.from_residual.ensures.1 in
-    rw (p.1, p.2) (rose_later _ _ _ c.steps.invariant.later c.in_err-write_step.ensures.cause.failed)
+    write_failed _ c.from_residual.result _ _ _ c.from_residual.ensures.1 c.steps.invariant.later c.in_err-write_step.ensures.cause.failed
 
 pub returns-in_err-write_ending-in-Some-clause-cause : goal.returns-in_err-write_ending-in-Some-clause-cause
 returns-in_err-write_ending-in-Some-clause-cause g c =
-    let p = err_from_is_err_and c.from_residual-in_err-write_ending-in-Some.result c.from_residual-in_err-write_ending-in-Some.ensures.1 in
-    let before = c.steps.invariant.later in
-    let blocks = c.in_ok-write_step.ensures.cause.later in
-    rw (p.1, p.2) (rose_later _ _ _ (omega (arith, before, blocks)) c.in_err-write_ending-in-Some.ensures.cause.failed)
+    write_failed _ c.from_residual-in_err-write_ending-in-Some.result _ _ _ c.from_residual-in_err-write_ending-in-Some.ensures.1
+    (omega (arith, c.steps.invariant.later, c.in_ok-write_step.ensures.cause.later)) c.in_err-write_ending-in-Some.ensures.cause.failed
 
 pub returns-in_err-read_next-in-None-clause-cause : goal.returns-in_err-read_next-in-None-clause-cause
 returns-in_err-read_next-in-None-clause-cause g c =
-    let p = err_from_is_err_and c.from_residual-in_err-read_next-in-None.result c.from_residual-in_err-read_next-in-None.ensures.1 in
-    rw (p.1, p.2) (cause_since g.S.PlaneSource.handed g.S.PlaneSource.since g.S.PlaneSource.fails c.args.source.now c.steps.source c.read_next.new.source c.in_err-read_next-in-None.field-0.0
-    c.steps.invariant.since c.in_err-read_next-in-None.ensures.failed)
+    step_failed g.S.PlaneSource.handed g.S.PlaneSource.since g.S.PlaneSource.fails c.args.source.now c.steps.source c.read_next.new.source c.in_err-read_next-in-None.field-0.0
+    c.from_residual-in_err-read_next-in-None.result _ _ c.from_residual-in_err-read_next-in-None.ensures.1 c.steps.invariant.since c.in_err-read_next-in-None.ensures.failed
 
 pub returns-in_err-read_next-in-None-clause-since : goal.returns-in_err-read_next-in-None-clause-since
 returns-in_err-read_next-in-None-clause-since g c =
