@@ -1,3 +1,4 @@
+pub mod Fixed
 pub mod Keywords
 pub mod Loops
 pub mod Levels

@@ -1,6 +1,7 @@
 -- The grammar of queries, rule by rule.
 use Rattle.std.specs.Prelude.{ℕ, zero, suc, Bool, true, false, List, [], ◌∷◌, ◌++◌, Option, Some, None}
-use Rattle.sql_tokens.specs.declared.token.Fixed.TheVariants.{Select, From, Where, Group, By, Order, Asc, Desc, Limit, And, Or, Not, Between, In, Date, Count, Open, Close, Comma, Star, Minus, Semicolon}
+use Rattle.sql_tokens.specs.declared.token.Fixed.TheVariants.{Select, From, Where, Group, By, Order, Asc, Desc, Limit, And, Or, Not}
+use Rattle.sql_tokens.specs.declared.token.Fixed.TheVariants.{Between, In, Date, Count, Open, Close, Comma, Star, Minus, Semicolon}
 use Rattle.sql_tokens.specs.declared.token.Fixed.TheVariants as fixed
 use Rattle.sql_text.specs.declared.tree.Comparison.{Comparison}
 use Rattle.sql_text.specs.declared.tree.CallKind.{CallKind}

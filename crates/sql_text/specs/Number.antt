@@ -1,5 +1,6 @@
 -- Numbers of a query, and the tests on tokens.
-use Rattle.std.specs.Prelude.{ℕ, zero, suc, ◌^◌, ℤ, pos, negsuc, Bool, true, false, Option, Some, None, nat_eq, nat_lt, nat_le, if◌then◌else◌}
+use Rattle.std.specs.Prelude.{ℕ, zero, suc, ◌^◌, ℤ, pos, negsuc, Bool, true, false}
+use Rattle.std.specs.Prelude.{Option, Some, None, nat_eq, nat_lt, nat_le, if◌then◌else◌}
 use Rattle.sql_tokens.specs.declared.token.Fixed.{Fixed}
 use Rattle.sql_tokens.specs.declared.token.Fixed.TheVariants as fixed
 use Rattle.sql_tokens.specs.Lexeme.{Lexeme, token, FIXED, NAME, NUMBER, STRING}
@@ -129,6 +130,9 @@ unfoldable pub sum_of : Fixed → Option Bool
 sum_of fixed.Plus = Some false
 sum_of fixed.Minus = Some true
 sum_of _ = None
+
+abbrev pub is_fixed : Lexeme → Option Fixed
+is_fixed = fixed_test (λ k. Some k)
 
 abbrev pub is_cmp : Lexeme → Option Comparison
 is_cmp = fixed_test cmp_of

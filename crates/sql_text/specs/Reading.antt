@@ -1,5 +1,6 @@
 -- Reading tokens from left to right, with the first refusal that is met.
-use Rattle.std.specs.Prelude.{◌≡◌, ℕ, zero, suc, List, [], ◌∷◌, length, Result, Ok, Err, Option, Some, None, Bool, if◌then◌else◌}
+use Rattle.std.specs.Prelude.{◌≡◌, ℕ, zero, suc, List, [], ◌∷◌, length}
+use Rattle.std.specs.Prelude.{Result, Ok, Err, Option, Some, None, Bool, if◌then◌else◌}
 use Rattle.std.specs.Borrow.{Bor}
 use Rattle.sql_tokens.specs.declared.token.Token.{Token}
 use Rattle.sql_tokens.specs.Lexeme.{Lexeme, views}

@@ -1,11 +1,11 @@
 //! Reading the conditions on one column.
 
-ghost use Rattle.std.specs.Prelude.{◌≡◌, map, ◌++◌, ◌∷◌, []};
+ghost use Rattle.std.specs.Prelude.{map, ◌++◌, ◌∷◌, []};
 ghost use Rattle.sql_tokens.specs.declared.token.Fixed.TheVariants.{Comma};
 ghost use Rattle.sql_tokens.specs.Lexeme.{views};
 ghost use Rattle.sql_text.specs.Tree.{name_of, operand_of, pred_of};
 ghost use Rattle.sql_text.specs.Number.{is};
-ghost use Rattle.sql_text.specs.Grammar.{listed, value, between, members, ranged, nullness, compared, condition, atom};
+ghost use Rattle.sql_text.specs.Grammar.{value, between, members, ranged, nullness, compared, condition, atom};
 ghost use Rattle.sql_text.specs.Reading.{Gives, seen, chain, turns, flat};
 
 use crate::fault::Refusal;

@@ -3,7 +3,8 @@
 ghost use Rattle.std.specs.Prelude.{◌≡◌, true, false, Some, None, if◌then◌else◌, IfOk};
 ghost use Rattle.sql_tokens.specs.Lexeme.{views};
 ghost use Rattle.sql_text.specs.Tree.{name_of};
-ghost use Rattle.sql_text.specs.Number.{same, is, is_name, is_string, is_cmp, is_call, is_sum, cmp_of, call_of, sum_of, signed, is_small};
+ghost use Rattle.sql_text.specs.Number.{same, is, is_name, is_string, is_fixed, is_cmp, is_call};
+ghost use Rattle.sql_text.specs.Number.{is_sum, cmp_of, call_of, sum_of, signed, is_small};
 ghost use Rattle.sql_text.specs.Reading.{Finds, Gives, seen, look, expect, numeral};
 
 use crate::fault::{Cause, Refusal, stop_at};
@@ -235,10 +236,10 @@ fn sum_of(k: Fixed) -> Option<bool>
     }
 }
 
-/// A comparison that is there.
+// A keyword or sign that is there.
 #[tactic(auto, unfolding(crate::specs::Reading::look))]
-pub fn comparison(tokens: &[Token]) -> Option<(Comparison, &[Token])>
-    ensures { Finds (seen (λ x. x)) result (look is_cmp (views tokens.now)) }
+fn fixed_token(tokens: &[Token]) -> Option<(Fixed, &[Token])>
+    ensures { Finds (seen (λ x. x)) result (look is_fixed (views tokens.now)) }
 {
     match tokens {
         [] => None,
@@ -248,10 +249,7 @@ pub fn comparison(tokens: &[Token]) -> Option<(Comparison, &[Token])>
                 ..
             },
             rest @ ..,
-        ] => match cmp_of(*found) {
-            Some(x) => Some((x, rest)),
-            None => None,
-        },
+        ] => Some((*found, rest)),
         [
             Token {
                 kind: Kind::Name(_) | Kind::Number(_) | Kind::Str(_),
@@ -259,60 +257,45 @@ pub fn comparison(tokens: &[Token]) -> Option<(Comparison, &[Token])>
             },
             ..
         ] => None,
+    }
+}
+
+/// A comparison that is there.
+pub fn comparison(tokens: &[Token]) -> Option<(Comparison, &[Token])>
+    ensures { Finds (seen (λ x. x)) result (look is_cmp (views tokens.now)) }
+{
+    match fixed_token(tokens) {
+        Some((found, rest)) => match cmp_of(found) {
+            Some(x) => Some((x, rest)),
+            None => None,
+        },
+        None => None,
     }
 }
 
 /// A sign between terms that is there.
-#[tactic(auto, unfolding(crate::specs::Reading::look))]
 pub fn sum_sign(tokens: &[Token]) -> Option<(bool, &[Token])>
     ensures { Finds (seen (λ x. x)) result (look is_sum (views tokens.now)) }
 {
-    match tokens {
-        [] => None,
-        [
-            Token {
-                kind: Kind::Fixed(found),
-                ..
-            },
-            rest @ ..,
-        ] => match sum_of(*found) {
+    match fixed_token(tokens) {
+        Some((found, rest)) => match sum_of(found) {
             Some(x) => Some((x, rest)),
             None => None,
         },
-        [
-            Token {
-                kind: Kind::Name(_) | Kind::Number(_) | Kind::Str(_),
-                ..
-            },
-            ..
-        ] => None,
+        None => None,
     }
 }
 
 /// A call that is there.
-#[tactic(auto, unfolding(crate::specs::Reading::look))]
 pub fn call_token(tokens: &[Token]) -> Option<(CallKind, &[Token])>
     ensures { Finds (seen (λ x. x)) result (look is_call (views tokens.now)) }
 {
-    match tokens {
-        [] => None,
-        [
-            Token {
-                kind: Kind::Fixed(found),
-                ..
-            },
-            rest @ ..,
-        ] => match call_of(*found) {
+    match fixed_token(tokens) {
+        Some((found, rest)) => match call_of(found) {
             Some(x) => Some((x, rest)),
             None => None,
         },
-        [
-            Token {
-                kind: Kind::Name(_) | Kind::Number(_) | Kind::Str(_),
-                ..
-            },
-            ..
-        ] => None,
+        None => None,
     }
 }
 

@@ -1,6 +1,5 @@
 //! Reading predicates.
 
-ghost use Rattle.std.specs.Prelude.{◌≡◌};
 ghost use Rattle.sql_tokens.specs.declared.token.Fixed.TheVariants as fixed;
 ghost use Rattle.sql_tokens.specs.Lexeme.{views};
 ghost use Rattle.sql_text.specs.Tree.{pred_of, Both, Either};

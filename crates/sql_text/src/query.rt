@@ -1,12 +1,13 @@
 //! Reading a query.
 
-ghost use Rattle.std.specs.Prelude.{◌≡◌, ◌≤◌, map, length, ◌++◌, ◌∷◌, [], Ok};
+ghost use Rattle.std.specs.Prelude.{◌≡◌, map, ◌++◌, ◌∷◌, [], Ok};
 ghost use Rattle.sql_tokens.specs.declared.token.Fixed.TheVariants.{Comma};
 ghost use Rattle.sql_tokens.specs.Lexeme.{views};
 ghost use Rattle.sql_text.specs.Tree.{name_of, item_of, pred_option, ending_of, query_of, Star, Items};
 ghost use Rattle.sql_text.specs.Number.{is, is_name, is_small};
 ghost use Rattle.sql_text.specs.Rule.{one};
-ghost use Rattle.sql_text.specs.Grammar.{argument, count, call, item, listed, filter, grouping, direction, ordering, semicolon, source, query};
+ghost use Rattle.sql_text.specs.Grammar.{argument, count, call, item, filter, grouping};
+ghost use Rattle.sql_text.specs.Grammar.{direction, ordering, semicolon, source, query};
 ghost use Rattle.sql_text.specs.Reading.{Gives, seen, chain, turns, by, flat, ended, sentence};
 
 use crate::expression::expr;

@@ -1,6 +1,6 @@
 //! Reading a text.
 
-ghost use Rattle.std.specs.Prelude.{◌≡◌, ◌<◌, ◌≤◌, ◌↔◌, ℕ, List, length, IfOk, IfErr, Err};
+ghost use Rattle.std.specs.Prelude.{◌≡◌, ◌<◌, ◌↔◌, ℕ, List, length, IfOk, IfErr, Err};
 ghost use Rattle.sql_tokens.specs.Lexeme.{views};
 ghost use Rattle.sql_text.specs.declared.fault.Cause.{Cause};
 ghost use Rattle.sql_text.specs.Tree.{Query, query_of};
