@@ -1,5 +1,6 @@
 -- What is known of a condition at each row.
-use Rattle.std.specs.Prelude.{◌≡◌, ℕ, ◌+◌, ◌*◌, ◌≤◌, ◌<◌, ◌==◌, Bool, true, false, List, [], ◌∷◌, length, map, slice_index_or, IsTrue}
+use Rattle.std.specs.Prelude.{◌≡◌, ℕ, ◌+◌, ◌*◌, ◌≤◌, ◌<◌, ◌==◌, Bool}
+use Rattle.std.specs.Prelude.{true, false, List, [], ◌∷◌, length, map, slice_index_or, IsTrue}
 use Rattle.std.specs.List.{count_by, list_any}
 use Rattle.std.specs.Simd.Lanes.{zip2}
 use Rattle.daq_table.specs.Tables.{rows_of}
@@ -88,14 +89,16 @@ pub record HasBits (pred : Condition) (table : KnownTable) (row : ℕ) (must may
 -- from the first row on, bits that are the same are right
 abbrev pub AreRightWhereSame : Condition → KnownTable → ℕ → List Bool → List Bool → Type 0
 AreRightWhereSame pred table first must may =
-    (row : ℕ) → first ≤ row → row < table.frame.rows → slice_index_or must row false ≡ slice_index_or may row false → HasBits pred table row must may
+    (row : ℕ) → first ≤ row → row < table.frame.rows →
+    slice_index_or must row false ≡ slice_index_or may row false → HasBits pred table row must may
 
 -- the bits of a block's rows are what a test says of the condition there, and the others are as they were
 pub record IsJudged (test : Truth → Bool) (pred : Condition) (table : KnownTable) (block : ℕ) (old new : List Bool) : Type 0 where
   pub rows : length new ≡ length old
   pub before : (k : ℕ) → k < 64 * block → slice_index_or new k false ≡ slice_index_or old k false
   pub behind : (k : ℕ) → 64 * block + 64 ≤ k → slice_index_or new k false ≡ slice_index_or old k false
-  pub here : (r : ℕ) → r < count_in_block block table.frame.rows → slice_index_or new (64 * block + r) false ≡ test (truth_at pred table (64 * block + r))
+  pub here : (r : ℕ) → r < count_in_block block table.frame.rows →
+      slice_index_or new (64 * block + r) false ≡ test (truth_at pred table (64 * block + r))
 
 -- the bits of a block's rows are those of the word, and the others are as they were
 pub record IsWritten (block word : ℕ) (old new : List Bool) : Type 0 where

@@ -77,14 +77,16 @@ atoms_of (Negation a) = atoms_of a
 -- from the first on, there are masks for each of the atoms
 pub record AreMasksOf (all : List AtomMasks) (first : ℕ) (atoms : List Atom) (table : KnownTable) : Type 0 where
   pub room : first + length atoms ≤ length all
-  pub each : (k : ℕ) (own : AtomMasks) (atom : Atom) → slice_get all (first + k) ≡ Some own → slice_get atoms k ≡ Some atom → Follows own atom table
+  pub each : (k : ℕ) (own : AtomMasks) (atom : Atom) → slice_get all (first + k) ≡ Some own → slice_get atoms k ≡ Some atom →
+      Follows own atom table
 
 -- the rows of a block of a table stand in another from the first on
 pub record AreRowsOf (table : KnownTable) (block : ℕ) (other : KnownTable) (first : ℕ) : Type 0 where
   pub columns : other.frame.columns ≡ table.frame.columns
   pub few : first ≤ 16777216
   pub within : first + count_in_block block table.frame.rows ≤ other.frame.rows
-  pub ranges : (r : ℕ) → r < count_in_block block table.frame.rows → ranges_of other.frame other.known (first + r) ≡ ranges_of table.frame table.known (64 * block + r)
+  pub ranges : (r : ℕ) → r < count_in_block block table.frame.rows →
+      ranges_of other.frame other.known (first + r) ≡ ranges_of table.frame table.known (64 * block + r)
 
 -- masks of these atoms were added to those that stood there
 pub record AddsMasks (old new : List AtomMasks) (atoms : List Atom) (table : KnownTable) : Type 0 where

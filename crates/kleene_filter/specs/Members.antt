@@ -1,5 +1,6 @@
 -- Rows at which a column's number may be one of a list.
-use Rattle.std.specs.Prelude.{◌≡◌, ℕ, ◌+◌, ◌*◌, ◌<◌, ℤ, Bool, true, false, not, ◌&&◌, List, length, slice_index_or}
+use Rattle.std.specs.Prelude.{◌≡◌, ℕ, ◌+◌, ◌*◌, ◌<◌, ℤ, Bool}
+use Rattle.std.specs.Prelude.{true, false, not, ◌&&◌, List, length, slice_index_or}
 use Rattle.std.specs.List.{list_any, All}
 use Rattle.std.specs.Ordering.{int_eq}
 use Rattle.plane_kernels.specs.Rows.{digit_at}

@@ -1,5 +1,6 @@
 -- Rows parted by how their prefixes compare with the prefix of a number.
-use Rattle.std.specs.Prelude.{◌≡◌, ℕ, ◌+◌, ◌*◌, ◌<◌, ℤ, ◌-ℤ◌, ◌≤ℤ◌, ◌<ℤ◌, ◌==◌, nat_lt, nat_abs, Bool, true, false, not, ◌&&◌, ◌||◌, List, length, slice_index_or}
+use Rattle.std.specs.Prelude.{◌≡◌, ℕ, ◌+◌, ◌*◌, ◌<◌, ℤ, ◌-ℤ◌, ◌≤ℤ◌, ◌<ℤ◌, ◌==◌}
+use Rattle.std.specs.Prelude.{nat_lt, nat_abs, Bool, true, false, not, ◌&&◌, ◌||◌, List, length, slice_index_or}
 use Rattle.std.specs.declared.option.Option.TheVariants.{Some}
 use Rattle.plane_kernels.specs.Rows.{digit_at}
 use Rattle.daq_table.specs.declared.head.Ends.{Ends}
@@ -32,7 +33,8 @@ is_greater value ends read prefix = nat_lt (prefix_of ends read (cell_with value
 
 -- this is what is known of the test at each of these rows
 abbrev pub IsTruthAt : KnownColumn → (ℤ → Bool) → List Bool → Truth → Type 0
-IsTruthAt column test rows truth = (row : ℕ) → row < rows_of_column column → slice_index_or rows row false ≡ true → truth_over (numbers_at column row) test ≡ truth
+IsTruthAt column test rows truth =
+    (row : ℕ) → row < rows_of_column column → slice_index_or rows row false ≡ true → truth_over (numbers_at column row) test ≡ truth
 
 -- the number lies between the column's ends
 pub record IsBetweenEnds (ends : Ends) (value : ℤ) : Type 0 where

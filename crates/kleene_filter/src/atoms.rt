@@ -1,4 +1,4 @@
-// What is known of a condition on one column or on two, at a row.
+//! What is known of a condition on one column or on two, at a row.
 
 ghost use Rattle.std.specs.Prelude.{◌≡◌, ◌<◌, length};
 ghost use Rattle.query_model.specs.Knowledge.{ranges_of};

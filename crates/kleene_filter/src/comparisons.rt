@@ -1,12 +1,10 @@
-// Comparisons of a column with one number or with two, which follow the column plane by plane.
+//! Comparisons of a column with one number or with two, which follow the column plane by plane.
 
-ghost use Rattle.std.specs.Prelude.{◌≡◌, ◌<◌, ◌*◌, ◌+◌, length, IfOk};
+ghost use Rattle.std.specs.Prelude.{◌≡◌, ◌<◌, ◌*◌, length, IfOk};
 ghost use Rattle.query_model.specs.Meaning.{between, compares};
-ghost use Rattle.query_model.specs.Truths.{truths_over};
-ghost use Rattle.known_column.specs.Columns.{count_in_block, range_at};
 ghost use Rattle.known_column.specs.KnownTables.{column_at, IsKnownTable};
 ghost use Rattle.kleene_filter.specs.Masks.{IsCompared, IsRanged, KeepsTest, Was};
-ghost use Rattle.kleene_filter.specs.Words.{AreTruthsAt};
+ghost use Rattle.kleene_filter.specs.Words.{AreTruthsInTable};
 
 use crate::parted::Sides;
 use crate::words::{TruthWords, and, chosen};
@@ -75,7 +73,7 @@ impl Compared {
         requires compared { IsCompared self.now columns.now }
         requires known { IsKnownTable columns.now }
         requires block { 64 * block < columns.now.frame.rows }
-        ensures { AreTruthsAt (count_in_block block columns.now.frame.rows) (λ r. truths_over (range_at (column_at columns.now self.now.column) (64 * block + r)) (λ x. compares self.now.op x self.now.value)) result }
+        ensures { AreTruthsInTable columns.now self.now.column block (λ x. compares self.now.op x self.now.value) result }
     {
         let column = columns.column(self.column);
         self.sides.truths(self.op, self.value, column, block)
@@ -121,7 +119,8 @@ impl Ranged {
         requires ranged { IsRanged self.now columns.now }
         requires known { IsKnownTable columns.now }
         requires block { 64 * block < columns.now.frame.rows }
-        ensures { AreTruthsAt (count_in_block block columns.now.frame.rows) (λ r. truths_over (range_at (column_at columns.now self.now.from.column) (64 * block + r)) (between self.now.from.value self.now.to.value)) result }
+        ensures { AreTruthsInTable columns.now self.now.from.column block
+            (between self.now.from.value self.now.to.value) result }
     {
         let from = self.from.truths(columns, block);
         let to = self.to.truths(columns, block);

@@ -1,13 +1,14 @@
 //! The rows of a condition.
 
-ghost use Rattle.std.specs.Prelude.{◌≡◌, ◌≤◌, ◌<◌, ◌+◌, ◌*◌, length, map, count_by, replicate, IfOk, IsTrue, OnOk};
+ghost use Rattle.std.specs.Prelude.{◌≡◌, ◌<◌, ◌+◌, ◌*◌, length, map, count_by, replicate, IfOk, IsTrue, OnOk};
 ghost use Rattle.plane_kernels.specs.Rows.{digit_at};
 ghost use Rattle.query_model.specs.declared.query.Atom.{Atom};
 ghost use Rattle.query_model.specs.Meaning.{PredReadsBelow};
 ghost use Rattle.query_model.specs.Queries.{condition_of};
 ghost use Rattle.std.specs.Prelude.{List};
 ghost use Rattle.known_column.specs.KnownTables.{IsKnownTable};
-ghost use Rattle.kleene_filter.specs.Filters.{is_certain, is_possible, is_unknown, truths_under, AreCounted, AreNested, AreRightWhereSame, AreUnread, IsJudged, IsWritten, StandsFor, StoodBefore};
+ghost use Rattle.kleene_filter.specs.Filters.{is_certain, is_possible, is_unknown, truths_under, AreCounted, AreNested};
+ghost use Rattle.kleene_filter.specs.Filters.{AreRightWhereSame, AreUnread, IsJudged, IsWritten, StandsFor, StoodBefore};
 ghost use Rattle.kleene_filter.specs.Masks.{atoms_of, AddsMasks, AreMasksOf, AreRowsOf, WereMasksOf};
 
 use crate::judging::pred_truths;
@@ -283,7 +284,8 @@ fn open_each(
 fn follow_each(masks: &mut Vec<AtomMasks>, columns: &LentColumns<'_>, column: usize, plane: &Plane)
     requires { (atoms : List Atom) × WereMasksOf masks.old.items atoms columns.now column plane.now }
     ensures count { length masks.new.items ≡ length masks.old.items }
-    ensures follow { (atoms : List Atom) → WereMasksOf masks.old.items atoms columns.now column plane.now → AreMasksOf masks.new.items 0 atoms columns.now }
+    ensures follow { (atoms : List Atom) → WereMasksOf masks.old.items atoms columns.now column plane.now
+        → AreMasksOf masks.new.items 0 atoms columns.now }
 {
     for own in masks.iter_mut() {
         own.follow(columns, column, plane);

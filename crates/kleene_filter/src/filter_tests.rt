@@ -1,4 +1,5 @@
-// Filters that follow the planes of a column, and conditions on values that may be null.
+//! Filters that follow the planes of a column, and conditions on values that may be null.
+
 ghost use Rattle.std.specs.Prelude.{◌≡◌, ◌<◌, ◌≤◌, length, IfOk, IfSome};
 ghost use Rattle.query_model.specs.Meaning.{AtomReadsBelow, PredReadsBelow};
 ghost use Rattle.query_model.specs.Queries.{condition_of};

@@ -1,7 +1,6 @@
-// What is known of a condition at the rows of a block, as words.
+//! What is known of a condition at the rows of a block, as words.
 
-ghost use Rattle.std.specs.Prelude.{◌≡◌, ◌<◌, ◌≤◌, ◌*◌, ◌+◌, ◌^◌, ℕ, length};
-ghost use Rattle.plane_kernels.specs.Rows.{digit_at};
+ghost use Rattle.std.specs.Prelude.{◌≡◌, ◌<◌, ◌≤◌, ◌*◌, ◌+◌, length};
 ghost use Rattle.query_model.specs.Knowledge.{ranges_of};
 ghost use Rattle.query_model.specs.Meaning.{AtomReadsBelow, PredReadsBelow};
 ghost use Rattle.query_model.specs.Queries.{condition_of};
@@ -10,7 +9,7 @@ ghost use Rattle.known_column.specs.Columns.{count_in_block};
 ghost use Rattle.known_column.specs.KnownTables.{IsKnownTable};
 ghost use Rattle.kleene_filter.specs.Filters.{truths_at};
 ghost use Rattle.kleene_filter.specs.Masks.{atoms_of, AreMasksOf, AreRowsOf, Follows};
-ghost use Rattle.kleene_filter.specs.Words.{AddsBit, AddsTruths, AreTruthsAt, HaveBelow};
+ghost use Rattle.kleene_filter.specs.Words.{AreTruthsAt};
 
 use crate::atoms::atom_at;
 use crate::masks::AtomMasks;
@@ -25,7 +24,8 @@ fn truths_by_rows<R: KnownRows>(atom: &Atom, rows: &R, first: usize, count: usiz
     requires within { first + count ≤ (R.table rows.now).frame.rows }
     requires first { first ≤ 16777216 }
     requires few { count ≤ 64 }
-    ensures { AreTruthsAt count (λ r. truths_of_atom atom.now (ranges_of (R.table rows.now).frame (R.table rows.now).known (first + r))) result }
+    ensures { AreTruthsAt count
+        (λ r. truths_of_atom atom.now (ranges_of (R.table rows.now).frame (R.table rows.now).known (first + r))) result }
 {
     let mut words = none();
     for row in 0..count {
@@ -48,7 +48,8 @@ fn atom_truths<R: KnownRows>(
     requires known { IsKnownTable columns.now }
     requires block { 64 * block < columns.now.frame.rows }
     requires rows { AreRowsOf columns.now block (R.table rows.now) first }
-    ensures { AreTruthsAt (count_in_block block columns.now.frame.rows) (λ r. truths_of_atom atom.now (ranges_of columns.now.frame columns.now.known (64 * block + r))) result }
+    ensures { AreTruthsAt (count_in_block block columns.now.frame.rows)
+        (λ r. truths_of_atom atom.now (ranges_of columns.now.frame columns.now.known (64 * block + r))) result }
 {
     match masks {
         AtomMasks::ByRows => {
@@ -84,7 +85,8 @@ pub(crate) fn pred_truths<R: KnownRows>(
     requires known { IsKnownTable columns.now }
     requires block { 64 * block < columns.now.frame.rows }
     requires rows { AreRowsOf columns.now block (R.table rows.now) first }
-    ensures words { AreTruthsAt (count_in_block block columns.now.frame.rows) (λ r. truths_at (condition_of pred.now) columns.now (64 * block + r)) result.words }
+    ensures words { AreTruthsAt (count_in_block block columns.now.frame.rows)
+        (λ r. truths_at (condition_of pred.now) columns.now (64 * block + r)) result.words }
     ensures next { result.next ≡ at + length (atoms_of (condition_of pred.now)) }
 {
     match pred {

@@ -1,4 +1,4 @@
-// What is kept of a condition on one column or on two, to follow its columns plane by plane.
+//! What is kept of a condition on one column or on two, to follow its columns plane by plane.
 
 ghost use Rattle.std.specs.Prelude.{◌≡◌, ◌<◌, ◌==◌, length, IfOk};
 ghost use Rattle.query_model.specs.declared.query.Atom.{Atom};

@@ -1,16 +1,14 @@
-// Numbers of a column that may be those of a list, by the prefixes of the listed numbers.
+//! Numbers of a column that may be those of a list, by the prefixes of the listed numbers.
 
-ghost use Rattle.std.specs.Prelude.{◌≡◌, ◌<◌, ◌*◌, ◌+◌, ◌&&◌, ℕ, ℤ, not, false, length, slice_index_or, IfOk};
-ghost use Rattle.plane_kernels.specs.Rows.{digit_at};
+ghost use Rattle.std.specs.Prelude.{◌≡◌, ◌<◌, ◌*◌, ◌+◌, ◌&&◌, ℕ, ℤ, length, IfOk};
 ghost use Rattle.query_model.specs.Meaning.{among, between};
-ghost use Rattle.query_model.specs.Truths.{is_false, is_true, truths_over};
-ghost use Rattle.known_column.specs.Columns.{count_in_block, range_at, rows_where};
+ghost use Rattle.known_column.specs.Columns.{rows_where};
 ghost use Rattle.known_column.specs.KnownTables.{column_at, IsKnownTable};
 ghost use Rattle.known_column.specs.RowBlocks.{IsKnownColumn};
 ghost use Rattle.kleene_filter.specs.Masks.{IsMembership, Was};
 ghost use Rattle.kleene_filter.specs.Members.{AreMemberWords, HasLevels, HaveRow, IsLevel, IsMemberWord};
 ghost use Rattle.kleene_filter.specs.Parted.{is_level, IsBetweenEnds, IsTruthAt, Had};
-ghost use Rattle.kleene_filter.specs.Words.{AreTruthsAt};
+ghost use Rattle.kleene_filter.specs.Words.{AreTruthsInTable};
 
 use crate::nulls::number_truths;
 use crate::parted::{code_of, next_digit};
@@ -198,7 +196,7 @@ impl Membership {
         requires levels { IsMembership self.now columns.now }
         requires known { IsKnownTable columns.now }
         requires block { 64 * block < columns.now.frame.rows }
-        ensures { AreTruthsAt (count_in_block block columns.now.frame.rows) (λ r. truths_over (range_at (column_at columns.now self.now.column) (64 * block + r)) (among self.now.values)) result }
+        ensures { AreTruthsInTable columns.now self.now.column block (among self.now.values) result }
     {
         let column = columns.column(self.column);
         let words = member_words(&self.levels, block);

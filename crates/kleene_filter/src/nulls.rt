@@ -1,10 +1,10 @@
-// The truths of tests at the rows of a block of one column, whose values may be null.
+//! The truths of tests at the rows of a block of one column, whose values may be null.
 
 ghost use Rattle.std.specs.Prelude.{◌<◌, ◌*◌, ◌+◌, ℤ, Bool};
-ghost use Rattle.query_model.specs.Truths.{truths_of_null, truths_over};
+ghost use Rattle.query_model.specs.Truths.{truths_of_null};
 ghost use Rattle.known_column.specs.Columns.{count_in_block, range_at, rows_of_column};
 ghost use Rattle.known_column.specs.RowBlocks.{IsKnownColumn};
-ghost use Rattle.kleene_filter.specs.Words.{AreOnNumbers, AreTruthsAt};
+ghost use Rattle.kleene_filter.specs.Words.{AreOnNumbers, AreTruthsAt, AreTruthsInColumn};
 
 use crate::words::TruthWords;
 use known_column::Known;
@@ -13,7 +13,8 @@ use known_column::Known;
 pub(crate) fn null_truths(column: &Known, block: usize) -> TruthWords
     requires known { IsKnownColumn column.now }
     requires block { 64 * block < rows_of_column column.now }
-    ensures { AreTruthsAt (count_in_block block (rows_of_column column.now)) (λ r. truths_of_null (range_at column.now (64 * block + r))) result }
+    ensures { AreTruthsAt (count_in_block block (rows_of_column column.now))
+        (λ r. truths_of_null (range_at column.now (64 * block + r))) result }
 {
     TruthWords {
         may_hold: !column.sure().word(block),
@@ -27,7 +28,7 @@ pub(crate) fn number_truths(column: &Known, block: usize, pass: u64, fail: u64) 
     requires known { IsKnownColumn column.now }
     requires block { 64 * block < rows_of_column column.now }
     ensures { (test : ℤ → Bool) → AreOnNumbers column.now block test pass fail
-        → AreTruthsAt (count_in_block block (rows_of_column column.now)) (λ r. truths_over (range_at column.now (64 * block + r)) test) result }
+        → AreTruthsInColumn column.now block test result }
 {
     let possible = column.possible().word(block);
     TruthWords {

@@ -1,14 +1,14 @@
-// Rows of a column parted by how their prefixes compare with the prefix of a number.
+//! Rows of a column parted by how their prefixes compare with the prefix of a number.
 
-ghost use Rattle.std.specs.Prelude.{◌≡◌, ◌<◌, ◌*◌, ◌+◌, ◌-◌, ◌≤◌, ◌≤ℤ◌, ℕ, ℤ, not, length, IfOk};
+ghost use Rattle.std.specs.Prelude.{◌≡◌, ◌<◌, ◌*◌, ◌+◌, ◌-◌, ℕ, IfOk};
 ghost use Rattle.daq_table.specs.Tables.{code, planes};
 ghost use Rattle.plane_kernels.specs.Rows.{digit_at};
-ghost use Rattle.query_model.specs.Truths.{is_false, is_true, truths_over};
 ghost use Rattle.query_model.specs.Meaning.{compares};
-ghost use Rattle.known_column.specs.Columns.{count_in_block, range_at, rows_of_column, rows_where};
+ghost use Rattle.known_column.specs.Columns.{rows_of_column, rows_where};
 ghost use Rattle.known_column.specs.RowBlocks.{IsKnownColumn};
-ghost use Rattle.kleene_filter.specs.Parted.{cell_with, fails_on, greater_holds, holds_on, is_level, less_holds, on_chosen, AreSideWords, Had, HasRow, HasSides, IsBetweenEnds, IsParted, IsTruthAt};
-ghost use Rattle.kleene_filter.specs.Words.{AreTruthsAt};
+ghost use Rattle.kleene_filter.specs.Parted.{cell_with, fails_on, greater_holds, holds_on, is_level, less_holds, on_chosen};
+ghost use Rattle.kleene_filter.specs.Parted.{AreSideWords, Had, HasRow, HasSides, IsBetweenEnds, IsParted, IsTruthAt};
+ghost use Rattle.kleene_filter.specs.Words.{AreTruthsInColumn};
 
 use crate::nulls::number_truths;
 use crate::ranges::compared_with;
@@ -190,7 +190,7 @@ impl Sides {
         requires sides { HasSides column.now op value self.now }
         requires known { IsKnownColumn column.now }
         requires block { 64 * block < rows_of_column column.now }
-        ensures { AreTruthsAt (count_in_block block (rows_of_column column.now)) (λ r. truths_over (range_at column.now (64 * block + r)) (λ x. compares op x value)) result }
+        ensures { AreTruthsInColumn column.now block (λ x. compares op x value) result }
     {
         let words = self.words(block);
         number_truths(column, block, words.may_hold(op), words.may_fail(op))
@@ -220,14 +220,16 @@ fn greater_compares(op: Comparison) -> bool
 impl SideWords {
     // The rows on the chosen sides.
     fn on(&self, less: bool, equal: bool, greater: bool) -> u64
-        ensures { (row : ℕ) → digit_at row result ≡ on_chosen less equal greater (digit_at row self.now.less) (digit_at row self.now.equal) (digit_at row self.now.greater) }
+        ensures { (row : ℕ) → digit_at row result
+            ≡ on_chosen less equal greater (digit_at row self.now.less) (digit_at row self.now.equal) (digit_at row self.now.greater) }
     {
         chosen(less, self.less) | chosen(equal, self.equal) | chosen(greater, self.greater)
     }
 
     // The rows at which the comparison may hold.
     fn may_hold(&self, op: Comparison) -> u64
-        ensures { (row : ℕ) → digit_at row result ≡ holds_on op self.now.at_equal (digit_at row self.now.less) (digit_at row self.now.equal) (digit_at row self.now.greater) }
+        ensures { (row : ℕ) → digit_at row result ≡ holds_on op self.now.at_equal
+            (digit_at row self.now.less) (digit_at row self.now.equal) (digit_at row self.now.greater) }
     {
         self.on(
             less_compares(op),
@@ -238,7 +240,8 @@ impl SideWords {
 
     // The rows at which it may fail.
     fn may_fail(&self, op: Comparison) -> u64
-        ensures { (row : ℕ) → digit_at row result ≡ fails_on op self.now.at_equal (digit_at row self.now.less) (digit_at row self.now.equal) (digit_at row self.now.greater) }
+        ensures { (row : ℕ) → digit_at row result ≡ fails_on op self.now.at_equal
+            (digit_at row self.now.less) (digit_at row self.now.equal) (digit_at row self.now.greater) }
     {
         self.on(
             !less_compares(op),

@@ -1,11 +1,12 @@
-// What is known of a test of numbers that lie in ranges.
+//! What is known of a test of numbers that lie in ranges.
 
 ghost use Rattle.std.specs.Prelude.{◌≡◌};
 ghost use Rattle.std.specs.List.{list_all};
 ghost use Rattle.interval_calc.specs.Intervals.{interval_of, numbers_in};
 ghost use Rattle.query_model.specs.Meaning.{among, between, compares};
 ghost use Rattle.query_model.specs.Truths.{truth_over, truth_over_both};
-ghost use Rattle.kleene_filter.specs.ByEnds.{always_between, always_compares, are_one, meet, some_within, sometimes_between, sometimes_compares};
+ghost use Rattle.kleene_filter.specs.ByEnds.{always_between, always_compares, are_one, meet};
+ghost use Rattle.kleene_filter.specs.ByEnds.{some_within, sometimes_between, sometimes_compares};
 
 use crate::truths::known_from;
 use interval_calc::{Interval, exactly};

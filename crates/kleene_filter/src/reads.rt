@@ -1,4 +1,4 @@
-// Which columns a condition reads.
+//! Which columns a condition reads.
 
 ghost use Rattle.std.specs.Prelude.{◌≡◌};
 ghost use Rattle.query_model.specs.Meaning.{columns_of_atom, columns_of_pred};

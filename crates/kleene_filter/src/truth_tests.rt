@@ -1,4 +1,5 @@
-// Tables of truths: of tests by ends, of values that may be null, and of the connectives.
+//! Tables of truths: of tests by ends, of values that may be null, and of the connectives.
+
 ghost use Rattle.std.specs.Prelude.{◌≤◌, ◌≤ℤ◌, length};
 
 use crate::ranges::{compared, compared_with, is_one_of, lies_between};

@@ -1,4 +1,4 @@
-// Sets of truths: what a test of values may be where some may be null.
+//! Sets of truths: what a test of values may be where some may be null.
 
 ghost use Rattle.std.specs.Prelude.{◌≡◌, false};
 ghost use Rattle.query_model.specs.Truths.{may_be_null, may_be_number, one_null, truth_from, truths_from};

@@ -1,4 +1,4 @@
-// Sets of truths of up to 64 rows: a word for each truth, with a bit for each row at which it may be.
+//! Sets of truths of up to 64 rows: a word for each truth, with a bit for each row at which it may be.
 
 ghost use Rattle.std.specs.Prelude.{◌≡◌, ◌≤◌, ◌<◌, ◌+◌, ◌^◌, ◌&&◌, ℕ, true, false};
 ghost use Rattle.plane_kernels.specs.Rows.{digit_at};

@@ -1,4 +1,4 @@
-use Rattle.std.proofs.Common.{◌≡◌, ◌+◌, ◌-◌, ◌*◌, min, false, length, refl, ap, sym, subst, ◌∙◌, arith, get_or}
+use Rattle.std.proofs.Common.{◌+◌, ◌-◌, ◌*◌, min, false, length, refl, ap, sym, ◌∙◌, arith, get_or}
 use Rattle.std.proofs.lemmas.Option.{get_or_from_slice_get}
 use Rattle.std.proofs.lemmas.Simd.{get_or-put_chunk_above, get_or-put_chunk_at, get_or-put_chunk_below, length-put_chunk}
 use Rattle.plane_kernels.specs.Rows.{bits_of, digit_at}

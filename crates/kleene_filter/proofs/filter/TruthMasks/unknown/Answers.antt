@@ -1,7 +1,4 @@
-use Rattle.std.proofs.Common.{◌≡◌, ◌-◌, count_by, arith}
-use Rattle.std.specs.Simd.Lanes.{zip2}
-use Rattle.query_model.specs.Truths.{truth_from}
-use Rattle.kleene_filter.specs.Filters.{is_unknown}
+use Rattle.std.proofs.Common.{◌-◌, arith}
 use Rattle.kleene_filter.proofs.TruthBits.{unknown_count}
 use Rattle.kleene_filter.proofs.filter.TruthMasks.unknown.Goals as goal
 
