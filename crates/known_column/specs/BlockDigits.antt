@@ -1,5 +1,6 @@
 -- Digits of the 64 rows of a block, out of words of planes: bit i of a word, counted from the lowest, is that of row i.
-use Rattle.std.specs.Prelude.{◌≡◌, ℕ, ◌+◌, ◌*◌, ◌<◌, cond, slice_index, slice_index_or, Bool, List, [], ◌∷◌, length, map, take, drop}
+use Rattle.std.specs.Prelude.{◌≡◌, ℕ, ◌+◌, ◌*◌, ◌<◌, cond, slice_index}
+use Rattle.std.specs.Prelude.{slice_index_or, Bool, List, [], ◌∷◌, length, map, take, drop}
 use Rattle.std.specs.List.{fold}
 use Rattle.plane_kernels.specs.Rows.{bits_of}
 use Rattle.query_model.specs.Knowledge.{longer}

@@ -1,5 +1,6 @@
 -- What a column is known by: its ends, how many planes were read, and a prefix for each row.
-use Rattle.std.specs.Prelude.{ℕ, ◌+◌, ◌-◌, ◌*◌, ◌/◌, ◌%◌, ◌^◌, ◌<◌, ◌==◌, nat_lt, pos, ◌≤ℤ◌, nat_abs, min, Bool, not, ◌&&◌, List, length, map, replicate, take, drop, slice_index, Some}
+use Rattle.std.specs.Prelude.{ℕ, ◌+◌, ◌-◌, ◌*◌, ◌/◌, ◌%◌, ◌^◌, ◌<◌, ◌==◌, nat_lt, pos, ◌≤ℤ◌}
+use Rattle.std.specs.Prelude.{nat_abs, min, Bool, not, ◌&&◌, List, length, map, replicate, take, drop, slice_index, Some}
 use Rattle.interval_calc.specs.Intervals.{Interval}
 use Rattle.daq_table.specs.declared.head.Ends.{Ends}
 use Rattle.daq_table.specs.Tables.{Cell, spread}

@@ -25,7 +25,9 @@ block_of table b = record {
 
 -- a row of a block has the ranges that it has in the table
 abbrev pub BlocksHaveTheirRows : Type 0
-BlocksHaveTheirRows = (table : KnownTable) (b r : ℕ) → r < 64 → ranges_of (block_of table b).frame (block_of table b).known r ≡ ranges_of table.frame table.known (64 * b + r)
+BlocksHaveTheirRows =
+    (table : KnownTable) (b r : ℕ) → r < 64 →
+    ranges_of (block_of table b).frame (block_of table b).known r ≡ ranges_of table.frame table.known (64 * b + r)
 
 -- what is known of a column is known of a table: there are few rows, and each prefix is that of some cell
 pub record IsKnownColumn (column : KnownColumn) : Type 0 where

@@ -1,4 +1,4 @@
-// Blocks of 64 rows: their digits in several planes, as numbers.
+//! Blocks of 64 rows: their digits in several planes, as numbers.
 
 ghost use Rattle.std.specs.Prelude.{◌≡◌, ◌≤◌, ◌<◌, ◌+◌, ◌-◌, ◌*◌, ◌^◌, length, replicate, All};
 ghost use Rattle.std.specs.Simd.Lanes.{zip2};

@@ -1,6 +1,7 @@
-// The codes of cells, of which planes are digits: a number's distance from base, in a nullable column with a digit of 1 before it.
+//! The codes of cells, of which planes are digits: a number's distance from base, in a nullable column with a digit of 1 before it.
 
-ghost use Rattle.std.specs.Prelude.{◌≡◌, ◌≤◌, ◌≤ℤ◌, ◌<◌, ◌+◌, ◌*◌, ◌-◌, ◌^◌, ◌==◌, ◌&&◌, min, pos, negsuc, ◌+ℤ◌};
+ghost use Rattle.std.specs.Prelude.{◌≡◌, ◌≤◌, ◌≤ℤ◌, ◌<◌, ◌+◌, ◌*◌};
+ghost use Rattle.std.specs.Prelude.{◌-◌, ◌^◌, ◌==◌, ◌&&◌, min, pos, negsuc, ◌+ℤ◌};
 ghost use Rattle.std.specs.declared.option.Option.TheVariants.{Some};
 ghost use Rattle.daq_table.specs.Tables.{first_code, planes, spread, width};
 ghost use Rattle.query_model.specs.Knowledge.{bit_at, prefix_of};

@@ -1,4 +1,4 @@
-// What is known of a block of 64 rows of a column, or of as many as are left.
+//! What is known of a block of 64 rows of a column, or of as many as are left.
 
 ghost use Rattle.std.specs.Prelude.{◌≡◌, ◌≤◌, ◌≤ℤ◌, ◌<◌, ◌+◌, ◌*◌, ◌^◌, ◌==◌, cond, slice_index};
 ghost use Rattle.std.specs.Int.{bit_at};

@@ -1,9 +1,12 @@
 //! A column that is known in part.
 
-ghost use Rattle.std.specs.Prelude.{◌≡◌, ◌≤◌, ◌<◌, ◌+◌, ◌*◌, ◌≤ℤ◌, ℕ, pos, negsuc, length, map, take, slice_index, All, IfOk, OnOk, IfErr, OnErr};
+ghost use Rattle.std.specs.Prelude.{◌≡◌, ◌≤◌, ◌<◌, ◌+◌, ◌*◌, ◌≤ℤ◌, ℕ, pos};
+ghost use Rattle.std.specs.Prelude.{negsuc, length, map, take, slice_index, All, IfOk, OnOk, IfErr, OnErr};
 ghost use Rattle.interval_calc.specs.Intervals.{interval_of};
 ghost use Rattle.daq_table.specs.Tables.{ends_of, planes, width};
-ghost use Rattle.known_column.specs.Columns.{count_in_block, digit_of, is_above_zero, is_at_top, is_below_zero, is_level_zero, is_possible, is_sure, missing_at, numbers_at, numbers_of_block, read_further, rows_of_column, rows_where, unread_column, HasZero, IsFirstOver, StaysLegal};
+ghost use Rattle.known_column.specs.Columns.{count_in_block, digit_of, is_above_zero, is_at_top, is_below_zero, is_level_zero};
+ghost use Rattle.known_column.specs.Columns.{is_possible, is_sure, missing_at, numbers_at, numbers_of_block, read_further};
+ghost use Rattle.known_column.specs.Columns.{rows_of_column, rows_where, unread_column, HasZero, IsFirstOver, StaysLegal};
 ghost use Rattle.known_column.specs.Marks.{prefix_in, TellSigns};
 ghost use Rattle.known_column.specs.RowBlocks.{IsKnownColumn};
 

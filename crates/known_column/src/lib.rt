@@ -4,6 +4,7 @@
 mod blocks;
 mod codes;
 mod column_block;
+mod cutting;
 mod known;
 mod known_columns;
 mod known_rows;
@@ -12,6 +13,7 @@ mod marks;
 mod octets;
 mod row_block;
 
+pub use cutting::cut;
 pub use known::{Known, OverTop};
 pub use known_columns::KnownColumns;
 pub use known_rows::KnownRows;

@@ -1,4 +1,4 @@
-// Eight rows at a time: their digits in at most eight words, as the bytes of one word.
+//! Eight rows at a time: their digits in at most eight words, as the bytes of one word.
 
 ghost use Rattle.std.specs.Prelude.{◌≡◌, ◌≤◌, ◌<◌, ◌*◌, ◌/◌, ◌%◌, ◌^◌, length, replicate};
 ghost use Rattle.plane_kernels.specs.Rows.{bits_of};

@@ -1,6 +1,6 @@
 //! Blocks of 64 rows of several columns, to be read row by row.
 
-ghost use Rattle.std.specs.Prelude.{◌≡◌, ◌≤◌, ◌<◌, ◌*◌, length, map, IfOk};
+ghost use Rattle.std.specs.Prelude.{◌≡◌, ◌<◌, ◌*◌, length, map, IfOk};
 ghost use Rattle.std.specs.List.{range_with_len};
 ghost use Rattle.interval_calc.specs.Intervals.{interval_of};
 ghost use Rattle.daq_table.specs.Tables.{ends_at};
@@ -46,7 +46,8 @@ impl Model for RowBlock {
 
 // Room for a block of each column.
 fn open_each(alloc: Global, columns: &LentColumns<'_>) -> Result<Vec<ColumnBlock>, AllocError>
-    ensures { IfOk result (λ blocks. blocks.items ≡ map (λ c. unread_column (ends_at columns.now.frame c) 0) (range_with_len 0 (length columns.now.frame.columns))) }
+    ensures { IfOk result (λ blocks. blocks.items
+        ≡ map (λ c. unread_column (ends_at columns.now.frame c) 0) (range_with_len 0 (length columns.now.frame.columns))) }
 {
     let mut blocks = Vec::with_capacity(alloc, columns.len())?;
     for c in 0..columns.len() {
@@ -59,7 +60,8 @@ fn open_each(alloc: Global, columns: &LentColumns<'_>) -> Result<Vec<ColumnBlock
 fn read_each(blocks: &mut [ColumnBlock], columns: &LentColumns<'_>, block: usize)
     requires columns { length blocks.old ≡ length columns.now.frame.columns }
     requires block { 64 * block < columns.now.frame.rows }
-    ensures { blocks.new ≡ map (λ c. block_of_column (column_at columns.now c) block) (range_with_len 0 (length columns.now.frame.columns)) }
+    ensures { blocks.new
+        ≡ map (λ c. block_of_column (column_at columns.now c) block) (range_with_len 0 (length columns.now.frame.columns)) }
 {
     for c in 0..columns.len() {
         blocks[c].read(columns.column(c), block);

@@ -1,5 +1,7 @@
 -- Which fault the bytes of a file show: a table of checks, in the order of the format, and the first that fails.
-use Rattle.std.specs.Prelude.{ℕ, zero, suc, ◌+◌, ◌*◌, ◌%◌, ◌==◌, nat_le, nat_lt, ℤ, pos, ◌-ℤ◌, nat_abs, int_le, int_lt, Bool, true, cond, not, ◌&&◌, ◌||◌, if◌then◌else◌, Option, Some, None, is_none, List, [], ◌∷◌, ◌++◌, length, map, take, drop, codes, slice_index}
+use Rattle.std.specs.Prelude.{ℕ, zero, suc, ◌+◌, ◌*◌, ◌%◌, ◌==◌, nat_le, nat_lt, ℤ, pos, ◌-ℤ◌}
+use Rattle.std.specs.Prelude.{nat_abs, int_le, int_lt, Bool, true, cond, not, ◌&&◌, ◌||◌, if◌then◌else◌, Option}
+use Rattle.std.specs.Prelude.{Some, None, is_none, List, [], ◌∷◌, ◌++◌, length, map, take, drop, codes, slice_index}
 use Rattle.std.specs.Cmp.Lexicographic.{slice_cmp}
 use Rattle.std.specs.Int.{Width, w32, w64, cast_signed, from_le_bytes}
 use Rattle.std.specs.List.{list_any}

@@ -1,5 +1,6 @@
 -- What the steps of reading a table give: from a plane of a column up to all columns.
-use Rattle.std.specs.Prelude.{◌≡◌, ℕ, ◌+◌, ◌*◌, ◌<◌, ◌≤◌, ⊤, Bool, Some, false, List, [], length, map, take, slice_index, slice_index_or, cond, IfSome, IsTrue}
+use Rattle.std.specs.Prelude.{◌≡◌, ℕ, ◌+◌, ◌*◌, ◌<◌, ◌≤◌, ⊤, Bool, Some, false}
+use Rattle.std.specs.Prelude.{List, [], length, map, take, slice_index, slice_index_or, cond, IfSome, IsTrue}
 use Rattle.std.specs.List.{All}
 use Rattle.outer_world.specs.Device.{Rose, StoreState}
 use Rattle.outer_world.specs.Whole.{HandsOver, places_from}

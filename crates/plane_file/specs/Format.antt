@@ -1,5 +1,6 @@
 -- A file of planes, byte by byte: a header, the head of each column, and the planes of the columns. Numbers are little endian.
-use Rattle.std.specs.Prelude.{◌≡◌, ℕ, ◌+◌, ◌*◌, ◌≤◌, ◌==◌, nat_le, ℤ, pos, neg_ℤ, int_le, Bool, true, cond, not, ◌&&◌, ◌||◌, List, [], ◌∷◌, ◌++◌, length, codes, slice_get, Some, FitsSigned, IsTrue}
+use Rattle.std.specs.Prelude.{◌≡◌, ℕ, ◌+◌, ◌*◌, ◌≤◌, ◌==◌, nat_le, ℤ, pos, neg_ℤ, int_le, Bool, true, cond}
+use Rattle.std.specs.Prelude.{not, ◌&&◌, ◌||◌, List, [], ◌∷◌, ◌++◌, length, codes, slice_get, Some, FitsSigned, IsTrue}
 use Rattle.std.specs.Int.{w32, w64, cast_unsigned, to_le_bytes}
 use Rattle.std.specs.List.{flat_map, list_all, list_any, range_with_len, sum_by}
 use Rattle.std.specs.Str.{is_utf8}

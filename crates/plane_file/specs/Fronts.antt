@@ -1,15 +1,19 @@
 -- What the steps of opening a file give: from the names of a dictionary up to all that stands before the planes.
-use Rattle.std.specs.Prelude.{◌≡◌, ◌⊎◌, ℕ, ◌+◌, ◌-◌, ◌<◌, ◌≤◌, ◌==◌, not, ◌||◌, Option, Some, None, List, [], ◌++◌, length, take, drop, IfSome, IsTrue}
+use Rattle.std.specs.Prelude.{◌≡◌, ◌⊎◌, ℕ, ◌+◌, ◌-◌, ◌<◌, ◌≤◌, ◌==◌, not}
+use Rattle.std.specs.Prelude.{◌||◌, Option, Some, None, List, [], ◌++◌, length, take, drop, IfSome, IsTrue}
 use Rattle.std.specs.List.{list_all, list_any}
 use Rattle.outer_world.specs.Device.{Rose, StoreState}
 use Rattle.outer_world.specs.Whole.{HandsOver, places_from}
 use Rattle.daq_table.specs.HeadFacts.{all_differ, fits_rows}
 use Rattle.daq_table.specs.declared.head.ColumnHead.{ColumnHead}
-use Rattle.plane_file.specs.Checks.{base_at, column_checks, column_end, columns_checks, count_at, dictionary_at, file_fault, first_fault, front_checks, header_checks, heads_in, kind_at, names_at, names_checks, names_end, nullable_at, planes_in, readable, rows_in, title_at, titles_of, top_at, version_in}
+use Rattle.plane_file.specs.Checks.{base_at, column_checks, column_end, columns_checks, count_at, dictionary_at, file_fault}
+use Rattle.plane_file.specs.Checks.{first_fault, front_checks, header_checks, heads_in, kind_at, names_at, names_checks}
+use Rattle.plane_file.specs.Checks.{names_end, nullable_at, planes_in, readable, rows_in, title_at, titles_of, top_at, version_in}
 use Rattle.plane_file.specs.Format.{CanBeSpelledColumns, file_size, head_bytes, heads_bytes, plane_count, planes_at}
 use Rattle.plane_file.specs.Opening.{IsOpened, Opened}
 use Rattle.plane_file.specs.declared.file_fault.FileFault.{FileFault}
-use Rattle.plane_file.specs.declared.file_fault.FileFault.TheVariants.{BadMagic, UnknownVersion, BadHead, LimitPassed, WrongSize, WentShort, Fault, NoMemory}
+use Rattle.plane_file.specs.declared.file_fault.FileFault.TheVariants.{BadMagic, UnknownVersion, BadHead, LimitPassed}
+use Rattle.plane_file.specs.declared.file_fault.FileFault.TheVariants.{WrongSize, WentShort, Fault, NoMemory}
 
 -- a step fails with the fault that was found, or for want of memory
 abbrev pub MayFail : Option FileFault → FileFault → Type 0

@@ -6,7 +6,8 @@ use Rattle.daq_table.specs.declared.table_head.Head.{Head}
 use Rattle.plane_file.specs.Checks.{file_fault, readable}
 use Rattle.plane_file.specs.Format.{CanBeSpelled, file_size, head_bytes, is_version, planes_at}
 use Rattle.plane_file.specs.declared.file_fault.FileFault.{FileFault}
-use Rattle.plane_file.specs.declared.file_fault.FileFault.TheVariants.{BadMagic, UnknownVersion, BadHead, LimitPassed, WrongSize, WentShort, Fault, NoMemory}
+use Rattle.plane_file.specs.declared.file_fault.FileFault.TheVariants.{BadMagic, UnknownVersion, BadHead, LimitPassed}
+use Rattle.plane_file.specs.declared.file_fault.FileFault.TheVariants.{WrongSize, WentShort, Fault, NoMemory}
 
 -- what is told of a file that was opened
 pub record Opened : Type 0 where

@@ -1,6 +1,6 @@
 //! The heads of columns, read one after the other.
 
-ghost use Rattle.std.specs.Prelude.{◌≡◌, ◌<◌, ◌≤◌, ◌^◌, length, IfErr, IfOk, []};
+ghost use Rattle.std.specs.Prelude.{◌<◌, ◌≤◌, ◌^◌, length, IfErr, IfOk, []};
 ghost use Rattle.plane_file.specs.Checks.{column_checks, columns_checks, first_fault, titles_of};
 ghost use Rattle.plane_file.specs.Fronts.{AreColumns, IsColumnAt, MayFail};
 

@@ -1,10 +1,12 @@
 //! Whether each field of a column's head has a value that it can have.
 
-ghost use Rattle.std.specs.Prelude.{◌≡◌, ◌-ℤ◌, ◌+◌, ◌<◌, ◌≤◌, ◌^◌, nat_abs};
+ghost use Rattle.std.specs.Prelude.{◌≡◌, ◌+◌, ◌<◌, ◌^◌};
 ghost use Rattle.std.specs.List.{list_any};
 ghost use Rattle.std.specs.Str.{bytes_eq};
 ghost use Rattle.daq_table.specs.Schemas.{fits_scale};
-ghost use Rattle.plane_file.specs.Checks.{are_ranks_below, fits_base, fits_count, fits_top, has_base, has_count, has_kind, has_scale, has_title, has_title_length, has_top, has_width, is_kind_byte, is_new, kind_at, kind_from, titles_of};
+ghost use Rattle.plane_file.specs.Checks.{are_ranks_below, fits_base, fits_count, fits_top, has_base};
+ghost use Rattle.plane_file.specs.Checks.{has_count, has_kind, has_scale, has_title, has_title_length, has_top};
+ghost use Rattle.plane_file.specs.Checks.{has_width, is_kind_byte, is_new, kind_at, kind_from, titles_of};
 ghost use Rattle.plane_file.specs.Format.{is_day, scale_byte};
 
 use crate::places::{byte_at, number32_at, number64_at, part_at, reaches, signed_at};

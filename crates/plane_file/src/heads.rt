@@ -3,7 +3,8 @@
 ghost use Rattle.std.specs.Prelude.{◌≡◌, ◌≤◌, ◌*◌, ◌++◌, length, IfOk, IsTrue, OnOk};
 ghost use Rattle.std.specs.Int.{w32, to_le_bytes};
 ghost use Rattle.std.specs.List.{flat_map, list_all};
-ghost use Rattle.plane_file.specs.Format.{CanBeSpelled, CanBeSpelledColumn, column_bytes, counted, first_bytes, header_bytes, heads_bytes, is_short_text, kind_byte, kind_number, numbers_bytes, plane_count, scale_byte, signed_bytes};
+ghost use Rattle.plane_file.specs.Format.{CanBeSpelled, CanBeSpelledColumn, column_bytes, counted, first_bytes, header_bytes, heads_bytes};
+ghost use Rattle.plane_file.specs.Format.{is_short_text, kind_byte, kind_number, numbers_bytes, plane_count, scale_byte, signed_bytes};
 
 use daq_table::{ColumnHead, Ends, Head, Kind, Text, ends, planes, width};
 use std::alloc::{AllocError, Global};

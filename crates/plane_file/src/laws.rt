@@ -1,6 +1,7 @@
 //! What holds of all files.
 
-ghost use Rattle.plane_file.specs.Laws.{AreFaultless, FilesShowNoFault, FilesTellCells, HasHead, HaveOneHead, HaveTables, ShowOneFault, TablesAreOne};
+ghost use Rattle.plane_file.specs.Laws.{AreFaultless, FilesShowNoFault, FilesTellCells, HasHead};
+ghost use Rattle.plane_file.specs.Laws.{HaveOneHead, HaveTables, ShowOneFault, TablesAreOne};
 
 /// Bytes without a fault begin with the head of a table, and have the size of its file: nothing falls between the answers
 /// of `open`.

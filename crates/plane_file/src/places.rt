@@ -1,6 +1,6 @@
 //! What stands at a place of the bytes of a file. Past the end there are zeros.
 
-ghost use Rattle.std.specs.Prelude.{◌≡◌, ◌+◌, ◌<◌, ◌≤◌, ◌^◌, length};
+ghost use Rattle.std.specs.Prelude.{◌≡◌, ◌+◌, ◌<◌, ◌^◌};
 ghost use Rattle.std.specs.Int.{w32, w64};
 ghost use Rattle.plane_file.specs.Checks.{byte_at, number_at, part_at, reaches, signed_at};
 

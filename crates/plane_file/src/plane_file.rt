@@ -1,6 +1,6 @@
 //! A file that was opened: what its head says.
 
-ghost use Rattle.std.specs.Prelude.{◌≡◌, ◌+◌, length};
+ghost use Rattle.std.specs.Prelude.{◌≡◌};
 ghost use Rattle.plane_file.specs.Format.{planes_at};
 ghost use Rattle.plane_file.specs.Opening.{IsOpened};
 

@@ -3,31 +3,12 @@
 ghost use Rattle.std.specs.Prelude.{◌≡◌, ◌<◌, length};
 ghost use Rattle.daq_table.specs.Tables.{ends_at, frame_of, planes};
 ghost use Rattle.outer_world.specs.Whole.{Writes};
-ghost use Rattle.query_model.specs.Knowledge.{plane_of};
 ghost use Rattle.plane_file.specs.Format.{column_planes, plane_size, planes_bytes};
 
-use daq_table::{Table, planes, width};
+use daq_table::{Table, planes};
+use known_column::cut;
 use outer_world::{Failed, Sink, write_whole};
-use plane_kernels::{Plane, transpose, validity};
-
-// A plane of a table: the rows that are not null where it is the one that tells null, else a digit of the numbers.
-fn cut(table: &Table, column: usize, number: u8, into: &mut Plane)
-    requires column { column < length table.now.head.columns }
-    requires number { number < planes (ends_at (frame_of table.now.head) column) }
-    requires rows { length into.old ≡ table.now.head.rows }
-    ensures bits { into.new ≡ plane_of (frame_of table.now.head) table.now.cells column number }
-    ensures rows { length into.new ≡ length into.old }
-{
-    let head = &table.head().columns.as_slice()[column];
-    let digits = width(head);
-    if !head.nullable {
-        transpose(table.column(column), digits, number, into);
-    } else if number == 0 {
-        validity(table.nulls(column), into);
-    } else {
-        transpose(table.column(column), digits, number - 1, into);
-    }
-}
+use plane_kernels::Plane;
 
 // How many planes a column has.
 fn planes_of(table: &Table, column: usize) -> u8

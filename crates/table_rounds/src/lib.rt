@@ -2,7 +2,6 @@
 //! of planes.
 #![tactic(auto)]
 
-mod cutting;
 mod laws;
 mod longs;
 mod reading;

@@ -6,8 +6,8 @@ ghost use Rattle.daq_table.specs.Tables.{ends_at, frame_of, planes};
 ghost use Rattle.query_model.specs.Knowledge.{plane_of};
 ghost use Rattle.table_rounds.specs.Sources.{AreTold, HandsOver, IsPlane, Places, ToldPlanes};
 
-use crate::cutting::cut;
 use daq_table::{Head, Table};
+use known_column::cut;
 use plane_kernels::Plane;
 use std::convert::Infallible;
 
@@ -57,7 +57,8 @@ pub trait PlaneSource {
     /// Reads may follow one another.
     ghost since_both: { (first second third : Self) → since first second → since second third → since first third };
     /// A plane shows after reads what it showed before.
-    ghost shows_before: { (first second : Self) (column number : ℕ) → since first second → shows second column number → shows first column number };
+    ghost shows_before: { (first second : Self) (column number : ℕ) → since first second → shows second column number
+        → shows first column number };
 }
 
 /// A table in memory tells its planes, and each of them is read. They lie at no places.

@@ -4,7 +4,7 @@ use Rattle.std.proofs.lemmas.List.{length-map}
 use Rattle.daq_table.specs.Tables.{ends_at, ends_of, frame_of, width}
 use Rattle.query_model.specs.Knowledge.{bit_at}
 use Rattle.known_column.proofs.CutPlanes.{declared, digit, digits_left, plain_plane, null_plane, number_plane}
-use Rattle.plane_file.proofs.planes.cut.Goals as goal
+use Rattle.known_column.proofs.cutting.cut.Goals as goal
 
 pub returns-then-not-head-clause-bits : goal.returns-then-not-head-clause-bits
 returns-then-not-head-clause-bits c =
