@@ -10,6 +10,7 @@ use Rattle.query_model.specs.Knowledge.{IsKnowledge, Knowledge}
 use Rattle.query_model.specs.Projection.{projected, projected_frame}
 use Rattle.query_model.specs.Validity.{FitsHead, reads_each_once}
 use Rattle.query_model.specs.Worlds.{AgreesWith, NamesColumns, average_on}
+use Rattle.query_model.proofs.Exact.{words_become_exact}
 use Rattle.query_model.proofs.Queries.{pairs_ordered}
 use Rattle.query_model.proofs.WholeTables.{bounds_are_extremes_on_tables, completions_have_tables, fitting_heads_have_parts}
 use Rattle.round_engine.specs.Stages.{Stage}
@@ -75,6 +76,7 @@ certain_there query item frame known names k =
       tight = λ once. tight query item frame known names k once;
       attained = λ once w. attained query item frame known names k once w;
       exact = λ all w cells h. exact_average_is query item part known (projected query cells) k all h.part w;
+      told = λ all. words_become_exact query item [] part known k all;
     }
 
 -- for each frame of which the query reads a part

@@ -1,9 +1,11 @@
--- What the exact ends of an average say of the answer on whole tables: on each that agrees with the planes read, for whatever head the query fits.
-use Rattle.std.specs.Prelude.{◌≡◌, ◌≢◌, ℕ, ◌<◌, ℤ, int_le, Bool, false, not, ◌&&◌, ◌||◌, [], IsTrue, if◌then◌else◌}
+-- What the exact ends of an average say of the answer on whole tables: on each that agrees with the planes read, for whatever head
+-- the query fits.
+use Rattle.std.specs.Prelude.{◌≡◌, ◌≢◌, ℕ, ◌<◌, ℤ, int_le, Bool, false}
+use Rattle.std.specs.Prelude.{not, ◌&&◌, ◌||◌, [], IsTrue, if◌then◌else◌}
 use Rattle.std.specs.declared.option.Option.{Option}
 use Rattle.std.specs.declared.option.Option.TheVariants.{Some, None}
 use Rattle.daq_table.specs.Tables.{Cells, Frame, row_of}
-use Rattle.query_model.specs.declared.bounds.Nullity.TheVariants.{Always}
+use Rattle.query_model.specs.declared.bounds.Nullity.TheVariants.{Always, Possibly}
 use Rattle.query_model.specs.Queries.{Aggregate}
 use Rattle.query_model.specs.Answers.{outcome_of}
 use Rattle.query_model.specs.Bounds.{AdmitsAverage, IsExtremesAverage, IsNestedAverage, Pair, average_under, pair_of}
@@ -62,3 +64,5 @@ pub record IsCertainExact (stage : Stage) (item : Aggregate) (frame : Frame) : T
       (world : Cells) → AgreesWith stage.query frame stage.known world →
       (average_on stage.query item [] frame world ≡ Some ((exact_at stage item).lo.num, (exact_at stage item).lo.den))
       × (average_on stage.query item [] frame world ≡ Some ((exact_at stage item).hi.num, (exact_at stage item).hi.den))
+  -- where all planes are read, it is known whether the average is null
+  pub told : IsAllRead stage.frame stage.known → (exact_at stage item).null ≢ Possibly

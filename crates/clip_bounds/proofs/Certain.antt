@@ -1,5 +1,5 @@
 -- What holds of a clipped bound on whole tables.
-use Rattle.std.proofs.Common.{◌≡◌, ◌≢◌, ℤ, [], IsTrue, Option, Some, None, refl, ap, subst, ◌∙◌, arith}
+use Rattle.std.proofs.Common.{◌≡◌, ◌≢◌, ℤ, [], IsTrue, Option, Some, None, refl, ap, subst, sym, ◌∙◌, arith}
 use Rattle.std.proofs.lemmas.Int.{ints}
 use Rattle.daq_table.specs.Tables.{Cells, Frame}
 use Rattle.query_model.specs.declared.bounds.Bound.{Bound}
@@ -12,13 +12,16 @@ use Rattle.query_model.specs.Projection.{projected, projected_frame}
 use Rattle.query_model.specs.Queries.{Aggregate, Query}
 use Rattle.query_model.specs.Validity.{no_repeats}
 use Rattle.query_model.specs.Worlds.{AgreesWith, IsPart, answer_on}
+use Rattle.query_model.proofs.Exact.{words_become_exact}
 use Rattle.query_model.proofs.Queries.{none_where_possible, tells_from_admits}
 use Rattle.query_model.proofs.WholeTables.{bounds_become_exact_on_tables, completions_have_tables}
+use Rattle.round_engine.proofs.Certain.{word_of_bound}
 use Rattle.clip_bounds.specs.declared.clip.Clip.{Clip}
 use Rattle.clip_bounds.specs.Clips.{clip_of}
-use Rattle.clip_bounds.specs.Clipped.{clipped_in, clipped_under}
+use Rattle.clip_bounds.specs.Clipped.{clipped_in, clipped_pairs, clipped_under, pairs_in}
 use Rattle.clip_bounds.specs.ClipLaws.{ClipsAreCertain, IsOfLongs}
 use Rattle.clip_bounds.proofs.ClipBounds.{clips_are_extremes, clips_contain, clips_lie_within}
+use Rattle.clip_bounds.proofs.ClippedEnds.{nullity_clipped}
 use Rattle.clip_bounds.proofs.Rows.{clipped_by, not_average}
 
 -- of a frame that is the query's part of the table
@@ -69,5 +72,7 @@ clips_are_certain stage i clip frame has part longs k =
       tight = λ once. extremes_there query i clip frame stage.frame stage.known has part longs once k contains;
       exact = λ all some world agrees. (let meets = bounds_become_exact_on_tables query i [] frame stage.frame stage.known world (not_average i.kind own.kind) part k all agrees (within.full some) in
           same_ends (bound_under query i [] stage.frame stage.known) (clipped_in stage i clip) (answer_on query i [] frame world) within some (contains world agrees) meets.0 meets.1);
+      told = λ all. word_of_bound i.kind (clipped_pairs stage i clip)
+          (λ possibly. words_become_exact query i [] stage.frame stage.known k all (sym (nullity_clipped clip (pairs_in stage i)) ∙ possibly));
       within = within;
     }

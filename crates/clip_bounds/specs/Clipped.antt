@@ -4,7 +4,7 @@ use Rattle.std.specs.Int.{int_min, int_max}
 use Rattle.std.specs.declared.option.Option.TheVariants.{Some}
 use Rattle.daq_table.specs.Tables.{Cells, Frame}
 use Rattle.query_model.specs.declared.bounds.Bound.{Bound}
-use Rattle.query_model.specs.declared.bounds.Nullity.TheVariants.{Always}
+use Rattle.query_model.specs.declared.bounds.Nullity.TheVariants.{Always, Possibly}
 use Rattle.query_model.specs.Bounds.{Admits, IsExtremes, IsNested, Pair, bound_of, bound_under, pairs}
 use Rattle.query_model.specs.Knowledge.{IsAllRead, Knowledge}
 use Rattle.query_model.specs.Meaning.{columns_of_pred}
@@ -49,5 +49,7 @@ pub record IsCertainClip (stage : Stage) (item : Aggregate) (clip : Clip) (frame
       (world : Cells) → AgreesWith stage.query frame stage.known world →
       (answer_on stage.query item [] frame world ≡ Some (clipped_in stage item clip).lo)
       × (answer_on stage.query item [] frame world ≡ Some (clipped_in stage item clip).hi)
+  -- where all planes are read, it is known whether the answer is null
+  pub told : IsAllRead stage.frame stage.known → (clipped_in stage item clip).null ≢ Possibly
   -- it lies within the item's own bound
   pub within : IsNested (bound_under stage.query item [] stage.frame stage.known) (clipped_in stage item clip)

@@ -1,53 +1,26 @@
 -- The parts of the keys of a cell.
-use Rattle.std.proofs.Common.{◌≡◌, ◌≢◌, ℕ, zero, suc, ◌%◌, ◌^◌, ◌<◌, Bool, true, false, List, [], ◌∷◌, length, map, sum, take, slice_get, Option, None, Some, IfSome, IsTrue, refl, sym, ap, subst, ◌∙◌, arith}
-use Rattle.std.proofs.lemmas.Bool.{false≢true}
+use Rattle.std.proofs.Common.{◌≡◌, ℕ, zero, suc, ◌%◌, ◌^◌, ◌<◌, List, [], ◌∷◌, length, map, sum, take, slice_get, Option, None, Some, IfSome, refl, ap, subst, ◌∙◌, arith}
 use Rattle.std.proofs.lemmas.List.{length-map}
 use Rattle.std.specs.List.{AllByRecursion}
 use Rattle.std.specs.Simd.Lanes.{zip2}
 use Rattle.interval_calc.specs.Intervals.{Interval}
-use Rattle.daq_table.specs.Tables.{Frame, rows_of}
+use Rattle.daq_table.specs.Tables.{Frame}
 use Rattle.daq_table.specs.ValueTexts.{HeadHasTexts}
 use Rattle.daq_table.specs.declared.head.ColumnHead.{ColumnHead}
 use Rattle.daq_table.specs.declared.table_head.Head.{Head}
-use Rattle.query_model.specs.Answers.{every_row, groups_of}
-use Rattle.query_model.specs.Bounds.{nullity_of}
-use Rattle.query_model.specs.Groups.{AreLegal, cell_of, counts_of, parts_of}
-use Rattle.query_model.specs.Knowledge.{IsKnowledge}
-use Rattle.query_model.specs.Laws.{IllegalCellsAreEmpty}
+use Rattle.query_model.specs.Answers.{groups_of}
 use Rattle.query_model.specs.Truths.{Range}
 use Rattle.query_model.specs.Validity.{FitsHead}
-use Rattle.query_model.specs.declared.bounds.Nullity.TheVariants.{Always}
 use Rattle.query_model.specs.declared.query.TypedQuery.{TypedQuery}
-use Rattle.row_groups.specs.Partition.{CellsTellKeys, RowCells, counts_of_parts, is_legal_cell, range_for, ranges_of_cell}
+use Rattle.row_groups.specs.Partition.{counts_of_parts, range_for, ranges_of_cell}
 use Rattle.row_groups.specs.declared.part.GroupPart.{GroupPart}
 use Rattle.row_groups.specs.declared.prefix.PartRange.{PartRange}
-use Rattle.round_engine.specs.Cells.{AreDeclared, absence_in_cell, parts_in}
+use Rattle.round_engine.specs.Cells.{AreDeclared, parts_in}
 use Rattle.round_engine.specs.Stages.{Stage}
 use Rattle.daq_report.specs.Ends.{CanShowKey, CanShowSpan, HasNumber, IsThere}
 use Rattle.daq_report.specs.Groups.{part_text}
 use Rattle.daq_report.specs.Intervals.{column_of}
 use Rattle.daq_report.proofs.Faces.{number_shows}
-
--- ---- cells that a row may be in
-
--- a cell that a row may be in has keys
-pub filled_is_legal : (stage : Stage) (cell : ℕ) → IllegalCellsAreEmpty → CellsTellKeys → IsKnowledge stage.frame stage.known →
-    absence_in_cell stage cell ≢ Always → IsTrue (is_legal_cell (parts_in stage) cell)
-filled_is_legal stage cell empty tell knowledge filled = by_test (is_legal_cell (parts_in stage) cell) refl
-  where
-    groups : List ℕ
-    groups = groups_of stage.query.shape
-
-    cells : RowCells
-    cells = record { parts = parts_in stage; cells = map (cell_of stage.known groups) (rows_of stage.frame) }
-
-    by_test : (b : Bool) → is_legal_cell (parts_in stage) cell ≡ b → IsTrue (is_legal_cell (parts_in stage) cell)
-    by_test true e = e
-    by_test false e =
-        let legal = (tell stage.frame stage.known groups cells (record { parts = refl; rows = refl })).legal cell in
-        let illegal : ¬ AreLegal stage.frame stage.known groups (parts_of (counts_of stage.known groups) cell) =
-        (λ are. false≢true (sym e ∙ legal.1 are)) in
-        absurd (filled (ap nullity_of (empty stage.query every_row stage.frame stage.known cell knowledge illegal)))
 
 -- ---- what the parts of a key may be
 

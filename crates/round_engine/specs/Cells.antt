@@ -4,7 +4,7 @@ use Rattle.interval_calc.specs.Intervals.{Within}
 use Rattle.daq_table.specs.Tables.{Frame, ends_at}
 use Rattle.query_model.specs.declared.bounds.Bound.{Bound}
 use Rattle.query_model.specs.declared.bounds.Nullity.{Nullity}
-use Rattle.query_model.specs.declared.query.ItemKind.TheVariants.{Avg}
+use Rattle.query_model.specs.declared.bounds.Nullity.TheVariants.{Always}
 use Rattle.query_model.specs.Answers.{Key, groups_of}
 use Rattle.query_model.specs.Bounds.{AverageBound, absence_of, average_bound_of, average_under, bound_of, bound_under}
 use Rattle.query_model.specs.Groups.{IsKeyOf, cell_count, pairs_in_cell, presence_in_cell}
@@ -51,6 +51,9 @@ pub record HasCell (stage : Stage) (key : Key) : Type 0 where
   pub counted : cell < cells_in stage
   pub belongs : IsInCell stage cell key
   pub only : (other : ℕ) → other < cells_in stage → IsInCell stage other key → other ≡ cell
+  -- of the cells that are told, its own alone has it in its ranges
+  pub apart : (other : ℕ) → other < cells_in stage → absence_in_cell stage other ≢ Always →
+      IsKeyIn (ranges_of_cell (parts_in stage) other) key → other ≡ cell
   pub speaks : SpeaksFor stage cell key
 
 -- the ends of each range are numbers that the column may have
@@ -58,5 +61,6 @@ abbrev pub AreDeclared : Frame → List ℕ → List Range → Type 0
 AreDeclared frame [] ranges = Unit {0}
 AreDeclared frame (c ∷ cs) [] = Unit {0}
 AreDeclared frame (c ∷ cs) (range ∷ ranges) =
-    Within (declared_range (ends_at frame c)).numbers range.numbers.low × Within (declared_range (ends_at frame c)).numbers range.numbers.high
+    Within (declared_range (ends_at frame c)).numbers range.numbers.low
+    × Within (declared_range (ends_at frame c)).numbers range.numbers.high
     × AreDeclared frame cs ranges

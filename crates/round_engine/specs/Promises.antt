@@ -19,7 +19,8 @@ use Rattle.query_model.specs.Validity.{declared_range, reads_each_once}
 use Rattle.query_model.specs.Worlds.{AgreesWith, answer_on, average_on}
 use Rattle.round_engine.specs.Stages.{Stage}
 
--- of an item that is no average and a key of the groups, over whole tables with a frame. A query without groups has one key, that of no parts
+-- of an item that is no average and a key of the groups, over whole tables with a frame. A query without groups has one key, that of
+-- no parts
 pub record IsCertainBound (stage : Stage) (item : Aggregate) (key : Key) (frame : Frame) : Type 0 where
   -- the bound admits the answer on each table that agrees with what is known
   pub contains : (world : Cells) → AgreesWith stage.query frame stage.known world →
@@ -33,6 +34,8 @@ pub record IsCertainBound (stage : Stage) (item : Aggregate) (key : Key) (frame 
       (world : Cells) → AgreesWith stage.query frame stage.known world →
       (answer_on stage.query item key frame world ≡ Some (bound_under stage.query item key stage.frame stage.known).lo)
       × (answer_on stage.query item key frame world ≡ Some (bound_under stage.query item key stage.frame stage.known).hi)
+  -- where all planes are read, it is known whether the answer is null
+  pub told : IsAllRead stage.frame stage.known → (bound_under stage.query item key stage.frame stage.known).null ≢ Possibly
 
 -- of an average: it is not said to be as narrow as it can be
 pub record IsCertainAverage (stage : Stage) (item : Aggregate) (key : Key) (frame : Frame) : Type 0 where
@@ -43,6 +46,8 @@ pub record IsCertainAverage (stage : Stage) (item : Aggregate) (key : Key) (fram
       let bound = average_under stage.query item key stage.frame stage.known in
       (average_on stage.query item key frame world ≡ Some (bound.lo.num, bound.lo.den))
       × (average_on stage.query item key frame world ≡ Some (bound.hi.num, bound.hi.den))
+  -- where all planes are read, it is known whether the average is null
+  pub told : IsAllRead stage.frame stage.known → (average_under stage.query item key stage.frame stage.known).null ≢ Possibly
 
 -- what holds of an item's bound
 pub record IsCertain (stage : Stage) (item : Aggregate) (key : Key) (frame : Frame) : Type 0 where
@@ -67,12 +72,15 @@ IsShownWithin frame (OfColumn c) bound =
 pub record IsCertainKey (stage : Stage) (key : Key) (frame : Frame) : Type 0 where
   -- where a row surely counts for it, it is in the result of each table that agrees, and where none may, in that of none
   pub told : ResultIsToldOnTables stage.query key frame stage.frame stage.known
+  -- where all planes are read, it is known whether the key is in the result
   pub exact : IsAllRead stage.frame stage.known → absence_of stage.query key stage.frame stage.known ≢ Possibly
 
 -- whether a row is among the first
 pub record IsCertainStanding (stage : Stage) (r : ℕ) (frame : Frame) : Type 0 where
-  -- a certain row is among them on each table that agrees, an excluded row on none; and where condition and sort key read no column twice these rows alone
+  -- a certain row is among them on each table that agrees, an excluded row on none; and where condition and sort key read no column
+  -- twice these rows alone
   pub right : StandingIsRightOnTables stage.query frame stage.frame stage.known r
+  -- where all planes are read, it is known whether the row is among them
   pub exact : IsAllRead stage.frame stage.known → standing_under stage.query stage.frame stage.known r ≢ Possible
 
 -- certain and excluded rows stay so

@@ -8,7 +8,8 @@ ghost use Rattle.query_model.specs.Answers.{groups_of};
 ghost use Rattle.query_model.specs.Bounds.{fractions_of};
 ghost use Rattle.query_model.specs.Validity.{FitsHead};
 ghost use Rattle.row_groups.specs.Partition.{is_legal_cell, ranges_in, ranges_of_cell};
-ghost use Rattle.round_engine.specs.Cells.{AreDeclared, HasCell, IsInCell, SpeaksFor, absence_in_cell, average_in_cell, bound_in_cell, cells_in, parts_in};
+ghost use Rattle.round_engine.specs.Cells.{AreDeclared, IsInCell, SpeaksFor, absence_in_cell};
+ghost use Rattle.round_engine.specs.Cells.{average_in_cell, bound_in_cell, cells_in, parts_in};
 ghost use Rattle.round_engine.specs.Promises.{IsCertainAverage, IsCertainBound, IsCertainKey, IsShownWithin};
 ghost use Rattle.round_engine.specs.Stages.{IsGrouped};
 
@@ -76,6 +77,7 @@ impl EngineView<'_> {
         bounds_contain_on_tables();
         bounds_are_extremes_on_tables();
         bounds_become_exact_on_tables();
+        words_become_exact();
         fitting_heads_have_parts();
         self.follower.state.answers.groups().bound(cell, item)
     }
@@ -93,6 +95,7 @@ impl EngineView<'_> {
     {
         average_bounds_contain_on_tables();
         average_bounds_become_exact_on_tables();
+        words_become_exact();
         fitting_heads_have_parts();
         self.follower.state.answers.groups().average(cell, item)
     }

@@ -1,6 +1,6 @@
 //! What an engine tells of rows, of items, and of how far it has come.
 
-ghost use Rattle.std.specs.Prelude.{◌≡◌, ◌≢◌, ◌≤◌, ◌<◌, ◌^◌, [], length, slice_get, IfSome};
+ghost use Rattle.std.specs.Prelude.{◌≡◌, ◌≢◌, ◌<◌, ◌^◌, [], length, slice_get, IfSome};
 ghost use Rattle.interval_calc.specs.Intervals.{Within, interval_of};
 ghost use Rattle.daq_table.specs.declared.table_head.Head.{Head};
 ghost use Rattle.daq_table.specs.Tables.{ends_at, frame_of};
@@ -20,7 +20,7 @@ use plane_schedule::Progress;
 use query_model::{
     AverageBound, Bound, Nullity, Truth, average_bounds_become_exact_on_tables,
     average_bounds_contain_on_tables, bounds_are_extremes_on_tables, bounds_become_exact_on_tables,
-    bounds_contain_on_tables, fitting_heads_have_parts,
+    bounds_contain_on_tables, fitting_heads_have_parts, words_become_exact,
 };
 use row_values::{null_of, span_of};
 
@@ -39,6 +39,7 @@ impl EngineView<'_> {
         bounds_contain_on_tables();
         bounds_are_extremes_on_tables();
         bounds_become_exact_on_tables();
+        words_become_exact();
         fitting_heads_have_parts();
         self.follower.state.answers.totals().bound(item)
     }
@@ -55,6 +56,7 @@ impl EngineView<'_> {
     {
         average_bounds_contain_on_tables();
         average_bounds_become_exact_on_tables();
+        words_become_exact();
         fitting_heads_have_parts();
         self.follower.state.answers.totals().average(item)
     }

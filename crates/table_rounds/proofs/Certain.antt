@@ -3,8 +3,9 @@ use Rattle.std.proofs.Common.{◌≡◌, ℕ, ◌+◌, ◌<◌, ◌≤◌, Bool,
 use Rattle.daq_table.specs.Tables.{Cells, Frame, IsTable}
 use Rattle.plane_schedule.specs.declared.policy.Plan.{Plan}
 use Rattle.query_model.specs.Answers.{Key, every_row}
+use Rattle.query_model.specs.Bounds.{pairs}
 use Rattle.query_model.specs.Knowledge.{CanTake, IsKnowledge, Knowledge, known_of, plane_of, taken}
-use Rattle.query_model.specs.Laws.{AverageBoundsBecomeExactOnTables, AverageBoundsContainOnTables, AverageBoundsNest, BoundsAreExtremesOnTables, BoundsBecomeExactOnTables, BoundsContainOnTables, BoundsNest, CompletionsAreSelections, PlanesAreTaken, ResultsAreToldOnTables, StandingsAreRightOnTables, StandingsBecomeExact, StandingsNest, TableAgrees, TablesAgree, WordsBecomeExact}
+use Rattle.query_model.specs.Laws.{AverageBoundsBecomeExactOnTables, AverageBoundsContainOnTables, AverageBoundsNest, BoundsAreExtremesOnTables, BoundsBecomeExactOnTables, BoundsContainOnTables, BoundsNest, CompletionsAreSelections, PlanesAreTaken, RangesNest, ResultsAreToldOnTables, StandingsAreRightOnTables, StandingsBecomeExact, StandingsNest, TableAgrees, TablesAgree, WordsBecomeExact}
 use Rattle.query_model.specs.Projection.{projected}
 use Rattle.query_model.specs.Ranking.{order_of}
 use Rattle.query_model.specs.Worlds.{AgreesWith, NamesColumns}
@@ -12,11 +13,12 @@ use Rattle.query_model.specs.declared.query.Item.{Item}
 use Rattle.query_model.specs.declared.query.TypedQuery.{TypedQuery}
 use Rattle.round_engine.specs.Promises.{IsCertain, IsCertainKey, IsCertainStanding, LiesWithin, StandingsStay}
 use Rattle.round_engine.specs.Stages.{Stage}
+use Rattle.round_engine.proofs.Certain.{word_of_average, word_of_bound}
 use Rattle.avg_exact.specs.Laws.{ExactAveragesAreCertain, ExactAveragesNest}
 use Rattle.clip_bounds.specs.Clips.{clip_of}
 use Rattle.clip_bounds.specs.ClipLaws.{ClipsAreCertain, ClipsNest}
 use Rattle.clip_bounds.specs.declared.clip.Clip.{Clip}
-use Rattle.table_rounds.specs.Headline.{AreCertain, AreOfLongs, ClipLiesWithin, ExactLiesWithin, IsCertainValue, RoundsAreCertain, stage_of}
+use Rattle.table_rounds.specs.Headline.{AreCertain, AreOfLongs, ClipLiesWithin, ExactLiesWithin, IsCertainValue, ValueLiesWithin, RoundsAreCertain, stage_of}
 use Rattle.table_rounds.specs.Rounds.{AreRounds, counts_after, stage_after, stage_with}
 use Rattle.table_rounds.proofs.Agreeing.{table_tells}
 use Rattle.table_rounds.proofs.Counts.{next_counts}
@@ -39,6 +41,7 @@ pub record Laws : Type 0 where
   pub contain : BoundsContainOnTables
   pub extremes : BoundsAreExtremesOnTables
   pub exact : BoundsBecomeExactOnTables
+  pub nest_ranges : RangesNest
   pub nest : BoundsNest
   pub contain_averages : AverageBoundsContainOnTables
   pub exact_averages : AverageBoundsBecomeExactOnTables
@@ -64,10 +67,12 @@ module _ (law : Laws) (plan : Plan) (query : TypedQuery) (frame : Frame) (cells 
           contains = λ world agrees. law.contain query item key frame part known world plain its is_known agrees;
           tight = λ once. law.extremes query item key frame part known plain once its is_known;
           exact = λ read full world agrees. law.exact query item key frame part known world plain its is_known read agrees full;
+          told = λ read. word_of_bound item.kind (pairs query item key part known) (law.words query item key part known is_known read);
         };
         average = λ _. record {
           contains = λ world agrees. law.contain_averages query item key frame part known world its is_known agrees;
           exact = λ read full world agrees. law.exact_averages query item key frame part known world its is_known read agrees full;
+          told = λ read. word_of_average (pairs query item key part known) (law.words query item key part known is_known read);
         };
       }
 
@@ -139,7 +144,14 @@ module _ (law : Laws) (plan : Plan) (query : TypedQuery) (frame : Frame) (cells 
         average = λ _. law.nest_averages query item key part known more.column more.bits more.knowledge more.can;
       })
 
-  -- so do a clipped bound, and the exact ends of an average
+  -- so do the range of a value, a clipped bound, and the exact ends of an average
+  value_is_nested : (reads : List ℕ) (round : ℕ) → OneMore reads round → (row column : ℕ) → row < frame.rows →
+      ValueLiesWithin (stage_of query frame cells reads round) (stage_of query frame cells reads (round + 1)) row column
+  value_is_nested reads round more row column row_in =
+      let known = (stage_of query frame cells reads round).known in
+      subst (λ s. ValueLiesWithin (stage_of query frame cells reads round) s row column) (sym more.next)
+      (law.nest_ranges (part_of query frame) known more.column more.bits row column more.knowledge more.can row_in)
+
   clip_is_nested : (reads : List ℕ) (round : ℕ) → OneMore reads round → (item : Item) (clip : Clip) → clip_of query item ≡ Some clip →
       ClipLiesWithin (stage_of query frame cells reads round) (stage_of query frame cells reads (round + 1)) item clip
   clip_is_nested reads round more item clip has =
@@ -167,6 +179,7 @@ module _ (law : Laws) (plan : Plan) (query : TypedQuery) (frame : Frame) (cells 
     itself = λ round h. subst (λ (s : Stage). AgreesWith query frame s.known cells) (sym (tells reads rounds round h)) (agrees reads rounds round h).agrees;
     values = λ round h row column row_in column_in. value_is_certain (stage_of query frame cells reads round).known row column (rounds.legal round h) row_in column_in;
     certain = λ round h key is i item there. item_is_certain (stage_of query frame cells reads round).known item key (rounds.legal round h);
+    values_nested = λ round h row column row_in. value_is_nested reads round (one_more reads rounds round h) row column row_in;
     nested = λ round h key is i item there. item_is_nested reads round (one_more reads rounds round h) item key;
     clips = λ round h i item clip is.
         law.clips (stage_of query frame cells reads round) item clip frame is.clipped (is_part query frame named)

@@ -1,5 +1,6 @@
 -- What each round says of the answers on the table: its values, the bounds of its items, its keys and its first rows.
-use Rattle.std.specs.Prelude.{◌≡◌, ◌⊎◌, ℕ, ◌+◌, ◌<◌, ◌≤◌, List, [], ◌++◌, length, map, take, slice_get, IsTrue, IsNone}
+use Rattle.std.specs.Prelude.{◌≡◌, ◌⊎◌, ℕ, ◌+◌, ◌<◌, ◌≤◌, List}
+use Rattle.std.specs.Prelude.{[], ◌++◌, length, map, take, slice_get, IsTrue, IsNone}
 use Rattle.std.specs.declared.option.Option.TheVariants.{Some}
 use Rattle.std.specs.List.{sum}
 use Rattle.daq_table.specs.Tables.{Cells, Frame, IsTable, frame_of, planes, row_of}
@@ -19,7 +20,7 @@ use Rattle.query_model.specs.Bounds.{IsNested, IsNestedAverage}
 use Rattle.query_model.specs.Groups.{IsKey}
 use Rattle.query_model.specs.Knowledge.{AreCounts, IsAllRead, IsKnowledge, plane_of, ranges_of}
 use Rattle.query_model.specs.Projection.{projected, projected_frame}
-use Rattle.query_model.specs.Truths.{IsIn}
+use Rattle.query_model.specs.Truths.{IsIn, IsNarrower}
 use Rattle.query_model.specs.Validity.{IsTop}
 use Rattle.query_model.specs.Worlds.{AgreesWith, NamesColumns}
 use Rattle.query_model.specs.declared.query.Item.{Item}
@@ -31,7 +32,8 @@ use Rattle.round_engine.specs.Narrowness.{is_narrow}
 use Rattle.round_engine.specs.Progresses.{planes_read}
 use Rattle.round_engine.specs.Promises.{IsCertain, IsCertainKey, IsCertainStanding, LiesWithin, StandingsStay}
 use Rattle.round_engine.specs.Stages.{Stage, opened}
-use Rattle.table_rounds.specs.Rounds.{AreAllRounds, AreRefused, AreRounds, HasPlanes, HaveRows, HaveSame, IsAfter, Planes, counts_after, ending_at, outlook_at, stage_after, stage_by, stage_with}
+use Rattle.table_rounds.specs.Rounds.{AreAllRounds, AreRefused, AreRounds, HasPlanes, HaveRows, HaveSame, IsAfter}
+use Rattle.table_rounds.specs.Rounds.{Planes, counts_after, ending_at, outlook_at, stage_after, stage_by, stage_with}
 
 -- the planes of the query's columns, of all together
 abbrev pub all_planes : TypedQuery → Frame → ℕ
@@ -50,6 +52,11 @@ abbrev pub IsCertainValue : Stage → Frame → ℕ → ℕ → Type 0
 IsCertainValue stage frame row column =
     (world : Cells) → AgreesWith stage.query frame stage.known world →
     IsIn (ranges_of stage.frame stage.known row column) (row_of stage.frame (projected stage.query world) row column)
+
+-- its range at the second stage lies within that at the first
+abbrev pub ValueLiesWithin : Stage → Stage → ℕ → ℕ → Type 0
+ValueLiesWithin old new row column =
+    IsNarrower (ranges_of new.frame new.known row column) (ranges_of old.frame old.known row column)
 
 -- the numbers of each column are of 64 bits, as those of every head are
 abbrev pub AreOfLongs : Frame → Type 0
@@ -80,8 +87,11 @@ pub record AreCertain (query : TypedQuery) (frame : Frame) (cells : Cells) (read
   -- each value lies in its range on every table that agrees
   pub values : (round : ℕ) → round ≤ length reads → (row column : ℕ) → row < frame.rows → column < length query.columns →
       IsCertainValue (stage_of query frame cells reads round) frame row column
-  -- for each key, each item's bound admits its answer on every table that agrees; where the item reads no column twice it is as narrow as it
-  -- can be, but for averages; and where all planes are read, its ends are the answer
+  -- each value's range lies within the one before
+  pub values_nested : (round : ℕ) → round < length reads → (row column : ℕ) → row < frame.rows →
+      ValueLiesWithin (stage_of query frame cells reads round) (stage_of query frame cells reads (round + 1)) row column
+  -- for each key, each item's bound admits its answer on every table that agrees; where the item reads no column twice it is as narrow
+  -- as it can be, but for averages; and where all planes are read, its ends are the answer, and it is known whether that is null
   pub certain : (round : ℕ) → round ≤ length reads → (key : Key) → IsKeyOn query frame key →
       (i : ℕ) (item : Item) → slice_get query.items i ≡ Some item → IsCertain (stage_of query frame cells reads round) item key frame
   -- each bound lies within the one before
@@ -89,14 +99,15 @@ pub record AreCertain (query : TypedQuery) (frame : Frame) (cells : Cells) (read
       (i : ℕ) (item : Item) → slice_get query.items i ≡ Some item →
       LiesWithin (stage_of query frame cells reads round) (stage_of query frame cells reads (round + 1)) item key
   -- where the condition clips an item's column, the clipped bound too admits the answer on every table that agrees; where no column
-  -- stands in the condition twice it is as narrow as it can be; and where all planes are read, its ends are the answer
+  -- stands in the condition twice it is as narrow as it can be; and where all planes are read, its ends are the answer, and it is
+  -- known whether that is null
   pub clips : (round : ℕ) → round ≤ length reads → (i : ℕ) (item : Item) (clip : Clip) → IsClippedItem query i item clip →
       IsCertainClip (stage_of query frame cells reads round) item clip frame
   -- each clipped bound lies within the one before
   pub clips_nested : (round : ℕ) → round < length reads → (i : ℕ) (item : Item) (clip : Clip) → IsClippedItem query i item clip →
       ClipLiesWithin (stage_of query frame cells reads round) (stage_of query frame cells reads (round + 1)) item clip
   -- the exact ends of an average admit it on every table that agrees; where the item reads no column twice they are as narrow as they
-  -- can be; and where all planes are read, they are the average
+  -- can be; and where all planes are read, they are the average, and it is known whether that is null
   pub averages : (round : ℕ) → round ≤ length reads → (i : ℕ) (item : Item) → IsPlainAverage query i item →
       IsCertainExact (stage_of query frame cells reads round) item frame
   -- they lie within those before
@@ -105,7 +116,8 @@ pub record AreCertain (query : TypedQuery) (frame : Frame) (cells : Cells) (read
   -- a key is said to be in the result only where it is in that of each table that agrees, and to be missing only where it is in none
   pub results : (round : ℕ) → round ≤ length reads → (key : Key) → IsKeyOn query frame key →
       IsCertainKey (stage_of query frame cells reads round) key frame
-  -- each key is in one cell, and what is told of the cell is so of the key
+  -- each key is in one cell, and what is told of the cell is so of the key; of the cells that are told, its own alone has it in its
+  -- ranges
   pub in_cells : (round : ℕ) → round ≤ length reads → (key : Key) → IsKeyOn query frame key →
       HasCell (stage_of query frame cells reads round) key
   -- where the first rows in an order are asked for, a certain row is among them on each table that agrees, and an excluded row on none

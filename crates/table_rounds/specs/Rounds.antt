@@ -1,7 +1,8 @@
 -- The rounds of a query over the planes of a table by a plan: which column is read next, what is known after each, and which is the last.
 -- The frames and cells here are those of whole tables. Round 0 is nothing read, and each later one reads the next plane of a column of
 -- the query.
-use Rattle.std.specs.Prelude.{◌≡◌, ℕ, zero, suc, ◌-◌, ◌<◌, ◌≤◌, ◌==◌, Bool, List, length, map, replicate, take, slice_get, slice_index, count_by, IsSome, IsNone}
+use Rattle.std.specs.Prelude.{◌≡◌, ℕ, zero, suc, ◌-◌, ◌<◌, ◌≤◌, ◌==◌, Bool, List}
+use Rattle.std.specs.Prelude.{length, map, replicate, take, slice_get, slice_index, count_by, IsSome, IsNone}
 use Rattle.std.specs.declared.option.Option.{Option}
 use Rattle.std.specs.declared.option.Option.TheVariants.{Some, None}
 use Rattle.std.specs.List.{range_with_len, sum}

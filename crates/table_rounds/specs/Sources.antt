@@ -1,5 +1,6 @@
 -- Where planes come from, and what the step of a round does with one.
-use Rattle.std.specs.Prelude.{◌≡◌, ◌<◌, ℕ, zero, suc, Bool, List, [], ◌∷◌, ◌++◌, length, slice_index, IfSome, MatchResult, Ok, Err}
+use Rattle.std.specs.Prelude.{◌≡◌, ◌<◌, ℕ, zero, suc, Bool, List, [], ◌∷◌}
+use Rattle.std.specs.Prelude.{◌++◌, length, slice_index, IfSome, MatchResult, Ok, Err}
 use Rattle.std.specs.Io.KnownBytes.{Appends}
 use Rattle.std.specs.declared.option.Option.{Option}
 use Rattle.std.specs.declared.result.Result.{Result}
@@ -92,7 +93,8 @@ Causes E = ℕ → ℕ → E → Type 0
 
 -- the plane of this column that is next after rounds is not read, for one of these causes
 abbrev pub FailsAt : {E : Type 0} → Causes E → TypedQuery → List ℕ → ℕ → E → Type 0
-FailsAt causes query reads next error = causes (slice_index query.columns next) (slice_index (counts_after query reads (length reads)) next) error
+FailsAt causes query reads next error =
+    causes (slice_index query.columns next) (slice_index (counts_after query reads (length reads)) next) error
 
 -- the rounds stop at their next plane: the source failed, with some of the plane's places handed over, from the front; or the plane is
 -- refused, with all of them handed over
@@ -104,7 +106,8 @@ StopsAt plan query frame bits places causes reads (OverTop column plane row) han
     AreRefused plan query frame bits reads column plane row × (handed ≡ places column plane)
 
 -- where the stage is after rounds of the plan over the told planes, they stop
-abbrev pub StopsNext : {E : Type 0} → Plan → ToldPlanes → Places → Causes E → Stage → Option (List ℕ) → Option (List ℕ) → StepFault E → Type 0
+abbrev pub StopsNext : {E : Type 0} → Plan → ToldPlanes → Places → Causes E → Stage →
+    Option (List ℕ) → Option (List ℕ) → StepFault E → Type 0
 StopsNext plan told places causes stage old new fault =
     IfSome told.bits (λ bits. (reads : List ℕ) → IsAfter plan stage.query (frame_of told.head) bits reads stage →
     (handed : List ℕ) × StopsAt plan stage.query (frame_of told.head) bits places causes reads fault handed × Appends old new handed)

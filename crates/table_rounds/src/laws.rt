@@ -1,6 +1,8 @@
 //! What holds of rounds. Each law stands on a function that does nothing.
 
-ghost use Rattle.table_rounds.specs.Headline.{FullStagesAreNarrow, LegalPlanesHaveTables, ListsAreRead, PlanesTellStages, RoundsAreCertain, RoundsAreCounted, RoundsAreOfTables, RoundsAreOne, RoundsBegin, RoundsHaveAnEnd, RoundsHavePlanes, RoundsHaveTables, TablesAreTaken, TablesTellStages};
+ghost use Rattle.table_rounds.specs.Headline.{FullStagesAreNarrow, LegalPlanesHaveTables, ListsAreRead, PlanesTellStages};
+ghost use Rattle.table_rounds.specs.Headline.{RoundsAreCertain, RoundsAreCounted, RoundsAreOfTables, RoundsAreOne, RoundsBegin};
+ghost use Rattle.table_rounds.specs.Headline.{RoundsHaveAnEnd, RoundsHavePlanes, RoundsHaveTables, TablesAreTaken, TablesTellStages};
 
 use avg_exact::{exact_averages_are_certain, exact_averages_nest};
 use clip_bounds::{clips_are_certain, clips_nest};
@@ -9,11 +11,11 @@ use query_model::{
     average_bounds_become_exact_on_tables, average_bounds_contain_on_tables, average_bounds_nest,
     average_ends_meet, average_ends_of_cells_meet, bounds_are_extremes_on_tables,
     bounds_become_exact_on_tables, bounds_contain_on_tables, bounds_nest,
-    completions_are_selections, ends_meet, ends_of_cells_meet, keys_have_cells, keys_have_ranges,
-    legal_cells_have_keys, pairs_go_by_cells, planes_are_taken, results_are_told_on_tables,
-    standings_are_right_on_tables, standings_become_exact, standings_nest, start_is_knowledge,
-    tables_agree, tables_exist, tables_have_parts, taken_is_knowledge, words_become_exact,
-    words_of_cells_become_exact,
+    completions_are_selections, ends_meet, ends_of_cells_meet, illegal_cells_are_empty,
+    keys_have_cells, keys_have_ranges, legal_cells_have_keys, pairs_go_by_cells, planes_are_taken,
+    ranges_nest, results_are_told_on_tables, standings_are_right_on_tables, standings_become_exact,
+    standings_nest, start_is_knowledge, tables_agree, tables_exist, tables_have_parts,
+    taken_is_knowledge, words_become_exact, words_of_cells_become_exact,
 };
 use row_groups::cells_tell_keys;
 
@@ -94,10 +96,11 @@ pub fn tables_are_taken()
     planes_are_taken();
 }
 
-/// In each round each table that has the planes read agrees with what is known; each value lies in its range; for each key each bound admits the answer on every table
-/// that does, is as narrow as it can be where its item reads no column twice and is no average, and lies within the one before; with all
-/// planes read its ends are the answer. So it is with a bound that the condition clips, and the exact ends of an average. A key that is
-/// said to be in the result is, and so is a row that is said to be among the first. There are no more reads than planes.
+/// In each round each table that has the planes read agrees with what is known; each value lies in its range, which lies within the one
+/// before; for each key each bound admits the answer on every table that agrees, is as narrow as it can be where its item reads no column
+/// twice and is no average, and lies within the one before; with all planes read its ends are the answer, and it is known whether that is
+/// null. So it is with a bound that the condition clips, and the exact ends of an average. A key that is said to be in the result is, and
+/// so is a row that is said to be among the first. There are no more reads than planes.
 pub fn rounds_are_certain()
     ensures { RoundsAreCertain }
 {
@@ -107,6 +110,7 @@ pub fn rounds_are_certain()
     bounds_contain_on_tables();
     bounds_are_extremes_on_tables();
     bounds_become_exact_on_tables();
+    ranges_nest();
     bounds_nest();
     average_bounds_contain_on_tables();
     average_bounds_become_exact_on_tables();
@@ -115,6 +119,7 @@ pub fn rounds_are_certain()
     words_become_exact();
     keys_have_cells();
     legal_cells_have_keys();
+    illegal_cells_are_empty();
     keys_have_ranges();
     pairs_go_by_cells();
     cells_tell_keys();

@@ -12,7 +12,8 @@ ghost use Rattle.query_model.specs.Knowledge.{CanTake, known_at};
 ghost use Rattle.query_model.specs.Validity.{FitsHead};
 ghost use Rattle.round_engine.specs.Stages.{HasPlane, stepped};
 ghost use Rattle.table_rounds.specs.Rounds.{ending_at, outlook_at, unread_planes};
-ghost use Rattle.table_rounds.specs.Sources.{IsNextRound, IsOverTop, IsPlane, OfNext, OnFailed, OnOverTop, OnRefused, StepHandsOver, StopsNext, next_places};
+ghost use Rattle.table_rounds.specs.Sources.{IsNextRound, IsOverTop, IsPlane, OfNext, OnFailed};
+ghost use Rattle.table_rounds.specs.Sources.{OnOverTop, OnRefused, StepHandsOver, StopsNext, next_places};
 
 use crate::laws::rounds_have_planes;
 use crate::source::PlaneSource;
@@ -149,7 +150,8 @@ pub fn read_next<S: PlaneSource, F: Fn(&Progress) -> usize>(
         × IsOverTop (S.told source.old) engine.old plane.new c column number row)) }
     ensures stops { IfErr result (λ fault. (plan : Plan) → Follows F.Fn chooser.now.choose plan.policy
         → IsReadable plan.policy engine.old.frame → IsNone (ending_at plan engine.old)
-        → StopsNext plan (S.told source.old) (S.places source.old) (S.fails source.old source.new) engine.old (S.handed source.old) (S.handed source.new) fault) }
+        → StopsNext plan (S.told source.old) (S.places source.old) (S.fails source.old source.new)
+        engine.old (S.handed source.old) (S.handed source.new) fault) }
 {
     taken_is_knowledge();
     policies_choose();

@@ -1,6 +1,6 @@
 -- A cell without keys has no rows.
 use Rattle.std.proofs.lemmas.Bool.{false≢true}
-use Rattle.daq_report.proofs.Parts.{filled_is_legal}
+use Rattle.round_engine.proofs.Keys.{filled_is_legal}
 use Rattle.daq_report.proofs.groups.keys_of.Goals as goal
 
 pub unreachable-requires : goal.unreachable-requires

@@ -23,4 +23,4 @@ returns-clause-certain c =
     let stage = c.args.self.now in
     let kept = open_at e.columns e.follower.now stage c.self.invariant c.self.view_is in
     if_some (slice_get stage.query.items c.args.item) _ (λ i is head fits.
-    average_is_certain stage i [] head c.average_bounds_contain_on_tables.ensures c.average_bounds_become_exact_on_tables.ensures c.fitting_heads_have_parts.ensures kept.knowledge fits)
+    average_is_certain stage i [] head c.average_bounds_contain_on_tables.ensures c.average_bounds_become_exact_on_tables.ensures c.words_become_exact.ensures c.fitting_heads_have_parts.ensures kept.knowledge fits)

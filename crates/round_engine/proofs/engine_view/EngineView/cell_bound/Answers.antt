@@ -29,7 +29,7 @@ returns-clause-certain c =
     let stage = c.args.self.now in
     let kept = open_at e.columns e.follower.now stage c.self.invariant c.self.view_is in
     if_some_also (slice_get stage.query.items c.args.item) (λ i. i.kind ≢ Avg) _ c.requires.kind (λ i is kind key belongs head fits.
-    bound_is_certain stage i key head c.bounds_contain_on_tables.ensures c.bounds_are_extremes_on_tables.ensures c.bounds_become_exact_on_tables.ensures c.fitting_heads_have_parts.ensures kept.knowledge kind fits)
+    bound_is_certain stage i key head c.bounds_contain_on_tables.ensures c.bounds_are_extremes_on_tables.ensures c.bounds_become_exact_on_tables.ensures c.words_become_exact.ensures c.fitting_heads_have_parts.ensures kept.knowledge kind fits)
 
 pub returns-clause-shown : goal.returns-clause-shown
 returns-clause-shown c =
