@@ -37,12 +37,16 @@ IsOnePlace = (words : List (List ℕ)) (p q : ℕ) → GoesWrong words p → Goe
 -- a read failed
 abbrev pub FailsToRead : WorldState → WorldState → Command → Type 0
 FailsToRead before after command =
-    Rose before.input.faults after.input.faults ⊎ Rose before.planes.faults after.planes.faults ⊎ (IsTrue (uses command device.side) × Rose before.side.faults after.side.faults)
+    (IsTrue (uses command device.input) × Rose before.input.faults after.input.faults)
+    ⊎ (IsTrue (uses command device.planes) × Rose before.planes.faults after.planes.faults)
+    ⊎ (IsTrue (uses command device.side) × Rose before.side.faults after.side.faults)
 
 -- memory ran out, or a device failed
 abbrev pub Excused : WorldState → WorldState → Command → Refusal → Type 0
 Excused before after command why =
-    (why ≡ NoMemory) ⊎ FailsToRead before after command ⊎ Rose before.made.faults after.made.faults ⊎ Rose before.out.faults after.out.faults
+    (why ≡ NoMemory) ⊎ FailsToRead before after command
+    ⊎ (IsTrue (uses command device.made) × Rose before.made.faults after.made.faults)
+    ⊎ (IsTrue (uses command device.out) × Rose before.out.faults after.out.faults)
 
 -- rounds of the command were begun: it is a `query`, or a `session`
 pub data HasBegun (before : WorldState) : Command → Type 0 where
@@ -56,15 +60,15 @@ FailsToReport before after command why = HasBegun before command × Rose before.
 -- ---- for a command
 
 -- a read of the input, or of the store, that failed is a failed read
-by_input : {A B C : Type 0} (before after : WorldState) (command : Command) → A ⊎ B ⊎ Rose before.input.faults after.input.faults → A ⊎ B ⊎ FailsToRead before after command ⊎ C
-by_input before after command (inl a) = inl a
-by_input before after command (inr (inl b)) = inr (inl b)
-by_input before after command (inr (inr rose)) = inr (inr (inl (inl rose)))
+by_input : {A B C : Type 0} (before after : WorldState) (command : Command) → IsTrue (uses command device.input) → A ⊎ B ⊎ Rose before.input.faults after.input.faults → A ⊎ B ⊎ FailsToRead before after command ⊎ C
+by_input before after command used (inl a) = inl a
+by_input before after command used (inr (inl b)) = inr (inl b)
+by_input before after command used (inr (inr rose)) = inr (inr (inl (inl (used, rose))))
 
-by_store : {A B C : Type 0} (before after : WorldState) (command : Command) → A ⊎ B ⊎ Rose before.planes.faults after.planes.faults → A ⊎ B ⊎ FailsToRead before after command ⊎ C
-by_store before after command (inl a) = inl a
-by_store before after command (inr (inl b)) = inr (inl b)
-by_store before after command (inr (inr rose)) = inr (inr (inl (inr (inl rose))))
+by_store : {A B C : Type 0} (before after : WorldState) (command : Command) → IsTrue (uses command device.planes) → A ⊎ B ⊎ Rose before.planes.faults after.planes.faults → A ⊎ B ⊎ FailsToRead before after command ⊎ C
+by_store before after command used (inl a) = inl a
+by_store before after command used (inr (inl b)) = inr (inl b)
+by_store before after command used (inr (inr rose)) = inr (inr (inl (inr (inl (used, rose)))))
 
 module _ (law : StepsAreExact) (before after : WorldState) where
   command_apart : (command : Command) (other : Refusal) → Does command before after → CommandShows command before other → ⊥
@@ -81,21 +85,21 @@ module _ (law : StepsAreExact) (before after : WorldState) where
   Shown command why other = (why ≡ other) ⊎ (why ≡ NoMemory) ⊎ FailsToRead before after command ⊎ FailsToReport before after command why
 
   command_shown : (command : Command) (why other : Refusal) → StopsFor command before after why → CommandShows command before other → Shown command why other
-  command_shown (ask a) why other cause shows = by_input before after (ask a) (ask_shown law a before.input after.input before.out after.out why other cause shows)
+  command_shown (ask a) why other cause shows = by_input before after (ask a) refl (ask_shown law a before.input after.input before.out after.out why other cause shows)
   command_shown (demo d) why other cause shows = more (demo_shown law d before.out after.out why other cause shows)
     where
       more : (why ≡ other) ⊎ (why ≡ NoMemory) → Shown (demo d) why other
       more (inl e) = inl e
       more (inr e) = inr (inl e)
   command_shown (load l) why other cause shows =
-      by_input before after (load l) (load_shown law l before.input after.input before.made after.made before.out after.out why other cause shows)
+      by_input before after (load l) refl (load_shown law l before.input after.input before.made after.made before.out after.out why other cause shows)
   command_shown (query q) why other cause shows = more (query_shown law q before.planes after.planes before.out after.out why other cause shows)
     where
       more : (why ≡ other) ⊎ (why ≡ NoMemory) ⊎ Rose before.planes.faults after.planes.faults ⊎ (((opened : StoreState) × Begins q before.planes opened) × Rose before.out.faults after.out.faults × (why ≡ WriteFault)) →
           Shown (query q) why other
       more (inl e) = inl e
       more (inr (inl e)) = inr (inl e)
-      more (inr (inr (inl rose))) = inr (inr (inl (inr (inl rose))))
+      more (inr (inr (inl rose))) = inr (inr (inl (inr (inl (refl, rose)))))
       more (inr (inr (inr ((opened, begun), rose, e)))) = inr (inr (inr (rounds q opened begun, rose, e)))
   command_shown (session s) why other cause shows = more (session_shown law s before.side after.side before.planes after.planes before.out after.out why other cause shows)
     where
@@ -104,11 +108,11 @@ module _ (law : StepsAreExact) (before after : WorldState) where
       more (inl e) = inl e
       more (inr (inl (inl e))) = inr (inl e)
       more (inr (inl (inr (inl rose)))) = inr (inr (inl (inr (inr (refl, rose)))))
-      more (inr (inl (inr (inr rose)))) = inr (inr (inl (inr (inl rose))))
+      more (inr (inl (inr (inr rose)))) = inr (inr (inl (inr (inl (refl, rose)))))
       more (inr (inr ((opened, begun), rose, e))) = inr (inr (inr (steps s after.side opened begun, rose, e)))
-  command_shown (info i) why other cause shows = by_store before after (info i) (info_shown law before.planes after.planes before.out after.out why other cause shows)
+  command_shown (info i) why other cause shows = by_store before after (info i) refl (info_shown law before.planes after.planes before.out after.out why other cause shows)
   command_shown (upgrade u) why other cause shows =
-      by_store before after (upgrade u) (upgrade_shown law before.planes after.planes before.made after.made before.out after.out why other cause shows)
+      by_store before after (upgrade u) refl (upgrade_shown law before.planes after.planes before.made after.made before.out after.out why other cause shows)
 
   command_fulfils : {command : Command} {task : Task} → CommandAccepts before command task → Does command before after → IsFulfilled task before after
   command_fulfils (of_ask a question accepted) does = asks_question law a before.input after.input before.out after.out _ question does accepted
@@ -124,48 +128,50 @@ module _ (law : StepsAreExact) (before after : WorldState) where
     where
       more : (why ≡ NoMemory) ⊎ Rose before.input.faults after.input.faults ⊎ Rose before.out.faults after.out.faults → Excused before after (ask a) why
       more (inl e) = inl e
-      more (inr (inl rose)) = inr (inl (inl rose))
-      more (inr (inr rose)) = inr (inr (inr rose))
+      more (inr (inl rose)) = inr (inl (inl (refl, rose)))
+      more (inr (inr rose)) = inr (inr (inr (refl, rose)))
   command_accepted why (of_demo d question accepted) cause = more (demo_accepted law d before.out after.out why question cause accepted)
     where
       more : (why ≡ NoMemory) ⊎ Rose before.out.faults after.out.faults → Excused before after (demo d) why
       more (inl e) = inl e
-      more (inr rose) = inr (inr (inr rose))
+      more (inr rose) = inr (inr (inr (refl, rose)))
   command_accepted why (of_load l table accepted) cause =
       more (load_accepted law l before.input after.input before.made after.made before.out after.out why table cause accepted)
     where
       more : (why ≡ NoMemory) ⊎ Rose before.input.faults after.input.faults ⊎ Rose before.made.faults after.made.faults ⊎ Rose before.out.faults after.out.faults
           → Excused before after (load l) why
       more (inl e) = inl e
-      more (inr (inl rose)) = inr (inl (inl rose))
-      more (inr (inr rose)) = inr (inr rose)
+      more (inr (inl rose)) = inr (inl (inl (refl, rose)))
+      more (inr (inr (inl rose))) = inr (inr (inl (refl, rose)))
+      more (inr (inr (inr rose))) = inr (inr (inr (refl, rose)))
   command_accepted why (of_query q text accepted) cause = more (query_accepted law q before.planes after.planes before.out after.out why text cause accepted)
     where
       more : (why ≡ NoMemory) ⊎ Rose before.planes.faults after.planes.faults ⊎ Rose before.out.faults after.out.faults → Excused before after (query q) why
       more (inl e) = inl e
-      more (inr (inl rose)) = inr (inl (inr (inl rose)))
-      more (inr (inr rose)) = inr (inr (inr rose))
+      more (inr (inl rose)) = inr (inl (inr (inl (refl, rose))))
+      more (inr (inr rose)) = inr (inr (inr (refl, rose)))
   command_accepted why (of_session s text accepted) cause = more (session_accepted law s before.side after.side before.planes after.planes before.out after.out why text cause accepted)
     where
       more : ((why ≡ NoMemory) ⊎ Rose before.side.faults after.side.faults ⊎ Rose before.planes.faults after.planes.faults) ⊎ Rose before.out.faults after.out.faults → Excused before after (session s) why
       more (inl (inl e)) = inl e
       more (inl (inr (inl rose))) = inr (inl (inr (inr (refl, rose))))
-      more (inl (inr (inr rose))) = inr (inl (inr (inl rose)))
-      more (inr rose) = inr (inr (inr rose))
+      more (inl (inr (inr rose))) = inr (inl (inr (inl (refl, rose))))
+      more (inr rose) = inr (inr (inr (refl, rose)))
   command_accepted why (of_info i file accepted) cause = more (info_accepted law before.planes after.planes before.out after.out why file cause accepted)
     where
       more : (why ≡ NoMemory) ⊎ Rose before.planes.faults after.planes.faults ⊎ Rose before.out.faults after.out.faults → Excused before after (info i) why
       more (inl e) = inl e
-      more (inr (inl rose)) = inr (inl (inr (inl rose)))
-      more (inr (inr rose)) = inr (inr (inr rose))
+      more (inr (inl rose)) = inr (inl (inr (inl (refl, rose))))
+      more (inr (inr rose)) = inr (inr (inr (refl, rose)))
   command_accepted why (of_upgrade u table accepted) cause =
       more (upgrade_accepted law before.planes after.planes before.made after.made before.out after.out why table cause accepted)
     where
       more : (why ≡ NoMemory) ⊎ Rose before.planes.faults after.planes.faults ⊎ Rose before.made.faults after.made.faults ⊎ Rose before.out.faults after.out.faults
           → Excused before after (upgrade u) why
       more (inl e) = inl e
-      more (inr (inl rose)) = inr (inl (inr (inl rose)))
-      more (inr (inr rose)) = inr (inr rose)
+      more (inr (inl rose)) = inr (inl (inr (inl (refl, rose))))
+      more (inr (inr (inl rose))) = inr (inr (inl (refl, rose)))
+      more (inr (inr (inr rose))) = inr (inr (inr (refl, rose)))
 
 -- but for a failed write, and for rounds that were begun, nothing was written; a device that the command does not use tells what it told
 abbrev pub IsEarly : WorldState → WorldState → Command → Refusal → Type 0
@@ -208,8 +214,8 @@ begun_by words before (steps s read opened begun) is = in_session s read opened 
 
 -- a read of its failed
 fails_by : (words : List (List ℕ)) (before after : WorldState) (command : Command) → IsCommand words command → FailsToRead before after command → ReadFails words before after
-fails_by words before after command is (inl rose) = inl rose
-fails_by words before after command is (inr (inl rose)) = inr (inl rose)
+fails_by words before after command is (inl (used, rose)) = inl ((command, is, used), rose)
+fails_by words before after command is (inr (inl (used, rose))) = inr (inl ((command, is, used), rose))
 fails_by words before after command is (inr (inr (used, rose))) = inr (inr ((command, is, used), rose))
 
 -- they were, and their report was not written
@@ -263,8 +269,8 @@ pub completes : (words : List (List ℕ)) (command : Command) → IsCommand word
 completes words command is why task status before after (inl t) (inl e) = inr (inl (t.0 ∙ ap status_of e))
 completes words command is why task status before after (inr t) (inl e) = inr (inr (inr (inr (inr t.1.cause.failed))))
 completes words command is why task status before after told (inr (inl fails)) = inr (inr (inl (fails_by words before after command is fails)))
-completes words command is why task status before after told (inr (inr (inl rose))) = inr (inr (inr (inl rose)))
-completes words command is why task status before after told (inr (inr (inr rose))) = inr (inr (inr (inr (inl rose))))
+completes words command is why task status before after told (inr (inr (inl (used, rose)))) = inr (inr (inr (inl ((command, is, used), rose))))
+completes words command is why task status before after told (inr (inr (inr (used, rose)))) = inr (inr (inr (inr (inl ((command, is, used), rose)))))
 
 -- but for WriteFault nothing was written
 pub unwritten : IsOneCommand → (words : List (List ℕ)) (before after : WorldState) (why : Refusal) (status : Status) →

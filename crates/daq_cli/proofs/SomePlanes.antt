@@ -16,7 +16,7 @@ use Rattle.plane_schedule.specs.Laws.{PoliciesChoose}
 use Rattle.plane_schedule.specs.Plans.{IsReadable}
 use Rattle.plane_schedule.specs.declared.policy.Ending.{Ending}
 use Rattle.plane_schedule.specs.declared.policy.Plan.{Plan}
-use Rattle.query_model.specs.Knowledge.{IsKnowledge, taken}
+use Rattle.query_model.specs.Knowledge.{IsKnowledge}
 use Rattle.query_model.specs.Validity.{no_repeats}
 use Rattle.query_model.specs.declared.query.TypedQuery.{TypedQuery}
 use Rattle.round_engine.specs.Progresses.{planes_read}

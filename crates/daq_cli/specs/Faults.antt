@@ -32,7 +32,9 @@ use Rattle.daq_cli.specs.declared.stop.Stop.{Stop}
 use Rattle.daq_cli.specs.declared.stop.Stop.TheVariants.{Failed, Step}
 use Rattle.table_gen.specs.declared.fault.GenFault.TheVariants as g
 use Rattle.daq_cli.specs.declared.refusal.Refusal.{Refusal}
-use Rattle.daq_cli.specs.declared.refusal.Refusal.TheVariants.{Query, Schema, TooLong, Table, TooManyRows, Typing, Reads, File, PadBits, OverTop, Script, LineQuery, LineTyping, Session, ReadFault, WriteFault, NoMemory}
+use Rattle.daq_cli.specs.declared.refusal.Refusal.TheVariants.{Query, Schema, TooLong, Table, TooManyRows, Typing}
+use Rattle.daq_cli.specs.declared.refusal.Refusal.TheVariants.{Reads, File, PadBits, OverTop, Script, LineQuery}
+use Rattle.daq_cli.specs.declared.refusal.Refusal.TheVariants.{LineTyping, Session, ReadFault, WriteFault, NoMemory}
 
 -- want of memory is the run's, and any other fault is shown as it stands
 abbrev pub text : SqlFault → Refusal

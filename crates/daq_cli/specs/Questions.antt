@@ -103,7 +103,7 @@ pub record ShowsTyping (asked : Asked) (why : Refusal) : Type 0 where
   pub is : why ≡ Typing fault
   pub faulty : typing.Refuses asked.query asked.head fault
 
--- the columns to be read are none, or not so often
+-- the list of reads names what is no column of the query, or a column more often than it has planes
 pub record ShowsReads (asked : Asked) (why : Refusal) : Type 0 where
   pub typed : TypedQuery
   pub is_typed : IsTyped asked.query asked.head typed

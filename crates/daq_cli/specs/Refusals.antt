@@ -21,7 +21,9 @@ use Rattle.sql_typing.specs.declared.fault.TypeFault.{TypeFault}
 use Rattle.sql_typing.specs.declared.fault.TypeFault.TheVariants as typing
 use Rattle.daq_cli.specs.Worlds.{partly, whole}
 use Rattle.daq_cli.specs.declared.refusal.Refusal.{Refusal}
-use Rattle.daq_cli.specs.declared.refusal.Refusal.TheVariants.{Usage, Query, Schema, TooLong, Table, TooManyRows, Typing, Reads, File, PadBits, OverTop, Script, LineQuery, LineTyping, Session, ReadFault, WriteFault, NoMemory}
+use Rattle.daq_cli.specs.declared.refusal.Refusal.TheVariants.{Usage, Query, Schema, TooLong, Table, TooManyRows}
+use Rattle.daq_cli.specs.declared.refusal.Refusal.TheVariants.{Typing, Reads, File, PadBits, OverTop, Script, LineQuery}
+use Rattle.daq_cli.specs.declared.refusal.Refusal.TheVariants.{LineTyping, Session, ReadFault, WriteFault, NoMemory}
 use Rattle.daq_cli.specs.declared.status.Status.{Status}
 use Rattle.daq_cli.specs.declared.status.Status.TheVariants as s
 

@@ -1,6 +1,7 @@
 -- What a run comes to, by the words of the command line and what the devices tell before and after.
 use Rattle.std.specs.Prelude.{◌≡◌, ◌⊎◌, ℕ, Bool, true, false, ⊤, IsTrue, List}
-use Rattle.command_line.specs.Commands.{Ask, Command, Demo, GoesWrong, Info, IsCommand, Load, Session, Upgrade, ask, demo, info, load, query, session, upgrade}
+use Rattle.command_line.specs.Commands.{Ask, Command, Demo, GoesWrong, Info, IsCommand, Load, Session}
+use Rattle.command_line.specs.Commands.{Upgrade, ask, demo, info, load, query, session, upgrade}
 use Rattle.command_line.specs.Commands as line
 use Rattle.daq_table.specs.Tables.{Contents}
 use Rattle.outer_world.specs.Device.{Rose, SourceState, StoreState}
@@ -13,7 +14,7 @@ use Rattle.daq_cli.specs.Questions.{Question, Reports}
 use Rattle.daq_cli.specs.Refusals.{IsTold}
 use Rattle.daq_cli.specs.Scripts.{AcceptsScript}
 use Rattle.daq_cli.specs.Stores.{WritesTable}
-use Rattle.daq_cli.specs.Worlds.{Device, WorldState, IsSame, whole}
+use Rattle.daq_cli.specs.Worlds.{Device, WorldState, whole}
 use Rattle.daq_cli.specs.Worlds as device
 use Rattle.daq_cli.specs.commands.Ask.{AcceptsWords, AskAccepts, AskCause, AskShows, Asks}
 use Rattle.daq_cli.specs.commands.Demo.{DemoCause, Demonstrates, demo_step}
@@ -96,7 +97,7 @@ IsReadable (session s) = ⊤
 IsReadable (info i) = ⊤
 IsReadable (upgrade u) = ⊤
 
--- nor are they with its script, where it has one
+-- nor are they with its script, where it has one that is told
 abbrev pub IsReadableAside : Command → WorldState → Type 0
 IsReadableAside (session s) before = AcceptsScript before.side.left
 IsReadableAside command before = IsReadable command
@@ -146,11 +147,11 @@ pub record Accepts (words : List (List ℕ)) (before : WorldState) (task : Task)
   pub is_command : IsCommand words command
   pub accepted : CommandAccepts before command task
 
--- the words alone are refused
+-- the words are no command, or those of a command that is refused by its words alone
 abbrev pub IsRefused : List (List ℕ) → Type 0
 IsRefused words = (command : Command) → IsCommand words command → IsReadable command → ⊥
 
--- the words alone are refused, or with their script
+-- the same, or its script is refused
 abbrev pub IsRefusedAside : List (List ℕ) → WorldState → Type 0
 IsRefusedAside words before = (command : Command) → IsCommand words command → IsReadableAside command before → ⊥
 
@@ -168,13 +169,18 @@ pub data BeginsRounds (words : List (List ℕ)) (before : WorldState) : Type 0 w
   in_session : (s : Session) (read : SourceState) (opened : StoreState) → IsCommand words (session s) →
       BeginsSteps s before.side read before.planes opened → BeginsRounds words before
 
+-- the command of the words uses the device, whose count of faults rose
+abbrev pub Failed : List (List ℕ) → Device → ℕ → ℕ → Type 0
+Failed words one before after = Uses words one × Rose before after
+
 -- a read failed
 abbrev pub ReadFails : List (List ℕ) → WorldState → WorldState → Type 0
 ReadFails words before after =
-    Rose before.input.faults after.input.faults ⊎ Rose before.planes.faults after.planes.faults
-    ⊎ (Uses words device.side × Rose before.side.faults after.side.faults)
+    Failed words device.input before.input.faults after.input.faults
+    ⊎ Failed words device.planes before.planes.faults after.planes.faults
+    ⊎ Failed words device.side before.side.faults after.side.faults
 
--- the words are such a `query` or `session`, and the run tells that its report was not written
+-- rounds or steps were begun, a write of their report failed, and the run tells that
 abbrev pub FailsInRounds : List (List ℕ) → Status → WorldState → WorldState → Type 0
 FailsInRounds words status before after =
     BeginsRounds words before × Rose before.out.faults after.out.faults × IsTold WriteFault status before.err after.err
@@ -186,11 +192,13 @@ EndsSo words why status before after =
     ⊎ FailsInRounds words status before after
 
 -- a write failed
-abbrev pub WriteFails : WorldState → WorldState → Type 0
-WriteFails before after =
-    Rose before.made.faults after.made.faults ⊎ Rose before.out.faults after.out.faults ⊎ Rose before.err.faults after.err.faults
+abbrev pub WriteFails : List (List ℕ) → WorldState → WorldState → Type 0
+WriteFails words before after =
+    Failed words device.made before.made.faults after.made.faults
+    ⊎ Failed words device.out before.out.faults after.out.faults ⊎ Rose before.err.faults after.err.faults
 
 -- the run does what is asked for, unless memory runs out or a device fails
 abbrev pub Completes : List (List ℕ) → Task → Status → WorldState → WorldState → Type 0
 Completes words task status before after =
-    ((status ≡ s.Done) × IsFulfilled task before after) ⊎ (status ≡ s.NoMemory) ⊎ ReadFails words before after ⊎ WriteFails before after
+    ((status ≡ s.Done) × IsFulfilled task before after) ⊎ (status ≡ s.NoMemory) ⊎ ReadFails words before after
+    ⊎ WriteFails words before after

@@ -1,5 +1,6 @@
 -- The text of the report of a session: its queries, for each step the blocks of the queries to which it went, and why its steps ended.
-use Rattle.std.specs.Prelude.{◌≡◌, ℕ, zero, suc, ◌+◌, Ok, Err, IfSome, IsSome, IsNone, List, [], ◌∷◌, ◌++◌, length, map, slice_get, slice_index, codes, decimal, if◌then◌else◌}
+use Rattle.std.specs.Prelude.{◌≡◌, ℕ, zero, suc, ◌+◌, Ok, Err, IfSome, IsSome, IsNone, List, [], ◌∷◌}
+use Rattle.std.specs.Prelude.{◌++◌, length, map, slice_get, slice_index, codes, decimal, if◌then◌else◌}
 use Rattle.std.specs.Io.KnownBytes.{Appends}
 use Rattle.std.specs.declared.option.Option.{Option}
 use Rattle.std.specs.declared.option.Option.TheVariants.{Some, None}

@@ -2,7 +2,8 @@
 
 ghost use Rattle.std.specs.Prelude.{◌≡◌, ◌≤◌, ◌+◌, ◌++◌, length, pos};
 ghost use Rattle.std.specs.Fmt.{signed_decimal};
-ghost use Rattle.daq_cli.specs.Refusals.{file_fault_text, line_fault_text, over_top_text, plane_text, reads_fault_text, schema_fault_text, script_fault_text, session_fault_text, table_fault_text, text_fault_text, type_fault_text};
+ghost use Rattle.daq_cli.specs.Refusals.{file_fault_text, line_fault_text, over_top_text, plane_text, reads_fault_text, schema_fault_text};
+ghost use Rattle.daq_cli.specs.Refusals.{script_fault_text, session_fault_text, table_fault_text, text_fault_text, type_fault_text};
 
 use csv_load::TableFault;
 use daq_table::{SchemaFault, TextBuf, written_number};

@@ -1,6 +1,7 @@
 //! The report of a session: its queries, for each step the blocks of the queries to which it went, and why its steps ended.
 
-ghost use Rattle.std.specs.Prelude.{◌≡◌, ◌<◌, ◌+◌, ◌^◌, ◌++◌, ℕ, [], List, Some, IfSome, length, map, slice_get, string_bytes};
+ghost use Rattle.std.specs.Prelude.{◌≡◌, ◌<◌, ◌+◌, ◌^◌, ◌++◌, ℕ, []};
+ghost use Rattle.std.specs.Prelude.{List, Some, IfSome, length, map, slice_get, string_bytes};
 ghost use Rattle.daq_report.specs.Blocks.{block_text};
 ghost use Rattle.daq_table.specs.ValueTexts.{HeadHasTexts};
 ghost use Rattle.multi_session.specs.Sessions.{session_opened};
@@ -15,7 +16,8 @@ ghost use Rattle.session_rounds.specs.Reading.{FitsSession};
 ghost use Rattle.session_rounds.specs.Steps.{IsAfter, IsUnlisted, places_read};
 ghost use Rattle.table_rounds.specs.Rounds.{Planes, column_read};
 ghost use Rattle.daq_cli.specs.Report.{FailsSince, HasStopCause};
-ghost use Rattle.daq_cli.specs.SessionReport.{EndsStepsOverSome, EndsToldSession, QueriesAreShownAlone, at_line, block_at, blocks_at, count_line, numbered, numbered_line, own_of, queries_lines, queries_of};
+ghost use Rattle.daq_cli.specs.SessionReport.{EndsStepsOverSome, EndsToldSession, QueriesAreShownAlone, at_line, block_at};
+ghost use Rattle.daq_cli.specs.SessionReport.{blocks_at, count_line, numbered, numbered_line, own_of, queries_lines, queries_of};
 
 use crate::counts::written_count;
 use crate::report::write_ending;

@@ -1,9 +1,10 @@
 //! The one call of the program: does what the words ask for, over the devices of a world.
 
 ghost use Rattle.std.specs.Prelude.{◌≡◌, ◌≢◌, ◌⊎◌, OnOk, IfErr};
-ghost use Rattle.command_line.specs.Commands.{Command, IsCommand};
+ghost use Rattle.command_line.specs.Commands.{Command};
 ghost use Rattle.daq_cli.specs.Refusals.{IsTold};
-ghost use Rattle.daq_cli.specs.Runs.{Accepts, BeginsRounds, Completes, Does, EndsSo, IsCause, IsDone, IsRefused, IsRefusedAside, IsUnwritten, Shows, Task, Uses};
+ghost use Rattle.daq_cli.specs.Runs.{Accepts, BeginsRounds, Completes, Does, EndsSo, IsCause, IsDone};
+ghost use Rattle.daq_cli.specs.Runs.{IsRefused, IsRefusedAside, IsUnwritten, Shows, Task, Uses};
 ghost use Rattle.daq_cli.specs.Worlds.{Device, IsSame, side};
 ghost use Rattle.daq_cli.specs.declared.refusal.Refusal.{Refusal};
 

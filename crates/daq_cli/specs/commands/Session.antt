@@ -33,7 +33,8 @@ use Rattle.daq_cli.specs.Faults as of
 use Rattle.daq_cli.specs.Files.{StopsOpening, file_step}
 use Rattle.daq_cli.specs.Questions.{extras_of}
 use Rattle.daq_cli.specs.Scripts.{ReadsScript, ScriptCause, Scripted, queries_step}
-use Rattle.daq_cli.specs.SessionReport.{EndsSession, FailsSession, FailsStepsOverSome, FinishesSession, StopsSession, WritesStepsOverSome, queries_lines, session_report}
+use Rattle.daq_cli.specs.SessionReport.{EndsSession, FailsSession, FailsStepsOverSome, FinishesSession}
+use Rattle.daq_cli.specs.SessionReport.{StopsSession, WritesStepsOverSome, queries_lines, session_report}
 use Rattle.daq_cli.specs.Steps.{Step, each, then}
 use Rattle.daq_cli.specs.commands.Query.{AreCertainOf, PlaneCause, StopsAfter, refusal_at}
 use Rattle.daq_cli.specs.declared.refusal.Refusal.{Refusal}

@@ -1,6 +1,6 @@
 //! `demo`: a question to the table that the generator makes of a seed.
 
-ghost use Rattle.std.specs.Prelude.{◌≡◌, ◌<◌, ◌^◌, ℕ, OnOk, IfErr};
+ghost use Rattle.std.specs.Prelude.{◌≡◌, ◌<◌, ◌^◌, OnOk, IfErr};
 ghost use Rattle.command_line.specs.Values.{demo_of};
 ghost use Rattle.daq_cli.specs.Worlds.{whole};
 ghost use Rattle.daq_cli.specs.commands.Demo.{DemoCause, Demonstrates};

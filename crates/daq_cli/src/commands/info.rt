@@ -5,7 +5,8 @@ ghost use Rattle.daq_table.specs.ValueTexts.{text_of_value};
 ghost use Rattle.outer_world.specs.Whole.{HoldsSame, Writes};
 ghost use Rattle.plane_file.specs.Format.{CanBeSpelledColumn, CanBeSpelledColumns};
 ghost use Rattle.daq_cli.specs.Worlds.{whole};
-ghost use Rattle.daq_cli.specs.commands.Info.{InfoCause, Informs, column_front, column_line, column_lines, first_line, info_text, kind_text, null_mark};
+ghost use Rattle.daq_cli.specs.commands.Info.{InfoCause, Informs, column_front, column_line};
+ghost use Rattle.daq_cli.specs.commands.Info.{column_lines, first_line, info_text, kind_text, null_mark};
 
 use crate::counts::written_count;
 use crate::fault_lines::{plain, with_number};
