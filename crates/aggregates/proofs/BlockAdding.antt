@@ -1,5 +1,5 @@
 -- The rows of a block, added one by one.
-use Rattle.std.proofs.Common.{◌≡◌, ℕ, zero, suc, ◌+◌, ◌-◌, ◌<◌, ◌≤◌, ℤ, pos, ◌+ℤ◌, ◌≤ℤ◌, Bool, true, false, List, [], ◌∷◌, ◌++◌, length, map, take, set, refl, ap, sym, ◌∙◌, subst, arith, Option, Some, None, slice_get, get_or, min, length-take, length-set, length-append, append-nil, FitsSigned, if◌then◌else◌}
+use Rattle.std.proofs.Common.{◌≡◌, ℕ, zero, suc, ◌+◌, ◌-◌, ◌<◌, ◌≤◌, ℤ, pos, ◌≤ℤ◌, Bool, true, false, List, [], ◌∷◌, ◌++◌, length, map, take, set, refl, ap, sym, ◌∙◌, subst, arith, Option, Some, None, slice_get, get_or, min, length-take, length-set, length-append, append-nil, FitsSigned, if◌then◌else◌}
 use Rattle.std.specs.Int.{w128, int_min, int_max}
 use Rattle.std.specs.List.{filter_map, range_with_len}
 use Rattle.std.specs.Option.{option_map}
@@ -14,7 +14,6 @@ use Rattle.query_model.specs.declared.query.ItemKind.{ItemKind}
 use Rattle.query_model.specs.Answers.{total}
 use Rattle.query_model.specs.Bounds.{Pair}
 use Rattle.query_model.specs.Laws.{SumsFit}
-use Rattle.query_model.specs.Validity.{IsSumKind}
 use Rattle.aggregates.specs.declared.tally.Tally.{Tally}
 use Rattle.aggregates.specs.BlockPairs.{AreAllAdded, MayGetAll, pair_in, pairs_in}
 use Rattle.aggregates.specs.Tallies.{AreOrdered, MayGet, pair_with, tally_of}

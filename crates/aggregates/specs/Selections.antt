@@ -1,5 +1,6 @@
 -- The rows of a mask, and the ends of the numbers that their values in a column may be.
-use Rattle.std.specs.Prelude.{◌≡◌, ℕ, ◌+◌, ◌-◌, ◌*◌, ◌/◌, ◌^◌, ◌≤◌, ℤ, pos, negsuc, ◌≤ℤ◌, Bool, false, cond, ◌&&◌, List, [], ◌∷◌, length, map, take, drop, slice_index_or, IsTrue}
+use Rattle.std.specs.Prelude.{◌≡◌, ℕ, ◌+◌, ◌-◌, ◌*◌, ◌/◌, ◌^◌, ◌≤◌, ℤ, pos, negsuc, ◌≤ℤ◌}
+use Rattle.std.specs.Prelude.{Bool, false, cond, ◌&&◌, List, [], ◌∷◌, length, map, take, drop, slice_index_or, IsTrue}
 use Rattle.std.specs.List.{filter, range_with_len}
 use Rattle.interval_calc.specs.Intervals.{Interval}
 use Rattle.daq_table.specs.Tables.{planes, width}

@@ -1,5 +1,6 @@
 -- What is kept of a list of pairs. The bound of the list can be told from it, and it can be told of the list with one pair more.
-use Rattle.std.specs.Prelude.{ℕ, ◌<◌, ◌==◌, if◌then◌else◌, ℤ, pos, ◌≤ℤ◌, Bool, List, [], ◌∷◌, ◌++◌, length, map}
+use Rattle.std.specs.Prelude.{ℕ, ◌<◌, ◌==◌, if◌then◌else◌, ℤ, pos}
+use Rattle.std.specs.Prelude.{◌≤ℤ◌, Bool, List, [], ◌∷◌, ◌++◌, length, map}
 use Rattle.std.specs.declared.option.Option.{Option}
 use Rattle.std.specs.declared.option.Option.TheVariants.{None}
 use Rattle.interval_calc.specs.declared.Interval as code

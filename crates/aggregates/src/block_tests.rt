@@ -1,4 +1,4 @@
-// Ends of the ranges of a column whose rows fill blocks of 512 or do not, worked out by a list of its rows.
+//! Ends of the ranges of a column whose rows fill blocks of 512 or do not, worked out by a list of its rows.
 
 use super::tests::{extremes, partly_read, signs, sums};
 use known_column::Known;

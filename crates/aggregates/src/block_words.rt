@@ -1,4 +1,4 @@
-// Rows of a block of 512, as the bits of eight words.
+//! Rows of a block of 512, as the bits of eight words.
 
 ghost use Rattle.std.specs.Prelude.{◌≡◌, ◌<◌, ◌↔◌, IsTrue, sum_by};
 ghost use Rattle.std.specs.Int.Bits.{bit_and};

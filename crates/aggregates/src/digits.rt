@@ -1,4 +1,4 @@
-// The planes of a column that hold digits of its numbers.
+//! The planes of a column that hold digits of its numbers.
 
 ghost use Rattle.std.specs.Prelude.{◌≡◌, min, cond};
 ghost use Rattle.aggregates.specs.Selections.{IsSound};

@@ -1,8 +1,9 @@
-// The row of a mask whose number is least or greatest, as far as its digits were read, by blocks of 512 rows.
+//! The row of a mask whose number is least or greatest, as far as its digits were read, by blocks of 512 rows.
 
 ghost use Rattle.std.specs.Prelude.{◌≡◌, ◌<◌, ◌+◌, ◌*◌, length};
 ghost use Rattle.known_column.specs.Columns.{rows_of_column};
-ghost use Rattle.aggregates.specs.ExtremeRows.{is_ahead, is_further, AreBlockRows, AreZero, IsBestAmong, IsExtremeDigit, IsExtremeRow, IsNarrowed};
+ghost use Rattle.aggregates.specs.ExtremeRows.{is_ahead, is_further, AreZero};
+ghost use Rattle.aggregates.specs.ExtremeRows.{IsBestAmong, IsExtremeDigit, IsExtremeRow, IsNarrowed};
 ghost use Rattle.aggregates.specs.Selections.{IsPartOf, IsSound, MayHaveValues};
 
 use crate::block_words::{first_place, is_empty};

@@ -1,4 +1,5 @@
-// The least and the greatest of numbers that come one by one.
+//! The least and the greatest of numbers that come one by one.
+
 ghost use Rattle.std.specs.Prelude.{◌≡◌, ℤ, true, List, [], ◌∷◌, ◌++◌, if◌then◌else◌};
 ghost use Rattle.query_model.specs.declared.query.ItemKind.TheVariants.{Min, Max};
 ghost use Rattle.query_model.specs.Answers.{answer};

@@ -1,4 +1,4 @@
-// A sum that is kept from one plane to the next, and follows the rows that come and leave and the planes that are read.
+//! A sum that is kept from one plane to the next, and follows the rows that come and leave and the planes that are read.
 
 ghost use Rattle.std.specs.Prelude.{◌≡◌, ◌+◌, ◌*◌, ◌<◌, length, take, IfOk};
 ghost use Rattle.query_model.specs.Answers.{total};

@@ -1,6 +1,4 @@
-// Sums that are kept while rows come and leave and planes are read, worked out by hand.
-
-ghost use Rattle.std.specs.Prelude.{◌≡◌};
+//! Sums that are kept while rows come and leave and planes are read, worked out by hand.
 
 use super::tests::{partly_read, read_next, rows_of};
 use super::{KeptSum, SumSpan};

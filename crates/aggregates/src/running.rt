@@ -81,8 +81,8 @@ impl Running {
         self.tallies[cell].add(self.kind, certain, span);
     }
 
-    /// Adds the rows of a block to a cell, at most 64. Bit r of a word is that of row r, whose span stands in place r: the row may count where
-    /// its bit in the first word is 1, and counts for certain where besides its bit in the second is.
+    /// Adds the rows of a block to a cell, at most 64. Bit r of a word is that of row r, whose span stands in place r: the row may
+    /// count where its bit in the first word is 1, and counts for certain where besides its bit in the second is.
     pub fn add_block(&mut self, cell: u32, may: u64, must: u64, spans: &[Interval])
         requires few { length spans.now ≤ 64 }
         requires room { MayAddAll self.old cell (pairs_in may must spans.now) }

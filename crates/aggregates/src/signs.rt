@@ -1,6 +1,7 @@
-// The rows whose range reaches below 0 or above 0, by how their prefixes stand to that of 0, which lies between base and top.
+//! The rows whose range reaches below 0 or above 0, by how their prefixes stand to that of 0, which lies between base and top.
 
-ghost use Rattle.std.specs.Prelude.{◌≡◌, ◌≤◌, ◌<◌, ◌+◌, ◌%◌, ◌^◌, ◌&&◌, ◌||◌, if◌then◌else◌, false, nat_lt, nat_abs, int_lt, pos, ◌<ℤ◌, length};
+ghost use Rattle.std.specs.Prelude.{◌≡◌, ◌≤◌, ◌<◌, ◌+◌, ◌%◌, ◌^◌, ◌&&◌, ◌||◌};
+ghost use Rattle.std.specs.Prelude.{if◌then◌else◌, false, nat_lt, nat_abs, int_lt, pos, ◌<ℤ◌, length};
 ghost use Rattle.std.specs.Simd.Lanes.{zip2};
 ghost use Rattle.known_column.specs.Columns.{range_at, rows_of_column, HasZero};
 ghost use Rattle.aggregates.specs.Selections.{MayHaveValues, those_of};

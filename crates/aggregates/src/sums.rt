@@ -1,10 +1,11 @@
-// Sums of the ends at some rows, by counts of rows, block by block and plane by plane.
+//! Sums of the ends at some rows, by counts of rows, block by block and plane by plane.
 
 ghost use Rattle.std.specs.Prelude.{◌≡◌, ◌≤◌, ◌<◌, ◌*◌, ◌^◌, ◌≤ℤ◌, negsuc, pos, length, map};
 ghost use Rattle.query_model.specs.Answers.{total};
 ghost use Rattle.known_column.specs.Columns.{number_of, rows_of_column};
 ghost use Rattle.plane_kernels.specs.Rows.{block_rows, rows_of, IsPadded};
-ghost use Rattle.aggregates.specs.Selections.{IsSmallSum, IsSumOfDigits, MayHaveValues, block_of, early_number, highs_in, lows_in, sum_of_first, sum_where};
+ghost use Rattle.aggregates.specs.Selections.{IsSmallSum, IsSumOfDigits, MayHaveValues, block_of};
+ghost use Rattle.aggregates.specs.Selections.{early_number, highs_in, lows_in, sum_of_first, sum_where};
 
 use crate::block_words::{count_both, is_empty};
 use crate::digits::number_planes;
@@ -33,7 +34,8 @@ pub(crate) fn sum_rows(known: &Known, block: usize, rows: &[u64; 8], read: u8) -
 fn sum_block(known: &Known, mask: &Mask, block: usize) -> u128
     requires rows { length mask.now ≡ rows_of_column known.now }
     requires block { 512 * block < rows_of_column known.now }
-    ensures sum { result ≡ sum_where (block_of block mask.now) (map (number_of known.now.ends known.now.known.read) (block_of block known.now.known.prefixes)) }
+    ensures sum { result ≡ sum_where (block_of block mask.now)
+        (map (number_of known.now.ends known.now.known.read) (block_of block known.now.known.prefixes)) }
     ensures few { result ≤ 2 ^ 88 }
 {
     let rows = mask.block(block);

@@ -1,8 +1,10 @@
 //! What is kept of a list of rows that may count, and the bound that follows from it.
-ghost use Rattle.std.specs.Prelude.{◌≡◌, ◌<◌, ◌≤◌, ℕ, ℤ, pos, length, ◌+ℤ◌, ◌≤ℤ◌, List, [], ◌∷◌, ◌++◌, cond, if◌then◌else◌, int_le, FitsSigned};
+ghost use Rattle.std.specs.Prelude.{◌≡◌, ◌<◌, ◌≤◌, ℤ, pos, length, ◌+ℤ◌};
+ghost use Rattle.std.specs.Prelude.{List, [], ◌∷◌, ◌++◌, cond, if◌then◌else◌, int_le, FitsSigned};
 ghost use Rattle.std.specs.Int.{w128};
 ghost use Rattle.query_model.specs.declared.query.ItemKind.TheVariants.{Count, Min, Sum};
-ghost use Rattle.query_model.specs.Bounds.{average_bound_of, bound_of, nullity_of, greatest_sum, high_of_least, high_share, least_sum, low_of_greatest, low_share, fractions_of, Pair};
+ghost use Rattle.query_model.specs.Bounds.{average_bound_of, bound_of, nullity_of, greatest_sum, high_of_least};
+ghost use Rattle.query_model.specs.Bounds.{high_share, least_sum, low_of_greatest, low_share, fractions_of, Pair};
 ghost use Rattle.query_model.specs.Validity.{IsSumKind};
 ghost use Rattle.plane_kernels.specs.Rows.{digit_at};
 ghost use Rattle.aggregates.specs.BlockPairs.{pairs_in, HasRoom};
@@ -97,7 +99,8 @@ impl Tally {
     fn add_count(&mut self, certain: bool)
         requires few { self.old.all < 16777216 }
         requires few_certain { self.old.certain < 16777216 }
-        ensures { (ps : List Pair) (span : Interval) → self.old ≡ tally_of Count ps → self.new ≡ tally_of Count (ps ++ pair_with certain span ∷ []) }
+        ensures { (ps : List Pair) (span : Interval) → self.old ≡ tally_of Count ps
+            → self.new ≡ tally_of Count (ps ++ pair_with certain span ∷ []) }
     {
         self.all += 1;
         self.certain += one_if(certain);

@@ -1,4 +1,5 @@
-// Bounds of lists of rows by kind, worked out by hand, and ends of the ranges of a column.
+//! Bounds of lists of rows by kind, worked out by hand, and ends of the ranges of a column.
+
 ghost use Rattle.std.specs.Prelude.{◌≡◌, ◌≢◌, ◌≤◌, ◌<◌, ◌≤ℤ◌, length, FitsSigned, IfOk};
 ghost use Rattle.std.specs.Int.{w16};
 ghost use Rattle.query_model.specs.declared.query.ItemKind.TheVariants.{Avg};

@@ -19,7 +19,7 @@ use Rattle.query_model.specs.Bounds.{Pair, pair_of, pair_unless_false}
 use Rattle.query_model.specs.Knowledge.{ranges_of}
 use Rattle.query_model.specs.Truths.{and_of, may_be_null, may_be_number, null_of, span_of, truth_of, truth_of_number}
 use Rattle.kleene_filter.specs.Filters.{is_certain, is_possible, truth_at, truths_under}
-use Rattle.known_column.specs.Columns.{KnownColumn, is_sure, numbers_at, rows_of_column, rows_where}
+use Rattle.known_column.specs.Columns.{KnownColumn, is_sure, rows_where}
 use Rattle.known_column.specs.Columns as columns
 use Rattle.known_column.specs.RowBlocks.{IsKnownColumn}
 use Rattle.aggregates.specs.Selections.{IsSound, block_of, has_row}

@@ -1,5 +1,7 @@
 -- The rows of an average over a bare column, by the planes of the column: which are certain, which are uncertain, and which an end reaches.
-use Rattle.std.specs.Prelude.{◌≡◌, ℕ, ◌-◌, ◌*◌, ◌^◌, ◌<◌, ◌≤◌, min, ℤ, pos, ◌+ℤ◌, ◌-ℤ◌, ◌*ℤ◌, nat_abs, nat_le, nat_lt, int_lt, Bool, true, false, not, cond, ◌&&◌, List, length, map, slice_index_or}
+use Rattle.std.specs.Prelude.{◌≡◌, ℕ, ◌-◌, ◌*◌, ◌^◌, ◌<◌, ◌≤◌, min, ℤ}
+use Rattle.std.specs.Prelude.{pos, ◌+ℤ◌, ◌-ℤ◌, ◌*ℤ◌, nat_abs, nat_le, nat_lt, int_lt}
+use Rattle.std.specs.Prelude.{Bool, true, false, not, cond, ◌&&◌, List, length, map, slice_index_or}
 use Rattle.std.specs.declared.option.Option.{Option}
 use Rattle.std.specs.declared.option.Option.TheVariants.{Some, None}
 use Rattle.std.specs.List.{count_by, range_with_len}

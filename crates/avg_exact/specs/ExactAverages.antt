@@ -1,7 +1,8 @@
 -- The exact ends of an average: the greatest and the least average over all choices of the rows that may count and need not.
--- A row gives a pair where it may pass with a value. It is certain where it surely does; a row whose argument may be null is uncertain, and one whose argument
--- is surely null gives no pair.
-use Rattle.std.specs.Prelude.{ℕ, nat_lt, ℤ, pos, ◌-ℤ◌, ◌*ℤ◌, ◌≡◌, ◌≤◌, ◌≤ℤ◌, int_le, int_lt, Bool, false, not, ◌&&◌, ◌||◌, List, [], ◌∷◌, ◌++◌, length, map, IsTrue, if◌then◌else◌}
+-- A row gives a pair where it may pass with a value. It is certain where it surely does; a row whose argument may be null is
+-- uncertain, and one whose argument is surely null gives no pair.
+use Rattle.std.specs.Prelude.{ℕ, nat_lt, ℤ, pos, ◌-ℤ◌, ◌*ℤ◌, ◌≡◌, ◌≤◌, ◌≤ℤ◌, int_le, int_lt, Bool}
+use Rattle.std.specs.Prelude.{false, not, ◌&&◌, ◌||◌, List, [], ◌∷◌, ◌++◌, length, map, IsTrue, if◌then◌else◌}
 use Rattle.std.specs.declared.option.Option.{Option}
 use Rattle.std.specs.declared.option.Option.TheVariants.{Some, None}
 use Rattle.std.specs.List.{filter, list_any}
@@ -151,7 +152,8 @@ abbrev pub IsReached : List Pair → Cut → Type 0
 IsReached ps None = Unit {0}
 IsReached ps (Some h) = IsTrue (list_any (λ p. not p.certain && int_eq p.high h) ps)
 
--- the choice is allowed, none that is allowed has a greater average, and of those of the same average none takes fewer rows. Its cut is the least high that it takes
+-- the choice is allowed, none that is allowed has a greater average, and of those of the same average none takes fewer rows. Its cut
+-- is the least high that it takes
 pub record IsHighEnd (ps : List Pair) (end : Choice) : Type 0 where
   pub allowed : IsAllowed ps end.cut
   pub choice : end ≡ choice_of ps end.cut

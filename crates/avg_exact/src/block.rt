@@ -1,4 +1,4 @@
-// The rows of a block of 512 that are chosen.
+//! The rows of a block of 512 that are chosen.
 
 ghost use Rattle.std.specs.Prelude.{◌≡◌, ◌<◌, ◌*◌, ◌&&◌, ◌||◌, not, length};
 ghost use Rattle.std.specs.List.{count_by, sum_by};

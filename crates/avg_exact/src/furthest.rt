@@ -1,4 +1,4 @@
-// The number that lies furthest at some rows.
+//! The number that lies furthest at some rows.
 
 ghost use Rattle.std.specs.Prelude.{◌≡◌, ◌≤◌, ◌<◌, ◌*◌, ◌⊎◌, length};
 ghost use Rattle.std.specs.List.{count_by};

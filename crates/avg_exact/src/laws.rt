@@ -1,8 +1,10 @@
 //! The laws of exact averages. Each stands on a function that does nothing.
 
-ghost use Rattle.avg_exact.specs.Laws.{ExactAveragesAreCertain, ExactAveragesAreExtremes, ExactAveragesAreExtremesOfLists, ExactAveragesContain, ExactAveragesLieWithin, ExactAveragesNest, HighEndsAreBest};
+ghost use Rattle.avg_exact.specs.Laws.{ExactAveragesAreCertain, ExactAveragesAreExtremes, ExactAveragesAreExtremesOfLists};
+ghost use Rattle.avg_exact.specs.Laws.{ExactAveragesContain, ExactAveragesLieWithin, ExactAveragesNest, HighEndsAreBest};
 
-/// The high end is the best choice of rows, whatever the cuts of the others: none has a greater average, and of those with the same none takes fewer rows.
+/// The high end is the best choice of rows, whatever the cuts of the others: none has a greater average, and of those with the same
+/// none takes fewer rows.
 pub fn high_ends_are_best()
     ensures { HighEndsAreBest }
 {}

@@ -1,4 +1,4 @@
-// Passes over the rows of an average, as one of its ends sees them.
+//! Passes over the rows of an average, as one of its ends sees them.
 
 ghost use Rattle.std.specs.Prelude.{◌≡◌, ◌≤◌, ◌<◌, ◌^◌, ◌*ℤ◌, pos, nat_abs, FitsSigned, IfSome};
 ghost use Rattle.std.specs.Option.{option_map};
@@ -6,7 +6,9 @@ ghost use Rattle.std.specs.Int.{w128};
 ghost use Rattle.interval_calc.specs.Intervals.{interval_of};
 ghost use Rattle.avg_exact.specs.declared.passes.End.TheVariants.{High};
 ghost use Rattle.query_model.specs.Truths.{and_of, truth_of_number};
-ghost use Rattle.avg_exact.specs.Passes.{all_rows, certainty_of, end_value, greatest_high, greatest_of, is_uncertain, least_of, least_taken, seen_at, size_at, taken_value, takes_value, tally_of, uncertain_count, value_of, with_row, FitsProduct, FitsRow, IsAveraged};
+ghost use Rattle.avg_exact.specs.Passes.{all_rows, certainty_of, end_value, greatest_high, greatest_of, is_uncertain};
+ghost use Rattle.avg_exact.specs.Passes.{least_of, least_taken, seen_at, size_at, taken_value, takes_value, tally_of};
+ghost use Rattle.avg_exact.specs.Passes.{uncertain_count, value_of, with_row, FitsProduct, FitsRow, IsAveraged};
 
 use interval_calc::{Fraction, Interval};
 use query_model::{Nullity, Truth};

@@ -1,12 +1,13 @@
-// The rows of an average over a bare column, by blocks of the column's planes.
+//! The rows of an average over a bare column, by blocks of the column's planes.
 
-ghost use Rattle.std.specs.Prelude.{◌≡◌, ◌≤◌, ◌<◌, ◌+◌, ◌*◌, ◌^◌, ◌&&◌, ◌||◌, ◌==◌, min, cond, not, length, map};
+ghost use Rattle.std.specs.Prelude.{◌≡◌, ◌≤◌, ◌<◌, ◌+◌, ◌*◌, ◌^◌};
+ghost use Rattle.std.specs.Prelude.{◌==◌, min, cond, length, map};
 ghost use Rattle.std.specs.List.{count_by};
-ghost use Rattle.std.specs.Simd.Lanes.{zip2};
 ghost use Rattle.plane_kernels.specs.Rows.{digit_at, kept_rows};
-ghost use Rattle.known_column.specs.Columns.{number_of, rows_of_column};
+ghost use Rattle.known_column.specs.Columns.{number_of};
 ghost use Rattle.aggregates.specs.Selections.{block_of, sum_where, IsSound};
-ghost use Rattle.avg_exact.specs.Blocks.{beyond_rows, block_column, column_of, is_passed_over, is_sure_row, is_unsure_row, part_rows, reached_rows, rows_with, IsMeasure, IsOverColumn, IsShort, IsShortPart, MarkUncertain};
+ghost use Rattle.avg_exact.specs.Blocks.{beyond_rows, block_column, column_of, is_passed_over, is_sure_row, is_unsure_row, part_rows};
+ghost use Rattle.avg_exact.specs.Blocks.{reached_rows, rows_with, IsMeasure, IsOverColumn, IsShort, IsShortPart, MarkUncertain};
 
 use crate::block::Block;
 use crate::passes::End;

@@ -1,4 +1,4 @@
-// The choice of rows with the greatest average at an end.
+//! The choice of rows with the greatest average at an end.
 
 ghost use Rattle.std.specs.Prelude.{◌≡◌, ◌≤◌, ◌<◌, ◌^◌, ◌-ℤ◌, pos, nat_abs};
 ghost use Rattle.std.specs.declared.option.Option.TheVariants.{None, Some};

@@ -1,4 +1,4 @@
-// The sum of an end over the rows that a measure was taken of.
+//! The sum of an end over the rows that a measure was taken of.
 
 ghost use Rattle.std.specs.Prelude.{◌≡◌, ◌≤◌, ◌≤ℤ◌, negsuc, pos};
 ghost use Rattle.aggregates.specs.Selections.{IsSmallSum};

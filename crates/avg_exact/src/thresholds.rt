@@ -1,4 +1,4 @@
-// From which number on an end reaches the rows above a fraction.
+//! From which number on an end reaches the rows above a fraction.
 
 ghost use Rattle.std.specs.Prelude.{◌≡◌, ◌≤◌, ◌≤ℤ◌, ◌+ℤ◌, ◌-ℤ◌, ◌/◌, ◌^◌, pos};
 ghost use Rattle.std.specs.Int.{int_div_euclid};

@@ -1,10 +1,11 @@
-// The two ways to pass over the rows of an average: by the planes of the column that is its argument, or one by one.
+//! The two ways to pass over the rows of an average: by the planes of the column that is its argument, or one by one.
 
 ghost use Rattle.std.specs.Prelude.{◌≡◌, ◌≤◌, ◌<◌, ◌^◌, nat_abs, IfSome};
 ghost use Rattle.std.specs.declared.option.Option.TheVariants.{None};
 ghost use Rattle.avg_exact.specs.declared.passes.End.TheVariants.{High};
 ghost use Rattle.avg_exact.specs.Blocks.{column_of, part_rows, IsMeasure, IsOverColumn, IsShortPart};
-ghost use Rattle.avg_exact.specs.Ways.{number_value, opposite, part_tally, taken_tally, ArePlanes, IsFurthestValue, IsNumberOf, IsSmallTally, IsWay};
+ghost use Rattle.avg_exact.specs.Ways.{number_value, opposite, part_tally, taken_tally, ArePlanes};
+ghost use Rattle.avg_exact.specs.Ways.{IsFurthestValue, IsNumberOf, IsSmallTally, IsWay};
 ghost use Rattle.avg_exact.specs.Passes.{all_rows, greatest_high, least_taken, tally_of, uncertain_count, IsAveraged};
 
 use crate::furthest::furthest;

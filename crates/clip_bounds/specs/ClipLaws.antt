@@ -31,7 +31,8 @@ ClipsContain =
 abbrev pub ClipsAreExtremes : Type 0
 ClipsAreExtremes =
     (query : Query) (item : Aggregate) (clip : Clip) (frame : Frame) (known : Knowledge) →
-    clip_of query item ≡ Some clip → IsOfLongs frame clip.column → IsTrue (no_repeats (columns_of_pred query.pred)) → IsKnowledge frame known →
+    clip_of query item ≡ Some clip → IsOfLongs frame clip.column →
+    IsTrue (no_repeats (columns_of_pred query.pred)) → IsKnowledge frame known →
     IsExtremes (IsCompletion frame known) (answer_of query item [] frame) (clipped_under query item clip frame known)
 
 -- with one more plane read it lies within the one before

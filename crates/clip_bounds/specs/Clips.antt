@@ -1,5 +1,6 @@
 -- The numbers that a condition lets through for a column, where that is a range which an atom alone tells.
-use Rattle.std.specs.Prelude.{ℕ, ℤ, pos, negsuc, ◌+ℤ◌, ◌-ℤ◌, ◌≤ℤ◌, int_lt, Bool, true, false, ◌&&◌, ◌==◌, if◌then◌else◌}
+use Rattle.std.specs.Prelude.{ℕ, ℤ, pos, negsuc, ◌+ℤ◌, ◌-ℤ◌, ◌≤ℤ◌}
+use Rattle.std.specs.Prelude.{int_lt, Bool, true, false, ◌&&◌, ◌==◌, if◌then◌else◌}
 use Rattle.std.specs.declared.option.Option.{Option}
 use Rattle.std.specs.declared.option.Option.TheVariants.{Some, None}
 use Rattle.std.specs.List.{count_by}
@@ -13,7 +14,8 @@ use Rattle.query_model.specs.declared.query.ItemKind.TheVariants.{Count, Sum, Mi
 use Rattle.query_model.specs.declared.query.Shape.{Shape}
 use Rattle.query_model.specs.declared.query.Shape.TheVariants.{Plain, Grouped, Top}
 use Rattle.query_model.specs.Meaning.{columns_of_pred}
-use Rattle.query_model.specs.Queries.{Aggregate, Condition, All, Single, Both, Either, Negation, Query, Term, Column, Literal, Add, Sub, Mul}
+use Rattle.query_model.specs.Queries.{Aggregate, Condition, All, Single, Both, Either}
+use Rattle.query_model.specs.Queries.{Negation, Query, Term, Column, Literal, Add, Sub, Mul}
 use Rattle.clip_bounds.specs.declared.clip.Clip.{Clip}
 
 -- ---- the range of an atom
@@ -91,7 +93,7 @@ is_plain Plain = true
 is_plain (Grouped columns) = false
 is_plain (Top key down limit) = false
 
--- the numbers that the condition lets through for the item's column: in a query without groups and order, for the sum or an extreme of a bare column
--- that stands once in the condition, and there in such an atom
+-- the numbers that the condition lets through for the item's column: in a query without groups and order, for the sum or an extreme
+-- of a bare column that stands once in the condition, and there in such an atom
 abbrev pub clip_of : Query → Aggregate → Option Clip
 clip_of query item = if is_plain query.shape && is_clipped_kind item.kind then clip_of_argument query.pred item.arg else None

@@ -3,7 +3,8 @@
 ghost use Rattle.std.specs.Prelude.{◌≡◌, ◌<◌, ◌≤◌, ◌==◌, count_by, min, length, slice_get, IfSome};
 ghost use Rattle.query_model.specs.Meaning.{columns_of_atom, columns_of_pred};
 ghost use Rattle.query_model.specs.Queries.{condition_of, term_of};
-ghost use Rattle.clip_bounds.specs.Clips.{before, behind, clip_in, clip_of, clip_of_argument, clip_of_atom, clip_of_comparison, is_clipped_kind, is_plain, stands_once};
+ghost use Rattle.clip_bounds.specs.Clips.{before, behind, clip_in, clip_of, clip_of_argument, clip_of_atom};
+ghost use Rattle.clip_bounds.specs.Clips.{clip_of_comparison, is_clipped_kind, is_plain};
 
 use query_model::{Atom, Comparison, Expr, ItemKind, Pred, Shape, TypedQuery};
 

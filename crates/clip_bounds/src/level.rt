@@ -1,6 +1,7 @@
-// The rows of a column whose range holds a number: those with the number's prefix.
+//! The rows of a column whose range holds a number: those with the number's prefix.
 
-ghost use Rattle.std.specs.Prelude.{◌≡◌, ◌≤◌, ◌<◌, ◌+◌, ◌-◌, ◌*◌, ◌^◌, ◌≤ℤ◌, ◌-ℤ◌, min, nat_abs, length, map, sum_by, if◌then◌else◌};
+ghost use Rattle.std.specs.Prelude.{◌≡◌, ◌≤◌, ◌<◌, ◌+◌, ◌-◌, ◌*◌, ◌^◌, ◌≤ℤ◌};
+ghost use Rattle.std.specs.Prelude.{◌-ℤ◌, min, nat_abs, length, map, sum_by, if◌then◌else◌};
 ghost use Rattle.std.specs.Int.{bit_not, w64};
 ghost use Rattle.std.specs.Int.Bits.{bit_and};
 ghost use Rattle.std.specs.Int.Count.{ones};

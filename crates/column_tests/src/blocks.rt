@@ -1,4 +1,4 @@
-// Blocks of two columns, of the second of which some planes are read, against its numbers and against rows that are read one by one.
+//! Blocks of two columns, of the second of which some planes are read, against its numbers and against rows that are read one by one.
 
 ghost use Rattle.std.specs.Prelude.{◌≡◌, ◌≤◌, ◌<◌, ◌≤ℤ◌, length, IfOk};
 

@@ -1,5 +1,6 @@
-// Columns of four rows that are read plane by plane: what is then known of each row.
-ghost use Rattle.std.specs.Prelude.{◌≡◌, ◌<◌, ◌≤ℤ◌, length, IfOk};
+//! Columns of four rows that are read plane by plane: what is then known of each row.
+
+ghost use Rattle.std.specs.Prelude.{◌≡◌, ◌<◌, ◌≤ℤ◌, IfOk};
 ghost use Rattle.daq_table.specs.declared.head.Kind.TheVariants.{Int};
 ghost use Rattle.known_column.specs.Columns.{rows_of_column, HasZero};
 
@@ -41,8 +42,8 @@ enum Side {
     Nowhere,
 }
 
-// The first planes of a column of four rows, and what is known of each row after them: the ends of its range, whether it is null, whether its
-// prefix is that of top, and its side of 0. The last plane is refused at this row, if it is.
+// The first planes of a column of four rows, and what is known of each row after them: the ends of its range, whether it is null,
+// whether its prefix is that of top, and its side of 0. The last plane is refused at this row, if it is.
 struct Example {
     base: i64,
     top: i64,

@@ -1,7 +1,7 @@
-// Rows that are judged by a sort key plane by plane: their standings, worked out by hand.
-ghost use Rattle.std.specs.Prelude.{◌≡◌, ◌≤◌, ◌<◌, ◌≤ℤ◌, ℕ, length, IfOk, IsTrue};
+//! Rows that are judged by a sort key plane by plane: their standings, worked out by hand.
+
+ghost use Rattle.std.specs.Prelude.{◌≡◌, ◌≤◌, ◌<◌, ◌≤ℤ◌, length, IfOk};
 ghost use Rattle.known_column.specs.Columns.{rows_of_column};
-ghost use Rattle.topk_bounds.specs.Standings.{is_in};
 
 use daq_table::{ColumnHead, Dictionary, Kind, Name};
 use known_column::Known;

@@ -1,5 +1,6 @@
 -- How words are read one by one: what may come next, and what a word leads to.
-use Rattle.std.specs.Prelude.{◌≡◌, ◌≢◌, ℕ, ◌+◌, nat_le, Bool, true, false, not, ◌&&◌, if◌then◌else◌, Option, Some, None, is_none, option_map, Result, Ok, Err, List, [], ◌∷◌, length, codes}
+use Rattle.std.specs.Prelude.{◌≡◌, ◌≢◌, ℕ, ◌+◌, nat_le, Bool, true, false, not, ◌&&◌, if◌then◌else◌}
+use Rattle.std.specs.Prelude.{Option, Some, None, is_none, option_map, Result, Ok, Err, List, [], ◌∷◌, length, codes}
 use Rattle.std.specs.Option.{option_map_or}
 use Rattle.std.specs.Char.{is_ascii_digit}
 use Rattle.std.specs.List.{list_all}
@@ -7,7 +8,9 @@ use Rattle.std.specs.Str.{bytes_eq}
 use Rattle.std.specs.Str.Parse.{digits_value}
 use Rattle.command_line.specs.declared.reader.Flag.{Flag}
 use Rattle.command_line.specs.declared.reader.Flag.TheVariants as f
-use Rattle.command_line.specs.Commands.{ReadOrder, widest, in_order, filter_first, reads, Given, Options, Command, ask, query, session, load, info, upgrade, demo, nothing_given, options_given, most_seed, most_rows, most_width, most_rounds}
+use Rattle.command_line.specs.Commands.{ReadOrder, widest, in_order, filter_first, reads, Given, Options}
+use Rattle.command_line.specs.Commands.{Command, ask, query, session, load, info, upgrade, demo, nothing_given}
+use Rattle.command_line.specs.Commands.{options_given, most_seed, most_rows, most_width, most_rounds}
 
 -- what comes next, and for each such word what comes behind it; options come by name where a list of names may be one of them
 pub data Next : Type 0 where

@@ -1,13 +1,17 @@
 //! Reads the words of a command one by one.
 
-ghost use Rattle.std.specs.Prelude.{◌≡◌, ◌≢◌, ◌==◌, ◌+◌, ◌^◌, ◌<◌, ◌≤◌, [], length, Ok, Err, IfOk, IfErr, OnOk, option_map};
+ghost use Rattle.std.specs.Prelude.{◌≡◌, ◌≢◌, ◌==◌, ◌+◌, ◌^◌, ◌<◌};
+ghost use Rattle.std.specs.Prelude.{◌≤◌, [], length, Ok, Err, IfOk, IfErr, OnOk, option_map};
 ghost use Rattle.std.specs.Char.{is_ascii_digit};
 ghost use Rattle.std.specs.List.{list_all};
 ghost use Rattle.std.specs.Option.{SomeIff};
 ghost use Rattle.std.specs.Str.Parse.{IsNumeral, digits_value};
 ghost use Rattle.command_line.specs.Commands.{ask, demo, info, load, nothing_given, options_given, query, session, upgrade};
-ghost use Rattle.command_line.specs.Reading.{Adds, Fails, HasMore, Lacks, LeadsTo, Names, Says, StopsAt, Takes, after_ask, after_demo, after_info, after_load, after_query, after_session, after_upgrade, answers, flag_of, is_free, number, policy, policy_of};
-ghost use Rattle.command_line.specs.Values.{ask_of, demo_of, given_of, info_of, load_of, options_of, order_of, query_of, session_of, upgrade_of};
+ghost use Rattle.command_line.specs.Reading.{Adds, Fails, HasMore, Lacks, LeadsTo, Names, Says, StopsAt, Takes};
+ghost use Rattle.command_line.specs.Reading.{after_ask, after_demo, after_info, after_load, after_query, after_session};
+ghost use Rattle.command_line.specs.Reading.{after_upgrade, answers, flag_of, is_free, number, policy, policy_of};
+ghost use Rattle.command_line.specs.Values.{ask_of, demo_of, given_of, info_of, load_of};
+ghost use Rattle.command_line.specs.Values.{options_of, order_of, query_of, session_of, upgrade_of};
 
 use crate::command::{Ask, Demo, Info, Load, Options, Query, ReadOrder, Session, Upgrade, Usage};
 use crate::words::Words;

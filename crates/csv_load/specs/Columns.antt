@@ -1,5 +1,6 @@
 -- The cells of one column: which are null, which texts are values, and the numbers that they stand for.
-use Rattle.std.specs.Prelude.{ℕ, ◌≤◌, ℤ, pos, Bool, true, false, not, if◌then◌else◌, Option, Some, None, List, [], ◌∷◌, ◌++◌, length, map, slice_index_or, IsUtf8}
+use Rattle.std.specs.Prelude.{ℕ, ◌≤◌, ℤ, pos, Bool, true, false, not, if◌then◌else◌, Option}
+use Rattle.std.specs.Prelude.{Some, None, List, [], ◌∷◌, ◌++◌, length, map, slice_index_or, IsUtf8}
 use Rattle.std.specs.List.{filter}
 use Rattle.daq_table.specs.CellTexts.{IsCellText, cell_number}
 use Rattle.daq_table.specs.declared.head.Kind.{Kind}

@@ -1,12 +1,14 @@
 -- What each fault says of a CSV: it is the first in the order of the records, and of the cells of one.
-use Rattle.std.specs.Prelude.{◌≡◌, ◌≢◌, ℕ, suc, ◌*◌, ◌<◌, ◌≤◌, ⊤, List, [], ◌∷◌, ◌++◌, length, take, Some, slice_get, slice_index_or, IsFalse}
+use Rattle.std.specs.Prelude.{◌≡◌, ◌≢◌, ℕ, suc, ◌*◌, ◌<◌, ◌≤◌, ⊤, List, []}
+use Rattle.std.specs.Prelude.{◌∷◌, ◌++◌, length, take, Some, slice_get, slice_index_or, IsFalse}
 use Rattle.daq_table.specs.Schemas.{names_of}
 use Rattle.daq_table.specs.declared.schema_column.SchemaColumn.{SchemaColumn}
 use Rattle.csv_load.specs.Columns.{IsValue, column_texts, is_null, names_after}
 use Rattle.csv_load.specs.Records.{AreRecordsOf, Begins, Fields}
 use Rattle.csv_load.specs.Rows.{AreGoodBefore, AreGoodRows, HasRoom}
 use Rattle.csv_load.specs.declared.fault.TableFault.{TableFault}
-use Rattle.csv_load.specs.declared.fault.TableFault.TheVariants.{NoHeader, HeaderDiffers, TooManyRows, TooManyCells, UnequalLength, BadCell, TooManyNames, NoMemory}
+use Rattle.csv_load.specs.declared.fault.TableFault.TheVariants.{NoHeader, HeaderDiffers, TooManyRows, TooManyCells}
+use Rattle.csv_load.specs.declared.fault.TableFault.TheVariants.{UnequalLength, BadCell, TooManyNames, NoMemory}
 use Rattle.csv_load.specs.declared.limits.Limits.{Limits}
 
 -- the first place where the lists differ; one that has ended differs from one that goes on

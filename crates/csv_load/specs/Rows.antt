@@ -1,5 +1,6 @@
 -- Which rows of a CSV are taken.
-use Rattle.std.specs.Prelude.{◌≡◌, ℕ, suc, ◌*◌, ◌<◌, ◌≤◌, List, [], length, take, Some, slice_get, slice_index_or, IsFalse}
+use Rattle.std.specs.Prelude.{◌≡◌, ℕ, suc, ◌*◌, ◌<◌, ◌≤◌, List}
+use Rattle.std.specs.Prelude.{[], length, take, Some, slice_get, slice_index_or, IsFalse}
 use Rattle.daq_table.specs.declared.schema_column.SchemaColumn.{SchemaColumn}
 use Rattle.csv_load.specs.Columns.{IsValue, column_texts, is_null, names_after}
 use Rattle.csv_load.specs.Records.{Fields}

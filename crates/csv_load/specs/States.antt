@@ -1,5 +1,7 @@
 -- What is kept of a column while its CSV is read.
-use Rattle.std.specs.Prelude.{◌≡◌, ◌≢◌, ℕ, zero, suc, ◌*◌, ◌<◌, ◌≤◌, ⊤, ℤ, pos, ◌+ℤ◌, Bool, true, false, not, cond, All, IsTrue, IsFalse, if◌then◌else◌, Option, Some, None, List, [], ◌∷◌, ◌++◌, length, map, slice_get, slice_index_or}
+use Rattle.std.specs.Prelude.{◌≡◌, ◌≢◌, ℕ, zero, suc, ◌*◌, ◌<◌, ◌≤◌, ⊤, ℤ, pos}
+use Rattle.std.specs.Prelude.{◌+ℤ◌, Bool, true, false, not, cond, All, IsTrue, IsFalse, if◌then◌else◌, Option}
+use Rattle.std.specs.Prelude.{Some, None, List, [], ◌∷◌, ◌++◌, length, map, slice_get, slice_index_or}
 use Rattle.std.specs.BTreeSet.{insert_key}
 use Rattle.std.specs.Cmp.Lexicographic.{slice_cmp}
 use Rattle.std.specs.List.{count_by, list_any}
@@ -18,7 +20,8 @@ use Rattle.csv_load.specs.Records.{AreRecordsOf, Fields}
 use Rattle.csv_load.specs.Faults.{IsFirstDifference}
 use Rattle.csv_load.specs.Rows.{AreGoodRows}
 use Rattle.csv_load.specs.declared.fault.TableFault.{TableFault}
-use Rattle.csv_load.specs.declared.fault.TableFault.TheVariants.{NoHeader, HeaderDiffers, TooManyRows, TooManyCells, UnequalLength, BadCell, TooManyNames, NoMemory}
+use Rattle.csv_load.specs.declared.fault.TableFault.TheVariants.{NoHeader, HeaderDiffers, TooManyRows, TooManyCells}
+use Rattle.csv_load.specs.declared.fault.TableFault.TheVariants.{UnequalLength, BadCell, TooManyNames, NoMemory}
 use Rattle.csv_load.specs.declared.limits.Limits.{Limits}
 
 -- of texts the values and their distinct names are kept, and of all else the numbers

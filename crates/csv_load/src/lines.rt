@@ -1,6 +1,7 @@
 //! Plain lines of a text, with no field in quotes and no CR at the end: records that are cut at commas.
 
-ghost use Rattle.std.specs.Prelude.{◌≡◌, ◌≢◌, ◌-◌, ◌<◌, ◌≤◌, length, take, drop, slice_index_or, All, IfOk, IsFalse};
+ghost use Rattle.std.specs.Prelude.{◌≡◌, ◌≢◌, ◌-◌, ◌<◌, ◌≤◌};
+ghost use Rattle.std.specs.Prelude.{length, take, drop, slice_index_or, All, IfOk, IsFalse};
 ghost use Rattle.csv_load.specs.Lines.{JoinsField, ReadsLine, record_at};
 ghost use Rattle.csv_load.specs.Records.{held};
 

@@ -1,6 +1,6 @@
 //! Cells of numbers in their plainest form: digits behind at most a minus, and in a decimal all places of its fraction.
 
-ghost use Rattle.std.specs.Prelude.{◌≡◌, ◌<◌, ◌^◌, ℕ, IfSome, drop, if◌then◌else◌};
+ghost use Rattle.std.specs.Prelude.{◌≡◌, ◌<◌, ◌^◌, IfSome, drop, if◌then◌else◌};
 ghost use Rattle.std.specs.Str.Parse.{AllDigits, digits_value_after, starts_with_minus};
 ghost use Rattle.daq_table.specs.CellTexts.{IsDecCell, IsIntCell, dec_value, int_value, with_sign};
 

@@ -1,6 +1,7 @@
 //! One record of a CSV: the header, or a row.
 
-ghost use Rattle.std.specs.Prelude.{◌≡◌, ◌≢◌, ◌↔◌, ℕ, suc, ◌+◌, ◌*◌, ◌<◌, ◌≤◌, ◌^◌, length, slice_get, slice_index_or, MatchOption, OnOk, IfErr, IsTrue, Some, []};
+ghost use Rattle.std.specs.Prelude.{◌≡◌, ◌↔◌, ◌+◌, ◌*◌, ◌<◌, ◌≤◌};
+ghost use Rattle.std.specs.Prelude.{◌^◌, length, slice_get, slice_index_or, MatchOption, OnOk, IfErr, IsTrue, Some, []};
 ghost use Rattle.daq_table.specs.Schemas.{names_of};
 ghost use Rattle.csv_load.specs.Faults.{IsFirstDifference};
 ghost use Rattle.csv_load.specs.Records.{held};

@@ -1,12 +1,12 @@
 //! The values of a column while its CSV is read: its cells that are not null.
 
-ghost use Rattle.std.specs.Prelude.{◌≡◌, ◌↔◌, ◌≢◌, if◌then◌else◌, IfOk, IfSome, OnOk, IfErr, IsTrue, [], true, false};
+ghost use Rattle.std.specs.Prelude.{◌≡◌, ◌↔◌, if◌then◌else◌};
+ghost use Rattle.std.specs.Prelude.{IfOk, IfSome, OnOk, IfErr, IsTrue, [], true, false};
 ghost use Rattle.std.specs.Option.{SomeIff};
 ghost use Rattle.daq_table.specs.CellTexts.{IsCellText, cell_number};
 ghost use Rattle.daq_table.specs.declared.head.Kind.TheVariants.{Text};
-ghost use Rattle.daq_table.specs.Dictionaries.{rank_of};
 ghost use Rattle.csv_load.specs.Columns.{IsShortText, is_text};
-ghost use Rattle.csv_load.specs.States.{HasValues, IsComplete, RefusesValue, TakesValue, kept_of, kept_with, numbers_in};
+ghost use Rattle.csv_load.specs.States.{HasValues, IsComplete, RefusesValue, TakesValue, kept_of, kept_with};
 
 use crate::extremes::{become_distances, greatest_number, least_number};
 use crate::fault::TableFault;

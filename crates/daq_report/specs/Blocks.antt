@@ -32,6 +32,7 @@ form_text head list extras stage Plain = items_text head stage (AllRows extras)
 form_text head list extras stage (Grouped columns) = groups_text head stage columns
 form_text head list extras stage (Top key down limit) = ranking_text head stage key limit list
 
--- with a list, rows of which it is not known yet whether they are among the first are shown too; with extras, the items over all rows have more lines
+-- with a list, rows of which it is not known yet whether they are among the first are shown too; with extras, the items over all
+-- rows have more lines
 abbrev pub block_text : Head → Bool → Extras → Stage → ℕ → Option ℕ → List ℕ
 block_text head list extras stage round last = round_line head stage round last ++ form_text head list extras stage stage.query.shape

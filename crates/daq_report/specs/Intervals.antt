@@ -1,5 +1,6 @@
 -- The text of an interval in which an answer lies.
-use Rattle.std.specs.Prelude.{ℕ, ◌==◌, ℤ, Bool, ◌&&◌, List, [], ◌++◌, codes, decimal, length, slice_get, slice_index_or, if◌then◌else◌}
+use Rattle.std.specs.Prelude.{ℕ, ◌==◌, ℤ, Bool, ◌&&◌, List, [], ◌++◌, codes}
+use Rattle.std.specs.Prelude.{decimal, length, slice_get, slice_index_or, if◌then◌else◌}
 use Rattle.std.specs.declared.option.Option.{Option}
 use Rattle.std.specs.declared.option.Option.TheVariants.{Some, None}
 use Rattle.std.specs.Ordering.{int_eq}

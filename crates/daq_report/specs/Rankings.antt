@@ -1,5 +1,6 @@
 -- The lines of a ranking: how many rows are among the first for certain and how many perhaps, and these rows.
-use Rattle.std.specs.Prelude.{◌≡◌, ℕ, ◌+◌, ◌≤◌, ◌<◌, Bool, true, false, List, [], ◌++◌, codes, count_by, decimal, if◌then◌else◌}
+use Rattle.std.specs.Prelude.{◌≡◌, ℕ, ◌+◌, ◌≤◌, ◌<◌, Bool, true, false}
+use Rattle.std.specs.Prelude.{List, [], ◌++◌, codes, count_by, decimal, if◌then◌else◌}
 use Rattle.std.specs.List.{flat_map, range_with_len}
 use Rattle.daq_table.specs.Tables.{rows_of}
 use Rattle.daq_table.specs.declared.table_head.Head.{Head}

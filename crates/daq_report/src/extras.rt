@@ -1,4 +1,4 @@
-// The lines behind that of an item over all rows: its clipped bound, or the exact ends of its average.
+//! The lines behind that of an item over all rows: its clipped bound, or the exact ends of its average.
 
 ghost use Rattle.std.specs.Prelude.{◌≡◌, ◌<◌, ◌+◌, ◌++◌, codes, slice_get};
 ghost use Rattle.std.specs.declared.option.Option.TheVariants.{Some};
@@ -10,7 +10,8 @@ ghost use Rattle.query_model.specs.declared.query.Shape.TheVariants.{Plain};
 ghost use Rattle.query_model.specs.Validity.{FitsHead};
 ghost use Rattle.daq_report.specs.Ends.{CanShowAny, CanShowAverage, CanShowBound};
 ghost use Rattle.daq_report.specs.Intervals.{average_text, bound_text};
-ghost use Rattle.daq_report.specs.Extras.{clip_at, clip_line, count_text, cut_text, exact_line, exact_lines, extra_lines, front_text, high_rows, is_average, low_rows, taken_line, taken_lines, unless_always};
+ghost use Rattle.daq_report.specs.Extras.{clip_at, clip_line, count_text, cut_text, exact_line, exact_lines, extra_lines};
+ghost use Rattle.daq_report.specs.Extras.{front_text, high_rows, is_average, low_rows, taken_line, taken_lines, unless_always};
 
 use crate::intervals::{write_average, write_bound};
 use crate::texts::{written_count, written_end};

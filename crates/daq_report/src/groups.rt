@@ -1,6 +1,6 @@
-// The lines of groups: of each cell that a row may be in, the keys that it holds, and where the answer of each item lies.
+//! The lines of groups: of each cell that a row may be in, the keys that it holds, and where the answer of each item lies.
 
-ghost use Rattle.std.specs.Prelude.{◌≡◌, ◌≢◌, ◌<◌, ◌++◌};
+ghost use Rattle.std.specs.Prelude.{◌≡◌, ◌≢◌, ◌<◌};
 ghost use Rattle.daq_table.specs.ValueTexts.{HeadHasTexts};
 ghost use Rattle.outer_world.specs.Whole.{Writes};
 ghost use Rattle.query_model.specs.Answers.{groups_of};

@@ -1,4 +1,4 @@
-// Where an answer lies, written to a sink. Two names do not fit one buffer, so an interval goes out in pieces.
+//! Where an answer lies, written to a sink. Two names do not fit one buffer, so an interval goes out in pieces.
 
 ghost use Rattle.std.specs.Prelude.{◌≡◌, codes};
 ghost use Rattle.outer_world.specs.Whole.{Writes};

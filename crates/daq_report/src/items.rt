@@ -1,4 +1,4 @@
-// The lines of items: where the answer of each lies.
+//! The lines of items: where the answer of each lies.
 
 ghost use Rattle.std.specs.Prelude.{◌≡◌, ◌<◌, ◌+◌, slice_get, Some};
 ghost use Rattle.daq_table.specs.ValueTexts.{HeadHasTexts};

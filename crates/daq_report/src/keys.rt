@@ -1,4 +1,4 @@
-// The text of the keys of a cell: for each group column what its part may be.
+//! The text of the keys of a cell: for each group column what its part may be.
 
 ghost use Rattle.std.specs.Prelude.{◌≡◌, map, IfSome, Some};
 ghost use Rattle.outer_world.specs.Whole.{Writes};

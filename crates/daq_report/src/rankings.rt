@@ -1,4 +1,4 @@
-// The lines of a ranking: how many rows are among the first for certain and how many perhaps, and these rows.
+//! The lines of a ranking: how many rows are among the first for certain and how many perhaps, and these rows.
 
 ghost use Rattle.std.specs.Prelude.{◌≡◌, ◌≤◌, ◌<◌, ◌+◌, ◌*◌, ◌-◌, false, length, min};
 ghost use Rattle.daq_table.specs.ValueTexts.{HeadHasTexts};

@@ -1,4 +1,4 @@
-// The line of a round.
+//! The line of a round.
 
 ghost use Rattle.std.specs.Prelude.{◌≡◌, ◌<◌, ◌≤◌, ◌+◌, ◌++◌, length, IfSome};
 ghost use Rattle.daq_table.specs.Tables.{ends_at, planes};

@@ -1,4 +1,4 @@
-// Over which rows items are answered.
+//! Over which rows items are answered.
 
 ghost use Rattle.std.specs.Prelude.{◌≡◌, ◌≢◌, ◌<◌, length, slice_get, IfSome};
 ghost use Rattle.query_model.specs.Bounds.{fractions_of};

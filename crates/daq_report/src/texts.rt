@@ -1,7 +1,6 @@
-// The texts of the ends of a bound, each in a buffer of its own.
+//! The texts of the ends of a bound, each in a buffer of its own.
 
 ghost use Rattle.std.specs.Prelude.{◌≡◌, ◌≤◌, Some, decimal, length};
-ghost use Rattle.daq_table.specs.Numbers.{scaled_text};
 ghost use Rattle.daq_table.specs.ValueTexts.{text_of_value};
 ghost use Rattle.daq_report.specs.Intervals.{column_of, face_text, fraction_text};
 ghost use Rattle.daq_report.specs.Ends.{CanShow, HasNumber, IsThere, decimals_of, fraction_of};

@@ -1,5 +1,6 @@
 -- The texts of cells, and the numbers that they stand for.
-use Rattle.std.specs.Prelude.{◌≡◌, ℕ, ◌+◌, ◌-◌, ◌^◌, ◌<◌, ◌==◌, Bool, if◌then◌else◌, ℤ, pos, neg_ℤ, List, ◌++◌, length, take, drop, replicate, slice_index, FitsSigned, IsTrue}
+use Rattle.std.specs.Prelude.{◌≡◌, ℕ, ◌+◌, ◌-◌, ◌^◌, ◌<◌, ◌==◌, Bool, if◌then◌else◌, ℤ}
+use Rattle.std.specs.Prelude.{pos, neg_ℤ, List, ◌++◌, length, take, drop, replicate, slice_index, FitsSigned, IsTrue}
 use Rattle.std.specs.Int.{w64}
 use Rattle.std.specs.List.{after_first, before_first, list_all, slice_range}
 use Rattle.std.specs.Str.Parse.{AllDigits, IsNumeral, digits_value, signed_digits_value, starts_with_minus, without_leading_sign}

@@ -1,5 +1,7 @@
 -- The text of a schema: items parted by `,`, each a name, `:` and a kind, with `?` behind it where the column is nullable.
-use Rattle.std.specs.Prelude.{◌≡◌, ℕ, ◌+◌, ◌-◌, ◌<◌, ◌≤◌, ◌==◌, nat_eq, nat_le, Bool, true, not, ◌&&◌, if◌then◌else◌, IsTrue, Option, Some, None, is_some, List, [], ◌∷◌, length, map, take, codes, slice_get, slice_index}
+use Rattle.std.specs.Prelude.{◌≡◌, ℕ, ◌+◌, ◌-◌, ◌<◌, ◌≤◌, ◌==◌, nat_eq, nat_le}
+use Rattle.std.specs.Prelude.{Bool, true, not, ◌&&◌, if◌then◌else◌, IsTrue, Option, Some, None}
+use Rattle.std.specs.Prelude.{is_some, List, [], ◌∷◌, length, map, take, codes, slice_get, slice_index}
 use Rattle.std.specs.Char.{is_ascii_digit}
 use Rattle.std.specs.List.{after_first, before_first, ends_with, filter_map, list_all, slice_split, starts_with}
 use Rattle.std.specs.Str.{bytes_eq}

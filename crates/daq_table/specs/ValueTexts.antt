@@ -1,5 +1,7 @@
 -- The texts of values.
-use Rattle.std.specs.Prelude.{◌≡◌, ℕ, zero, suc, ◌≤◌, ◌==◌, ⊤, if◌then◌else◌, ℤ, pos, negsuc, neg_ℤ, ◌≤ℤ◌, int_le, nat_abs, ◌-ℤ◌, List, [], ◌∷◌, ◌++◌, codes, length, slice_get, Option, Some, None}
+use Rattle.std.specs.Prelude.{◌≡◌, ℕ, zero, suc, ◌≤◌, ◌==◌, ⊤, if◌then◌else◌}
+use Rattle.std.specs.Prelude.{ℤ, pos, negsuc, neg_ℤ, ◌≤ℤ◌, int_le, nat_abs, ◌-ℤ◌, List}
+use Rattle.std.specs.Prelude.{[], ◌∷◌, ◌++◌, codes, length, slice_get, Option, Some, None}
 use Rattle.std.specs.List.{All, flat_map}
 use Rattle.jiff_core.specs.Calendar.{IsBetween, days_from_civil}
 use Rattle.daq_table.specs.Numbers.{digits_text, scaled_text}

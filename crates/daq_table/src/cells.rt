@@ -1,11 +1,13 @@
 //! The numbers that the cells of a text stand for.
 
-ghost use Rattle.std.specs.Prelude.{◌≡◌, ◌≢◌, ◌+◌, ◌*◌, ◌<◌, ◌≤◌, ◌^◌, ◌++◌, length, take, drop, slice_index, FitsSigned};
+ghost use Rattle.std.specs.Prelude.{◌≡◌, ◌≢◌, ◌+◌, ◌*◌, ◌<◌};
+ghost use Rattle.std.specs.Prelude.{◌^◌, take, drop, slice_index, FitsSigned};
 ghost use Rattle.std.specs.Int.{w64};
 ghost use Rattle.std.specs.List.{list_all};
 ghost use Rattle.std.specs.Option.{SomeIff};
 ghost use Rattle.std.specs.Str.Parse.{AllDigits, digits_value_after, without_leading_sign};
-ghost use Rattle.daq_table.specs.CellTexts.{IsIntCell, int_value, IsDecCell, dec_value, IsCellText, cell_number, with_sign, is_zero_digit, HasUnits, IsDecimal, signed_units, units};
+ghost use Rattle.daq_table.specs.CellTexts.{IsIntCell, int_value, IsDecCell, dec_value, IsCellText, cell_number};
+ghost use Rattle.daq_table.specs.CellTexts.{with_sign, is_zero_digit, HasUnits, IsDecimal, signed_units, units};
 ghost use Rattle.daq_table.specs.declared.head.Kind.TheVariants.{Text};
 
 use crate::dates::date_cell;

@@ -1,6 +1,7 @@
 //! Dates: their day numbers, and their texts.
 
-ghost use Rattle.std.specs.Prelude.{◌≡◌, ◌≤◌, ◌≤ℤ◌, ◌<◌, ◌^◌, ℕ, pos, unsigned_abs, length, slice_index, IfSome};
+ghost use Rattle.std.specs.Prelude.{◌≡◌, ◌≤◌, ◌≤ℤ◌, ◌<◌, ◌^◌};
+ghost use Rattle.std.specs.Prelude.{pos, unsigned_abs, length, IfSome};
 ghost use Rattle.std.specs.Option.{SomeIff};
 ghost use Rattle.std.specs.Str.Parse.{AllDigits, digits_value};
 ghost use Rattle.jiff_core.specs.Calendar.{IsCivilDate, days_from_civil};

@@ -32,11 +32,4 @@ impl<T> Listed<T> {
     {
         &self.items
     }
-
-    /// The elements, handed out.
-    pub fn into_vec(self) -> Vec<T>
-        ensures { result.items ≡ self }
-    {
-        self.items
-    }
 }

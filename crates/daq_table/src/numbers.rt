@@ -1,7 +1,8 @@
 //! The text of a number with a fixed number of decimals.
 
-ghost use Rattle.std.specs.Prelude.{◌≡◌, ◌≤◌, ◌<◌, ◌+◌, ◌-◌, ◌/◌, ◌%◌, ◌^◌, ◌++◌, ℤ, length, OnOk, OnErr, replicate};
-ghost use Rattle.daq_table.specs.Numbers.{scaled_text, digits_text, sign_text};
+ghost use Rattle.std.specs.Prelude.{◌≡◌, ◌≤◌, ◌<◌, ◌+◌, ◌-◌, ◌/◌};
+ghost use Rattle.std.specs.Prelude.{◌%◌, ◌^◌, ◌++◌, length, OnOk, OnErr, replicate};
+ghost use Rattle.daq_table.specs.Numbers.{scaled_text, digits_text};
 
 use crate::buffer::{NoRoom, TextBuf};
 use itoa::Buffer;

@@ -3,7 +3,8 @@
 ghost use Rattle.std.specs.Prelude.{◌≡◌, ◌==◌, ◌≤◌, drop, length, IfOk, IfErr};
 ghost use Rattle.std.specs.List.{before_first, list_all};
 ghost use Rattle.daq_table.specs.SchemaFaults.{Refuses};
-ghost use Rattle.daq_table.specs.Schemas.{AreColumnsOf, column_of, column_worded, is_dec_word, is_name_byte, is_nullable_word, is_schema_name, kind_of, kind_word};
+ghost use Rattle.daq_table.specs.Schemas.{AreColumnsOf, column_of, column_worded, is_dec_word, is_name_byte};
+ghost use Rattle.daq_table.specs.Schemas.{is_nullable_word, is_schema_name, kind_of, kind_word};
 
 use crate::head::Kind;
 use crate::names::Name;

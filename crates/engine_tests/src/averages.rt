@@ -1,4 +1,4 @@
-// The average of price over four rows (5, 9, 12, 3), of which those count where qty (2, 1, 4, 3) is at least 2, plane by plane.
+//! The average of price over four rows (5, 9, 12, 3), of which those count where qty (2, 1, 4, 3) is at least 2, plane by plane.
 
 ghost use Rattle.std.specs.Prelude.{◌≡◌, pos, [], ◌∷◌, length, map, slice_get, IfOk, IfSome};
 ghost use Rattle.daq_table.specs.declared.head.Kind.TheVariants.{Int};

@@ -1,4 +1,4 @@
-// Blocks of a small table.
+//! Blocks of a small table.
 
 ghost use Rattle.std.specs.Prelude.{◌≡◌, ◌<◌, ◌≤◌, [], ◌∷◌, false, length, map, pos, slice_get, Some, IfOk, IfSome};
 ghost use Rattle.daq_table.specs.declared.head.Kind.TheVariants.{Dec};

@@ -1,5 +1,6 @@
-// Items over prices of 3, 5, 9 and 12, of which those below 7 pass, plane by plane.
-ghost use Rattle.std.specs.Prelude.{◌≡◌, ◌≤◌, pos, [], ◌∷◌, length, map, IfOk};
+//! Items over prices of 3, 5, 9 and 12, of which those below 7 pass, plane by plane.
+
+ghost use Rattle.std.specs.Prelude.{◌≡◌, pos, [], ◌∷◌, length, map, IfOk};
 ghost use Rattle.daq_table.specs.declared.head.Kind.TheVariants.{Int};
 ghost use Rattle.daq_table.specs.Tables.{ends_at, frame_of};
 ghost use Rattle.query_model.specs.declared.query.Atom.TheVariants.{Compare};

@@ -1,4 +1,5 @@
-// Queries over two nullable columns, v with 5, null and 9, and w with 1, 2 and null, before and after the planes that tell null.
+//! Queries over two nullable columns, v with 5, null and 9, and w with 1, 2 and null, before and after the planes that tell null.
+
 ghost use Rattle.std.specs.Prelude.{◌≡◌, ◌<◌, pos, [], ◌∷◌, length, map, IfOk};
 ghost use Rattle.daq_table.specs.declared.head.Kind.TheVariants.{Int};
 ghost use Rattle.daq_table.specs.declared.table_head.Head.{Head};

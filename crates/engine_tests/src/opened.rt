@@ -1,4 +1,5 @@
-// A query over a small table, from its opening to its last plane.
+//! A query over a small table, from its opening to its last plane.
+
 ghost use Rattle.std.specs.Prelude.{◌≡◌, ◌≢◌, pos, [], ◌∷◌, length, map, slice_get, Some, IfOk, IfSome};
 ghost use Rattle.daq_table.specs.declared.head.Kind.TheVariants.{Int};
 ghost use Rattle.daq_table.specs.Tables.{ends_at, frame_of};

@@ -1,5 +1,6 @@
-// Sums, ends and averages over columns with negative numbers, a null and ends clipped at top, where a condition holds, plane by plane:
-// v with -6, null, 7, -1, 4, 0, and w with -1, -1, -2, -3, -2, -1.
+//! Sums, ends and averages over columns with negative numbers, a null and ends clipped at top, where a condition holds, plane by plane:
+//! v with -6, null, 7, -1, 4, 0, and w with -1, -1, -2, -3, -2, -1.
+
 ghost use Rattle.std.specs.Prelude.{◌≡◌, pos, negsuc, [], ◌∷◌, length, map, IfOk};
 ghost use Rattle.daq_table.specs.declared.head.Kind.TheVariants.{Int};
 ghost use Rattle.daq_table.specs.Tables.{ends_at, frame_of};

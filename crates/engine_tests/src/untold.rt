@@ -1,4 +1,4 @@
-// Rounds from a source that does not tell its planes.
+//! Rounds from a source that does not tell its planes.
 
 ghost use Rattle.std.specs.Prelude.{◌≡◌, pos, [], ◌∷◌, length, map, slice_get, ⊤, IfOk, Some, None};
 ghost use Rattle.daq_table.specs.declared.head.Kind.TheVariants.{Int};

@@ -1,13 +1,13 @@
 -- The planes of a table in its file.
-use Rattle.std.proofs.Common.{◌≡◌, ℕ, zero, suc, ◌+◌, ◌-◌, ◌*◌, ◌<◌, ◌≤◌, List, [], ◌∷◌, ◌++◌, length, map, take, drop, get_or, refl, sym, ap, subst, ◌∙◌, arith, append_assoc, length-append}
+use Rattle.std.proofs.Common.{◌≡◌, ℕ, zero, suc, ◌+◌, ◌-◌, ◌*◌, ◌<◌, ◌≤◌, List, [], ◌∷◌, ◌++◌, length, map, take, drop, get_or, sym, ap, subst, ◌∙◌, arith, append_assoc, length-append}
 use Rattle.std.proofs.Math.Nat.{mul-add}
 use Rattle.std.proofs.Math.Seq.{drop-append_seam, take-append_seam}
 use Rattle.std.proofs.lemmas.List.{length-map}
 use Rattle.std.specs.List.{flat_map, range_with_len}
-use Rattle.daq_table.specs.Tables.{Cells, Contents, Frame, IsTable, ends_at, ends_of, frame_of, no_ends, planes}
+use Rattle.daq_table.specs.Tables.{Contents, Frame, IsTable, ends_at, ends_of, frame_of, no_ends, planes}
 use Rattle.daq_table.specs.declared.head.ColumnHead.{ColumnHead}
 use Rattle.plane_file.proofs.Lengths.{length-bytes_of_rows, length-column_planes}
-use Rattle.plane_file.specs.Format.{column_planes, file, head_bytes, header_bytes, heads_bytes, plane_count, plane_size, planes_at, planes_bytes}
+use Rattle.plane_file.specs.Format.{column_planes, file, head_bytes, header_bytes, heads_bytes, plane_count, plane_size, planes_at}
 use Rattle.plane_file.specs.Places.{plane_at, plane_in}
 use Rattle.plane_kernels.specs.Bytes.{bytes_of_rows}
 use Rattle.query_model.specs.Knowledge.{bit_at, plane_of}

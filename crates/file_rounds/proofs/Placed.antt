@@ -1,11 +1,11 @@
 -- Where the planes of a file stand.
-use Rattle.std.proofs.Common.{◌≡◌, ℕ, zero, suc, ◌+◌, ◌*◌, ◌<◌, ◌≤◌, List, [], ◌∷◌, length, map, take, get_or, refl, arith}
+use Rattle.std.proofs.Common.{◌≡◌, ℕ, zero, suc, ◌+◌, ◌*◌, ◌<◌, ◌≤◌, List, [], ◌∷◌, length, map, take, get_or, arith}
 use Rattle.std.proofs.Math.Nat.{mul-add, mul-le-mul_left}
 use Rattle.std.proofs.lemmas.List.Sums.{sum_by-cons}
 use Rattle.daq_table.specs.Tables.{ends_at, ends_of, frame_of, no_ends, planes}
 use Rattle.daq_table.specs.declared.head.ColumnHead.{ColumnHead}
 use Rattle.daq_table.specs.declared.table_head.Head.{Head}
-use Rattle.plane_file.specs.Format.{file_size, plane_count, plane_size, planes_at}
+use Rattle.plane_file.specs.Format.{file_size, plane_count, plane_size}
 use Rattle.plane_file.specs.Places.{plane_at, planes_before}
 
 -- so many planes of these columns together

@@ -1,5 +1,5 @@
 -- The rows of a plane's bytes.
-use Rattle.std.proofs.Common.{◌≡◌, ℕ, ◌+◌, ◌-◌, ◌*◌, ◌/◌, ◌^◌, ◌<◌, ◌≤◌, min, Bool, List, length, get_or, refl, sym, ap, subst, ◌∙◌, arith, inl, inr, [], ◌∷◌, zero, suc}
+use Rattle.std.proofs.Common.{◌≡◌, ℕ, ◌-◌, ◌*◌, ◌^◌, ◌<◌, ◌≤◌, min, Bool, List, length, get_or, refl, ap, subst, ◌∙◌, arith, inl, inr, [], ◌∷◌, zero, suc}
 use Rattle.std.proofs.Math.Nat.{pow-le-pow_right}
 use Rattle.std.proofs.lemmas.Bool.{cases_lt}
 use Rattle.plane_kernels.specs.Bytes.{bytes_of_rows, bytes_of_words, word_count}

@@ -1,5 +1,6 @@
 -- What a session keeps: what is known of its columns, once for all queries, and of each query how far it has followed them.
-use Rattle.std.specs.Prelude.{◌≡◌, ◌⊎◌, ℕ, ◌+◌, ◌-◌, ◌/◌, ◌^◌, ◌<◌, ◌≤◌, ◌==◌, Bool, List, length, map, slice_index, slice_index_or, sum_by, is_some, IsTrue, IsFalse, if◌then◌else◌}
+use Rattle.std.specs.Prelude.{◌≡◌, ◌⊎◌, ℕ, ◌+◌, ◌-◌, ◌/◌, ◌^◌, ◌<◌, ◌≤◌, ◌==◌, Bool}
+use Rattle.std.specs.Prelude.{List, length, map, slice_index, slice_index_or, sum_by, is_some, IsTrue, IsFalse, if◌then◌else◌}
 use Rattle.std.specs.List.{All}
 use Rattle.std.specs.Simd.Lanes.{zip2}
 use Rattle.daq_table.specs.declared.table_head.Head.{Head}

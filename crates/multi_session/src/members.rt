@@ -1,6 +1,6 @@
 //! The queries of a session, one after another.
 
-ghost use Rattle.std.specs.Prelude.{◌≡◌, ◌<◌, ◌^◌, IfOk, length, slice_index};
+ghost use Rattle.std.specs.Prelude.{◌<◌, ◌^◌, IfOk, length, slice_index};
 ghost use Rattle.std.specs.List.{All};
 ghost use Rattle.daq_table.specs.declared.table_head.Head.{Head};
 ghost use Rattle.query_model.specs.Validity.{IsValid};

@@ -5,7 +5,8 @@ ghost use Rattle.plane_schedule.specs.Choices.{IsUnread, outlook_of};
 ghost use Rattle.query_model.specs.Knowledge.{IsKnowledge};
 ghost use Rattle.round_engine.specs.Stages.{Stage};
 ghost use Rattle.multi_session.specs.Members.{AreSomeMembers, stages_of};
-ghost use Rattle.multi_session.specs.Sessions.{Awaits, IsSessionProgress, TellsColumns, first_role, role_in, session_outlook, unknown_in, unread_in, unread_of};
+ghost use Rattle.multi_session.specs.Sessions.{Awaits, IsSessionProgress, TellsColumns, first_role};
+ghost use Rattle.multi_session.specs.Sessions.{role_in, session_outlook, unknown_in, unread_in, unread_of};
 
 use crate::columns::Columns;
 use crate::member::Member;

@@ -1,5 +1,6 @@
 -- Cells, and what is known of their column after some of its planes.
-use Rattle.std.specs.Prelude.{◌≡◌, ℕ, ◌+◌, ◌-◌, ◌*◌, ◌/◌, ◌%◌, ◌^◌, ◌==◌, pos, Bool, List, [], ◌∷◌, length, map, count_by, sum_by, IsFalse}
+use Rattle.std.specs.Prelude.{◌≡◌, ℕ, ◌+◌, ◌-◌, ◌*◌, ◌/◌, ◌%◌, ◌^◌, ◌==◌}
+use Rattle.std.specs.Prelude.{pos, Bool, List, [], ◌∷◌, length, map, count_by, sum_by, IsFalse}
 use Rattle.std.specs.declared.option.Option.TheVariants.{Some}
 use Rattle.std.specs.List.{range_with_len}
 use Rattle.daq_table.specs.declared.head.Ends.{Ends}

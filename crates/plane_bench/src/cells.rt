@@ -1,4 +1,4 @@
-// What planes are cut from: cells of 32 binary digits, and their column, of which nothing is read.
+//! What planes are cut from: cells of 32 binary digits, and their column, of which nothing is read.
 
 ghost use Rattle.std.specs.Prelude.{◌≡◌, ◌≤◌, [], ◌∷◌, IfOk};
 ghost use Rattle.daq_table.specs.Tables.{ends_at};

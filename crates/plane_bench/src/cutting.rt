@@ -1,4 +1,4 @@
-// The highest plane, cut from the cells over and over.
+//! The highest plane, cut from the cells over and over.
 
 ghost use Rattle.std.specs.Prelude.{◌≡◌, ◌≤◌, count_by, IfOk};
 ghost use Rattle.plane_bench.specs.Planes.{is_high};

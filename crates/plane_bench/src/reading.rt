@@ -1,4 +1,4 @@
-// Planes of a column, read one after the other, with or without a filter that follows.
+//! Planes of a column, read one after the other, with or without a filter that follows.
 
 ghost use Rattle.std.specs.Prelude.{◌≡◌, ◌≤◌, ◌<◌, ◌+◌, length, IfOk, IsFalse};
 ghost use Rattle.std.specs.List.{All};

@@ -1,4 +1,4 @@
-// The numbers of all rows of a column, read block by block and so often that it can be timed, and their sum.
+//! The numbers of all rows of a column, read block by block and so often that it can be timed, and their sum.
 
 ghost use Rattle.std.specs.Prelude.{◌≡◌, ◌*◌, ◌%◌, ◌^◌, sum, sum_by};
 ghost use Rattle.known_column.specs.Columns.{number_of};

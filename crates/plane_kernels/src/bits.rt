@@ -1,6 +1,8 @@
 //! A truth value for each row, as words of 64 bits: row r is bit r % 64 of word r / 64, and the bits past the last row are 0.
 
-ghost use Rattle.std.specs.Prelude.{◌≡◌, ◌≤◌, ◌<◌, ◌+◌, ◌-◌, ◌*◌, ◌%◌, ◌&&◌, ◌||◌, ◌↔◌, min, not, false, length, map, replicate, take, drop, count_by, position, slice_get, slice_set, Some, IsNone, IfErr, OnErr, OnOk, [], vec_capacity};
+ghost use Rattle.std.specs.Prelude.{◌≡◌, ◌≤◌, ◌<◌, ◌+◌, ◌-◌, ◌*◌, ◌%◌, ◌&&◌};
+ghost use Rattle.std.specs.Prelude.{◌||◌, ◌↔◌, min, not, false, length, map, replicate, take, drop, count_by};
+ghost use Rattle.std.specs.Prelude.{position, slice_get, slice_set, Some, IsNone, IfErr, OnErr, OnOk, [], vec_capacity};
 ghost use Rattle.std.specs.Simd.Lanes.{put_chunk, zip2};
 ghost use Rattle.plane_kernels.specs.Bytes.{HasNoPadBits, HasPadBits, bytes_of_rows, word_count};
 ghost use Rattle.plane_kernels.specs.Rows.{IsPadded, bits_of, block_rows, digit_at, rows_of};

@@ -1,6 +1,6 @@
 //! Blocks of 512 rows of masks and planes.
 
-ghost use Rattle.std.specs.Prelude.{◌≡◌, ◌<◌, ◌*◌, length};
+ghost use Rattle.std.specs.Prelude.{◌<◌, ◌*◌, length};
 
 use super::*;
 use crate::tests::{LENGTHS, has_exactly, multiples, plane_of_rows};

@@ -1,6 +1,7 @@
 //! Blocks of eight words, which have 512 rows.
 
-ghost use Rattle.std.specs.Prelude.{◌≡◌, ◌≤◌, ◌<◌, ◌+◌, ◌-◌, ◌*◌, ◌++◌, [], ◌∷◌, length, take, drop, replicate};
+ghost use Rattle.std.specs.Prelude.{◌≡◌, ◌≤◌, ◌<◌, ◌+◌, ◌-◌, ◌*◌};
+ghost use Rattle.std.specs.Prelude.{◌++◌, [], ◌∷◌, length, take, drop, replicate};
 ghost use Rattle.std.specs.Simd.Lanes.{put_chunk};
 ghost use Rattle.plane_kernels.specs.Rows.{IsPadded, rows_of};
 ghost use Rattle.plane_kernels.specs.Words.{trimmed};

@@ -1,6 +1,7 @@
 //! Words as bytes: 8 for each word, the lowest first.
 
-ghost use Rattle.std.specs.Prelude.{◌≡◌, ◌≤◌, ◌<◌, ◌+◌, ◌-◌, ◌*◌, ◌/◌, ◌^◌, min, length, replicate, IfErr, OnOk, if◌then◌else◌};
+ghost use Rattle.std.specs.Prelude.{◌≡◌, ◌≤◌, ◌<◌, ◌+◌, ◌-◌, ◌*◌, ◌/◌};
+ghost use Rattle.std.specs.Prelude.{◌^◌, min, length, replicate, IfErr, OnOk, if◌then◌else◌};
 ghost use Rattle.std.specs.Simd.Lanes.{put_chunk};
 ghost use Rattle.plane_kernels.specs.Bytes.{HasNoPadBits, HasPadBits, bytes_of_rows, bytes_of_words, word_count, word_in};
 ghost use Rattle.plane_kernels.specs.Words.{unpacked};

@@ -1,6 +1,8 @@
 //! A plane: one binary digit of each row of a column.
 
-ghost use Rattle.std.specs.Prelude.{◌≡◌, ◌≤◌, ◌<◌, ◌+◌, ◌-◌, ◌*◌, ◌/◌, ◌%◌, ◌^◌, ◌==◌, ◌&&◌, min, not, false, length, map, replicate, take, drop, position, slice_get, Some, IfOk, IfErr, OnErr, OnOk};
+ghost use Rattle.std.specs.Prelude.{◌≡◌, ◌≤◌, ◌<◌, ◌+◌, ◌-◌, ◌*◌, ◌/◌};
+ghost use Rattle.std.specs.Prelude.{◌%◌, ◌^◌, ◌==◌, ◌&&◌, min, not, false, length, map, replicate};
+ghost use Rattle.std.specs.Prelude.{take, drop, position, slice_get, Some, IfOk, IfErr, OnErr, OnOk};
 ghost use Rattle.std.specs.Simd.Lanes.{put_chunk, zip2};
 ghost use Rattle.plane_kernels.specs.Bytes.{HasNoPadBits, HasPadBits, bytes_of_rows, word_count};
 ghost use Rattle.plane_kernels.specs.Rows.{IsPadded, bits_of, block_rows, rows_of};

@@ -1,6 +1,8 @@
 //! Bits of rows which may all be the same: then no word is written yet, and their room is not touched.
 
-ghost use Rattle.std.specs.Prelude.{◌≡◌, ◌≤◌, ◌<◌, ◌+◌, ◌-◌, ◌*◌, ◌%◌, ◌&&◌, ◌||◌, ◌↔◌, min, not, length, map, replicate, take, drop, count_by, position, slice_get, slice_set, Some, IfOk, IsNone, IfErr, OnErr, OnOk};
+ghost use Rattle.std.specs.Prelude.{◌≡◌, ◌≤◌, ◌<◌, ◌+◌, ◌-◌, ◌*◌, ◌%◌, ◌&&◌};
+ghost use Rattle.std.specs.Prelude.{◌||◌, ◌↔◌, min, not, length, map, replicate, take, drop, count_by};
+ghost use Rattle.std.specs.Prelude.{position, slice_get, slice_set, Some, IfOk, IsNone, IfErr, OnErr, OnOk};
 ghost use Rattle.std.specs.Simd.Lanes.{put_chunk, zip2};
 ghost use Rattle.plane_kernels.specs.Bytes.{HasNoPadBits, HasPadBits, bytes_of_rows, word_count};
 ghost use Rattle.plane_kernels.specs.RowBits.{HasRoom, IsWritten, rows_held};

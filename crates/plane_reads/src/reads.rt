@@ -1,10 +1,10 @@
 //! A list of reads from its word.
 
-ghost use Rattle.std.specs.Prelude.{◌≡◌, ◌==◌, ◌<◌, ◌≤◌, ℕ, length, count_by, slice_index, IfOk, IfErr};
+ghost use Rattle.std.specs.Prelude.{◌≡◌, ◌==◌, ◌<◌, length, IfOk, IfErr};
 ghost use Rattle.daq_table.specs.Tables.{ends_at, frame_of, planes};
 ghost use Rattle.query_model.specs.Projection.{projected_frame};
 ghost use Rattle.query_model.specs.Validity.{IsValid};
-ghost use Rattle.plane_reads.specs.Reads.{AreAllReads, AreFirstReads, IsNamed, Refuses, names_of};
+ghost use Rattle.plane_reads.specs.Reads.{AreAllReads, Refuses};
 ghost use Rattle.plane_reads.specs.Next.{IsNext, IsNextFault};
 
 use crate::fault::ReadsFault;

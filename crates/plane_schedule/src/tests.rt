@@ -1,6 +1,6 @@
 //! Choices of the next column, and rounds by a chooser.
 
-ghost use Rattle.std.specs.Prelude.{◌≤◌, ◌<◌};
+ghost use Rattle.std.specs.Prelude.{◌<◌};
 ghost use Rattle.plane_schedule.specs.Choices.{IsSound};
 ghost use Rattle.plane_schedule.specs.Keeping.{Follows, Keeps};
 

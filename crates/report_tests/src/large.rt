@@ -165,8 +165,10 @@ const WIDE: Case = Case {
         kind: "int",
         first: 0,
     },
-    sql: "SELECT SUM(c4), SUM(c8), SUM(c12), SUM(c16), SUM(c20), SUM(c24), SUM(c28), SUM(c32), SUM(c36), SUM(c40), SUM(c44), SUM(c48), SUM(c52), SUM(c56), SUM(c60), SUM(c64) FROM t",
-    begins: "query SELECT SUM(c4), SUM(c8), SUM(c12), SUM(c16), SUM(c20), SUM(c24), SUM(c28), SUM(c32), SUM(c36), SUM(c40), SUM(c44), SUM(c48), SUM(c52), SUM(c56), SUM(c60), SUM(c64) FROM t
+    sql: "SELECT SUM(c4), SUM(c8), SUM(c12), SUM(c16), SUM(c20), SUM(c24), SUM(c28), SUM(c32), SUM(c36), SUM(c40), SUM(c44), \
+        SUM(c48), SUM(c52), SUM(c56), SUM(c60), SUM(c64) FROM t",
+    begins: "query SELECT SUM(c4), SUM(c8), SUM(c12), SUM(c16), SUM(c20), SUM(c24), SUM(c28), SUM(c32), SUM(c36), SUM(c40), \
+        SUM(c44), SUM(c48), SUM(c52), SUM(c56), SUM(c60), SUM(c64) FROM t
 round 0
 1 [0, 39600]
 2 [0, 79200]

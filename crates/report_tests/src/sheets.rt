@@ -33,7 +33,8 @@ pub struct Planned {
 
 /// Six rows of all kinds.
 pub const SHOP: Sheet = Sheet {
-    csv: "price,qty,cost,day,city\n5,2,1.50,2024-02-28,Oslo\n9,1,-0.25,2024-03-01,Rome\n12,4,3.00,2024-02-29,Oslo\n3,3,0.10,2023-12-31,Bern\n-4,0,-2.75,2024-03-01,O'Hara\n7,4,2.25,2024-01-15,Rome\n",
+    csv: "price,qty,cost,day,city\n5,2,1.50,2024-02-28,Oslo\n9,1,-0.25,2024-03-01,Rome\n12,4,3.00,2024-02-29,Oslo\n\
+        3,3,0.10,2023-12-31,Bern\n-4,0,-2.75,2024-03-01,O'Hara\n7,4,2.25,2024-01-15,Rome\n",
     schema: "price:int,qty:int,cost:dec2,day:date,city:text",
 };
 
@@ -87,7 +88,8 @@ pub const HOLES: Sheet = Sheet {
 
 /// Six rows of all kinds, of which each column but one has nulls.
 pub const GAPS: Sheet = Sheet {
-    csv: "price,qty,cost,day,city\n5,2,1.50,2024-02-28,Oslo\n,1,-0.25,,Rome\n12,4,,2024-02-29,\n3,3,0.10,2023-12-31,Bern\n,0,,,O'Hara\n7,4,2.25,2024-01-15,\n",
+    csv: "price,qty,cost,day,city\n5,2,1.50,2024-02-28,Oslo\n,1,-0.25,,Rome\n12,4,,2024-02-29,\n3,3,0.10,2023-12-31,Bern\n\
+        ,0,,,O'Hara\n7,4,2.25,2024-01-15,\n",
     schema: "price:int?,qty:int,cost:dec2?,day:date?,city:text?",
 };
 

@@ -1,6 +1,6 @@
 -- The answers by cells at a stage: what they tell, and how they follow a plane.
-use Rattle.std.proofs.Common.{Vec, Global, ◌≡◌, ◌≢◌, ℕ, zero, suc, ◌+◌, ◌*◌, ◌<◌, ◌≤◌, ◌^◌, ◌==◌, ◌||◌, nat_lt, Bool, true, false, not, ◌&&◌, List, [], ◌∷◌, ◌++◌, length, length-append, map, get_or, slice_get, slice_index, take, Some, IfSome, IsTrue, inl, inr, refl, sym, ap, subst, ◌∙◌, arith, if◌then◌else◌}
-use Rattle.std.specs.List.{AllByRecursion, IsDistinct, filter_map, list_all, list_any, range_with_len, sum}
+use Rattle.std.proofs.Common.{Vec, Global, ◌≡◌, ◌≢◌, ℕ, ◌+◌, ◌*◌, ◌<◌, ◌≤◌, ◌^◌, ◌==◌, ◌||◌, nat_lt, Bool, true, false, not, ◌&&◌, List, [], ◌∷◌, ◌++◌, length, length-append, map, get_or, slice_get, slice_index, take, Some, IsTrue, inl, inr, refl, sym, ap, subst, ◌∙◌, arith, if◌then◌else◌}
+use Rattle.std.specs.List.{AllByRecursion, IsDistinct, list_any, range_with_len, sum}
 use Rattle.std.proofs.Math.Seq.{take-append_seam}
 use Rattle.std.proofs.lemmas.Bool.{and_parts, not-true, cases_Bool, cases_eq, eq-eqb, eqb-true, false≢true, lt-ltb, or_parts, true≢false}
 use Rattle.std.proofs.lemmas.List.{get_or-map, get_or-set_other, get_or-set_same, length-map, take-map, take_more}
@@ -8,26 +8,24 @@ use Rattle.std.proofs.lemmas.List.Sums.{sum_by_more, sum_by_more_le}
 use Rattle.std.proofs.lemmas.List.FromFn.{length-map-range_with_len}
 use Rattle.std.proofs.lemmas.Map.Steps.{length-le_from_distinct_below}
 use Rattle.std.proofs.lemmas.Option.{slice_get_within}
-use Rattle.daq_table.specs.Tables.{Frame, ends_at, planes, rows_of}
+use Rattle.daq_table.specs.Tables.{Frame, ends_at, planes}
 use Rattle.aggregates.specs.Runnings.{IsBlank, StandsFor, Tallies}
 use Rattle.kleene_filter.specs.Filters.{stands_in}
 use Rattle.known_column.specs.KnownTables.{KnownTable, unread_table}
-use Rattle.query_model.specs.declared.bounds.Truth.{Truth}
 use Rattle.query_model.specs.declared.bounds.Truth.TheVariants.{False, Unknown, True}
 use Rattle.query_model.specs.declared.query.Shape.{Shape}
 use Rattle.query_model.specs.declared.query.Shape.TheVariants.{Plain, Grouped, Top}
 use Rattle.query_model.specs.Answers.{every_row, groups_of}
-use Rattle.query_model.specs.Bounds.{Pair, pair_by}
-use Rattle.query_model.specs.Groups.{cell_count, cell_of, counts_of, holds_one_key, is_one_value, pair_in_cell, pairs_in_cell_below, truth_in_cell}
-use Rattle.query_model.specs.Knowledge.{ColumnKnowledge, IsKnowledge, Knowledge, known_at, longer_column, prefix_at, ranges_of, start, taken}
+use Rattle.query_model.specs.Bounds.{pair_by}
+use Rattle.query_model.specs.Groups.{cell_of, counts_of, holds_one_key, is_one_value, pair_in_cell, pairs_in_cell_below, truth_in_cell}
+use Rattle.query_model.specs.Knowledge.{ColumnKnowledge, IsKnowledge, Knowledge, known_at, longer_column, prefix_at, ranges_of, taken}
 use Rattle.query_model.specs.Meaning.{columns_of, columns_of_pred}
 use Rattle.query_model.specs.Queries.{Aggregate, Query}
 use Rattle.query_model.specs.Truths.{Range, and_of, truth_of}
 use Rattle.query_model.specs.Validity.{no_repeats}
-use Rattle.row_groups.specs.declared.part.GroupPart.{GroupPart}
-use Rattle.row_groups.specs.Partition.{AreCells, CellsTellKeys, OpeningStands, OthersLeaveCells, RefiningStands, RowCells, digits_of, has_unread, is_group, part_under, refined, unread_cells}
+use Rattle.row_groups.specs.Partition.{AreCells, OpeningStands, OthersLeaveCells, RefiningStands, RowCells, has_unread, is_group, part_under, refined, unread_cells}
 use Rattle.round_engine.specs.declared.groups.Groups.{Groups}
-use Rattle.round_engine.specs.CellAnswers.{AreGroups, HoldGroups, HasRoom, HaveCells, IsParted, StandBelow, StandBeside, StandForCells, StandForEach, StandForOthers, TellSingle, moves_rows, most_cells}
+use Rattle.round_engine.specs.CellAnswers.{AreGroups, HoldGroups, HasRoom, HaveCells, IsParted, StandForCells, StandForEach, StandForOthers, TellSingle, moves_rows, most_cells}
 use Rattle.round_engine.specs.Cells.{cells_in}
 use Rattle.round_engine.specs.Moves.{AreMoved, is_marked, is_moved}
 use Rattle.round_engine.specs.OneCell.{HoldMasks}

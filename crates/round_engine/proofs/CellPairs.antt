@@ -1,8 +1,8 @@
 -- The pair of a row in the cell that it is in, by what a filter says of the row; and the pairs of cells, row by row.
 use Rattle.std.proofs.Common.{append-nil, ◌≡◌, ◌≢◌, ℕ, zero, suc, ◌+◌, ◌-◌, ◌*◌, ◌<◌, ◌≤◌, ◌==◌, min, pos, IsTrue, get_or, Bool, true, false, not, ◌&&◌, List, [], ◌∷◌, ◌++◌, length, map, take, drop, slice_get, Some, None, inl, inr, refl, sym, ap, subst, ◌∙◌, arith, if◌then◌else◌}
-use Rattle.std.specs.List.{filter_map, range_with_len}
+use Rattle.std.specs.List.{filter_map}
 use Rattle.std.specs.declared.option.Option.{Option}
-use Rattle.std.proofs.lemmas.Bool.{cases_Bool, cases_eq, eq-eqb, eqb-true, false≢true}
+use Rattle.std.proofs.lemmas.Bool.{cases_eq, eq-eqb, eqb-true, false≢true}
 use Rattle.interval_calc.specs.Intervals.{Interval, interval_of}
 use Rattle.interval_calc.specs.declared.Interval as code
 use Rattle.query_model.specs.declared.bounds.Nullity.{Nullity}
@@ -29,7 +29,7 @@ use Rattle.std.proofs.lemmas.Option.{slice_get-get_or}
 use lib.Signed.{≤ℤ_refl}
 use Rattle.aggregates.specs.Runnings.{IsAdded, MayAdd, StandsFor, Tallies}
 use Rattle.aggregates.specs.Tallies.{pair_with, tally_of}
-use Rattle.round_engine.specs.CellAnswers.{HasRoom, StandBelow, pair_in_own_cell}
+use Rattle.round_engine.specs.CellAnswers.{StandBelow, pair_in_own_cell}
 use Rattle.round_engine.specs.Cells.{cells_in}
 use Rattle.round_engine.specs.Engines.{stage_of}
 use Rattle.round_engine.specs.Stages.{Stage}

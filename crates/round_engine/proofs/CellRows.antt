@@ -1,5 +1,5 @@
 -- The cell that a row is in: it has keys, and one alone where each of the row's group ranges is one value.
-use Rattle.std.proofs.Common.{◌≡◌, ℕ, ◌*◌, ◌/◌, ◌%◌, ◌+◌, ◌^◌, ◌<◌, ◌≤◌, Bool, true, ◌&&◌, List, [], ◌∷◌, length, map, get_or, slice_get, Some, IsTrue, refl, sym, ap, subst, ◌∙◌, arith}
+use Rattle.std.proofs.Common.{◌≡◌, ℕ, ◌*◌, ◌%◌, ◌+◌, ◌^◌, ◌<◌, ◌≤◌, Bool, true, List, [], ◌∷◌, length, map, get_or, slice_get, Some, IsTrue, refl, sym, ap, subst, ◌∙◌, arith}
 use Rattle.std.specs.List.{AllByRecursion, list_all, range_with_len, sum}
 use Rattle.std.proofs.Math.Nat.{pow-le-pow_right}
 use Rattle.std.proofs.lemmas.Bool.{and_from}
@@ -11,11 +11,9 @@ use Rattle.std.proofs.lemmas.Option.{get_or_from_slice_get}
 use Rattle.daq_table.specs.Tables.{Frame, ends_at, planes}
 use Rattle.query_model.specs.Answers.{groups_of}
 use Rattle.query_model.specs.Groups.{cell_count, cell_of, counts_of, holds_one_key, is_one_value, parts_of}
-use Rattle.query_model.specs.Knowledge.{IsKnowledge, Knowledge, known_at, prefix_at, range_of, ranges_of}
-use Rattle.query_model.specs.Truths.{Range}
+use Rattle.query_model.specs.Knowledge.{IsKnowledge, Knowledge, known_at, prefix_at, ranges_of}
 use Rattle.query_model.proofs.Groups.{joined_below, row_legal}
-use Rattle.row_groups.specs.declared.part.GroupPart.{GroupPart}
-use Rattle.row_groups.specs.Partition.{AreCells, CellsTellKeys, RowCells, are_legal, counts_of_parts, is_legal_cell, part_under, ranges_of_cell, ranges_of_prefixes}
+use Rattle.row_groups.specs.Partition.{CellsTellKeys, RowCells, are_legal, counts_of_parts, is_legal_cell, part_under, ranges_of_prefixes}
 use Rattle.round_engine.specs.CellAnswers.{IsParted, has_one_key, most_cells}
 use Rattle.round_engine.specs.Cells.{cells_in}
 use Rattle.round_engine.specs.Stages.{IsOpenQuery, IsOpenShape, IsOpenStage, Stage}

@@ -1,5 +1,5 @@
 -- What the parts of the keys of a cell may be lies in what is declared of their columns.
-use Rattle.std.proofs.Common.{ℕ, List, [], ◌∷◌, map, ◌&&◌, IsTrue, arith}
+use Rattle.std.proofs.Common.{ℕ, List, [], ◌∷◌, map, IsTrue, arith}
 use Rattle.std.proofs.lemmas.Bool.{and_parts, false≢true}
 use Rattle.std.proofs.lemmas.Int.{ints}
 use Rattle.interval_calc.specs.Intervals.{Within}

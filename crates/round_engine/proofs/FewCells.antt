@@ -1,15 +1,15 @@
 -- The pairs of a cell, as masks of its rows tell them.
-use Rattle.std.proofs.Common.{◌≡◌, ◌≢◌, ℕ, zero, suc, ◌+◌, ◌<◌, ◌≤◌, ◌^◌, ◌==◌, Bool, true, false, ◌&&◌, not, cond, List, [], ◌∷◌, length, map, filter, get_or, replicate, slice_get, Some, count_by, inl, inr, refl, sym, ap, subst, ◌∙◌, arith, if◌then◌else◌}
+use Rattle.std.proofs.Common.{◌≡◌, ℕ, ◌+◌, ◌<◌, ◌==◌, Bool, true, false, ◌&&◌, not, cond, List, length, map, get_or, replicate, slice_get, Some, count_by, inl, inr, refl, sym, ap, subst, ◌∙◌, arith, if◌then◌else◌}
 use Rattle.std.specs.List.{range_with_len}
 use Rattle.std.specs.Simd.Lanes.{zip2}
-use Rattle.std.proofs.lemmas.Bool.{cases_Bool, cases_eq, eqb-true, false≢true}
+use Rattle.std.proofs.lemmas.Bool.{cases_Bool, cases_eq, eqb-true}
 use Rattle.std.proofs.lemmas.List.{length-map}
 use Rattle.std.proofs.lemmas.List.FromFn.{get_or-map-range_with_len, length-map-range_with_len}
 use Rattle.std.proofs.lemmas.Option.{get_or_from_slice_get, slice_get-get_or}
 use Rattle.std.proofs.lemmas.Simd.{length-zip2, map-map}
 use Rattle.interval_calc.specs.Intervals.{Interval}
 use Rattle.aggregates.specs.declared.tally.Tally.{Tally}
-use Rattle.aggregates.specs.Runnings.{IsBlank, IsSet, StandsFor, Tallies}
+use Rattle.aggregates.specs.Runnings.{IsSet, StandsFor, Tallies}
 use Rattle.aggregates.specs.Selections.{MayHaveValues}
 use Rattle.aggregates.specs.Tallies.{tally_of}
 use Rattle.aggregates.proofs.Values.{taken_from_possible}
@@ -24,7 +24,7 @@ use Rattle.query_model.specs.declared.bounds.Truth.TheVariants.{False, Unknown, 
 use Rattle.query_model.specs.declared.query.Shape.TheVariants.{Plain}
 use Rattle.query_model.specs.Answers.{groups_of}
 use Rattle.query_model.specs.Bounds.{Pair, certain_count, pair_by, pair_unless_false}
-use Rattle.query_model.specs.Groups.{cell_of, pair_in_cell, pairs_in_cell, truth_in_cell}
+use Rattle.query_model.specs.Groups.{cell_of, pair_in_cell, pairs_in_cell}
 use Rattle.query_model.specs.Knowledge.{IsKnowledge, ranges_of}
 use Rattle.query_model.specs.Queries.{Aggregate, Column, Query}
 use Rattle.query_model.specs.Truths.{and_of, may_be_null, may_be_number, null_of, span_of, truth_of_number}

@@ -1,5 +1,5 @@
 -- An item's pairs of the rows of a block, at once.
-use Rattle.std.proofs.Common.{append-nil, ◌≡◌, ℕ, zero, suc, ◌+◌, ◌-◌, ◌*◌, ◌<◌, ◌≤◌, ◌==◌, min, Bool, true, false, not, ◌&&◌, List, [], ◌∷◌, ◌++◌, length, map, take, drop, slice_get, get_or, Option, Some, None, IsTrue, refl, ap, sym, subst, ◌∙◌, arith, pos, length-append, length-take, if◌then◌else◌}
+use Rattle.std.proofs.Common.{append-nil, ◌≡◌, ℕ, zero, suc, ◌+◌, ◌-◌, ◌*◌, ◌<◌, ◌≤◌, min, Bool, false, not, ◌&&◌, List, [], ◌∷◌, ◌++◌, length, map, take, drop, slice_get, get_or, Option, Some, None, IsTrue, refl, ap, sym, subst, ◌∙◌, arith, pos, length-append, length-take, if◌then◌else◌}
 use Rattle.std.proofs.lemmas.Int.{ints}
 use Rattle.std.specs.List.{filter_map, range_with_len}
 use Rattle.std.specs.Option.{option_map}
@@ -13,7 +13,7 @@ use Rattle.query_model.specs.declared.bounds.Truth.{Truth}
 use Rattle.query_model.specs.declared.bounds.Truth.TheVariants.{False, Unknown, True}
 use Rattle.query_model.specs.declared.query.Shape.TheVariants.{Plain}
 use Rattle.query_model.specs.Queries.{Condition, Aggregate, Query}
-use Rattle.query_model.specs.Bounds.{Pair, pair_by, pair_unless_false, pairs_below}
+use Rattle.query_model.specs.Bounds.{Pair, pair_unless_false, pairs_below}
 use Rattle.query_model.specs.Knowledge.{IsKnowledge, ranges_of}
 use Rattle.query_model.specs.Laws.{PairsAreFew, SumsFit, SumsOfItemsFit}
 use Rattle.query_model.specs.Truths.{and_of, may_be_null, may_be_number, null_of, span_of, truth_of, truth_of_number}
@@ -22,7 +22,7 @@ use Rattle.known_column.specs.Columns.{count_in_block}
 use Rattle.known_column.specs.KnownTables.{KnownTable}
 use Rattle.kleene_filter.specs.Filters.{is_certain, is_possible, truth_at, truths_under}
 use Rattle.kleene_filter.proofs.Parting.{mask_bit}
-use Rattle.kleene_filter.proofs.WordBits.{both_bits, digit-zero}
+use Rattle.kleene_filter.proofs.WordBits.{digit-zero}
 use Rattle.row_values.specs.declared.block_values.BlockValues.{BlockValues}
 use Rattle.row_values.specs.BlockValues.{AreValues}
 use Rattle.aggregates.specs.BlockPairs.{AreAllAdded, MayAddAll, pair_in, pairs_in}

@@ -1,7 +1,7 @@
 -- The pairs of a cell that has all rows, as masks tell them.
-use Rattle.std.proofs.Common.{◌≡◌, ℕ, zero, suc, ◌+◌, ◌<◌, ◌≤◌, ◌^◌, ◌==◌, ℤ, ◌≤ℤ◌, Bool, true, false, ◌&&◌, not, cond, List, [], ◌∷◌, length, map, filter, filter_map, get_or, replicate, slice_get, Some, count_by, refl, sym, ap, subst, ◌∙◌, arith, if◌then◌else◌}
+use Rattle.std.proofs.Common.{◌≡◌, ℕ, zero, suc, ◌+◌, ◌<◌, ◌≤◌, ◌==◌, ℤ, ◌≤ℤ◌, Bool, true, false, ◌&&◌, not, cond, List, [], ◌∷◌, length, map, filter, filter_map, get_or, replicate, slice_get, Some, count_by, refl, sym, ap, subst, ◌∙◌, arith, if◌then◌else◌}
 use Rattle.std.specs.declared.option.Option.{Option}
-use Rattle.std.specs.List.{cons_option, range_with_len, sum}
+use Rattle.std.specs.List.{cons_option, range_with_len}
 use Rattle.std.specs.Simd.Lanes.{zip2}
 use Rattle.std.proofs.lemmas.Bool.{eq-eqb, false≢true}
 use Rattle.std.proofs.lemmas.List.FromFn.{get_or-map-range_with_len, length-map-range_with_len}
@@ -26,10 +26,10 @@ use Rattle.query_model.specs.declared.bounds.Truth.TheVariants.{False, Unknown, 
 use Rattle.query_model.specs.declared.query.Shape.TheVariants.{Plain}
 use Rattle.query_model.specs.Answers.{groups_of}
 use Rattle.query_model.specs.Bounds.{Pair, certain_count, pair_by, pair_unless_false}
-use Rattle.query_model.specs.Groups.{cell_of, holds_one_key, pair_in_cell, pairs_in_cell, truth_in_cell}
+use Rattle.query_model.specs.Groups.{cell_of, pair_in_cell, pairs_in_cell, truth_in_cell}
 use Rattle.query_model.specs.Knowledge.{IsKnowledge, ranges_of}
 use Rattle.query_model.specs.Queries.{Aggregate, Column, Query}
-use Rattle.query_model.specs.Truths.{and_of, may_be_null, may_be_number, null_of, span_of, truth_of, truth_of_number}
+use Rattle.query_model.specs.Truths.{and_of, may_be_null, may_be_number, null_of, span_of, truth_of_number}
 use Rattle.query_model.proofs.Groups.{joined_below}
 use Rattle.query_model.proofs.Queries.{ranges_ordered, span_ordered}
 use Rattle.row_groups.specs.Partition.{CellsTellKeys, RowCells}

@@ -6,7 +6,7 @@ use Rattle.daq_table.specs.Tables.{ends_at, planes}
 use Rattle.aggregates.specs.Runnings.{StandsFor, Tallies}
 use Rattle.kleene_filter.specs.Filters.{stands_in}
 use Rattle.query_model.specs.Answers.{every_row, groups_of}
-use Rattle.query_model.specs.Groups.{holds_one_key, is_one_value, pairs_in_cell_below, truth_in_cell}
+use Rattle.query_model.specs.Groups.{is_one_value, pairs_in_cell_below, truth_in_cell}
 use Rattle.query_model.specs.Knowledge.{ranges_of}
 use Rattle.query_model.specs.Meaning.{columns_of_pred}
 use Rattle.query_model.specs.Bounds.{Pair, average_bound_of, pair_by}
@@ -32,7 +32,9 @@ has_one_key parts cell = list_all is_one_value (ranges_of_cell parts cell)
 
 -- of each cell that has keys it is told whether it has one alone
 abbrev pub TellSingle : List GroupPart → List Bool → Type 0
-TellSingle parts single = (cell : ℕ) → cell < 2 ^ digits_of parts → IsTrue (is_legal_cell parts cell) → slice_get single cell ≡ Some (has_one_key parts cell)
+TellSingle parts single =
+    (cell : ℕ) → cell < 2 ^ digits_of parts → IsTrue (is_legal_cell parts cell) →
+    slice_get single cell ≡ Some (has_one_key parts cell)
 
 -- ---- the rows by cells
 
@@ -81,7 +83,8 @@ StandForEach stage runnings = AreEach (λ i item running. StandForCells stage it
 
 -- but for the marked ones, for which there is room
 abbrev pub StandForOthers : Stage → List Bool → List Tallies → Type 0
-StandForOthers stage marks runnings = AreEach (λ i item running. StandBeside (is_marked marks i) stage item running) stage.query.items runnings
+StandForOthers stage marks runnings =
+    AreEach (λ i item running. StandBeside (is_marked marks i) stage item running) stage.query.items runnings
 
 -- there is room for so many cells of each item
 abbrev pub HaveCells : List Aggregate → ℕ → List Tallies → Type 0

@@ -14,4 +14,5 @@ is_marked marks item = slice_index_or marks item false
 
 -- the items that the column moves are marked, and no others
 abbrev pub AreMoved : Query → ℕ → List Bool → Type 0
-AreMoved query column marks = (i : ℕ) (item : Aggregate) → slice_get query.items i ≡ Some item → is_marked marks i ≡ is_moved query column item
+AreMoved query column marks =
+    (i : ℕ) (item : Aggregate) → slice_get query.items i ≡ Some item → is_marked marks i ≡ is_moved query column item

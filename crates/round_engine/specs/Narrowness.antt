@@ -47,8 +47,8 @@ is_narrow_item width Avg ps = is_narrow_average width (average_bound_of ps)
 abbrev pub are_narrow : ℕ → List Aggregate → (Aggregate → List Pair) → Bool
 are_narrow width items pairs_for = list_all (λ item. is_narrow_item width item.kind (pairs_for item)) items
 
--- whether the keys of a cell are in the result is known, and where they are, the bounds of the cell are narrow. A cell of several keys is in no
--- result for certain
+-- whether the keys of a cell are in the result is known, and where they are, the bounds of the cell are narrow. A cell of several keys
+-- is in no result for certain
 abbrev pub is_narrow_cell : ℕ → Stage → ℕ → Bool
 is_narrow_cell width stage cell =
     is_told (presence_in_cell stage.query cell stage.frame stage.known)

@@ -12,7 +12,8 @@ use Rattle.round_engine.specs.Stages.{Stage}
 -- there is one cell, and it is told whether it holds one key
 pub record IsAlone (stage : Stage) (single : Bool) : Type 0 where
   pub one : cells_in stage ≡ 1
-  pub told : (row : ℕ) → row < stage.frame.rows → holds_one_key (groups_of stage.query.shape) (ranges_of stage.frame stage.known row) ≡ single
+  pub told : (row : ℕ) → row < stage.frame.rows →
+      holds_one_key (groups_of stage.query.shape) (ranges_of stage.frame stage.known row) ≡ single
 
 -- the masks are of so many rows, and one has none of them
 pub record HoldMasks (rows : ℕ) (masks : CellMasks) : Type 0 where

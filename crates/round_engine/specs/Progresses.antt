@@ -1,5 +1,6 @@
 -- How far an engine has come, as a choice of the next column sees it; and lists of steps.
-use Rattle.std.specs.Prelude.{◌≡◌, ℕ, ◌+◌, ◌<◌, ◌==◌, Bool, List, [], ◌∷◌, length, map, slice_get, slice_index, count_by, if◌then◌else◌}
+use Rattle.std.specs.Prelude.{◌≡◌, ℕ, ◌+◌, ◌<◌, ◌==◌, Bool, List, [], ◌∷◌}
+use Rattle.std.specs.Prelude.{length, map, slice_get, slice_index, count_by, if◌then◌else◌}
 use Rattle.std.specs.declared.option.Option.TheVariants.{Some}
 use Rattle.std.specs.List.{filter_map, sum}
 use Rattle.std.specs.declared.option.Option.TheVariants as option

@@ -1,5 +1,5 @@
 -- The first rows in an order: what a ranking keeps of them.
-use Rattle.std.specs.Prelude.{◌≡◌, ℕ, ◌<◌, Bool, List, length, map}
+use Rattle.std.specs.Prelude.{◌≡◌, ℕ, Bool, List, length, map}
 use Rattle.daq_table.specs.Tables.{rows_of}
 use Rattle.kleene_filter.specs.Filters.{is_certain, is_possible, truths_under}
 use Rattle.known_column.specs.Columns.{KnownColumn}

@@ -1,9 +1,10 @@
-// The answers of a query, in the form that its shape asks for.
+//! The answers of a query, in the form that its shape asks for.
 
-ghost use Rattle.std.specs.Prelude.{◌≡◌, ◌<◌, ◌^◌, length, IfOk};
+ghost use Rattle.std.specs.Prelude.{◌≡◌, ◌<◌, ◌^◌, IfOk};
 ghost use Rattle.kleene_filter.specs.Filters.{truths_under};
 ghost use Rattle.known_column.specs.KnownTables.{unread_table};
-ghost use Rattle.round_engine.specs.Engines.{stage_of, AreAnswers, AreSomeAnswers, HoldAnswers, IsGroupsForm, IsRankingForm, IsTotalsForm, StoodBefore};
+ghost use Rattle.round_engine.specs.Engines.{stage_of, AreAnswers, AreSomeAnswers, HoldAnswers};
+ghost use Rattle.round_engine.specs.Engines.{IsGroupsForm, IsRankingForm, IsTotalsForm, StoodBefore};
 ghost use Rattle.round_engine.specs.Narrowness.{is_narrow};
 ghost use Rattle.round_engine.specs.Stages.{IsOpenStage, Stage};
 

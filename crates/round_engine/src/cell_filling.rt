@@ -1,4 +1,4 @@
-// An item's pairs, added block by block to the cells that the rows are in.
+//! An item's pairs, added block by block to the cells that the rows are in.
 
 ghost use Rattle.std.specs.Prelude.{◌≡◌, ◌<◌, ◌+◌, ◌*◌, min};
 ghost use Rattle.kleene_filter.specs.Filters.{truths_under};

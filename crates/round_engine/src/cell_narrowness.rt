@@ -1,4 +1,4 @@
-// Whether the bounds of cells are narrow.
+//! Whether the bounds of cells are narrow.
 
 ghost use Rattle.std.specs.Prelude.{◌≡◌, ◌<◌, ◌^◌, List};
 ghost use Rattle.aggregates.specs.Runnings.{StandsFor};

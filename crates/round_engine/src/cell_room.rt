@@ -1,8 +1,7 @@
-// Room for the cells of a query, of whose columns nothing is read.
+//! Room for the cells of a query, of whose columns nothing is read.
 
-ghost use Rattle.std.specs.Prelude.{◌≡◌, ◌≤◌, ◌^◌, length, map, IfOk};
-ghost use Rattle.std.specs.List.{sum};
-ghost use Rattle.daq_table.specs.Tables.{ends_at, planes};
+ghost use Rattle.std.specs.Prelude.{◌≡◌, IfOk};
+ghost use Rattle.daq_table.specs.Tables.{planes};
 ghost use Rattle.query_model.specs.Answers.{every_row, groups_of};
 ghost use Rattle.row_groups.specs.Partition.{unread_cells};
 ghost use Rattle.round_engine.specs.CellAnswers.{HaveCells, most_cells};

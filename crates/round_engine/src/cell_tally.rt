@@ -1,4 +1,4 @@
-// What an item of a cell keeps of a column's rows, told by masks and planes.
+//! What an item of a cell keeps of a column's rows, told by masks and planes.
 
 ghost use Rattle.std.specs.Prelude.{◌≡◌, ◌==◌, if◌then◌else◌, length, map};
 ghost use Rattle.aggregates.specs.Tallies.{tally_of};

@@ -1,4 +1,4 @@
-// Bounds of a bare column's items, from the rows that give a value, by masks and planes.
+//! Bounds of a bare column's items, from the rows that give a value, by masks and planes.
 
 ghost use Rattle.std.specs.Prelude.{◌≡◌, ◌<◌, pos, int_le, if◌then◌else◌, length, count_by, IfSome, IsFalse, IsTrue};
 ghost use Rattle.aggregates.specs.KeptSums.{IsKept};
@@ -6,7 +6,8 @@ ghost use Rattle.aggregates.specs.Selections.{highs_in, lows_in, IsSmallSum};
 ghost use Rattle.known_column.specs.Columns.{KnownColumn, rows_of_column};
 ghost use Rattle.query_model.specs.Answers.{answer, total};
 ghost use Rattle.query_model.specs.declared.query.ItemKind.TheVariants.{Count, Max, Min, Sum};
-ghost use Rattle.query_model.specs.Bounds.{average_bound_of, bound_of, fractions_of, greatest_sum, high_of_least, least_sum, low_of_greatest, nullity_of};
+ghost use Rattle.query_model.specs.Bounds.{average_bound_of, bound_of, fractions_of, greatest_sum};
+ghost use Rattle.query_model.specs.Bounds.{high_of_least, least_sum, low_of_greatest, nullity_of};
 ghost use Rattle.round_engine.specs.Selected.{IsSelection, pairs_in};
 ghost use Rattle.round_engine.specs.Totals.{IsBoundOf};
 

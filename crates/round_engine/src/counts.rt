@@ -1,4 +1,4 @@
-// Counts of the rows that pass, by the filter's masks.
+//! Counts of the rows that pass, by the filter's masks.
 
 ghost use Rattle.std.specs.Prelude.{◌≡◌, true};
 ghost use Rattle.query_model.specs.declared.query.Shape.TheVariants.{Plain};

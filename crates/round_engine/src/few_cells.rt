@@ -1,4 +1,4 @@
-// Items of groups of few cells, told cell by cell by masks.
+//! Items of groups of few cells, told cell by cell by masks.
 
 ghost use Rattle.std.specs.Prelude.{◌≡◌, ◌&&◌, true, if◌then◌else◌, count_by, length, map};
 ghost use Rattle.std.specs.Simd.Lanes.{zip2};

@@ -1,4 +1,4 @@
-// An item's pairs, added block by block to what its bound is computed from.
+//! An item's pairs, added block by block to what its bound is computed from.
 
 ghost use Rattle.std.specs.Prelude.{◌≡◌, ◌<◌, ◌+◌, ◌*◌, min, length};
 ghost use Rattle.query_model.specs.declared.query.Shape.TheVariants.{Plain};

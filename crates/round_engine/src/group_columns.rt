@@ -1,4 +1,4 @@
-// The columns by which a query's rows are grouped.
+//! The columns by which a query's rows are grouped.
 
 ghost use Rattle.std.specs.Prelude.{◌≡◌};
 ghost use Rattle.query_model.specs.Answers.{groups_of};

@@ -1,11 +1,12 @@
-// The answers of a query with groups: for each cell of keys one for each item, and whether the keys are in the result.
+//! The answers of a query with groups: for each cell of keys one for each item, and whether the keys are in the result.
 
-ghost use Rattle.std.specs.Prelude.{◌≡◌, ◌≢◌, ◌<◌, ◌^◌, length, slice_get, IfOk, IfSome, IsSome, IsTrue, ◌↔◌};
+ghost use Rattle.std.specs.Prelude.{◌≡◌, ◌≢◌, ◌<◌, length, slice_get, IfOk, IfSome, IsSome, IsTrue, ◌↔◌};
 ghost use Rattle.kleene_filter.specs.Filters.{truths_under};
 ghost use Rattle.known_column.specs.KnownTables.{unread_table};
 ghost use Rattle.query_model.specs.declared.query.ItemKind.TheVariants.{Avg};
 ghost use Rattle.query_model.specs.Bounds.{fractions_of};
-ghost use Rattle.round_engine.specs.CellAnswers.{AreGroups, AreSomeGroups, HasCell, HasItem, HasRoom, HoldGroups, IsParted, StandForCells, StandForEach, StandForOthers, WereGroups};
+ghost use Rattle.round_engine.specs.CellAnswers.{AreGroups, HasCell, HasItem, HasRoom, HoldGroups};
+ghost use Rattle.round_engine.specs.CellAnswers.{IsParted, StandForCells, StandForEach, StandForOthers, WereGroups};
 ghost use Rattle.row_groups.specs.Partition.{is_legal_cell, ranges_in, ranges_of_cell};
 ghost use Rattle.round_engine.specs.Cells.{absence_in_cell, average_in_cell, bound_in_cell, cells_in, parts_in};
 ghost use Rattle.round_engine.specs.Engines.{stage_of};
@@ -257,7 +258,8 @@ impl Groups {
     // What the keys of a cell may be, or none where it has no keys.
     pub(crate) fn keys(&self, cell: u32) -> Option<CellKeys>
         ensures legal { (stage : Stage) → AreGroups stage self.now → IsSome result ↔ IsTrue (is_legal_cell (parts_in stage) cell) }
-        ensures keys { (stage : Stage) → AreGroups stage self.now → IfSome result (λ keys. ranges_in keys ≡ ranges_of_cell (parts_in stage) cell) }
+        ensures keys { (stage : Stage) → AreGroups stage self.now
+            → IfSome result (λ keys. ranges_in keys ≡ ranges_of_cell (parts_in stage) cell) }
     {
         self.cells.keys_of(cell)
     }

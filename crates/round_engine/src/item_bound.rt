@@ -1,4 +1,4 @@
-// The bound of an item, in the form of its kind.
+//! The bound of an item, in the form of its kind.
 
 ghost use Rattle.std.specs.Prelude.{◌≡◌};
 ghost use Rattle.round_engine.specs.Narrowness.{is_narrow_of, FitsNarrowOf};

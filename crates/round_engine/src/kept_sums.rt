@@ -1,4 +1,4 @@
-// Sums over bare columns that are kept from one plane to the next.
+//! Sums over bare columns that are kept from one plane to the next.
 
 ghost use Rattle.std.specs.Prelude.{◌≡◌, length, IfOk, IfSome};
 ghost use Rattle.aggregates.specs.KeptSums.{IsKept};

@@ -1,4 +1,4 @@
-// Which items a plane of a column may move.
+//! Which items a plane of a column may move.
 
 ghost use Rattle.std.specs.Prelude.{◌≡◌, ◌≤◌, length};
 ghost use Rattle.kleene_filter.specs.Filters.{stands_in};

@@ -1,4 +1,4 @@
-// Whether a bound is narrow.
+//! Whether a bound is narrow.
 
 ghost use Rattle.std.specs.Prelude.{◌≡◌};
 ghost use Rattle.query_model.specs.Bounds.{fractions_of};

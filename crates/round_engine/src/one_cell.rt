@@ -1,4 +1,4 @@
-// Items of groups of which all rows are in one cell, told by masks.
+//! Items of groups of which all rows are in one cell, told by masks.
 
 ghost use Rattle.std.specs.Prelude.{◌≡◌, true, if◌then◌else◌, count_by, map, IfOk};
 ghost use Rattle.aggregates.specs.Tallies.{tally_of};

@@ -1,6 +1,6 @@
-// Cells that hold one key.
+//! Cells that hold one key.
 
-ghost use Rattle.std.specs.Prelude.{◌≡◌, ◌≤◌, ◌<◌, ◌^◌, IsTrue, length};
+ghost use Rattle.std.specs.Prelude.{◌≡◌, ◌≤◌, ◌^◌, IsTrue, length};
 ghost use Rattle.std.specs.List.{list_all};
 ghost use Rattle.query_model.specs.Groups.{is_one_value};
 ghost use Rattle.row_groups.specs.Partition.{digits_of, is_legal_cell, range_for};

@@ -1,4 +1,4 @@
-// How far a query has come.
+//! How far a query has come.
 
 ghost use Rattle.std.specs.Prelude.{◌≡◌, ◌≤◌, ◌<◌, ◌+◌, ℕ, length, slice_index};
 ghost use Rattle.daq_table.specs.Tables.{ends_at, planes};

@@ -1,4 +1,4 @@
-// The first rows in an order.
+//! The first rows in an order.
 
 ghost use Rattle.std.specs.Prelude.{◌≡◌, ◌≤◌, false, length, IfOk};
 ghost use Rattle.kleene_filter.specs.Filters.{stands_in, truths_under};

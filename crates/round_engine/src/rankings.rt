@@ -31,7 +31,8 @@ impl EngineView<'_> {
     /// The rows that are among the first for certain.
     pub fn certain_rows(&self) -> &Mask
         requires ranked { IsTop self.now.query.shape }
-        ensures { result.now ≡ map (λ r. is_certain (standing_under self.now.query self.now.frame self.now.known r)) (rows_of self.now.frame) }
+        ensures { result.now
+            ≡ map (λ r. is_certain (standing_under self.now.query self.now.frame self.now.known r)) (rows_of self.now.frame) }
     {
         self.follower.state.answers.ranking().top.certain()
     }
@@ -39,7 +40,8 @@ impl EngineView<'_> {
     /// The rows of which it is not known yet.
     pub fn possible_rows(&self) -> &Mask
         requires ranked { IsTop self.now.query.shape }
-        ensures { result.now ≡ map (λ r. is_possible (standing_under self.now.query self.now.frame self.now.known r)) (rows_of self.now.frame) }
+        ensures { result.now
+            ≡ map (λ r. is_possible (standing_under self.now.query self.now.frame self.now.known r)) (rows_of self.now.frame) }
     {
         self.follower.state.answers.ranking().top.possible()
     }

@@ -1,4 +1,4 @@
-// What each column of a query is read for.
+//! What each column of a query is read for.
 
 ghost use Rattle.std.specs.Prelude.{◌≡◌, ◌≤◌, length};
 ghost use Rattle.query_model.specs.Answers.{groups_of};

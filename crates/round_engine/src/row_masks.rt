@@ -1,4 +1,4 @@
-// Items over a bare column, told by masks.
+//! Items over a bare column, told by masks.
 
 ghost use Rattle.std.specs.Prelude.{◌≡◌, IfOk, IfSome};
 ghost use Rattle.aggregates.specs.KeptSums.{IsKept};

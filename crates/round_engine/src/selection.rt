@@ -1,4 +1,4 @@
-// The rows that give a column's values to an item, as masks.
+//! The rows that give a column's values to an item, as masks.
 
 ghost use Rattle.std.specs.Prelude.{◌≡◌, ◌&&◌, length, map, IfOk, IsFalse};
 ghost use Rattle.std.specs.Simd.Lanes.{zip2};

@@ -1,4 +1,4 @@
-// What is kept of a query's condition and its answers, beside its columns.
+//! What is kept of a query's condition and its answers, beside its columns.
 
 ghost use Rattle.std.specs.Prelude.{IfOk};
 ghost use Rattle.round_engine.specs.Engines.{IsKept, WasKept};

@@ -1,4 +1,4 @@
-// The answers of a query without groups and order.
+//! The answers of a query without groups and order.
 
 ghost use Rattle.std.specs.Prelude.{◌≡◌, ◌<◌, ◌+◌, ◌*◌, ◌^◌, ℕ, min, false, List, length, slice_get, Some, IfOk};
 ghost use Rattle.aggregates.specs.Runnings.{StandsFor};
@@ -14,7 +14,8 @@ ghost use Rattle.round_engine.specs.Narrowness.{is_narrow};
 ghost use Rattle.round_engine.specs.Moves.{is_marked};
 ghost use Rattle.round_engine.specs.Selected.{HaveRows, is_by_masks, is_column};
 ghost use Rattle.round_engine.specs.Stages.{IsOpenItem, IsOpenStage, Stage};
-ghost use Rattle.round_engine.specs.Totals.{AreBlank, AreFilled, AreFilledBelow, AreSomeTotals, AreTotals, AreTotalsBeside, HasFractions, HasNumbers, HaveRoom, IsBoundOf, IsFilledBelow, IsTotal, AreAdded};
+ghost use Rattle.round_engine.specs.Totals.{AreBlank, AreFilled, AreFilledBelow, AreSomeTotals, AreTotals, AreTotalsBeside};
+ghost use Rattle.round_engine.specs.Totals.{HasFractions, HasNumbers, HaveRoom, IsBoundOf, IsFilledBelow, IsTotal, AreAdded};
 
 use crate::counts::{bound_of_counts, is_counted};
 use crate::filling::fill_block;
@@ -97,7 +98,8 @@ fn add_block(
     requires same { block.old.frame.columns ≡ columns.now.frame.columns }
     requires filled { AreFilledBelow (stage_of query.now columns.now) marks.now (64 * number) runnings.old }
     ensures same { block.new.frame.columns ≡ columns.now.frame.columns }
-    ensures filled { AreFilledBelow (stage_of query.now columns.now) marks.now (min (64 * number + 64) columns.now.frame.rows) runnings.new }
+    ensures filled { AreFilledBelow (stage_of query.now columns.now) marks.now
+        (min (64 * number + 64) columns.now.frame.rows) runnings.new }
 {
     for i in 0..runnings.len() {
         if marks[i] {

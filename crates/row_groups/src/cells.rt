@@ -1,9 +1,9 @@
 //! The cells of rows.
 
-ghost use Rattle.std.specs.Prelude.{◌≡◌, ◌≤◌, ◌<◌, ◌^◌, ◌*◌, ◌==◌, All, IsTrue, length, sum, map, take, drop, slice_get};
+ghost use Rattle.std.specs.Prelude.{◌≡◌, ◌≤◌, ◌<◌, ◌^◌, ◌*◌, ◌==◌};
+ghost use Rattle.std.specs.Prelude.{All, IsTrue, length, sum, map, take, drop, slice_get};
 ghost use Rattle.std.specs.Prelude.{IfOk, IfSome, IsSome, Some, ◌↔◌};
-ghost use Rattle.std.specs.Simd.Lanes.{zip2};
-ghost use Rattle.daq_table.specs.Tables.{no_ends, planes};
+ghost use Rattle.daq_table.specs.Tables.{planes};
 ghost use Rattle.row_groups.specs.Partition.{digits_of, has_unread, is_legal_cell, planes_of_parts};
 ghost use Rattle.row_groups.specs.Partition.{ranges_in, ranges_of_cell, refined, unread_cells, unread_part};
 

@@ -1,9 +1,7 @@
 //! Group columns one after the other.
 
 ghost use Rattle.std.specs.Prelude.{◌≡◌, ◌≤◌, ◌<◌, ◌+◌, ◌^◌, ◌==◌, All, IsTrue, IfOk};
-ghost use Rattle.std.specs.Prelude.{length, map, replicate, sum, slice_index_or};
-ghost use Rattle.daq_table.specs.Tables.{no_ends, planes as planes_of, spread};
-ghost use Rattle.query_model.specs.Knowledge.{is_legal, null_with, range_of};
+ghost use Rattle.std.specs.Prelude.{length, map, replicate, sum};
 ghost use Rattle.row_groups.specs.Keeping.{digits_behind};
 ghost use Rattle.row_groups.specs.Partition.{digits_of, has_unread, raised, unread_part};
 

@@ -1,7 +1,6 @@
 //! Rows that are parted by planes of one column, at numbers of rows about the ends of blocks.
 
-ghost use Rattle.std.specs.Prelude.{◌≡◌, ◌≤◌, ◌<◌, length, IfOk};
-ghost use Rattle.daq_table.specs.Tables.{planes as planes_of};
+ghost use Rattle.std.specs.Prelude.{◌≡◌, ◌<◌, length, IfOk};
 
 use super::*;
 use crate::planes::planes;

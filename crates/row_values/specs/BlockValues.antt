@@ -14,18 +14,21 @@ use Rattle.row_values.specs.declared.block_values.BlockValues.{BlockValues}
 -- the word has the rows of the block at which the expression may have a value
 abbrev pub ArePossible : Term → KnownTable → ℕ → ℕ → Type 0
 ArePossible term table block word =
-    (r : ℕ) → r < count_in_block block table.frame.rows → digit_at r word ≡ may_be_number (null_of term (ranges_of table.frame table.known (64 * block + r)))
+    (r : ℕ) → r < count_in_block block table.frame.rows →
+    digit_at r word ≡ may_be_number (null_of term (ranges_of table.frame table.known (64 * block + r)))
 
 -- the word has the rows of the block at which the expression surely has a value
 abbrev pub AreSure : Term → KnownTable → ℕ → ℕ → Type 0
 AreSure term table block word =
-    (r : ℕ) → r < count_in_block block table.frame.rows → digit_at r word ≡ not (may_be_null (null_of term (ranges_of table.frame table.known (64 * block + r))))
+    (r : ℕ) → r < count_in_block block table.frame.rows →
+    digit_at r word ≡ not (may_be_null (null_of term (ranges_of table.frame table.known (64 * block + r))))
 
 -- these are the spans of the expression at the block's rows where it may have a value
 abbrev pub AreSpans : Term → KnownTable → ℕ → List code.Interval → Type 0
 AreSpans term table block spans =
     (r : ℕ) (span : code.Interval) → r < count_in_block block table.frame.rows → slice_get spans r ≡ Some span →
-    IsTrue (may_be_number (null_of term (ranges_of table.frame table.known (64 * block + r)))) → interval_of span ≡ span_of term (ranges_of table.frame table.known (64 * block + r))
+    IsTrue (may_be_number (null_of term (ranges_of table.frame table.known (64 * block + r)))) →
+    interval_of span ≡ span_of term (ranges_of table.frame table.known (64 * block + r))
 
 -- at which rows of the block the expression may have a value, at which it surely has, and where it lies there
 pub record AreValues (term : Term) (table : KnownTable) (block : ℕ) (values : BlockValues) : Type 0 where

@@ -38,7 +38,8 @@ result_of Product i j = product_of i j
 -- each of the first spans with the second in its place gives an interval of 64 bits
 abbrev pub FitEach : Operation → ℕ → List ShortInterval → List ShortInterval → Type 0
 FitEach operation count left right =
-    (r : ℕ) (x y : ShortInterval) → r < count → slice_get left r ≡ Some x → slice_get right r ≡ Some y → IsShort (result_of operation (interval_of x) (interval_of y))
+    (r : ℕ) (x y : ShortInterval) → r < count → slice_get left r ≡ Some x → slice_get right r ≡ Some y →
+    IsShort (result_of operation (interval_of x) (interval_of y))
 
 -- each of the first results is that of the spans in its place
 abbrev pub AreResults : Operation → ℕ → List ShortInterval → List ShortInterval → List ShortInterval → Type 0
@@ -61,11 +62,13 @@ AreShortSpans term table block spans =
     (r : ℕ) (span : ShortInterval) → r < count_in_block block table.frame.rows → slice_get spans r ≡ Some span →
     IsShortSpan term (declared_ranges table.frame) (ranges_of table.frame table.known (64 * block + r)) span
 
--- these are the ranges of a column at a block's rows
+-- the span lies inside the declared range of a column, and is the column's at the row where that may have a number
 pub record IsShortRange (column : KnownColumn) (row : ℕ) (span : ShortInterval) : Type 0 where
   pub inside : IsInside (interval_of span) (declared_range column.ends).numbers
   pub exact : IsTrue (may_be_number (missing_at column row)) → interval_of span ≡ numbers_at column row
 
+-- these are the ranges of a column at a block's rows
 abbrev pub AreShortRanges : KnownColumn → ℕ → List ShortInterval → Type 0
 AreShortRanges column block spans =
-    (r : ℕ) (span : ShortInterval) → r < count_in_block block (length column.known.prefixes) → slice_get spans r ≡ Some span → IsShortRange column (64 * block + r) span
+    (r : ℕ) (span : ShortInterval) → r < count_in_block block (length column.known.prefixes) → slice_get spans r ≡ Some span →
+    IsShortRange column (64 * block + r) span

@@ -1,4 +1,4 @@
-// The rows of a block of 64 at which an expression may have a value, and those at which it surely has one.
+//! The rows of a block of 64 at which an expression may have a value, and those at which it surely has one.
 
 ghost use Rattle.std.specs.Prelude.{◌<◌, ◌*◌, length};
 ghost use Rattle.query_model.specs.Meaning.{ReadsBelow};

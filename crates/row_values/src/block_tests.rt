@@ -1,5 +1,6 @@
-// Expressions over a column whose numbers lie from -5 to 10 and whose cells may be null, named twice: of the second naming some planes are
-// read. Each row of each block is compared with what is known of it by itself.
+//! Expressions over a column whose numbers lie from -5 to 10 and whose cells may be null, named twice: of the second naming some planes are
+//! read. Each row of each block is compared with what is known of it by itself.
+
 ghost use Rattle.std.specs.Prelude.{◌≡◌, ◌≤◌, ◌<◌, length, pos, negsuc, IfOk};
 ghost use Rattle.query_model.specs.Meaning.{ReadsBelow};
 ghost use Rattle.query_model.specs.Queries.{term_of};

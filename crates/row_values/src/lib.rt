@@ -1,4 +1,5 @@
-//! What is known of an expression at a row: whether it is null, and where its number lies, by what is known of its columns; and the same of a block of rows.
+//! What is known of an expression at a row: whether it is null, and where its number lies, by what is known of its columns; and the
+//! same of a block of rows.
 #![tactic(auto)]
 
 mod block_nulls;

@@ -1,4 +1,4 @@
-// Intervals whose ends are numbers of 64 bits.
+//! Intervals whose ends are numbers of 64 bits.
 
 ghost use Rattle.std.specs.Prelude.{◌≤ℤ◌};
 

@@ -1,4 +1,4 @@
-// Sums, differences and products of intervals of 64 bits.
+//! Sums, differences and products of intervals of 64 bits.
 
 ghost use Rattle.std.specs.Prelude.{◌≡◌, ◌≤◌, ◌≤ℤ◌, pos, IfSome, IsTrue};
 ghost use Rattle.interval_calc.specs.Intervals as wide;

@@ -1,7 +1,8 @@
-// Where the numbers of a column lie at the rows of a block of 64.
+//! Where the numbers of a column lie at the rows of a block of 64.
 
-ghost use Rattle.std.specs.Prelude.{◌≡◌, ◌≤◌, ◌<◌, ◌+◌, ◌-◌, ◌*◌, ◌^◌, min, nat_abs, pos, ◌+ℤ◌, ◌-ℤ◌, ◌≤ℤ◌};
-ghost use Rattle.daq_table.specs.Tables.{planes, width};
+ghost use Rattle.std.specs.Prelude.{◌≡◌, ◌≤◌, ◌<◌, ◌+◌, ◌-◌, ◌*◌};
+ghost use Rattle.std.specs.Prelude.{◌^◌, min, nat_abs, pos, ◌+ℤ◌, ◌-ℤ◌, ◌≤ℤ◌};
+ghost use Rattle.daq_table.specs.Tables.{width};
 ghost use Rattle.known_column.specs.Columns.{rows_of_column};
 ghost use Rattle.row_values.specs.ShortSpans.{AreShortRanges};
 

@@ -1,6 +1,6 @@
-// Where an expression lies at the rows of a block of 64, where no value of it or of a part of it can leave 64 bits.
+//! Where an expression lies at the rows of a block of 64, where no value of it or of a part of it can leave 64 bits.
 
-ghost use Rattle.std.specs.Prelude.{◌≡◌, ◌<◌, ◌≤◌, ◌*◌, length, IfSome};
+ghost use Rattle.std.specs.Prelude.{◌≡◌, ◌<◌, ◌*◌, length, IfSome};
 ghost use Rattle.query_model.specs.Meaning.{ReadsBelow};
 ghost use Rattle.query_model.specs.Queries.{term_of};
 ghost use Rattle.query_model.specs.Truths.{span_of};

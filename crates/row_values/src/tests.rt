@@ -1,4 +1,5 @@
-// Expressions over a column whose numbers lie from -3 to 2, and over one beside it whose cells may be null.
+//! Expressions over a column whose numbers lie from -3 to 2, and over one beside it whose cells may be null.
+
 ghost use Rattle.std.specs.Prelude.{◌≡◌, ◌<◌, length, pos, negsuc, IfOk};
 ghost use Rattle.query_model.specs.Validity.{declared_ranges};
 

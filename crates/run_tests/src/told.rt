@@ -1,7 +1,5 @@
 //! Runs that tell what a file of planes declares.
 
-ghost use Rattle.std.specs.Prelude.{◌≤◌};
-
 use crate::runs::{words_of, world_of};
 use daq_cli::{Status, run};
 use outer_world::{MemSink, MemStore};

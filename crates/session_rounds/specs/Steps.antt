@@ -1,7 +1,8 @@
 -- The steps of a session over the planes of a table: what each of its queries reads and where it stands, and which step is the last.
 -- A place is a column's number in the table. The session numbers its columns by itself, and each query its own. A step reads the next plane
 -- of a column for all queries that await it.
-use Rattle.std.specs.Prelude.{◌≡◌, ℕ, zero, suc, ◌<◌, ◌≤◌, ◌==◌, Bool, true, List, [], ◌∷◌, ◌++◌, map, length, take, slice_get, slice_index, count_by, sum_by, is_some, IsFalse, IsSome, IsNone}
+use Rattle.std.specs.Prelude.{◌≡◌, ℕ, zero, suc, ◌<◌, ◌≤◌, ◌==◌, Bool, true, List, [], ◌∷◌, ◌++◌}
+use Rattle.std.specs.Prelude.{map, length, take, slice_get, slice_index, count_by, sum_by, is_some, IsFalse, IsSome, IsNone}
 use Rattle.std.specs.declared.option.Option.{Option}
 use Rattle.std.specs.declared.option.Option.TheVariants.{Some, None}
 use Rattle.std.specs.List.{AllByRecursion, list_all}

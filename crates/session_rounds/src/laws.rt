@@ -1,6 +1,7 @@
 //! What holds of the steps of a session. Each law stands on a function that does nothing.
 
-ghost use Rattle.session_rounds.specs.Laws.{QueriesStandAlone, SessionsAreCertain, SessionsAreOne, SessionsAreShort, SessionsBegin, SessionsHaveAnEnd};
+ghost use Rattle.session_rounds.specs.Laws.{QueriesStandAlone, SessionsAreCertain, SessionsAreOne};
+ghost use Rattle.session_rounds.specs.Laws.{SessionsAreShort, SessionsBegin, SessionsHaveAnEnd};
 
 use plane_schedule::{choices_are_one, policies_choose};
 use query_model::{taken_is_knowledge, valid_queries_name_columns};

@@ -1,7 +1,7 @@
 //! The program `sql_bench`: reads an SQL text so often as its first word says, for `bench/sql.sh`, which times it.
 #![tactic(auto)]
 
-ghost use Rattle.std.specs.Prelude.{◌≤◌, ℕ, List};
+ghost use Rattle.std.specs.Prelude.{◌≤◌};
 ghost use Rattle.sql_text.specs.Tree.{Query};
 ghost use Rattle.sql_text.specs.Answer.{IsText};
 

@@ -1,7 +1,9 @@
 -- The same query but for places.
 use Rattle.std.specs.Prelude.{map, Option, Some, None}
 use Rattle.sql_text.specs.declared.tree.Num.{Num}
-use Rattle.sql_text.specs.Tree.{Name, Expr, Column, Number, Add, Sub, Mul, Item, Plain, CountAll, Call, Head, Items, Star, Operand, Numeric, Str, Day, Pred, Compare, Columns, Between, OneOf, IsNull, Negation, Both, Either, Ending, Nothing, Grouped, Ordered, Query}
+use Rattle.sql_text.specs.Tree.{Name, Expr, Column, Number, Add, Sub, Mul, Item, Plain, CountAll, Call, Head}
+use Rattle.sql_text.specs.Tree.{Items, Star, Operand, Numeric, Str, Day, Pred, Compare, Columns, Between}
+use Rattle.sql_text.specs.Tree.{OneOf, IsNull, Negation, Both, Either, Ending, Nothing, Grouped, Ordered, Query}
 
 abbrev pub bare_name : Name → Name
 bare_name n = record { at = 0; name = n.name }

@@ -1,5 +1,6 @@
 -- The printed form of a query.
-use Rattle.std.specs.Prelude.{ℕ, suc, ◌+◌, ◌-◌, ℤ, pos, negsuc, List, [], ◌∷◌, ◌++◌, length, take, drop, replicate, Bool, true, false, Option, Some, None, decimal, nat_eq, codes, if◌then◌else◌}
+use Rattle.std.specs.Prelude.{ℕ, suc, ◌+◌, ◌-◌, ℤ, pos, negsuc, List, [], ◌∷◌, ◌++◌, length, take, drop}
+use Rattle.std.specs.Prelude.{replicate, Bool, true, false, Option, Some, None, decimal, nat_eq, codes, if◌then◌else◌}
 use Rattle.sql_tokens.specs.Spelling.{doubled, is_plain_name}
 use Rattle.sql_text.specs.declared.tree.Num.{Num}
 use Rattle.sql_text.specs.declared.tree.Comparison.{Comparison}
@@ -8,7 +9,9 @@ use Rattle.sql_text.specs.declared.tree.CallKind.{CallKind}
 use Rattle.sql_text.specs.declared.tree.CallKind.TheVariants.{Count, Sum, Avg, Min, Max}
 use Rattle.sql_print.specs.declared.printing.Side.{Side}
 use Rattle.sql_print.specs.declared.printing.Side.TheVariants.{Left, Middle, Right}
-use Rattle.sql_text.specs.Tree.{Name, Expr, Column, Number, Add, Sub, Mul, Item, Plain, CountAll, Call, Head, Items, Star, Operand, Numeric, Str, Day, Pred, Compare, Columns, Between, OneOf, IsNull, Negation, Both, Either, Ending, Nothing, Grouped, Ordered, Query}
+use Rattle.sql_text.specs.Tree.{Name, Expr, Column, Number, Add, Sub, Mul, Item, Plain, CountAll, Call, Head}
+use Rattle.sql_text.specs.Tree.{Items, Star, Operand, Numeric, Str, Day, Pred, Compare, Columns, Between}
+use Rattle.sql_text.specs.Tree.{OneOf, IsNull, Negation, Both, Either, Ending, Nothing, Grouped, Ordered, Query}
 
 -- ---- names, numbers and values
 

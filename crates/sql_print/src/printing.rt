@@ -1,13 +1,17 @@
 //! Printing a query.
 
-ghost use Rattle.std.specs.Prelude.{◌≡◌, ◌++◌, ◌∷◌, [], map, OnOk, IfOk, codes, IsUtf8, string_bytes, ℕ, List, length, ◌≤◌};
+ghost use Rattle.std.specs.Prelude.{◌≡◌, ◌++◌, [], map, OnOk, IfOk};
+ghost use Rattle.std.specs.Prelude.{IsUtf8, string_bytes, ℕ, List, length, ◌≤◌};
 ghost use Rattle.std.specs.Str.Lossy.{utf8_lossy};
 ghost use Rattle.sql_tokens.specs.Spelling.{doubled, is_plain_name};
 ghost use Rattle.sql_text.specs.Tree.{Query, name_of, operand_of, expr_of, item_of, head_of, pred_of, pred_option, ending_of, query_of};
 ghost use Rattle.sql_print.specs.Bare.{bare};
 ghost use Rattle.sql_text.specs.Answer.{IsText};
 ghost use Rattle.sql_print.specs.declared.printing.Side.TheVariants.{Right};
-ghost use Rattle.sql_print.specs.Printed.{name_text, string_text, sign_text, size_of, digits_of, pointed, num_text, operand_text, listed_text, opening, closing, wraps_loose, wraps_tight, expr_text, call_text, item_text, head_text, cmp_text, between_word, in_word, null_word, between_text, members_text, null_text, negated_text, pred_text, filter_text, direction_text, ending_text, printed};
+ghost use Rattle.sql_print.specs.Printed.{name_text, string_text, sign_text, digits_of, pointed, num_text, operand_text};
+ghost use Rattle.sql_print.specs.Printed.{listed_text, opening, closing, wraps_loose, wraps_tight, expr_text, call_text, item_text};
+ghost use Rattle.sql_print.specs.Printed.{head_text, cmp_text, between_text, members_text};
+ghost use Rattle.sql_print.specs.Printed.{null_text, negated_text, pred_text, filter_text, direction_text, ending_text, printed};
 
 use itoa::Buffer;
 use sql_text::{

@@ -239,7 +239,8 @@ static LIMITS: [(&str, &str); 11] = [
         "nested too deep at 43",
     ),
     (
-        "SELECT a FROM t WHERE NOT NOT NOT NOT NOT NOT NOT NOT NOT NOT NOT NOT NOT NOT NOT NOT NOT NOT NOT NOT NOT NOT NOT NOT NOT NOT NOT NOT NOT NOT NOT NOT NOT a = 1",
+        "SELECT a FROM t WHERE NOT NOT NOT NOT NOT NOT NOT NOT NOT NOT NOT NOT NOT NOT NOT NOT NOT NOT NOT NOT NOT NOT NOT NOT \
+         NOT NOT NOT NOT NOT NOT NOT NOT NOT a = 1",
         "nested too deep at 150",
     ),
     (

@@ -1,7 +1,10 @@
 -- How keywords and signs are written.
 use Rattle.std.specs.Prelude.{ℕ, List, Bool, true, false, codes}
 use Rattle.sql_tokens.specs.declared.token.Fixed.{Fixed}
-use Rattle.sql_tokens.specs.declared.token.Fixed.TheVariants.{Select, From, Where, Group, By, Order, Asc, Desc, Limit, And, Or, Not, Between, In, Date, Count, Sum, Avg, Min, Max, Is, Null, Open, Close, Comma, Star, Plus, Minus, Semicolon, Equal, NotEqual, Less, LessEqual, Greater, GreaterEqual}
+use Rattle.sql_tokens.specs.declared.token.Fixed.TheVariants.{Select, From, Where, Group, By, Order, Asc, Desc, Limit}
+use Rattle.sql_tokens.specs.declared.token.Fixed.TheVariants.{And, Or, Not, Between, In, Date, Count, Sum, Avg, Min, Max}
+use Rattle.sql_tokens.specs.declared.token.Fixed.TheVariants.{Is, Null, Open, Close, Comma, Star, Plus, Minus, Semicolon}
+use Rattle.sql_tokens.specs.declared.token.Fixed.TheVariants.{Equal, NotEqual, Less, LessEqual, Greater, GreaterEqual}
 
 abbrev pub spelling : Fixed → List ℕ
 spelling Select = codes "SELECT"

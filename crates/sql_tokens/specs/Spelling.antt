@@ -1,9 +1,11 @@
 -- The spellings of tokens, and the tokens of a text.
-use Rattle.std.specs.Prelude.{◌≡◌, ℕ, ◌+◌, ◌-◌, ◌*◌, ◌^◌, ◌≤◌, List, [], ◌∷◌, ◌++◌, length, map, reverse, take, Bool, true, false, Option, Some, None, nat_eq, nat_le, is_none, ◌&&◌, if◌then◌else◌}
+use Rattle.std.specs.Prelude.{◌≡◌, ℕ, ◌+◌, ◌-◌, ◌*◌, ◌^◌, ◌≤◌, List, [], ◌∷◌, ◌++◌, length, map}
+use Rattle.std.specs.Prelude.{reverse, take, Bool, true, false, Option, Some, None, nat_eq, nat_le, is_none, ◌&&◌, if◌then◌else◌}
 use Rattle.std.specs.List.{prefix_len, find}
 use Rattle.sql_tokens.specs.declared.byte.Class.TheVariants.{Blank, Letter, Digit, Other}
 use Rattle.sql_tokens.specs.declared.token.Fixed.{Fixed}
-use Rattle.sql_tokens.specs.declared.token.Fixed.TheVariants.{Open, Close, Comma, Star, Plus, Minus, Semicolon, Equal, NotEqual, Less, LessEqual, Greater, GreaterEqual}
+use Rattle.sql_tokens.specs.declared.token.Fixed.TheVariants.{Open, Close, Comma, Star, Plus, Minus, Semicolon}
+use Rattle.sql_tokens.specs.declared.token.Fixed.TheVariants.{Equal, NotEqual, Less, LessEqual, Greater, GreaterEqual}
 use Rattle.sql_tokens.specs.declared.token.TheConstants.{KEYWORDS}
 use Rattle.sql_tokens.specs.Fixed.{spelling}
 use Rattle.sql_tokens.specs.Lexeme.{Mark, FIXED, NAME, NUMBER, STRING, Lexeme, token}

@@ -1,5 +1,6 @@
 -- The checks of a query, in order, and the first that refuses.
-use Rattle.std.specs.Prelude.{ℕ, ◌+◌, ◌==◌, nat_lt, int_lt, int_le, pos, codes, Bool, true, false, not, ◌&&◌, ◌||◌, List, [], ◌∷◌, length, map, slice_index_or, Option, Some, None}
+use Rattle.std.specs.Prelude.{ℕ, ◌+◌, ◌==◌, nat_lt, int_lt, int_le, pos, codes, Bool, true, false, not}
+use Rattle.std.specs.Prelude.{◌&&◌, ◌||◌, List, [], ◌∷◌, length, map, slice_index_or, Option, Some, None}
 use Rattle.std.specs.List.{count_by, list_any, sum}
 use Rattle.std.specs.Str.{bytes_eq}
 use Rattle.daq_table.specs.Tables.{ends_of, no_ends, planes}
@@ -9,9 +10,11 @@ use Rattle.daq_table.specs.declared.head.Kind.{Kind}
 use Rattle.query_model.specs.Answers.{groups_of}
 use Rattle.query_model.specs.declared.query.Shape.{Shape}
 use Rattle.sql_text.specs.declared.tree.Num.{Num}
-use Rattle.sql_text.specs.Tree.{Name, Expr, Item, Head, Operand, Pred, Ending, Query, Column, Number, Add, Sub, Mul, Plain, CountAll, Call, Items, Star, Compare, Columns, Between, OneOf, IsNull, Negation, Both, Either, Nothing, Grouped, Ordered}
+use Rattle.sql_text.specs.Tree.{Name, Expr, Item, Head, Operand, Pred, Ending, Query, Column, Number, Add, Sub, Mul, Plain, CountAll, Call}
+use Rattle.sql_text.specs.Tree.{Items, Star, Compare, Columns, Between, OneOf, IsNull, Negation, Both, Either, Nothing, Grouped, Ordered}
 use Rattle.sql_typing.specs.declared.fault.TypeFault.{TypeFault}
-use Rattle.sql_typing.specs.declared.fault.TypeFault.TheVariants.{UnknownTable, UnknownColumn, TooManyColumns, TooManyItems, KindsDiffer, ScaleTooFine, NotGrouped, TooManyValues, LimitOutOfRange, GroupTooWide}
+use Rattle.sql_typing.specs.declared.fault.TypeFault.TheVariants.{UnknownTable, UnknownColumn, TooManyColumns, TooManyItems, KindsDiffer}
+use Rattle.sql_typing.specs.declared.fault.TypeFault.TheVariants.{ScaleTooFine, NotGrouped, TooManyValues, LimitOutOfRange, GroupTooWide}
 use Rattle.sql_typing.specs.Kinds.{can_compare, is_number, most_scale, place_of_operand, scale_of_kind, scale_of_operand, suits}
 use Rattle.sql_typing.specs.Names.{kind_of, names_in, place_of}
 use Rattle.sql_typing.specs.Typing.{columns_of, scale_of, typed_ending, whole_column}

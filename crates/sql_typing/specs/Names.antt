@@ -1,11 +1,13 @@
 -- The names of a query, and the columns that they name.
-use Rattle.std.specs.Prelude.{ℕ, ◌==◌, if◌then◌else◌, List, [], ◌∷◌, ◌++◌, map, slice_index_or, Option, Some, None, unwrap_or}
+use Rattle.std.specs.Prelude.{ℕ, ◌==◌, if◌then◌else◌, List, [], ◌∷◌}
+use Rattle.std.specs.Prelude.{◌++◌, map, slice_index_or, Option, Some, None, unwrap_or}
 use Rattle.std.specs.List.{list_any, position}
 use Rattle.std.specs.Str.{bytes_eq}
 use Rattle.daq_table.specs.declared.head.ColumnHead.{ColumnHead}
 use Rattle.daq_table.specs.declared.head.Kind.{Kind}
 use Rattle.daq_table.specs.declared.head.Kind.TheVariants.{Int}
-use Rattle.sql_text.specs.Tree.{Name, Expr, Item, Head, Pred, Ending, Query, Column, Number, Add, Sub, Mul, Plain, CountAll, Call, Items, Star, Compare, Columns, Between, OneOf, IsNull, Negation, Both, Either, Nothing, Grouped, Ordered}
+use Rattle.sql_text.specs.Tree.{Name, Expr, Item, Head, Pred, Ending, Query, Column, Number, Add, Sub, Mul, Plain, CountAll, Call}
+use Rattle.sql_text.specs.Tree.{Items, Star, Compare, Columns, Between, OneOf, IsNull, Negation, Both, Either, Nothing, Grouped, Ordered}
 use Rattle.sql_typing.specs.declared.names.Mention.{Mention}
 
 -- ---- names in the order of the text

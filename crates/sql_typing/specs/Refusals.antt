@@ -10,7 +10,9 @@ use Rattle.sql_text.specs.Tree as tree
 use Rattle.sql_typing.specs.Faults.{first_fault}
 use Rattle.sql_typing.specs.Typing.{typed}
 use Rattle.sql_typing.specs.declared.fault.TypeFault.{TypeFault}
-use Rattle.sql_typing.specs.declared.fault.TypeFault.TheVariants.{UnknownTable, UnknownColumn, TooManyColumns, TooManyItems, KindsDiffer, ScaleTooFine, NotGrouped, TooManyValues, LimitOutOfRange, GroupTooWide, TooWide, NoMemory}
+use Rattle.sql_typing.specs.declared.fault.TypeFault.TheVariants.{UnknownTable, UnknownColumn, TooManyColumns, TooManyItems}
+use Rattle.sql_typing.specs.declared.fault.TypeFault.TheVariants.{KindsDiffer, ScaleTooFine, NotGrouped, TooManyValues}
+use Rattle.sql_typing.specs.declared.fault.TypeFault.TheVariants.{LimitOutOfRange, GroupTooWide, TooWide, NoMemory}
 
 -- no check refuses the tree, and this is what it means
 pub record IsTyped (q : tree.Query) (head : Head) (query : Query) : Type 0 where

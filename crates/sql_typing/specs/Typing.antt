@@ -1,5 +1,6 @@
 -- The typed query of a tree on a table with a head, where nothing refuses it.
-use Rattle.std.specs.Prelude.{ℕ, zero, suc, ◌+◌, ◌-◌, ◌^◌, max, ℤ, pos, negsuc, ◌*ℤ◌, ◌-ℤ◌, nat_abs, Bool, true, false, if◌then◌else◌, List, [], ◌∷◌, map, Option, Some, None}
+use Rattle.std.specs.Prelude.{ℕ, zero, suc, ◌+◌, ◌-◌, ◌^◌, max, ℤ, pos, negsuc, ◌*ℤ◌, ◌-ℤ◌}
+use Rattle.std.specs.Prelude.{nat_abs, Bool, true, false, if◌then◌else◌, List, [], ◌∷◌, map, Option, Some, None}
 use Rattle.std.specs.Cmp.Lexicographic.{slice_cmp}
 use Rattle.std.specs.List.{count_by, filter_map, list_any}
 use Rattle.std.specs.Ordering.{nat_cmp, is_lt}
@@ -7,7 +8,8 @@ use Rattle.std.specs.Str.{bytes_eq}
 use Rattle.daq_table.specs.CellTexts.{date_value}
 use Rattle.daq_table.specs.declared.head.ColumnHead.{ColumnHead}
 use Rattle.daq_table.specs.declared.head.Kind.{Kind}
-use Rattle.query_model.specs.Queries.{Term, Column, Literal, Add, Sub, Mul, Condition, All, Single, Both, Either, Negation, Aggregate, Query}
+use Rattle.query_model.specs.Queries.{Term, Column, Literal, Add, Sub, Mul, Condition, All}
+use Rattle.query_model.specs.Queries.{Single, Both, Either, Negation, Aggregate, Query}
 use Rattle.query_model.specs.declared.query.Atom.{Atom}
 use Rattle.query_model.specs.declared.query.Atom.TheVariants as atoms
 use Rattle.query_model.specs.declared.query.Face.{Face}

@@ -1,6 +1,6 @@
 //! Typed conditions.
 
-ghost use Rattle.std.specs.Prelude.{◌≡◌, ◌++◌, map, vec_items};
+ghost use Rattle.std.specs.Prelude.{◌≡◌, map, vec_items};
 ghost use Rattle.query_model.specs.Queries.{Single, condition_of};
 ghost use Rattle.sql_text.specs.Tree.{name_of, operand_of, pred_of, pred_option};
 ghost use Rattle.sql_text.specs.Tree as tree;

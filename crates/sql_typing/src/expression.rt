@@ -1,6 +1,6 @@
 //! Typed expressions.
 
-ghost use Rattle.std.specs.Prelude.{◌≡◌, ◌≤◌, ◌-◌, ◌^◌, pos, IfOk, nat_lt};
+ghost use Rattle.std.specs.Prelude.{◌≡◌, ◌≤◌, ◌-◌, IfOk, nat_lt};
 ghost use Rattle.query_model.specs.Queries.{Column, Literal, Mul, term_of};
 ghost use Rattle.sql_text.specs.Tree.{expr_of, name_of};
 ghost use Rattle.sql_typing.specs.Faults.{expr_fault, first_of, operand_fault, fault_if};

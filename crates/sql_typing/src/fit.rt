@@ -1,10 +1,10 @@
 //! Whether the numbers of a query stay within 128 bits.
 
-ghost use Rattle.std.specs.Prelude.{◌≡◌, ◌↔◌, ◌≤◌, ◌*◌, ◌⊎◌, pos, length, FitsSigned, IsSome, IfSome, IsTrue, MatchOption, max, nat_abs};
-ghost use Rattle.std.specs.Int.{w128};
+ghost use Rattle.std.specs.Prelude.{◌≡◌, ◌↔◌, ◌≤◌, ◌*◌};
+ghost use Rattle.std.specs.Prelude.{IsSome, IfSome, IsTrue, MatchOption, max};
 ghost use Rattle.std.specs.List.{AllByRecursion};
 ghost use Rattle.interval_calc.specs.Intervals.{interval_of};
-ghost use Rattle.daq_table.specs.Tables.{Frame, no_ends};
+ghost use Rattle.daq_table.specs.Tables.{no_ends};
 ghost use Rattle.query_model.specs.Queries.{term_of};
 ghost use Rattle.query_model.specs.Truths.{span_of};
 ghost use Rattle.query_model.specs.Validity.{declared_range, declared_ranges, FitsAverage, FitsItem, FitsKind, FitsSum, FitsWide};

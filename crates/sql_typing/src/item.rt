@@ -8,7 +8,8 @@ ghost use Rattle.query_model.specs.Queries.{term_of};
 ghost use Rattle.sql_text.specs.Tree.{ending_of, expr_of, head_of, item_of, name_of};
 ghost use Rattle.sql_typing.specs.Faults.{argument_fault, expr_fault, first_in, head_fault, item_fault, items_fault};
 ghost use Rattle.sql_typing.specs.Parts.{Types};
-ghost use Rattle.sql_typing.specs.Typing.{bare_column, face_of, kind_of_call, scale_of, typed_call, typed_expr, typed_head, typed_item, typed_items, whole_column};
+ghost use Rattle.sql_typing.specs.Typing.{bare_column, face_of, kind_of_call, scale_of, typed_call};
+ghost use Rattle.sql_typing.specs.Typing.{typed_expr, typed_head, typed_item, typed_items, whole_column};
 
 use crate::expression::typed_expr;
 use crate::fault::TypeFault;

@@ -2,7 +2,8 @@
 
 ghost use Rattle.std.specs.Prelude.{◌≡◌, ◌∷◌, [], ◌++◌, map, OnOk, IfOk};
 ghost use Rattle.sql_text.specs.Tree.{name_of, expr_of, item_of, head_of, pred_of, pred_option, ending_of, query_of};
-ghost use Rattle.sql_typing.specs.Names.{mention, mentions, names_in, names_in_expr, names_in_item, names_in_items, names_in_head, names_in_pred, names_in_filter, names_in_ending};
+ghost use Rattle.sql_typing.specs.Names.{mentions, names_in, names_in_expr, names_in_item, names_in_items};
+ghost use Rattle.sql_typing.specs.Names.{names_in_head, names_in_pred, names_in_filter, names_in_ending};
 
 use crate::table::place_of;
 use daq_table::ColumnHead;

@@ -1,6 +1,6 @@
 //! The shape of a typed query.
 
-ghost use Rattle.std.specs.Prelude.{◌≡◌, ◌==◌, map, nat_abs, IfOk, OnOk};
+ghost use Rattle.std.specs.Prelude.{◌≡◌, ◌==◌, map, IfOk, OnOk};
 ghost use Rattle.std.specs.List.{list_any};
 ghost use Rattle.sql_text.specs.Tree.{ending_of, name_of};
 ghost use Rattle.sql_typing.specs.Faults.{ending_fault, is_limit};

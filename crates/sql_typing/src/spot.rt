@@ -1,6 +1,6 @@
 //! Where a value stands among the numbers of a column.
 
-ghost use Rattle.std.specs.Prelude.{◌≡◌, ◌≤ℤ◌, pos};
+ghost use Rattle.std.specs.Prelude.{◌≡◌};
 ghost use Rattle.sql_typing.specs.Typing.{compared, high_end, low_end, member, op_of};
 
 use query_model::{Atom, Comparison};

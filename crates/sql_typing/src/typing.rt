@@ -1,13 +1,14 @@
 //! From a query's tree to the typed query.
 
-ghost use Rattle.std.specs.Prelude.{◌≡◌, ◌≤◌, map, length, nat_lt, codes, IfOk, IfErr, MatchOption, slice_index_or};
+ghost use Rattle.std.specs.Prelude.{◌≡◌, ◌≤◌, map, length, nat_lt, IfOk, IfErr, MatchOption, slice_index_or};
 ghost use Rattle.std.specs.List.{AllByRecursion, sum};
 ghost use Rattle.daq_table.specs.Tables.{ends_of, frame_of, no_ends};
 ghost use Rattle.query_model.specs.Answers.{groups_of};
 ghost use Rattle.query_model.specs.Projection.{projected_frame};
 ghost use Rattle.query_model.specs.Validity.{FitsItem, IsValid};
 ghost use Rattle.sql_text.specs.Tree.{head_of, item_of, name_of, query_of};
-ghost use Rattle.sql_typing.specs.Faults.{aggregates_in, fault_if, first_fault, first_in, first_of, is_aggregate, name_fault, planes_at, shape_fault, table_fault, text_fault, too_many_columns};
+ghost use Rattle.sql_typing.specs.Faults.{aggregates_in, fault_if, first_fault, first_in, first_of, is_aggregate};
+ghost use Rattle.sql_typing.specs.Faults.{name_fault, planes_at, shape_fault, table_fault, text_fault, too_many_columns};
 ghost use Rattle.sql_typing.specs.Names.{names_in};
 ghost use Rattle.sql_typing.specs.Parts.{Checks, Types};
 ghost use Rattle.sql_typing.specs.Refusals.{IsFirstUnfit, IsTyped, Refuses};

@@ -1,6 +1,6 @@
 //! A column of the table, from its numbers.
 
-ghost use Rattle.std.specs.Prelude.{◌≡◌, ◌≢◌, IfOk, IsTrue, []};
+ghost use Rattle.std.specs.Prelude.{IfOk, IsTrue, []};
 ghost use Rattle.daq_table.specs.Tables.{column_from};
 ghost use Rattle.daq_table.specs.ColumnFacts.{fits_names, is_ascending};
 ghost use Rattle.daq_table.specs.Extremes.{greatest, least};

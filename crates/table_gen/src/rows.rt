@@ -1,6 +1,6 @@
 //! The rows of a seed, by columns.
 
-ghost use Rattle.std.specs.Prelude.{◌≡◌, ◌≤◌, IfOk};
+ghost use Rattle.std.specs.Prelude.{◌≡◌, IfOk};
 ghost use Rattle.table_gen.specs.Draws.{a_of, b_of, code_of, column_of, d_of};
 
 use crate::draws::Draws;

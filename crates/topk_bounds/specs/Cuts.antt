@@ -1,5 +1,7 @@
 -- The first rows in an order, as the digits of the sort key part them.
-use Rattle.std.specs.Prelude.{◌≡◌, ℕ, zero, suc, ◌+◌, ◌*◌, ◌<◌, ◌≤◌, nat_lt, nat_le, nat_eq, int_lt, Bool, true, false, not, cond, ◌&&◌, ◌||◌, ◌==◌, List, length, count_by, slice_index, IsTrue, if◌then◌else◌}
+use Rattle.std.specs.Prelude.{◌≡◌, ℕ, zero, suc, ◌+◌, ◌*◌, ◌<◌, ◌≤◌, nat_lt}
+use Rattle.std.specs.Prelude.{nat_le, nat_eq, int_lt, Bool, true, false, not, cond, ◌&&◌, ◌||◌}
+use Rattle.std.specs.Prelude.{◌==◌, List, length, count_by, slice_index, IsTrue, if◌then◌else◌}
 use Rattle.std.specs.Simd.Lanes.{zip2}
 use Rattle.interval_calc.specs.Intervals.{Interval}
 use Rattle.plane_kernels.specs.Rows.{kept_rows}

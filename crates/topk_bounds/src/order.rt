@@ -1,6 +1,6 @@
 //! The order of rows by the digits of their sort key.
 
-ghost use Rattle.std.specs.Prelude.{◌≡◌, ◌<◌, ℕ};
+ghost use Rattle.std.specs.Prelude.{◌≡◌, ◌<◌};
 ghost use Rattle.known_column.specs.Columns.{range_at, rows_of_column};
 ghost use Rattle.known_column.specs.RowBlocks.{IsKnownColumn};
 ghost use Rattle.topk_bounds.specs.Cuts.{comes_first, is_wide};

@@ -72,19 +72,23 @@ static FAULTS: [(&str, &str); 27] = [
     ("SELECT COUNT(*) FROM t WHERE day <> ^price", "kinds differ"),
     // 64 members, and one more
     (
-        "SELECT COUNT(*) FROM t WHERE qty IN (1,1,1,1,1,1,1,1,1,1,1,1,1,1,1,1,1,1,1,1,1,1,1,1,1,1,1,1,1,1,1,1,1,1,1,1,1,1,1,1,1,1,1,1,1,1,1,1,1,1,1,1,1,1,1,1,1,1,1,1,1,1,1,1)",
+        "SELECT COUNT(*) FROM t WHERE qty IN (1,1,1,1,1,1,1,1,1,1,1,1,1,1,1,1,1,1,1,1,1,1,1,1,1,1,1,1,1,1,1,1,1,1,1,1,1,1,1,1,1,\
+         1,1,1,1,1,1,1,1,1,1,1,1,1,1,1,1,1,1,1,1,1,1,1)",
         "",
     ),
     (
-        "SELECT COUNT(*) FROM t WHERE qty IN (1,1,1,1,1,1,1,1,1,1,1,1,1,1,1,1,1,1,1,1,1,1,1,1,1,1,1,1,1,1,1,1,1,1,1,1,1,1,1,1,1,1,1,1,1,1,1,1,1,1,1,1,1,1,1,1,1,1,1,1,1,1,1,1,^2)",
+        "SELECT COUNT(*) FROM t WHERE qty IN (1,1,1,1,1,1,1,1,1,1,1,1,1,1,1,1,1,1,1,1,1,1,1,1,1,1,1,1,1,1,1,1,1,1,1,1,1,1,1,1,1,\
+         1,1,1,1,1,1,1,1,1,1,1,1,1,1,1,1,1,1,1,1,1,1,1,^2)",
         "too many values",
     ),
     (
-        "SELECT COUNT(*) FROM t WHERE qty IN (1,1,1,1,1,1,1,1,1,1,1,1,1,1,1,1,1,1,1,1,1,1,1,1,1,1,1,1,1,1,1,1,1,1,1,1,1,1,1,1,1,1,1,1,1,1,1,1,1,1,1,1,1,1,1,1,1,1,1,1,1,1,1,1,^'2')",
+        "SELECT COUNT(*) FROM t WHERE qty IN (1,1,1,1,1,1,1,1,1,1,1,1,1,1,1,1,1,1,1,1,1,1,1,1,1,1,1,1,1,1,1,1,1,1,1,1,1,1,1,1,1,\
+         1,1,1,1,1,1,1,1,1,1,1,1,1,1,1,1,1,1,1,1,1,1,1,^'2')",
         "kinds differ",
     ),
     (
-        "SELECT COUNT(*) FROM t WHERE qty IN (1,1,1,1,1,1,1,1,1,1,1,1,1,1,1,1,1,1,1,1,1,1,1,1,1,1,1,1,1,1,1,1,1,1,1,1,1,1,1,1,1,1,1,1,1,1,1,1,1,1,1,1,1,1,1,1,1,1,1,1,1,1,1,1,^2.5,3)",
+        "SELECT COUNT(*) FROM t WHERE qty IN (1,1,1,1,1,1,1,1,1,1,1,1,1,1,1,1,1,1,1,1,1,1,1,1,1,1,1,1,1,1,1,1,1,1,1,1,1,1,1,1,1,\
+         1,1,1,1,1,1,1,1,1,1,1,1,1,1,1,1,1,1,1,1,1,1,1,^2.5,3)",
         "scale too fine",
     ),
 ];
@@ -97,7 +101,8 @@ fn values_suit_columns(rt: HostRuntime) -> Result<(), Fail> {
 static MEANINGS: [(&str, &str); 3] = [
     (
         "SELECT COUNT(*) FROM t WHERE paid >= -1.5 OR NOT rate <> 2",
-        "[3, 5] | [Item { kind: Count, arg: Literal(0), face: Number(0) }] | Or(Atom(Compare { column: 0, op: Ge, value: -150 }), Not(Atom(Compare { column: 1, op: Ne, value: 20 }))) | Plain",
+        "[3, 5] | [Item { kind: Count, arg: Literal(0), face: Number(0) }] | Or(Atom(Compare { column: 0, op: Ge, value: -150 \
+         }), Not(Atom(Compare { column: 1, op: Ne, value: 20 }))) | Plain",
     ),
     (
         "SELECT COUNT(*) FROM t WHERE day NOT BETWEEN '1970-01-02' AND DATE '1970-02-01'",
@@ -105,7 +110,8 @@ static MEANINGS: [(&str, &str); 3] = [
     ),
     (
         "SELECT COUNT(*) FROM t WHERE qty IN (3, -4) AND price > 5",
-        "[1, 0] | [Item { kind: Count, arg: Literal(0), face: Number(0) }] | And(Atom(OneOf { column: 0, values: Listed { items: [3, -4] } }), Atom(Compare { column: 1, op: Gt, value: 5 })) | Plain",
+        "[1, 0] | [Item { kind: Count, arg: Literal(0), face: Number(0) }] | And(Atom(OneOf { column: 0, values: Listed { \
+         items: [3, -4] } }), Atom(Compare { column: 1, op: Gt, value: 5 })) | Plain",
     ),
 ];
 

@@ -77,7 +77,8 @@ static MEANINGS: [(&str, &str); 7] = [
     ),
     (
         "SELECT SUM((price - qty) + rate * paid) FROM t",
-        "[0, 1, 5, 3] | [Item { kind: Sum, arg: Add(Mul(Sub(Column(0), Column(1)), Literal(1000)), Mul(Column(2), Column(3))), face: Number(3) }] | All | Plain",
+        "[0, 1, 5, 3] | [Item { kind: Sum, arg: Add(Mul(Sub(Column(0), Column(1)), Literal(1000)), Mul(Column(2), Column(3))), \
+         face: Number(3) }] | All | Plain",
     ),
     (
         "SELECT MAX(price) FROM t",
@@ -85,7 +86,8 @@ static MEANINGS: [(&str, &str); 7] = [
     ),
     (
         "SELECT SUM(paid), MIN(paid + 0) FROM t",
-        "[3] | [Item { kind: Sum, arg: Column(0), face: Number(2) }, Item { kind: Min, arg: Add(Column(0), Literal(0)), face: Number(2) }] | All | Plain",
+        "[3] | [Item { kind: Sum, arg: Column(0), face: Number(2) }, Item { kind: Min, arg: Add(Column(0), Literal(0)), face: \
+         Number(2) }] | All | Plain",
     ),
 ];
 

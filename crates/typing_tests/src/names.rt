@@ -52,11 +52,13 @@ static MANY: [(&str, &str); 6] = [
         "",
     ),
     (
-        "SELECT SUM(a),SUM(a),SUM(a),SUM(a),SUM(a),SUM(a),SUM(a),SUM(a),SUM(a),SUM(a),SUM(a),SUM(a),SUM(a),SUM(a),SUM(a),SUM(a),b FROM t GROUP BY b",
+        "SELECT SUM(a),SUM(a),SUM(a),SUM(a),SUM(a),SUM(a),SUM(a),SUM(a),SUM(a),SUM(a),SUM(a),SUM(a),SUM(a),SUM(a),SUM(a),SUM(a),\
+         b FROM t GROUP BY b",
         "",
     ),
     (
-        "SELECT SUM(a),SUM(a),SUM(a),SUM(a),SUM(a),SUM(a),SUM(a),SUM(a),SUM(a),SUM(a),SUM(a),SUM(a),SUM(a),SUM(a),SUM(a),SUM(a),COUNT(*) FROM t",
+        "SELECT SUM(a),SUM(a),SUM(a),SUM(a),SUM(a),SUM(a),SUM(a),SUM(a),SUM(a),SUM(a),SUM(a),SUM(a),SUM(a),SUM(a),SUM(a),SUM(a),\
+         COUNT(*) FROM t",
         "more than 16 aggregates",
     ),
 ];
@@ -75,7 +77,8 @@ static NUMBERS: [(&str, &str); 3] = [
     ),
     (
         "SELECT MIN(qty), MAX(price), MIN(qty) FROM t WHERE price < qty",
-        "[1, 0] | [Item { kind: Min, arg: Column(0), face: OfColumn(0) }, Item { kind: Max, arg: Column(1), face: OfColumn(1) }, Item { kind: Min, arg: Column(0), face: OfColumn(0) }] | Atom(CompareColumns { left: 1, op: Lt, right: 0 }) | Plain",
+        "[1, 0] | [Item { kind: Min, arg: Column(0), face: OfColumn(0) }, Item { kind: Max, arg: Column(1), face: OfColumn(1) \
+         }, Item { kind: Min, arg: Column(0), face: OfColumn(0) }] | Atom(CompareColumns { left: 1, op: Lt, right: 0 }) | Plain",
     ),
     (
         "SELECT rate, city, COUNT(*) FROM t GROUP BY city, rate, city",

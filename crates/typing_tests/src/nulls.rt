@@ -70,7 +70,8 @@ static COUNTS: [(&str, &str); 8] = [
     ),
     (
         "SELECT COUNT(*), COUNT(qty), MIN(qty) FROM t",
-        "[1] | [Item { kind: Count, arg: Literal(0), face: Number(0) }, Item { kind: Count, arg: Column(0), face: Number(0) }, Item { kind: Min, arg: Column(0), face: OfColumn(0) }] | All | Plain",
+        "[1] | [Item { kind: Count, arg: Literal(0), face: Number(0) }, Item { kind: Count, arg: Column(0), face: Number(0) }, \
+         Item { kind: Min, arg: Column(0), face: OfColumn(0) }] | All | Plain",
     ),
     (
         "SELECT COUNT(qty), city FROM t GROUP BY city",

@@ -16,7 +16,8 @@ static EARLIER: [(&str, &str); 11] = [
         "unknown column",
     ),
     (
-        "SELECT qty, SUM(city), SUM(qty), SUM(qty), SUM(qty), SUM(qty), SUM(qty), SUM(qty), SUM(qty), SUM(qty), SUM(qty), SUM(qty), SUM(qty), SUM(qty), SUM(qty), SUM(qty), SUM(qty), SUM(qty) FROM t",
+        "SELECT qty, SUM(city), SUM(qty), SUM(qty), SUM(qty), SUM(qty), SUM(qty), SUM(qty), SUM(qty), SUM(qty), SUM(qty), \
+         SUM(qty), SUM(qty), SUM(qty), SUM(qty), SUM(qty), SUM(qty), SUM(qty) FROM t",
         "more than 16 aggregates",
     ),
     (

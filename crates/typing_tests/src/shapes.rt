@@ -73,7 +73,8 @@ fn groups_with_nulls(rt: HostRuntime) -> Result<(), Fail> {
 static SHAPES: [(&str, &str); 3] = [
     (
         "SELECT city, COUNT(*) FROM t WHERE qty > 1 GROUP BY qty, city, qty",
-        "[2, 1] | [Item { kind: Count, arg: Literal(0), face: Number(0) }] | Atom(Compare { column: 1, op: Gt, value: 1 }) | Grouped(Listed { items: [1, 0] })",
+        "[2, 1] | [Item { kind: Count, arg: Literal(0), face: Number(0) }] | Atom(Compare { column: 1, op: Gt, value: 1 }) | \
+         Grouped(Listed { items: [1, 0] })",
     ),
     (
         "SELECT * FROM t WHERE qty > 1 ORDER BY price DESC LIMIT 3",

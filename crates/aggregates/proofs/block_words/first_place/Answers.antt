@@ -1,4 +1,4 @@
-use Rattle.std.proofs.Common.{◌≡◌, ◌<◌, ◌≤◌, get_or, arith}
+use Rattle.std.proofs.Common.{◌<◌, get_or, arith}
 use Rattle.aggregates.proofs.BlockWords.{last_word, place_there}
 use Rattle.aggregates.proofs.block_words.first_place.Goals as goal
 use Rattle.aggregates.proofs.block_words.first_place.Goals.{then-loop-k-test+else-words-k-eq0, else-loop-k-test}

@@ -1,4 +1,4 @@
-use Rattle.std.proofs.Common.{◌≡◌, suc, ◌+◌, ◌-◌, ◌*◌, ◌≤◌, Bool, true, false, cond, length, refl, subst, sym, ap, ◌∙◌, arith}
+use Rattle.std.proofs.Common.{◌≡◌, suc, ◌+◌, ◌-◌, ◌*◌, ◌≤◌, Bool, true, false, cond, refl, subst, sym, ap, ◌∙◌, arith}
 use Rattle.std.proofs.lemmas.Bool.{false≢true}
 use Rattle.aggregates.specs.ExtremeRows.{is_ahead, AreBlockRows}
 use Rattle.aggregates.proofs.BlockWords.{AreLeading, best_ahead, best_found, best_stays, block_is, leading_first, leading_further, not_ahead_first}

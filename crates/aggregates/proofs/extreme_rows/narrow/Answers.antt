@@ -1,4 +1,4 @@
-use Rattle.std.proofs.Common.{◌≡◌, cond, subst, arith}
+use Rattle.std.proofs.Common.{cond, subst}
 use Rattle.aggregates.specs.ExtremeRows.{IsNarrowed}
 use Rattle.aggregates.proofs.BlockWords.{AreEight, narrowed, ones_of, zeros_of}
 use Rattle.aggregates.proofs.extreme_rows.narrow.Goals as goal

@@ -1,7 +1,7 @@
 use Rattle.std.proofs.Common.{◌-◌, ◌*◌, ◌&&◌, not, min, length, ap, sym, ◌∙◌, arith}
 use Rattle.std.specs.Simd.Lanes.{zip2}
 use Rattle.kleene_filter.specs.Filters.{is_possible}
-use Rattle.known_column.specs.Columns.{KnownColumn, is_sure, rows_where}
+use Rattle.known_column.specs.Columns.{rows_where}
 use Rattle.known_column.specs.Columns as columns
 use Rattle.aggregates.specs.Selections.{block_of}
 use Rattle.avg_exact.specs.Blocks.{column_of, is_sure_row, rows_with}

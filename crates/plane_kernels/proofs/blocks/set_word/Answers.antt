@@ -1,7 +1,6 @@
-use Rattle.std.proofs.Common.{◌≡◌, zero, suc, ◌+◌, ◌-◌, ◌*◌, ◌^◌, ◌<◌, ℕ, List, [], ◌∷◌, length, min, set, sym, ap, ◌∙◌, arith}
+use Rattle.std.proofs.Common.{◌≡◌, zero, suc, ◌-◌, ◌*◌, ◌^◌, ◌<◌, ℕ, List, [], ◌∷◌, length, min, set, sym, ap, ◌∙◌, arith}
 use Rattle.std.specs.Int.Bits.{bit_and}
 use Rattle.std.specs.Simd.Lanes.{put_chunk}
-use Rattle.plane_kernels.specs.Words.{trimmed}
 use Rattle.plane_kernels.proofs.Puts.{put_none}
 use Rattle.plane_kernels.proofs.blocks.set_word.Goals as goal
 

@@ -1,4 +1,3 @@
-use Rattle.std.proofs.Common.{◌≡◌}
 use Rattle.round_engine.specs.CellAnswers.{StandBelow}
 use Rattle.round_engine.specs.Engines.{stage_of}
 use Rattle.round_engine.proofs.cell_filling.add_block.Given as goal

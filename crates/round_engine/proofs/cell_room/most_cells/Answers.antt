@@ -1,5 +1,4 @@
-use Rattle.std.proofs.Common.{◌≡◌, ◌<◌, length, get_or, take, ap, sym, subst, ◌∙◌, arith}
-use Rattle.std.proofs.lemmas.List.{take_all}
+use Rattle.std.proofs.Common.{◌≡◌, ◌<◌, length, get_or, ap, ◌∙◌, arith}
 use Rattle.daq_table.specs.Tables.{ends_at, planes}
 use Rattle.known_column.specs.Columns.{KnownColumn}
 use Rattle.query_model.specs.Answers.{groups_of}

@@ -1,4 +1,4 @@
-use Rattle.std.proofs.Common.{◌≡◌, length, ap, subst, arith}
+use Rattle.std.proofs.Common.{◌≡◌, ap, subst, arith}
 use Rattle.std.specs.Int.Bits.{bit_and}
 use Rattle.kleene_filter.specs.Filters.{is_certain, is_possible}
 use Rattle.kleene_filter.proofs.WordBits.{digit-and}

@@ -1,9 +1,7 @@
-use Rattle.std.proofs.Common.{◌≡◌, ◌<◌, length, slice_get, Some, ap, sym, subst, ◌∙◌, arith}
+use Rattle.std.proofs.Common.{◌≡◌, ◌<◌, length, slice_get, Some, ap, sym, ◌∙◌, arith}
 use Rattle.std.proofs.lemmas.Bool.{false≢true}
 use Rattle.std.proofs.lemmas.Option.{slice_get-get_or}
 use Rattle.query_model.specs.Queries.{Query}
-use Rattle.round_engine.specs.Engines.{stage_of}
-use Rattle.round_engine.proofs.Kept.{open_item_at}
 use Rattle.round_engine.proofs.Places.{read_there}
 use Rattle.round_engine.proofs.Walks.{walk_end, walk_keep, walk_set, walk_start}
 use Rattle.round_engine.proofs.groups.fill_each.Goals as goal

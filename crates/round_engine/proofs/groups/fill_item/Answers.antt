@@ -1,4 +1,4 @@
-use Rattle.std.proofs.Common.{◌≡◌, ◌^◌, arith}
+use Rattle.std.proofs.Common.{◌≡◌, arith}
 use Rattle.query_model.specs.Answers.{groups_of}
 use Rattle.round_engine.specs.Cells.{cells_in}
 use Rattle.round_engine.specs.Engines.{stage_of}

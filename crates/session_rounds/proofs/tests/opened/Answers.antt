@@ -1,6 +1,6 @@
 use Rattle.std.proofs.Common.{subst, sym, ◌≡◌}
 use Rattle.std.proofs.lemmas.Result.{IfOk-weaker}
-use Rattle.multi_session.specs.Sessions.{Session, session_opened}
+use Rattle.multi_session.specs.Sessions.{session_opened}
 use Rattle.session_rounds.specs.Reading.{FitsSession}
 use Rattle.session_rounds.proofs.Fitting.{fits_opened}
 use Rattle.session_rounds.proofs.tests.opened.Goals as goal

@@ -1,4 +1,4 @@
-use Rattle.std.proofs.Common.{◌≡◌, arith, sym, subst, set, length}
+use Rattle.std.proofs.Common.{arith, sym, subst, set, length}
 use Rattle.std.specs.List.{range_with_len}
 use Rattle.aggregates.specs.BlockPairs.{AreAllAdded, MayGetAll, pairs_in}
 use Rattle.aggregates.specs.Runnings.{Tallies}

@@ -1,10 +1,10 @@
-use Rattle.std.proofs.Common.{◌≡◌, ◌+ℤ◌, ◌∷◌, [], ◌++◌, ap, sym, ◌∙◌, subst, arith, FitsSigned}
+use Rattle.std.proofs.Common.{◌+ℤ◌, ◌∷◌, [], ◌++◌, ap, sym, ◌∙◌, subst, arith, FitsSigned}
 use Rattle.std.specs.Int.{w128}
 use Rattle.std.specs.List.{range_with_len}
 use Rattle.std.proofs.lemmas.List.{append_assoc}
-use Rattle.query_model.specs.Bounds.{certain_count, high_share, low_share}
+use Rattle.query_model.specs.Bounds.{high_share, low_share}
 use Rattle.aggregates.specs.declared.tally.Tally.{Tally}
-use Rattle.aggregates.specs.Tallies.{AreOrdered, MayGet, pair_with, tally_of}
+use Rattle.aggregates.specs.Tallies.{pair_with, tally_of}
 use Rattle.aggregates.proofs.Adding.{few_certain, high_sum_fits, low_sum_fits}
 use Rattle.aggregates.proofs.BlockAdding.{may_get_row, no_pair, ordered_both, ordered_rows, pair_there, pairs_to, with_row, without_row}
 use Rattle.aggregates.proofs.tally.Tally.add_block.Goals as goal

@@ -1,4 +1,4 @@
-use Rattle.std.proofs.Common.{◌+◌, ap, sym, ◌∙◌, arith, map}
+use Rattle.std.proofs.Common.{◌+◌, ap, sym, ◌∙◌, arith}
 use Rattle.std.proofs.lemmas.Int.{ints}
 use Rattle.query_model.specs.declared.query.ItemKind.TheVariants.{Min, Max}
 use Rattle.query_model.specs.Answers.{answer}

@@ -1,7 +1,7 @@
-use Rattle.std.proofs.Common.{◌≡◌, ◌+◌, ◌+ℤ◌, ◌∷◌, [], ◌++◌, refl, ap, sym, ◌∙◌, arith, map}
+use Rattle.std.proofs.Common.{◌≡◌, ◌+◌, ◌∷◌, [], ◌++◌, ap, sym, ◌∙◌, arith}
 use Rattle.std.proofs.lemmas.Bool.{eqb-true}
 use Rattle.std.proofs.lemmas.Int.{ints}
-use Rattle.query_model.specs.declared.query.ItemKind.TheVariants.{Sum, Min, Max}
+use Rattle.query_model.specs.declared.query.ItemKind.TheVariants.{Min, Max}
 use Rattle.query_model.specs.Answers.{answer, total}
 use Rattle.query_model.specs.Bounds.{certain_count, lows, highs, low_share, high_share}
 use Rattle.aggregates.specs.declared.tally.Tally.{Tally}

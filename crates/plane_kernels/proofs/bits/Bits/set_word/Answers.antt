@@ -1,4 +1,4 @@
-use Rattle.std.proofs.Common.{◌≡◌, ◌-◌, ◌*◌, [], ◌∷◌, min, length, sym, ap, subst, ◌∙◌, arith}
+use Rattle.std.proofs.Common.{◌≡◌, ◌-◌, ◌*◌, [], ◌∷◌, min, length, sym, ap, ◌∙◌, arith}
 use Rattle.std.specs.Simd.Lanes.{put_chunk}
 use Rattle.plane_kernels.specs.Rows.{rows_of, bits_of}
 use Rattle.plane_kernels.specs.Words.{trimmed}

@@ -1,4 +1,4 @@
-use Rattle.std.proofs.Common.{◌≡◌, ◌<◌, true, false, length, replicate, sym, subst, arith}
+use Rattle.std.proofs.Common.{true, false, replicate, sym, subst, arith}
 use Rattle.std.proofs.lemmas.List.{get_or-replicate}
 use Rattle.round_engine.specs.CellAnswers.{StandForOthers}
 use Rattle.round_engine.specs.Engines.{stage_of}

@@ -1,5 +1,4 @@
-use Rattle.std.proofs.Common.{◌≡◌, ◌<◌, sym, ap, subst, ◌∙◌, arith}
-use Rattle.std.specs.List.{list_all, range_with_len}
+use Rattle.std.proofs.Common.{◌<◌, sym, subst, ◌∙◌}
 use Rattle.round_engine.specs.Cells.{cells_in}
 use Rattle.round_engine.specs.Narrowness.{is_narrow_cell}
 use Rattle.round_engine.proofs.CellNarrow.{cells_more, narrow_cells, not_all_cells}

@@ -1,6 +1,5 @@
-use Rattle.std.proofs.Common.{◌≡◌, ◌≤◌, ◌^◌, length, ap, sym, subst, ◌∙◌, arith}
+use Rattle.std.proofs.Common.{length, ap, sym, subst, ◌∙◌, arith}
 use Rattle.query_model.specs.Answers.{groups_of}
-use Rattle.row_groups.specs.Partition.{digits_of}
 use Rattle.round_engine.specs.CellAnswers.{HaveCells, TellSingle, most_cells}
 use Rattle.round_engine.specs.Engines.{stage_of}
 use Rattle.round_engine.specs.OneCell.{HoldMasks}

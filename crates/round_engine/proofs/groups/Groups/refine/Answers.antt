@@ -1,6 +1,6 @@
-use Rattle.std.proofs.Common.{◌≡◌, ◌≤◌, ◌<◌, ◌^◌, ◌++◌, false, length, take, drop, IsTrue, refl, ap, sym, subst, ◌∙◌, arith}
+use Rattle.std.proofs.Common.{◌≡◌, ◌++◌, false, length, take, drop, IsTrue, refl, ap, sym, subst, ◌∙◌, arith}
 use Rattle.query_model.specs.Answers.{groups_of}
-use Rattle.row_groups.specs.Partition.{AreCells, RowCells, digits_of, is_group, refined}
+use Rattle.row_groups.specs.Partition.{AreCells, RowCells, is_group, refined}
 use Rattle.round_engine.specs.CellAnswers.{IsParted, TellSingle}
 use Rattle.round_engine.specs.Stages.{IsOpenStage, Stage, stepped}
 use Rattle.round_engine.proofs.CellKept.{cells_more, group_below, group_unread, parted_holds, parted_more, parted_rows, parted_still, written}

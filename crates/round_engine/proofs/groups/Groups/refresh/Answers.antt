@@ -1,13 +1,9 @@
-use Rattle.std.proofs.Common.{◌≡◌, ◌||◌, ◌++◌, false, length, drop, take, refl, ap, sym, subst, ◌∙◌, arith}
-use Rattle.std.proofs.lemmas.Bool.{or_parts}
-use Rattle.kleene_filter.specs.Filters.{stands_in}
-use Rattle.query_model.specs.Answers.{every_row, groups_of}
-use Rattle.query_model.specs.Meaning.{columns_of_pred}
-use Rattle.row_groups.specs.Partition.{is_group}
+use Rattle.std.proofs.Common.{◌≡◌, false, length, drop, refl, ap, sym, subst, ◌∙◌, arith}
+use Rattle.query_model.specs.Answers.{every_row}
 use Rattle.round_engine.specs.CellAnswers.{IsParted, StandForCells, StandForEach, StandForOthers, moves_rows}
 use Rattle.round_engine.specs.Engines.{stage_of}
 use Rattle.round_engine.specs.Moves.{AreMoved}
-use Rattle.round_engine.specs.Stages.{IsGrouped, Stage, stepped}
+use Rattle.round_engine.specs.Stages.{IsGrouped, Stage}
 use Rattle.round_engine.proofs.CellKept.{moved_for_others, parted_still, rows_stay, stand_still, written}
 use Rattle.round_engine.proofs.groups.Groups.refresh.Goals as goal
 

@@ -1,7 +1,7 @@
-use Rattle.std.proofs.Common.{length, sym, ap, subst, ◌∙◌}
+use Rattle.std.proofs.Common.{sym, ap, ◌∙◌}
 use Rattle.aggregates.specs.Tallies.{tally_of}
 use Rattle.query_model.specs.Queries.{Aggregate}
-use Rattle.round_engine.specs.Selected.{HasRows, pairs_in}
+use Rattle.round_engine.specs.Selected.{pairs_in}
 use Rattle.round_engine.proofs.FewCells.{part_rows, selected_part, selection_part}
 use Rattle.round_engine.proofs.OneCell.{must_if}
 use Rattle.round_engine.proofs.one_cell.CellMasks.column_part.Goals as goal

@@ -1,4 +1,4 @@
-use Rattle.std.proofs.Common.{◌≡◌, ◌≤◌, ap, sym, subst, ◌∙◌, arith}
+use Rattle.std.proofs.Common.{arith}
 use Rattle.round_engine.specs.Engines.{stage_of}
 use Rattle.round_engine.proofs.CellRows.{cells_fit}
 use Rattle.round_engine.proofs.OneCell.{stand_alone}

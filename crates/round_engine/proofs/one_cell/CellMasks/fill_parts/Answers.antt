@@ -1,7 +1,6 @@
-use Rattle.std.proofs.Common.{◌≡◌, ◌<◌, ◌≤◌, ◌^◌, ◌==◌, rules, length, ap, sym, subst, ◌∙◌, arith}
+use Rattle.std.proofs.Common.{◌==◌, rules, length, ap, sym, ◌∙◌, arith}
 use Rattle.std.proofs.lemmas.List.{length-map}
 use Rattle.query_model.specs.Answers.{groups_of}
-use Rattle.round_engine.specs.Cells.{cells_in}
 use Rattle.round_engine.specs.Engines.{stage_of}
 use Rattle.round_engine.proofs.CellKept.{parted_rows}
 use Rattle.round_engine.proofs.CellRows.{cells_fit}

@@ -1,4 +1,3 @@
-use Rattle.std.proofs.Common.{◌≡◌}
 use Rattle.round_engine.specs.OneCell.{HoldMasks}
 use Rattle.round_engine.proofs.FewCells.{ArePartsBelow}
 use Rattle.round_engine.proofs.one_cell.CellMasks.fill_parts.Given as goal

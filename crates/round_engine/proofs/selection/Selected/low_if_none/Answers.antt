@@ -1,4 +1,4 @@
-use Rattle.std.proofs.Common.{◌≡◌, ap, sym, ◌∙◌, arith}
+use Rattle.std.proofs.Common.{ap, sym, ◌∙◌, arith}
 use Rattle.query_model.specs.declared.query.ItemKind.TheVariants.{Min}
 use Rattle.query_model.specs.Answers.{answer}
 use Rattle.query_model.specs.Bounds.{lows}

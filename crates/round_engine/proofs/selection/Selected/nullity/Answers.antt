@@ -1,4 +1,4 @@
-use Rattle.std.proofs.Common.{◌≡◌, ◌<◌, count_by, ap, arith}
+use Rattle.std.proofs.Common.{count_by, ap, arith}
 use Rattle.aggregates.proofs.BoundFacts.{nullity_of-certain, nullity_of-none, nullity_of-uncertain}
 use Rattle.round_engine.specs.Selected.{pairs_in}
 use Rattle.round_engine.proofs.SelectedBounds.{all_is, certain_is}
