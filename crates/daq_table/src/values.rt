@@ -9,10 +9,10 @@ use crate::head::{ColumnHead, Kind};
 use crate::names::Dictionary;
 use crate::numbers::push_number;
 
-// Appends a byte of a name: a quote twice, and any other once.
+// Appends a byte of a name, a quote twice and any other once, or leaves the text as it was.
 fn push_doubled(byte: u8, text: &mut TextBuf) -> Result<(), NoRoom>
     ensures ok { OnOk result (text.new ≡ text.old ++ doubled byte) }
-    ensures err { OnErr result (640 < length text.old + length (doubled byte)) }
+    ensures err { OnErr result ((text.new ≡ text.old) × (640 < length text.old + length (doubled byte))) }
 {
     if byte == b'\'' {
         text.push_bytes(b"''")

@@ -12,4 +12,4 @@ returns-in_err-push_doubled-clause-err c =
     let at = c.loop-byte.byte-index in
     let next = at_drop_more (flat_map doubled) name at 0 (omega arith) in
     let p = err_from_is_err_and c.from_residual.result c.from_residual.ensures.1 in
-    rw p.1 (too_much c.loop-byte.text (doubled (get_or name at 0)) (flat_map doubled (drop (at + 1) name)) (flat_map doubled name) (rw next at c.loop-byte.invariant) c.in_err-push_doubled.ensures.err)
+    rw p.1 (too_much c.loop-byte.text (doubled (get_or name at 0)) (flat_map doubled (drop (at + 1) name)) (flat_map doubled name) (rw next at c.loop-byte.invariant) c.in_err-push_doubled.ensures.err.1)
