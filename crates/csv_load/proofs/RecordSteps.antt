@@ -105,7 +105,7 @@ header_refused bytes columns limits old next (TooManyCells count) b h = absurd h
 header_refused bytes columns limits old next (UnequalLength entry got want) b h = absurd h
 header_refused bytes columns limits old next (BadCell entry place) b h = absurd h
 header_refused bytes columns limits old next (TooManyNames place) b h = absurd h
-header_refused bytes columns limits old next NoMemory b h = tt
+header_refused bytes columns limits old next NoMemory b h = absurd h
 
 pub record_refused : (bytes : List ℕ) (columns : List SchemaColumn) (limits : Limits) (records : List Fields) (old : List State) (next : Fields) (fault : TableFault)
     → HasTaken columns limits records old → Begins bytes (records ++ next ∷ []) → RefusesRecord columns limits (length records) old next fault → Refuses bytes columns limits fault

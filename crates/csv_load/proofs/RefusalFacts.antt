@@ -27,4 +27,4 @@ field_refused limits rows old fields (TooManyCells n) room full h = absurd (h.re
 field_refused limits rows old fields (UnequalLength n got want) room full h = absurd (h.refused (state_of Int false []))
 field_refused limits rows old fields (BadCell n place) room full h = record { room = room; full = full; field = h }
 field_refused limits rows old fields (TooManyNames place) room full h = record { room = room; full = full; field = h }
-field_refused limits rows old fields NoMemory room full h = tt
+field_refused limits rows old fields NoMemory room full h = record { room = room; full = full; field = h }

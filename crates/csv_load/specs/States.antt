@@ -156,7 +156,7 @@ pub record RefusesLength (limits : Limits) (rows : ℕ) (old : List State) (fiel
   pub want_is : want ≡ length old
   pub differ : got ≢ want
 
--- why the record is no row after so many
+-- why the record is no row after so many; memory is wanted for its fields alone
 abbrev pub RefusesRow : Limits → ℕ → List State → Fields → TableFault → Type 0
 RefusesRow limits rows old fields NoHeader = ⊥
 RefusesRow limits rows old fields (HeaderDiffers place) = ⊥
@@ -165,14 +165,14 @@ RefusesRow limits rows old fields (TooManyCells count) = (suc rows ≤ limits.ro
 RefusesRow limits rows old fields (UnequalLength entry got want) = RefusesLength limits rows old fields entry got want
 RefusesRow limits rows old fields (BadCell entry place) = RefusesField limits rows old fields (BadCell entry place)
 RefusesRow limits rows old fields (TooManyNames place) = RefusesField limits rows old fields (TooManyNames place)
-RefusesRow limits rows old fields NoMemory = ⊤
+RefusesRow limits rows old fields NoMemory = RefusesField limits rows old fields NoMemory
 
 -- the first record is the header, and each further one a row
 abbrev pub TakesRecord : List SchemaColumn → Limits → ℕ → List State → Fields → List State → Type 0
 TakesRecord columns limits zero old fields new = (fields ≡ names_of columns) × (new ≡ old)
 TakesRecord columns limits (suc rows) old fields new = TakesRow limits rows old fields new
 
--- why the record is no header
+-- why the record is no header; to know it takes no memory
 abbrev pub RefusesHeader : List SchemaColumn → Fields → TableFault → Type 0
 RefusesHeader columns fields NoHeader = ⊥
 RefusesHeader columns fields (HeaderDiffers place) = IsFirstDifference fields (names_of columns) place
@@ -181,7 +181,7 @@ RefusesHeader columns fields (TooManyCells count) = ⊥
 RefusesHeader columns fields (UnequalLength entry got want) = ⊥
 RefusesHeader columns fields (BadCell entry place) = ⊥
 RefusesHeader columns fields (TooManyNames place) = ⊥
-RefusesHeader columns fields NoMemory = ⊤
+RefusesHeader columns fields NoMemory = ⊥
 
 abbrev pub RefusesRecord : List SchemaColumn → Limits → ℕ → List State → Fields → TableFault → Type 0
 RefusesRecord columns limits zero old fields fault = RefusesHeader columns fields fault
