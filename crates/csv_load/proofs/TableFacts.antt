@@ -1,8 +1,8 @@
--- Finished columns are the columns of a table.
-use Rattle.std.proofs.Common.{◌≡◌, ℕ, ◌+◌, ◌<◌, ◌≤◌, ℤ, pos, ◌+ℤ◌, ◌-ℤ◌, ◌≤ℤ◌, unsigned_abs, Bool, true, false, if◌then◌else◌, IsTrue, All, Option, Some, None, List, [], ◌∷◌, ◌++◌, slice_get, length, map, get_or, refl, sym, ap, subst, inl, inr, ◌∙◌, arith, length-append}
+-- Finished columns are the columns of a table, and are left without cells.
+use Rattle.std.proofs.Common.{◌≡◌, ℕ, ◌+◌, ◌<◌, ◌≤◌, ℤ, pos, ◌+ℤ◌, ◌-ℤ◌, ◌≤ℤ◌, unsigned_abs, Bool, true, false, if◌then◌else◌, IsTrue, All, Option, Some, None, List, [], ◌∷◌, ◌++◌, slice_get, length, map, set, get_or, refl, sym, ap, subst, inl, inr, ◌∙◌, arith, length-append}
 use Rattle.std.proofs.Math.Seq.{get_or-append_seam}
 use Rattle.std.proofs.lemmas.Int.{ints}
-use Rattle.std.proofs.lemmas.List.{get_or-map, get_or_append_left, get_or_read, length-map, same_lists}
+use Rattle.std.proofs.lemmas.List.{get_or-map, get_or-set_other, get_or-set_same, get_or_append_left, get_or_read, length-map, same_lists}
 use Rattle.std.proofs.lemmas.List.Elements.{All-cons, All-head, All-map, All-nil, All-tail}
 use Rattle.std.proofs.lemmas.List.Sums.{list_all-from_AllPass}
 use Rattle.std.proofs.lemmas.Option.{get_or_from_slice_get, slice_get-get_or, slice_get_cases, slice_get_within}
@@ -17,7 +17,7 @@ use Rattle.daq_table.specs.declared.head.Kind.TheVariants.{Int, Dec, Date, Text}
 use Rattle.daq_table.specs.declared.schema_column.SchemaColumn.{SchemaColumn}
 use Rattle.daq_table.proofs.Extremes.{greatest_above}
 use Rattle.daq_table.specs.Extremes.{greatest}
-use Rattle.csv_load.specs.States.{AreComplete, AreFinished, AreStored, IsComplete, IsFinished, IsStored, State, laid, numbers_in, state_of, values_in}
+use Rattle.csv_load.specs.States.{AreComplete, AreFinished, AreStored, IsComplete, IsFinished, IsStored, State, emptied, laid, numbers_in, state_of, values_in}
 use Rattle.csv_load.proofs.RowFacts.{last_place}
 
 -- what stands at a place of a list, and of that list with one more behind it
@@ -56,6 +56,20 @@ finished_push columns states end heads lists marks column s head numbers nulls h
             (subst (λ (x : ColumnHead). IsFinished s column.name x numbers nulls) same_head f)))
       ];
 }
+
+-- one more column is emptied
+pub emptied_more : (old now : List State) (end : ℕ) (s left : State) → end < length old → length now ≡ length old → s ≡ get_or old end s → left ≡ emptied s
+    → ((c : ℕ) (d : State) → c < end → get_or now c d ≡ emptied (get_or old c d)) → (c : ℕ) (d : State) → c < end + 1 → get_or (set now end left) c d ≡ emptied (get_or old c d)
+emptied_more old now end s left lt wide was is before c d le =
+    elim (last_place c end le) [
+      | inl below ↦ get_or-set_other now end c left d (λ e. absurd (omega (arith, below, e))) ∙ before c d below
+      | inr here ↦ rw here (get_or-set_same now end left d (omega (arith, lt, wide)) ∙ is ∙ ap emptied (get_or_read old end s lt was d))
+    ]
+
+pub all_emptied : (old now : List State) → length now ≡ length old → ((c : ℕ) (d : State) → c < length old → get_or now c d ≡ emptied (get_or old c d)) → now ≡ map emptied old
+all_emptied old now wide each = same_lists now (map emptied old) (wide ∙ sym (length-map old emptied)) (λ c d lt.
+    let within : c < length old = omega (arith, lt, wide) in
+    each c d within ∙ sym (get_or-map emptied old c d d within))
 
 -- finished columns are stored as the cells of their numbers and marks
 pub are_stored : (columns : List SchemaColumn) (states : List State) (heads : List ColumnHead) (lists : List (List ℕ)) (marks : List (List Bool)) → AreFinished columns states (length states) heads lists marks

@@ -12,6 +12,7 @@ use Rattle.daq_table.specs.CellTexts.{cell_number}
 use Rattle.daq_table.specs.Tables.{Cell, Cells, column_from, ends_of, value_of}
 use Rattle.daq_table.specs.declared.head.ColumnHead.{ColumnHead}
 use Rattle.daq_table.specs.declared.head.Kind.{Kind}
+use Rattle.daq_table.specs.declared.head.Kind.TheVariants.{Int}
 use Rattle.daq_table.specs.declared.schema_column.SchemaColumn.{SchemaColumn}
 use Rattle.daq_table.specs.Dictionaries.{rank_of}
 use Rattle.daq_table.specs.Extremes.{greatest, least}
@@ -265,6 +266,10 @@ pub record IsFinished (s : State) (name : List ℕ) (head : ColumnHead) (numbers
   pub stored : IsStored s name head (column_from numbers nulls)
   pub nulls_are : nulls ≡ s.nulls
   pub zero : (r : ℕ) → IsTrue (slice_index_or nulls r false) → slice_index_or numbers r 0 ≡ 0
+
+-- what is left of a column that is finished: one of integers, without cells
+abbrev pub emptied : State → State
+emptied s = state_of Int s.nullable []
 
 -- the first of the declared columns, up to that place, are finished
 pub record AreFinished (columns : List SchemaColumn) (states : List State) (end : ℕ) (heads : List ColumnHead)

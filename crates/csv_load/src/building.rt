@@ -1,13 +1,13 @@
 //! The table of the columns that were read.
 
-ghost use Rattle.std.specs.Prelude.{◌≡◌, ◌≤◌, length, IfOk};
-ghost use Rattle.csv_load.specs.States.{AreComplete, AreStored};
+ghost use Rattle.std.specs.Prelude.{◌≡◌, ◌≤◌, length, map, IfOk, OnOk};
+ghost use Rattle.csv_load.specs.States.{AreComplete, AreStored, emptied};
 
 use crate::column::Column;
 use daq_table::{ColumnHeads, Head, Name, Schema, Table};
 use std::alloc::{AllocError, Global};
 
-/// The table of the columns, under the schema's names. The columns are left without their cells.
+/// The table of the columns, under the schema's names. It leaves the columns without their cells.
 pub(crate) fn table_of(
     alloc: Global,
     schema: &Schema,
@@ -19,6 +19,7 @@ pub(crate) fn table_of(
     requires complete { AreComplete rows columns.old }
     ensures rows { IfOk result (λ table. table.head.rows ≡ rows) }
     ensures columns { IfOk result (λ table. AreStored schema.now.columns columns.old table.head.columns table.cells) }
+    ensures left { OnOk result (columns.new ≡ map emptied columns.old) }
 {
     let mut heads = Vec::new(alloc);
     let mut lists = Vec::new(alloc);

@@ -2,7 +2,7 @@
 
 ghost use Rattle.std.specs.Prelude.{◌≡◌, IfOk, OnOk, IfErr, []};
 ghost use Rattle.csv_load.specs.Columns.{is_null};
-ghost use Rattle.csv_load.specs.States.{IsFinished, IsWhole, RefusesCell, Takes, state_of, state_with};
+ghost use Rattle.csv_load.specs.States.{IsFinished, IsWhole, RefusesCell, Takes, emptied, state_of, state_with};
 
 use crate::fault::TableFault;
 use crate::filling::cells_of;
@@ -71,14 +71,16 @@ impl Column {
         Ok(())
     }
 
-    /// The column's head under that name, and the numbers and marks of its cells. The column is left without them.
+    /// The column's head under that name, and the numbers and marks of its cells. The column is left without them, as
+    /// one of integers.
     pub(crate) fn finish(
         &mut self,
         alloc: Global,
         name: Name,
     ) -> Result<(ColumnHead, Vec<u64>, Vec<bool>), AllocError>
         requires { IsWhole self.old }
-        ensures { IfOk result (λ column. IsFinished self.old name column.0 column.1.items column.2.items) }
+        ensures column { IfOk result (λ column. IsFinished self.old name column.0 column.1.items column.2.items) }
+        ensures left { self.new ≡ emptied self.old }
     {
         let values = mem::replace(&mut self.values, Values::new(alloc, Kind::Int));
         let nulls = mem::replace(&mut self.nulls, Vec::new(alloc));

@@ -4,8 +4,8 @@ use Rattle.daq_table.specs.Tables.{AreMarks, Cells, IsTable, cells_from, ends_of
 use Rattle.daq_table.specs.declared.head.ColumnHead.{ColumnHead}
 use Rattle.daq_table.specs.declared.schema_column.SchemaColumn.{SchemaColumn}
 use Rattle.daq_table.specs.declared.table_head.Head.{Head}
-use Rattle.csv_load.specs.States.{AreFinished, AreStored, IsFinished, State}
-use Rattle.csv_load.proofs.TableFacts.{are_marks, are_stored, finished_push, is_head, is_table}
+use Rattle.csv_load.specs.States.{AreFinished, AreStored, IsFinished, State, emptied}
+use Rattle.csv_load.proofs.TableFacts.{all_emptied, are_marks, are_stored, emptied_more, finished_push, is_head, is_table}
 use Rattle.csv_load.proofs.building.table_of.Goals as goal
 
 pub loop-place-preserved : goal.loop-place-preserved
@@ -15,7 +15,7 @@ loop-place-preserved c =
     let name = c.new-name.ensures ∙ c.in_ok-from_slice.ensures.items ∙ c.as_slice.ensures.bytes in
     let finished : IsFinished c.index-columns-place.result c.declared-item.result.name c.in_ok-head.head c.in_ok-head.cells.items c.in_ok-head.nulls.items =
     subst (λ (n : List ℕ). IsFinished c.index-columns-place.result n c.in_ok-head.head c.in_ok-head.cells.items c.in_ok-head.nulls.items) name
-    (subst (λ (t : State). IsFinished t c.new-name.result c.in_ok-head.head c.in_ok-head.cells.items c.in_ok-head.nulls.items) (sym c.index-columns-place.is) c.in_ok-head.ensures) in
+    (subst (λ (t : State). IsFinished t c.new-name.result c.in_ok-head.head c.in_ok-head.cells.items c.in_ok-head.nulls.items) (sym c.index-columns-place.is) c.in_ok-head.ensures.column) in
     let declared : c.declared-item.result ≡ get_or c.args.schema.now.columns c.loop-place.place c.declared-item.result =
     c.declared-item.is ∙ ap (λ (xs : List SchemaColumn). get_or xs c.loop-place.place c.declared-item.result) c.as_slice-declared-items.ensures in
     let there = c.index-columns-place.is ∙ c.loop-place.invariant.left c.loop-place.place c.index-columns-place.result (omega arith) in
@@ -31,6 +31,7 @@ loop-place-preserved c =
         map-append marked c.loop-place.marks.items (c.in_ok-head.nulls ∷ []),
       ) more;
       wide = length-set c.loop-place.columns c.loop-place.place c.finish.new.self ∙ c.loop-place.invariant.wide;
+      empty = emptied_more c.args.columns.now c.loop-place.columns c.loop-place.place c.index-columns-place.result c.finish.new.self within c.loop-place.invariant.wide there (c.finish.ensures.left ∙ ap emptied (sym c.index-columns-place.is)) c.loop-place.invariant.empty;
       left = λ k d le. get_or-set_other c.loop-place.columns c.loop-place.place k c.finish.new.self d (λ e. absurd (omega (arith, le, e))) ∙ c.loop-place.invariant.left k d (omega (arith, le));
     }
 
@@ -72,3 +73,6 @@ returns-clause-columns c =
     subst (λ (hs : List ColumnHead). AreStored c.args.schema.now.columns c.args.columns.now hs c.new-2.result.cells) (sym heads)
     (subst (λ (cells : Cells). AreStored c.args.schema.now.columns c.args.columns.now c.loop-place.heads.items cells) (sym c.new-2.ensures.cells)
     (are_stored c.args.schema.now.columns c.args.columns.now c.loop-place.heads.items lists marks done))
+
+pub returns-clause-left : goal.returns-clause-left
+returns-clause-left c = all_emptied c.args.columns.now c.loop-place.columns c.loop-place.invariant.wide (λ k d lt. c.loop-place.invariant.empty k d (omega (arith, lt, c.loop-place-test.false, c.loop-place.auto.place-end, ap length c.as_slice-declared-items.ensures, c.requires.wide)))

@@ -3,8 +3,8 @@ use Rattle.csv_load.specs.States.{HasValues, IsFinished, IsWhole, Kept, State, f
 use Rattle.csv_load.proofs.NullFacts.{finished}
 use Rattle.csv_load.proofs.column.Column.finish.Goals as goal
 
-pub returns : goal.returns
-returns c =
+pub returns-clause-column : goal.returns-clause-column
+returns-clause-column c =
     let s : State = record { nullable = c.self.inside.nullable; kept = c.self.inside.values; nulls = c.self.inside.nulls.items } in
     let whole : IsWhole s = subst IsWhole (sym c.self.view_is) c.requires in
     let nulls : c.replace-nulls.result.items ≡ s.nulls = ap (λ (v : Vec Bool Global). v.items) c.replace-nulls.ensures.value in
