@@ -1,6 +1,6 @@
 //! The token at the front.
 
-ghost use Rattle.std.specs.Prelude.{◌≡◌, true, false, Some, None, if◌then◌else◌, IfOk};
+ghost use Rattle.std.specs.Prelude.{◌≡◌, ◌≢◌, true, false, Some, None, if◌then◌else◌, IfErr, IfOk};
 ghost use Rattle.sql_tokens.specs.Lexeme.{views};
 ghost use Rattle.sql_text.specs.Tree.{name_of};
 ghost use Rattle.sql_text.specs.Number.{same, is, is_name, is_string, is_fixed, is_cmp, is_call};
@@ -54,7 +54,8 @@ pub fn after(tokens: &[Token], wanted: Fixed) -> Option<(usize, &[Token])>
 /// A keyword or sign that has to be there.
 #[tactic(auto, unfolding(crate::specs::Reading::expect))]
 pub fn expect(tokens: &[Token], wanted: Fixed) -> Result<(usize, &[Token]), Refusal>
-    ensures { Gives (seen (λ p. p)) result (expect (is wanted) (views tokens.now)) }
+    ensures read { Gives (seen (λ p. p)) result (expect (is wanted) (views tokens.now)) }
+    ensures told { IfErr result (λ e. e ≢ Refusal.Memory) }
 {
     match after(tokens, wanted) {
         Some(found) => Ok(found),
@@ -162,7 +163,8 @@ fn signed(negative: bool, units: Option<u64>) -> Option<i64>
 /// A number that has to be there, behind a `-` or not.
 #[tactic(auto, unfolding(crate::specs::Reading::look, crate::specs::Reading::numeral, crate::specs::Number::is_number))]
 pub fn numeral(negative: bool, tokens: &[Token]) -> Result<(Num, &[Token]), Refusal>
-    ensures { Gives (seen (λ n. n)) result (numeral is_small negative (views tokens.now)) }
+    ensures read { Gives (seen (λ n. n)) result (numeral is_small negative (views tokens.now)) }
+    ensures told { IfErr result (λ e. e ≢ Refusal.Memory) }
 {
     match tokens {
         [] => Err(stop_at(Cause::Syntax, tokens)),
@@ -302,7 +304,8 @@ pub fn call_token(tokens: &[Token]) -> Option<(CallKind, &[Token])>
 /// A call that has to be there.
 #[tactic(auto, unfolding(crate::specs::Reading::expect))]
 pub fn call(tokens: &[Token]) -> Result<(CallKind, &[Token]), Refusal>
-    ensures { Gives (seen (λ x. x)) result (expect is_call (views tokens.now)) }
+    ensures read { Gives (seen (λ x. x)) result (expect is_call (views tokens.now)) }
+    ensures told { IfErr result (λ e. e ≢ Refusal.Memory) }
 {
     match call_token(tokens) {
         Some(found) => Ok(found),

@@ -1,6 +1,6 @@
 //! Reading a query.
 
-ghost use Rattle.std.specs.Prelude.{◌≡◌, map, ◌++◌, ◌∷◌, [], Ok};
+ghost use Rattle.std.specs.Prelude.{◌≡◌, ◌≢◌, map, ◌++◌, ◌∷◌, [], IfErr, Ok};
 ghost use Rattle.sql_tokens.specs.declared.token.Fixed.TheVariants.{Comma};
 ghost use Rattle.sql_tokens.specs.Lexeme.{views};
 ghost use Rattle.sql_text.specs.Tree.{name_of, item_of, pred_option, ending_of, query_of, Star, Items};
@@ -239,7 +239,8 @@ fn query(alloc: Global, levels: u8, tokens: &[Token]) -> Result<(Tree, &[Token])
 /// Nothing is left.
 #[tactic(auto, unfolding(crate::specs::Reading::ended))]
 fn ended(tokens: &[Token]) -> Result<(), Refusal>
-    ensures { Gives (λ _. views tokens.now) result (ended (views tokens.now)) }
+    ensures read { Gives (λ _. views tokens.now) result (ended (views tokens.now)) }
+    ensures told { IfErr result (λ e. e ≢ Refusal.Memory) }
 {
     match tokens {
         [] => Ok(()),
