@@ -3,4 +3,5 @@ pub mod Filters
 pub mod Words
 pub mod Parted
 pub mod Members
+pub mod Kept
 pub mod Masks

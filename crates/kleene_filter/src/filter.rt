@@ -1,6 +1,6 @@
 //! The rows of a condition.
 
-ghost use Rattle.std.specs.Prelude.{◌≡◌, ◌<◌, ◌+◌, ◌*◌, length, map, count_by, replicate, IfOk, IsTrue, OnOk};
+ghost use Rattle.std.specs.Prelude.{◌≡◌, ◌≤◌, ◌<◌, ◌+◌, ◌-◌, ◌*◌, length, map, count_by, replicate, IfOk, IsTrue, OnOk};
 ghost use Rattle.plane_kernels.specs.Rows.{digit_at};
 ghost use Rattle.query_model.specs.declared.query.Atom.{Atom};
 ghost use Rattle.query_model.specs.Meaning.{PredReadsBelow};
@@ -9,6 +9,7 @@ ghost use Rattle.std.specs.Prelude.{List};
 ghost use Rattle.known_column.specs.KnownTables.{IsKnownTable};
 ghost use Rattle.kleene_filter.specs.Filters.{is_certain, is_possible, is_unknown, truths_under, AreCounted, AreNested};
 ghost use Rattle.kleene_filter.specs.Filters.{AreRightWhereSame, AreUnread, IsJudged, IsWritten, StandsFor, StoodBefore};
+ghost use Rattle.kleene_filter.specs.Kept.{kept_by_all};
 ghost use Rattle.kleene_filter.specs.Masks.{atoms_of, AddsMasks, AreMasksOf, AreRowsOf, WereMasksOf};
 
 use crate::judging::pred_truths;
@@ -246,11 +247,14 @@ fn open_truths(
 }
 
 // How many comparisons and listed numbers more may keep masks, where in all so many may.
-fn room_beside(masks: &[AtomMasks], most: usize) -> usize {
-    let kept = masks
-        .iter()
-        .fold(0, |kept: usize, own| kept.saturating_add(own.count()));
-    most.saturating_sub(kept)
+fn room_beside(masks: &[AtomMasks], most: usize) -> usize
+    ensures { result ≡ most - kept_by_all masks.now }
+{
+    let mut room = most;
+    for own in masks.iter() {
+        room = room.saturating_sub(own.count());
+    }
+    room
 }
 
 // Adds the masks of each atom of the condition, as long as so many suffice.
@@ -263,7 +267,8 @@ fn open_each(
 ) -> Result<(), AllocError>
     requires columns { PredReadsBelow (length columns.now.frame.columns) (condition_of pred.now) }
     requires known { IsKnownTable columns.now }
-    ensures { OnOk result (AddsMasks masks.old.items masks.new.items (atoms_of (condition_of pred.now)) columns.now) }
+    ensures adds { OnOk result (AddsMasks masks.old.items masks.new.items (atoms_of (condition_of pred.now)) columns.now) }
+    ensures few { kept_by_all masks.old.items ≤ most → OnOk result (kept_by_all masks.new.items ≤ most) }
 {
     match pred {
         Pred::All => Ok(()),
@@ -307,6 +312,7 @@ impl Filter {
         requires block { block.old.frame.columns ≡ columns.now.frame.columns }
         ensures block { block.new.frame.columns ≡ columns.now.frame.columns }
         ensures stands { IfOk result (λ filter. StandsFor filter (condition_of pred.now) columns.now) }
+        ensures few { IfOk result (λ filter. kept_by_all filter.masks ≤ most) }
     {
         let _rows = columns.rows();
         let mut masks = Vec::new(alloc);

@@ -1,10 +1,11 @@
 //! What is kept of a condition on one column or on two, to follow its columns plane by plane.
 
-ghost use Rattle.std.specs.Prelude.{◌≡◌, ◌<◌, ◌==◌, length, IfOk};
+ghost use Rattle.std.specs.Prelude.{◌≡◌, ◌≤◌, ◌<◌, ◌==◌, length, IfOk};
 ghost use Rattle.query_model.specs.declared.query.Atom.{Atom};
 ghost use Rattle.query_model.specs.declared.query.Atom.TheVariants.{Between, Compare, OneOf};
 ghost use Rattle.query_model.specs.Meaning.{AtomReadsBelow};
 ghost use Rattle.known_column.specs.KnownTables.{IsKnownTable};
+ghost use Rattle.kleene_filter.specs.Kept.{kept_by};
 ghost use Rattle.kleene_filter.specs.Masks.{Follows, WasFollowed};
 
 use crate::comparisons::{Compared, Ranged};
@@ -43,7 +44,8 @@ impl AtomMasks {
     ) -> Result<AtomMasks, AllocError>
         requires column { column < length columns.now.frame.columns }
         requires known { IsKnownTable columns.now }
-        ensures { IfOk result (λ masks. Follows masks (Compare column op value) columns.now) }
+        ensures follows { IfOk result (λ masks. Follows masks (Compare column op value) columns.now) }
+        ensures few { IfOk result (λ masks. kept_by masks ≤ 1) }
     {
         if !is_untouched(columns.column(column)) {
             return Ok(AtomMasks::ByRows);
@@ -62,7 +64,8 @@ impl AtomMasks {
     ) -> Result<AtomMasks, AllocError>
         requires column { column < length columns.now.frame.columns }
         requires known { IsKnownTable columns.now }
-        ensures { IfOk result (λ masks. Follows masks (Between column low high) columns.now) }
+        ensures follows { IfOk result (λ masks. Follows masks (Between column low high) columns.now) }
+        ensures few { IfOk result (λ masks. kept_by masks ≤ 2) }
     {
         if !is_untouched(columns.column(column)) {
             return Ok(AtomMasks::ByRows);
@@ -80,7 +83,8 @@ impl AtomMasks {
     ) -> Result<AtomMasks, AllocError>
         requires column { column < length columns.now.frame.columns }
         requires known { IsKnownTable columns.now }
-        ensures { IfOk result (λ masks. Follows masks (OneOf column values.now) columns.now) }
+        ensures follows { IfOk result (λ masks. Follows masks (OneOf column values.now) columns.now) }
+        ensures few { IfOk result (λ masks. kept_by masks ≤ length values.now) }
     {
         if !is_untouched(columns.column(column)) {
             return Ok(AtomMasks::ByRows);
@@ -98,7 +102,8 @@ impl AtomMasks {
     ) -> Result<AtomMasks, AllocError>
         requires columns { AtomReadsBelow (length columns.now.frame.columns) atom.now }
         requires known { IsKnownTable columns.now }
-        ensures { IfOk result (λ masks. Follows masks atom.now columns.now) }
+        ensures follows { IfOk result (λ masks. Follows masks atom.now columns.now) }
+        ensures few { IfOk result (λ masks. kept_by masks ≤ room) }
     {
         match atom {
             Atom::Compare { column, op, value } if room >= 1 => {
@@ -129,7 +134,9 @@ impl AtomMasks {
     }
 
     // How many comparisons and listed numbers keep masks.
-    pub(crate) fn count(&self) -> usize {
+    pub(crate) fn count(&self) -> usize
+        ensures { result ≡ kept_by self.now }
+    {
         match self {
             AtomMasks::ByRows | AtomMasks::Null { .. } => 0,
             AtomMasks::Compared(_) => 1,

@@ -171,7 +171,9 @@ impl Membership {
     }
 
     // How many numbers are listed.
-    pub(crate) fn count(&self) -> usize {
+    pub(crate) fn count(&self) -> usize
+        ensures { result ≡ length self.now.values }
+    {
         self.values.as_slice().len()
     }
 

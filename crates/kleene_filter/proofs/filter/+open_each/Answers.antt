@@ -7,8 +7,8 @@ use Rattle.kleene_filter.specs.Masks.{atoms_of, AddsMasks}
 use Rattle.kleene_filter.proofs.Tracking.{adds_both}
 use Rattle.kleene_filter.proofs.filter.+open_each.Goals as goal
 
-pub returns-in_ok-open_each-in-And : goal.returns-in_ok-open_each-in-And
-returns-in_ok-open_each-in-And t c =
+pub returns-in_ok-open_each-in-And-clause-adds : goal.returns-in_ok-open_each-in-And-clause-adds
+returns-in_ok-open_each-in-And-clause-adds t c =
     let table = c.args.columns.now in
     let old = c.args.masks.now.items in
     let middle = c.open_each-in-And.new.masks.items in
@@ -24,5 +24,5 @@ returns-in_ok-open_each-in-And t c =
     both ∙ ap (λ (p : Pred). atoms_of (condition_of p) ++ atoms_of (condition_of c.in-And.b.value)) (sym c.deref-in-And.ensures)
     ∙ ap (λ (p : Pred). left ++ atoms_of (condition_of p)) (sym c.deref-in-And-2.ensures) in
     on_ok_weaker c.open_each-in-And-2.result
-    (λ second. subst (λ (l : List Atom). AddsMasks old new l table) (sym parts) (adds_both old middle new left right table c.in_ok-open_each-in-And.ensures second))
-    c.open_each-in-And-2.ensures
+    (λ second. subst (λ (l : List Atom). AddsMasks old new l table) (sym parts) (adds_both old middle new left right table c.in_ok-open_each-in-And.ensures.adds second))
+    c.open_each-in-And-2.ensures.adds

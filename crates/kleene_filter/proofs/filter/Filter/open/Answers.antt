@@ -11,7 +11,7 @@ unknown-unknown-requires c = rw (c.in_ok-truths.ensures.must, c.in_ok-truths.ens
 pub returns-clause-stands : goal.returns-clause-stands
 returns-clause-stands c =
     let pred = condition_of c.args.pred.now in
-    let adds = c.in_ok-open_each.ensures in
+    let adds = c.in_ok-open_each.ensures.adds in
     let none : length c.new-masks.result.items ≡ 0 = ap length c.new-masks.ensures.items in
     record {
       truths = rw (c.in_ok-truths.ensures.must, c.in_ok-truths.ensures.may) (masks_tell (truths_under pred c.args.columns.now));
