@@ -42,7 +42,7 @@ ExactAveragesNest =
     IsKnowledge frame known → CanTake frame known c bits →
     IsNestedAverage (ends_of (exact_under query item frame known)) (ends_of (exact_under query item frame (taken known c bits)))
 
--- where the item reads no column twice, it is the extremes over all completions
+-- where the item is read-once, it is the extremes over all completions
 abbrev pub ExactAveragesAreExtremes : Type 0
 ExactAveragesAreExtremes =
     (query : Query) (item : Aggregate) (frame : Frame) (known : Knowledge) →

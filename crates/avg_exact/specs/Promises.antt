@@ -55,7 +55,7 @@ pub record IsCertainExact (stage : Stage) (item : Aggregate) (frame : Frame) : T
       AdmitsAverage (ends_of (exact_at stage item)) (average_on stage.query item [] frame world)
   -- they lie within the average's own bound
   pub within : IsNestedAverage (average_under stage.query item [] stage.frame stage.known) (ends_of (exact_at stage item))
-  -- where the item reads no column twice they are as narrow as they can be, and the rows that they take reach them
+  -- where the item is read-once they are as narrow as they can be, and the rows that they take reach them
   pub tight : IsTrue (reads_each_once stage.query item) →
       IsExtremesAverage (AgreesWith stage.query frame stage.known) (average_on stage.query item [] frame) (ends_of (exact_at stage item))
   pub attained : IsTrue (reads_each_once stage.query item) → (exact_at stage item).null ≢ Always → IsAttained stage item frame

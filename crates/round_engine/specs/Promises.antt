@@ -25,7 +25,7 @@ pub record IsCertainBound (stage : Stage) (item : Aggregate) (key : Key) (frame 
   -- the bound admits the answer on each table that agrees with what is known
   pub contains : (world : Cells) → AgreesWith stage.query frame stage.known world →
       Admits (bound_under stage.query item key stage.frame stage.known) (answer_on stage.query item key frame world)
-  -- where the item reads no column twice, the bound is as narrow as it can be: its ends are answers on such tables
+  -- where the item is read-once, the bound is as narrow as it can be: its ends are answers on such tables
   pub tight : IsTrue (reads_each_once stage.query item) →
       IsExtremes (AgreesWith stage.query frame stage.known) (answer_on stage.query item key frame)
       (bound_under stage.query item key stage.frame stage.known)
