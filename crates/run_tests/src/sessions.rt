@@ -3,7 +3,7 @@
 use crate::queried::{SHOP, calls_of};
 use crate::runs::{words_of, world_of};
 use daq_cli::{Status, run};
-use outer_world::{MemSource, MemStore};
+use outer_world::{MemSink, MemSource, MemStore};
 use std::alloc::{AllocError, Global};
 use std::test::Fail;
 
@@ -219,10 +219,19 @@ const CASES: [Case; 20] = [
 ];
 
 fn ends_so(alloc: Global, case: &Case, script: Vec<u8>) -> Result<bool, AllocError> {
+    ends_over(alloc, case, script, SHOP.to_vec(alloc)?)
+}
+
+// The same over a file of these bytes.
+fn ends_over(
+    alloc: Global,
+    case: &Case,
+    script: Vec<u8>,
+    bytes: Vec<u8>,
+) -> Result<bool, AllocError> {
     let words = words_of(alloc, case.words)?;
     let mut world = world_of(alloc, "", case.room)?;
     world.side = MemSource::new(script, 50, calls_of(alloc, case.side_fails)?);
-    let bytes = SHOP.to_vec(alloc)?;
     world.planes = MemStore::new(alloc, bytes, 4000, calls_of(alloc, case.fails)?, 100)?;
     let ended = run(alloc, &words, &mut world);
     Ok(
@@ -289,5 +298,30 @@ fn scripts_are_text(rt: HostRuntime) -> Result<(), Fail> {
     let mut script = b"SELECT SUM(price) FROM t".as_slice().to_vec(alloc)?;
     script.push(0xff).map_err(|_| AllocError)?;
     assert!(rt; ends_so(alloc, &NO_TEXT, script)?);
+    Ok(())
+}
+
+// A table of seventeen columns; a query of sixteen of them, and one of the last.
+const WIDE_WORDS: &str = "load\nw.csv\np.daq\n\
+    a:int,b:int,c:int,d:int,e:int,f:int,g:int,h:int,i:int,j:int,k:int,l:int,m:int,n:int,o:int,p:int,q:int\n";
+
+const WIDE_CSV: &str = "a,b,c,d,e,f,g,h,i,j,k,l,m,n,o,p,q\n1,1,1,1,1,1,1,1,1,1,1,1,1,1,1,1,1\n";
+
+const WIDE: Case = Case {
+    script: "SELECT COUNT(*) FROM t WHERE a < 2 AND b < 2 AND c < 2 AND d < 2 AND e < 2 AND f < 2 AND g < 2 AND h < 2 AND i < 2 \
+        AND j < 2 AND k < 2 AND l < 2 AND m < 2 AND n < 2 AND o < 2 AND p < 2\nSELECT SUM(q) FROM t\n",
+    err: "daq: query refused: 17 columns in the session\n",
+    ..REFUSED
+};
+
+#[test]
+fn sessions_name_sixteen_columns(rt: HostRuntime) -> Result<(), Fail> {
+    let alloc = rt.alloc();
+    let words = words_of(alloc, WIDE_WORDS)?;
+    let mut world = world_of(alloc, WIDE_CSV, 100)?;
+    world.made = MemSink::with_room(alloc, 4000, 100, Vec::new(alloc))?;
+    assert_eq!(rt; run(alloc, &words, &mut world), Status::Done);
+    let bytes = world.made.contents().to_vec(alloc)?;
+    assert!(rt; ends_over(alloc, &WIDE, WIDE.script.as_bytes().to_vec(alloc)?, bytes)?);
     Ok(())
 }

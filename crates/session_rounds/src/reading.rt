@@ -22,8 +22,8 @@ use plane_schedule::{Chooser, Ending, Plan, Progress, policies_choose};
 use query_model::taken_is_knowledge;
 use table_rounds::{PlaneSource, StepFault, rounds_have_planes};
 
-// The first query that is not finished.
-fn first_wide(session: &Session) -> Option<usize>
+// A query that is not finished.
+fn any_wide(session: &Session) -> Option<usize>
     ensures none { IfNone result (IsTrue (list_all (is_narrow session.now.width) session.now.stages)) }
     ensures some { IfSome result (IsWide session.now) }
 {
@@ -41,7 +41,7 @@ pub fn ending(session: &Session, plan: &Plan) -> Option<Ending>
     ensures unread { (head : Head) → FitsSession session.now head → IfNone result (HasUnread (session_outlook session.now)) }
 {
     rounds_have_planes();
-    plan.ending(first_wide(session).is_none(), session.progress().done)
+    plan.ending(any_wide(session).is_none(), session.progress().done)
 }
 
 // The table's column that a column of the session is, and the number of its next plane.

@@ -6,7 +6,7 @@ use Rattle.std.specs.List.{list_all}
 use Rattle.std.specs.Prelude.{IfSome}
 use Rattle.round_engine.specs.Narrowness.{is_narrow}
 use Rattle.round_engine.specs.Stages.{Stage}
-use Rattle.session_rounds.proofs.reading.first_wide.Goals as goal
+use Rattle.session_rounds.proofs.reading.any_wide.Goals as goal
 
 both : (a b : Bool) → IsTrue a → IsTrue b → IsTrue (a && b)
 both a b ea eb = ap (λ x. x && b) ea ∙ eb

@@ -38,12 +38,12 @@ returns-clause-ending c =
     let s = c.args.session.now in
     let plan = c.args.plan.now in
     c.ending.ensures
-    ∙ ap (λ narrow. ending_of plan narrow c.progress.result.done) (narrow_is s c.first_wide.result c.is_none.result c.first_wide.ensures.none c.first_wide.ensures.some c.is_none.ensures)
+    ∙ ap (λ narrow. ending_of plan narrow c.progress.result.done) (narrow_is s c.any_wide.result c.is_none.result c.any_wide.ensures.none c.any_wide.ensures.some c.is_none.ensures)
     ∙ ap (ending_of plan (list_all (is_narrow s.width) s.stages)) c.progress.ensures.progress.done
 
 pub returns-clause-unread : goal.returns-clause-unread
 returns-clause-unread c = λ head fits.
     let s = c.args.session.now in
     going _ c.args.plan.now c.is_none.result c.progress.result.done c.ending.result c.ending.ensures (λ wide.
-    let (k, is) = wide_query s c.first_wide.result c.is_none.result c.first_wide.ensures.some c.is_none.ensures wide in
+    let (k, is) = wide_query s c.any_wide.result c.is_none.result c.any_wide.ensures.some c.is_none.ensures wide in
     going_awaits c.rounds_have_planes.ensures s head k (alike_by s c.progress.result c.progress.ensures.progress c.progress.ensures.alike) c.progress.ensures.known fits is)
