@@ -1,6 +1,9 @@
 //! The devices over files and the standard streams. They tell no content, and count their faults.
 
-ghost use Rattle.std.specs.Prelude.{◌≡◌, ◌≤◌, IfOk, None, length};
+ghost use Rattle.std.specs.Prelude.{◌≡◌, ◌≤◌, [], IfOk, None, OnErr, OnOk, length, take};
+ghost use Rattle.std.specs.Io.Buffered.{writer_buffer, writer_contents};
+ghost use Rattle.std.specs.Io.KnownBytes.{Appends};
+ghost use Rattle.daq.specs.Lines.{EndsLine, IsMade};
 
 use crate::faults::Faults;
 use outer_world::{Failed, Sink, Source, Store};
@@ -123,7 +126,10 @@ enum Target {
 
 impl Target {
     // Makes the file, where it is not made yet.
-    fn open(&mut self) -> io::Result<()> {
+    fn open(&mut self) -> io::Result<()>
+        ensures made { OnOk result (IsMade self.new) }
+        ensures unchanged { OnErr result (self.new ≡ self.old) }
+    {
         if let Target::Named(rt, path) = self {
             let file = fs::create(rt, path.as_str())?;
             *self = Target::File(file);
@@ -173,12 +179,15 @@ impl FileSink {
     }
 }
 
-// Hands over what is kept where the piece ends a line.
+// Takes bytes from the front of the piece. Where it takes them all and they end a line, nothing is kept back.
 fn write_lines<W: Write + Drop>(out: &mut BufWriter<W>, piece: &[u8]) -> io::Result<usize>
-    ensures { IfOk result (λ taken. taken ≤ length piece.now) }
+    ensures bound { IfOk result (λ taken. taken ≤ length piece.now) }
+    ensures bytes { IfOk result (λ taken. Appends (writer_contents W.contents out.old) (writer_contents W.contents out.new)
+        (take taken piece.now)) }
+    ensures line { IfOk result (λ taken. taken ≡ length piece.now → EndsLine piece.now → writer_buffer out.new ≡ []) }
 {
     let taken = out.write(piece)?;
-    if taken == piece.len() && piece.ends_with(b"\n") {
+    if taken == piece.len() && piece.last() == Some(&b'\n') {
         out.flush()?;
     }
     Ok(taken)
