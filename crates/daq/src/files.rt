@@ -196,7 +196,8 @@ fn write_lines<W: Write + Drop>(out: &mut BufWriter<W>, piece: &[u8]) -> io::Res
 impl FileSink {
     // Lets go of standard output and of what is kept, so that nothing of it is written any more.
     fn close(&mut self)
-        ensures { self.new.faults ≡ self.old.faults }
+        ensures closed { self.new.target ≡ Target.Closed }
+        ensures faults { self.new.faults ≡ self.old.faults }
     {
         if let Target::Out(out) = mem::replace(&mut self.target, Target::Closed) {
             let _kept = out.into_parts();
