@@ -157,7 +157,7 @@ pub record RefusesLength (limits : Limits) (rows : ℕ) (old : List State) (fiel
   pub want_is : want ≡ length old
   pub differ : got ≢ want
 
--- why the record is no row after so many; memory is wanted for its fields alone
+-- why the record is no row after so many; memory is wanted only once it fits the limits and has all fields
 abbrev pub RefusesRow : Limits → ℕ → List State → Fields → TableFault → Type 0
 RefusesRow limits rows old fields NoHeader = ⊥
 RefusesRow limits rows old fields (HeaderDiffers place) = ⊥

@@ -7,7 +7,7 @@ use crate::column::Column;
 use daq_table::{ColumnHeads, Head, Name, Schema, Table};
 use std::alloc::{AllocError, Global};
 
-/// The table of the columns, under the schema's names. It leaves the columns without their cells.
+/// The table of the columns, under the schema's names. At Ok the columns are left without their cells.
 pub(crate) fn table_of(
     alloc: Global,
     schema: &Schema,

@@ -3,7 +3,7 @@
 ghost use Rattle.std.specs.Prelude.{◌≡◌, ◌≤◌, [], IfOk, None, OnErr, OnOk, length, take};
 ghost use Rattle.std.specs.Io.Buffered.{writer_buffer, writer_contents};
 ghost use Rattle.std.specs.Io.KnownBytes.{Appends};
-ghost use Rattle.daq.specs.Lines.{EndsLine, IsMade};
+ghost use Rattle.daq.specs.Lines.{EndsLine, IsNamed, IsOpened};
 
 use crate::faults::Faults;
 use outer_world::{Failed, Sink, Source, Store};
@@ -127,7 +127,7 @@ enum Target {
 impl Target {
     // Makes the file, where it is not made yet.
     fn open(&mut self) -> io::Result<()>
-        ensures made { OnOk result (IsMade self.new) }
+        ensures opened { OnOk result (IsOpened self.old self.new) }
         ensures unchanged { OnErr result (self.new ≡ self.old) }
     {
         if let Target::Named(rt, path) = self {
@@ -155,7 +155,9 @@ impl FileSink {
     }
 
     /// The file at a path, which is made or emptied where its first byte is written.
-    pub fn named(rt: &HostRuntime, path: &str) -> Result<FileSink, AllocError> {
+    pub fn named(rt: &HostRuntime, path: &str) -> Result<FileSink, AllocError>
+        ensures { IfOk result (λ sink. IsNamed sink.target) }
+    {
         Ok(FileSink {
             target: Target::Named(rt.clone()?, String::from_str(rt.alloc(), path)?),
             faults: Faults::none(),

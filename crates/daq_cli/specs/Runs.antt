@@ -163,7 +163,7 @@ Uses words one = (command : Command) × IsCommand words command × IsTrue (uses 
 abbrev pub IsUnwritten : WorldState → WorldState → Type 0
 IsUnwritten before after = (after.made ≡ before.made) × (after.out ≡ before.out)
 
--- the words are a `query` whose rounds were begun, or a `session` whose steps were
+-- the words are a `query` whose rounds can begin, or a `session` whose steps can
 pub data BeginsRounds (words : List (List ℕ)) (before : WorldState) : Type 0 where
   in_query : (q : line.Query) (opened : StoreState) → IsCommand words (query q) → Begins q before.planes opened → BeginsRounds words before
   in_session : (s : Session) (read : SourceState) (opened : StoreState) → IsCommand words (session s) →

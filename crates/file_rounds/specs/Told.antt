@@ -35,7 +35,7 @@ ShowsUnpadded head store column number = IfSome store.held (λ bytes. IsUnpadded
 abbrev pub told_by : Head → StoreState → ToldPlanes
 told_by head store = record { head = head; bits = option_map (bits_at head) store.held }
 
--- a store that tells its bytes has as many as the file
+-- a store that tells its bytes has at least as many as the file
 abbrev pub HoldsFile : Head → StoreState → Type 0
 HoldsFile head store = IfSome store.held (λ bytes. file_size head ≤ length bytes)
 

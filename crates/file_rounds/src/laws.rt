@@ -7,7 +7,7 @@ pub fn files_tell_planes()
     ensures { FilesTellPlanes }
 {}
 
-/// So rounds over them are rounds over the table.
+/// So the table has the planes that rounds over them read.
 pub fn files_have_their_planes()
     ensures { FilesHaveTheirPlanes }
 {}

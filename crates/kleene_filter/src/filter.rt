@@ -298,8 +298,8 @@ fn follow_each(masks: &mut Vec<AtomMasks>, columns: &LentColumns<'_>, column: us
 }
 
 impl Filter {
-    /// The filter of the condition over columns of which planes may be read. Their rows are read through the block. So many
-    /// comparisons and listed numbers keep masks, where BETWEEN is two comparisons; what passes them is judged row by row. All
+    /// The filter of the condition over columns of which planes may be read. Their rows are read through the block. At most so
+    /// many comparisons and listed numbers keep masks, where BETWEEN is two comparisons; what passes them is judged row by row. All
     /// room is taken here.
     pub fn open(
         alloc: Global,

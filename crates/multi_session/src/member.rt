@@ -33,7 +33,8 @@ fn no_counts(alloc: Global, count: usize) -> Result<Vec<u8>, AllocError>
 }
 
 impl Member {
-    // The query over the columns of a session of which nothing is read. So many comparisons and listed numbers of its condition keep masks.
+    // The query over the columns of a session of which nothing is read. At most so many comparisons and listed numbers of its condition
+    // keep masks.
     pub(crate) fn open(
         alloc: Global,
         query: TypedQuery,

@@ -38,7 +38,7 @@ absence_in_cell stage cell = presence_in_cell stage.query cell stage.frame stage
 abbrev pub IsInCell : Stage → ℕ → Key → Type 0
 IsInCell stage cell key = IsKeyOf stage.frame stage.known (groups_of stage.query.shape) cell key
 
--- what is told of the cell is so of the key: each part of the key is out of its range, and bounds and absence are the key's
+-- what is told of the cell is so of the key: each part of the key is in its range, and bounds and absence are the key's
 pub record SpeaksFor (stage : Stage) (cell : ℕ) (key : Key) : Type 0 where
   pub ranges : IsKeyIn (ranges_of_cell (parts_in stage) cell) key
   pub bound : (item : Aggregate) → bound_in_cell stage item cell ≡ bound_under stage.query item key stage.frame stage.known

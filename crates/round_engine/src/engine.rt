@@ -15,7 +15,7 @@ use query_model::{TypedQuery, average_bounds_nest, bounds_nest, standings_nest};
 use std::alloc::{AllocError, Global};
 use std::marker::Model;
 
-// So many comparisons and listed numbers of a condition keep masks where nothing else is said.
+// At most so many comparisons and listed numbers of a condition keep masks where nothing else is said.
 const MASKS: usize = 64;
 
 /// A query, its columns, and what is known of them after some of their planes. What its items come to is kept along, so that a

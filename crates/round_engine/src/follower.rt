@@ -26,8 +26,8 @@ impl Drop for Follower {
 }
 
 impl Follower {
-    /// The query over its columns, of which nothing is read. All room is taken here. So many comparisons and listed numbers of the
-    /// condition keep masks, and what passes them is judged row by row.
+    /// The query over its columns, of which nothing is read. All room is taken here. At most so many comparisons and listed numbers
+    /// of the condition keep masks, and what passes them is judged row by row.
     pub fn open(
         alloc: Global,
         query: TypedQuery,

@@ -23,7 +23,7 @@ pub(crate) struct State {
 }
 
 impl State {
-    // Nothing is read of the query's columns. So many comparisons and listed numbers keep masks.
+    // Nothing is read of the query's columns. At most so many comparisons and listed numbers keep masks.
     pub(crate) fn open(
         alloc: Global,
         query: &TypedQuery,

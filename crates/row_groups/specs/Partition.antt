@@ -128,7 +128,7 @@ OthersLeaveCells =
     (frame : Frame) (known : Knowledge) (groups : List ℕ) (cells : RowCells) (c : ℕ) (bits : List Bool) →
     AreCells frame known groups cells → is_group groups c ≡ false → AreCells frame (taken known c bits) groups cells
 
--- each part of a key is out of its range
+-- each part of a key is in its range
 abbrev pub IsKeyIn : List Range → Key → Type 0
 IsKeyIn [] [] = Unit {0}
 IsKeyIn (range ∷ ranges) (k ∷ ks) = IsIn range k × IsKeyIn ranges ks

@@ -45,7 +45,7 @@ SessionsAreCertain =
     let own = own_reads plan.width (frame_of head) bits (places_read queries reads) query (length reads) in
     HasPlanes query (frame_of head) bits (counts_after query own (length own)) cells → AreCertain query (frame_of head) cells own
 
--- a session reads each plane of its columns once at most
+-- a session has no more steps than its columns have planes
 abbrev pub SessionsAreShort : Type 0
 SessionsAreShort =
     (plan : Plan) (queries : List Query) (head : Head) (bits : Planes) (reads : List ℕ) → AreSteps plan queries head bits reads →

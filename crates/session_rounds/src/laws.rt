@@ -27,7 +27,7 @@ pub fn sessions_are_certain()
     rounds_are_certain();
 }
 
-/// A session reads each plane of its columns once at most.
+/// A session has no more steps than its columns have planes.
 pub fn sessions_are_short()
     ensures { SessionsAreShort }
 {}

@@ -51,11 +51,11 @@ pub fn after(tokens: &[Token], wanted: Fixed) -> Option<(usize, &[Token])>
     }
 }
 
-/// A keyword or sign that has to be there.
+/// A keyword or sign that has to be there. It takes no memory.
 #[tactic(auto, unfolding(crate::specs::Reading::expect))]
 pub fn expect(tokens: &[Token], wanted: Fixed) -> Result<(usize, &[Token]), Refusal>
     ensures read { Gives (seen (λ p. p)) result (expect (is wanted) (views tokens.now)) }
-    ensures told { IfErr result (λ e. e ≢ Refusal.Memory) }
+    ensures memory { IfErr result (λ e. e ≢ Refusal.Memory) }
 {
     match after(tokens, wanted) {
         Some(found) => Ok(found),
@@ -160,11 +160,11 @@ fn signed(negative: bool, units: Option<u64>) -> Option<i64>
     }
 }
 
-/// A number that has to be there, behind a `-` or not.
+/// A number that has to be there, behind a `-` or not. It takes no memory.
 #[tactic(auto, unfolding(crate::specs::Reading::look, crate::specs::Reading::numeral, crate::specs::Number::is_number))]
 pub fn numeral(negative: bool, tokens: &[Token]) -> Result<(Num, &[Token]), Refusal>
     ensures read { Gives (seen (λ n. n)) result (numeral is_small negative (views tokens.now)) }
-    ensures told { IfErr result (λ e. e ≢ Refusal.Memory) }
+    ensures memory { IfErr result (λ e. e ≢ Refusal.Memory) }
 {
     match tokens {
         [] => Err(stop_at(Cause::Syntax, tokens)),
@@ -301,11 +301,11 @@ pub fn call_token(tokens: &[Token]) -> Option<(CallKind, &[Token])>
     }
 }
 
-/// A call that has to be there.
+/// A call that has to be there. It takes no memory.
 #[tactic(auto, unfolding(crate::specs::Reading::expect))]
 pub fn call(tokens: &[Token]) -> Result<(CallKind, &[Token]), Refusal>
     ensures read { Gives (seen (λ x. x)) result (expect is_call (views tokens.now)) }
-    ensures told { IfErr result (λ e. e ≢ Refusal.Memory) }
+    ensures memory { IfErr result (λ e. e ≢ Refusal.Memory) }
 {
     match call_token(tokens) {
         Some(found) => Ok(found),

@@ -236,11 +236,11 @@ fn query(alloc: Global, levels: u8, tokens: &[Token]) -> Result<(Tree, &[Token])
     groups(alloc, levels, items, rest)
 }
 
-/// Nothing is left.
+/// Nothing is left. It takes no memory.
 #[tactic(auto, unfolding(crate::specs::Reading::ended))]
 fn ended(tokens: &[Token]) -> Result<(), Refusal>
     ensures read { Gives (λ _. views tokens.now) result (ended (views tokens.now)) }
-    ensures told { IfErr result (λ e. e ≢ Refusal.Memory) }
+    ensures memory { IfErr result (λ e. e ≢ Refusal.Memory) }
 {
     match tokens {
         [] => Ok(()),

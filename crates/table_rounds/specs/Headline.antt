@@ -47,7 +47,7 @@ stage_of query frame cells reads round = stage_after query frame (plane_of frame
 abbrev pub IsKeyOn : TypedQuery → Frame → Key → Type 0
 IsKeyOn query frame key = IsKey (projected_frame query frame) (groups_of query.shape) key
 
--- on each table that agrees with what is known, the value of a column at a row is out of its range
+-- on each table that agrees with what is known, the value of a column at a row is in its range
 abbrev pub IsCertainValue : Stage → Frame → ℕ → ℕ → Type 0
 IsCertainValue stage frame row column =
     (world : Cells) → AgreesWith stage.query frame stage.known world →
