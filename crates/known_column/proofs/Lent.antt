@@ -22,10 +22,6 @@ module _ (table : KnownTable) where
       same : {e f : _} {k l : _} → e ≡ f → k ≡ l → (let column : KnownColumn = record { ends = e; known = k } in column) ≡ record { ends = f; known = l }
       same p q = cc
 
-  pub lent_rows : (numbers : Option (List ℕ)) → (lent_of table numbers).frame.rows ≡ table.frame.rows
-  lent_rows None = refl
-  lent_rows (Some numbers) = refl
-
   pub lent_kept : (numbers : Option (List ℕ)) → AreNumbers table numbers → IsKnownTable table → IsKnownTable (lent_of table numbers)
   lent_kept None are kept = kept
   lent_kept (Some numbers) are kept =
