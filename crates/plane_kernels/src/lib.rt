@@ -2,6 +2,7 @@
 #![tactic(auto)]
 
 mod bits;
+mod block;
 mod blocks;
 mod bytes;
 mod lanes;
@@ -13,6 +14,7 @@ mod row_bits;
 mod triples;
 mod words;
 
+pub use block::{Block, count_both, count_ones};
 pub use laws::bytes_are_exact;
 pub use mask::{Mask, split, step_compare};
 pub use pad_bits::PadBits;
