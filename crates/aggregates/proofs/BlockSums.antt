@@ -1,15 +1,14 @@
 -- Sums at the rows of a mask, by blocks of 512 rows.
-use Rattle.std.proofs.Common.{◌≡◌, ℕ, ◌+◌, ◌-◌, ◌*◌, ◌<◌, ◌≤◌, min, Bool, false, ◌&&◌, cond, List, [], ◌∷◌, ◌++◌, length, map, take, drop, get_or, count_by, sum_by, IsTrue, refl, ap, sym, subst, ◌∙◌, arith, length-drop}
+use Rattle.std.proofs.Common.{◌≡◌, ℕ, ◌+◌, ◌-◌, ◌*◌, ◌<◌, ◌≤◌, min, Bool, false, ◌&&◌, List, [], ◌∷◌, ◌++◌, length, map, take, drop, get_or, count_by, sum_by, IsTrue, ap, sym, subst, ◌∙◌, arith, length-drop}
 use Rattle.std.specs.Int.Bits.{bit_and}
 use Rattle.std.specs.Int.Count.{ones}
 use Rattle.std.specs.Simd.Lanes.{zip2}
 use Rattle.std.proofs.Math.Seq.{take-add}
 use Rattle.std.proofs.lemmas.Bool.{false≢true}
 use Rattle.std.proofs.lemmas.List.{drop-map, get_or-drop, get_or-take, length-map, length-take, map-append, take-map, take_all}
-use Rattle.std.proofs.lemmas.List.Sums.{sum_by-append, sum_by-cons}
-use Rattle.plane_kernels.specs.Rows.{bits_of, block_rows, rows_of, IsPadded}
-use Rattle.plane_kernels.proofs.Bitwise.{and_is_bitwise}
-use Rattle.plane_kernels.proofs.RowLemmas.{count-bits_of, length-bits_of, zip2-append}
+use Rattle.plane_kernels.specs.Rows.{block_rows, rows_of, IsPadded}
+use Rattle.plane_kernels.proofs.Bitwise.{and_is_bitwise, padded-zip2, rows_of-zip2}
+use Rattle.plane_kernels.proofs.RowLemmas.{count-rows_of}
 use Rattle.query_model.specs.Knowledge.{null_with, IsLegal}
 use Rattle.query_model.specs.Truths.{may_be_number}
 use Rattle.known_column.specs.Columns.{KnownColumn, rows_of_column}
@@ -23,19 +22,9 @@ use Rattle.aggregates.proofs.MaskSums.{sum_none}
 
 -- the ones that words share are the rows that they share
 count_words : (n : ℕ) (ws vs : List ℕ) → length vs ≡ length ws → IsPadded n ws → IsPadded n vs → sum_by ones (zip2 bit_and ws vs) ≡ count_by (λ b. b) (zip2 (λ a b. a && b) (rows_of n ws) (rows_of n vs))
-count_words n [] vs e p q = refl
-count_words n (w ∷ ws) [] e p q = absurd (omega (arith, e))
-count_words n (w ∷ ws) (v ∷ vs) e p q =
-    let k = min n 64 in
-    let both = zip2 (λ a b. a && b) (bits_of k w) (bits_of k v) in
-    let rest = zip2 (λ a b. a && b) (rows_of (n - 64) ws) (rows_of (n - 64) vs) in
-    let here : ones (bit_and w v) ≡ count_by (λ b. b) both =
-    sym (ap (count_by (λ b. b)) (sym (and_is_bitwise.bits k w v (omega arith) p.0 q.0)) ∙ count-bits_of k (bit_and w v) (and_is_bitwise.within k w v p.0 q.0)) in
-    let same : length (bits_of k w) ≡ length (bits_of k v) = length-bits_of k w ∙ sym (length-bits_of k v) in
-    sum_by-cons ones (bit_and w v) (zip2 bit_and ws vs) ∙ ap (λ m. m + sum_by ones (zip2 bit_and ws vs)) here
-    ∙ ap (λ m. count_by (λ b. b) both + m) (count_words (n - 64) ws vs (omega (arith, e)) p.1 q.1)
-    ∙ sym (sum_by-append (λ b. cond b 1 0) both rest)
-    ∙ ap (count_by (λ b. b)) (sym (zip2-append (λ a b. a && b) (bits_of k w) (rows_of (n - 64) ws) (bits_of k v) (rows_of (n - 64) vs) same))
+count_words n ws vs e p q =
+    sym (count-rows_of n (zip2 bit_and ws vs) (padded-zip2 bit_and (λ a b. a && b) and_is_bitwise n ws vs e p q))
+    ∙ ap (count_by (λ b. b)) (rows_of-zip2 bit_and (λ a b. a && b) and_is_bitwise n ws vs e p q)
 
 -- those of words and of a plane
 pub count_block : (ps : List ℕ) (digit : ℕ → Bool) (block n : ℕ) (ws vs : List ℕ) (plane : List Bool) → length ws ≡ 8 → length vs ≡ 8 → IsPadded n ws → IsPadded n vs →

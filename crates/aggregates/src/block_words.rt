@@ -1,9 +1,6 @@
 //! Rows of a block of 512, as the bits of eight words.
 
-ghost use Rattle.std.specs.Prelude.{◌≡◌, ◌<◌, ◌↔◌, IsTrue, sum_by};
-ghost use Rattle.std.specs.Int.Bits.{bit_and};
-ghost use Rattle.std.specs.Int.Count.{ones};
-ghost use Rattle.std.specs.Simd.Lanes.{zip2};
+ghost use Rattle.std.specs.Prelude.{◌≡◌, ◌<◌, ◌↔◌, IsTrue};
 ghost use Rattle.aggregates.specs.ExtremeRows.{has_place, AreZero};
 
 use std::simd::prelude::*;
@@ -33,15 +30,4 @@ pub(crate) fn first_place(words: &[u64; 8]) -> usize
         k += 1;
     }
     64 * k + words[k].trailing_zeros() as usize
-}
-
-// How many rows both words have.
-pub(crate) fn count_both(words: &[u64; 8], others: &[u64; 8]) -> u64
-    ensures { result ≡ sum_by ones (zip2 bit_and words.now others.now) }
-{
-    let mut count = 0;
-    for k in 0..8 {
-        count += u64::from((words[k] & others[k]).count_ones());
-    }
-    count
 }

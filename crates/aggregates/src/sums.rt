@@ -7,11 +7,11 @@ ghost use Rattle.plane_kernels.specs.Rows.{block_rows, rows_of, IsPadded};
 ghost use Rattle.aggregates.specs.Selections.{IsSmallSum, IsSumOfDigits, MayHaveValues, block_of};
 ghost use Rattle.aggregates.specs.Selections.{early_number, highs_in, lows_in, sum_of_first, sum_where};
 
-use crate::block_words::{count_both, is_empty};
+use crate::block_words::is_empty;
 use crate::digits::number_planes;
 use crate::spans::{lows_of_rows, spans_of_rows};
 use known_column::Known;
-use plane_kernels::Mask;
+use plane_kernels::{Mask, count_both};
 
 // The digits that the first planes gave of the numbers at some rows of a block of 512, added up as numbers.
 pub(crate) fn sum_rows(known: &Known, block: usize, rows: &[u64; 8], read: u8) -> u128
