@@ -1,5 +1,5 @@
 -- A search is begun, goes on, and ends.
-use Rattle.std.proofs.Common.{◌≡◌, ◌≢◌, ℕ, ◌<◌, ◌≤◌, Bool, ◌&&◌, not, List, length, count_by, inl, inr, refl, sym, ap, subst, ◌∙◌, arith}
+use Rattle.std.proofs.Common.{◌≡◌, ℕ, ◌<◌, ◌≤◌, Bool, ◌&&◌, not, List, length, inl, inr, refl, sym, ap, subst, ◌∙◌, arith}
 use Rattle.std.specs.Simd.Lanes.{zip2}
 use Rattle.std.proofs.lemmas.Bool.{cases_lt}
 use Rattle.std.proofs.lemmas.Simd.{length-zip2}
@@ -62,9 +62,6 @@ module _ (down : Bool) (key : KnownColumn) (counted among : List Bool) (limit : 
 module _ (key : KnownColumn) (search : Search) (has : HasSearchedSome key search) (enough : search.share.wanted ≤ search.share.there) where
   abbrev found_cut : IsCut has.counted has.among has.limit (place_of has.down key) search.cut search.share
   found_cut = searched_cut has.down key has.counted has.among has.limit search has.searched enough
-
-  pub some_counted : count_by (λ b. b) search.cut.counted ≢ 0
-  some_counted = λ none. (let is = found_cut in omega (arith, none, is.there, is.wanted, is.some))
 
   pub counted_one_range : (rivals : Rivals) → IsKnownColumn key → HaveOneRange key search.cut
   counted_one_range rivals known = cut_is_one rivals has.down key known has.counted has.among has.limit has.rows search.cut search.share found_cut
