@@ -68,8 +68,8 @@ fn block_of(unread: u8) -> u128
     1u128 << unread
 }
 
-// The first and the last number with the prefix, of those up to the greatest.
-fn numbers_of_prefix(greatest: u64, least: u128, unread: u8, prefix: u128) -> (u64, u64)
+/// The first and the last number with the prefix, of those up to the greatest.
+pub fn numbers_of_prefix(greatest: u64, least: u128, unread: u8, prefix: u128) -> (u64, u64)
     requires digits { unread ≤ 65 }
     requires few { least ≤ 2 ^ 64 }
     requires legal { prefix * 2 ^ unread ≤ least + greatest }

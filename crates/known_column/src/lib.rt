@@ -13,6 +13,7 @@ mod marks;
 mod octets;
 mod row_block;
 
+pub use codes::numbers_of_prefix;
 pub use cutting::cut;
 pub use known::{Known, OverTop};
 pub use known_columns::KnownColumns;
