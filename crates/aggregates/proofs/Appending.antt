@@ -25,14 +25,6 @@ greatest-append : (x : ℤ) (xs : List ℤ) (y : ℤ) → greatest (x ∷ (xs ++
 greatest-append x [] y = refl
 greatest-append x (z ∷ zs) y = (let rest = greatest-append z zs y in omega (arith, ints, clamps))
 
-pub first_least : (xs : List ℤ) (n : ℤ) → None ≡ answer Min xs → Some n ≡ answer Min (xs ++ n ∷ [])
-first_least [] n e = refl
-first_least (x ∷ xs) n e = cc
-
-pub first_greatest : (xs : List ℤ) (n : ℤ) → None ≡ answer Max xs → Some n ≡ answer Max (xs ++ n ∷ [])
-first_greatest [] n e = refl
-first_greatest (x ∷ xs) n e = cc
-
 same_numbers : (x y : ℤ) → Some x ≡ Some y → x ≡ y
 same_numbers x y e = cc
 

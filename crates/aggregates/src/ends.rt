@@ -15,9 +15,9 @@ use crate::sums::{SumSpan, add_ends, add_lows};
 use known_column::Known;
 use plane_kernels::Mask;
 
-// One of the ends between which a row's number lies.
+/// One of the ends between which a row's number lies.
 #[derive(Clone, Copy)]
-pub(crate) enum End {
+pub enum End {
     Low,
     High,
 }

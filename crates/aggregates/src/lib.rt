@@ -13,15 +13,16 @@ mod spans;
 mod sums;
 mod tally;
 
+pub use digits::number_planes;
 pub use ends::{
-    ExtremeSpan, greatest_ends, greatest_high, least_ends, least_low, negative_lows,
+    End, ExtremeSpan, greatest_ends, greatest_high, least_ends, least_low, negative_lows,
     positive_highs, sum_ends, sum_highs, sum_lows,
 };
 pub use kept_sum::KeptSum;
 pub use running::Running;
 pub use spans::{lows_of_rows, spans_of_rows};
 pub use sums::SumSpan;
-pub use tally::Tally;
+pub use tally::{Tally, has_bit, quotient};
 
 #[cfg(test)]
 mod block_tests;

@@ -50,8 +50,8 @@ fn high_share(certain: bool, span: Interval) -> i128
     if certain { span.hi } else { span.hi.max(0) }
 }
 
-// Whether a bit of the word is 1, counted from the lowest.
-fn has_bit(word: u64, bit: usize) -> bool
+/// Whether a bit of the word is 1, counted from the lowest.
+pub fn has_bit(word: u64, bit: usize) -> bool
     requires { bit < 64 }
     ensures { result ≡ digit_at bit word }
 {
@@ -65,8 +65,8 @@ fn one_if(certain: bool) -> u64
     if certain { 1 } else { 0 }
 }
 
-// A sum divided by one number where it is not negative, else by another.
-fn quotient(sum: i128, most: u64, least: u64) -> Fraction
+/// A sum divided by one number where it is not negative, else by another.
+pub fn quotient(sum: i128, most: u64, least: u64) -> Fraction
     requires most { 0 < most }
     requires least { 0 < least }
     ensures num { result.num ≡ sum }
