@@ -22,7 +22,7 @@ use Rattle.kleene_filter.specs.Members.{has_level, is_at_level, HasLevels, HaveR
 use Rattle.kleene_filter.specs.Parted.{cell_with, is_level, IsBetweenEnds}
 use Rattle.kleene_filter.proofs.Parting.{length_where, row_where}
 use Rattle.kleene_filter.proofs.SideTruths.{has_prefix}
-use Rattle.kleene_filter.proofs.TestsByEnds.{and_true, eq_holds, le_holds, le_is}
+use Rattle.kleene_filter.proofs.TestsByEnds.{and_true, eq_holds, le_is}
 
 -- ---- what is known of a list's numbers
 
@@ -39,9 +39,6 @@ some_listed i values o h =
     any_is true s e h = absurd (true≢false e)
     any_is false true e h = refl
     any_is false false e h = absurd (true≢false h)
-
-pub within_ends : (ends : Ends) (number : ℤ) → between ends.base ends.top number ≡ true → IsBetweenEnds ends number
-within_ends ends number e = (let parts = and_parts _ _ e in record { above = le_holds ends.base number parts.0; below = le_holds number ends.top parts.1 })
 
 -- ---- what the levels tell of a row
 

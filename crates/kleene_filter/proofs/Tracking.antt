@@ -1,5 +1,5 @@
 -- Masks of atoms, as the columns are read.
-use Rattle.std.proofs.Common.{◌≡◌, ◌≢◌, ℕ, zero, suc, ◌+◌, ◌-◌, ◌*◌, ◌<◌, Bool, List, [], ◌∷◌, ◌++◌, length, slice_get, set, Some, inl, inr, refl, ap, sym, subst, ◌∙◌, arith, length-append, zero-add, get_or-set_other, get_or-set_same}
+use Rattle.std.proofs.Common.{◌≡◌, ◌≢◌, ℕ, zero, suc, ◌+◌, ◌-◌, ◌<◌, Bool, List, [], ◌∷◌, ◌++◌, length, slice_get, set, Some, inl, inr, refl, ap, sym, subst, ◌∙◌, arith, length-append, zero-add, get_or-set_same}
 use Rattle.std.proofs.Math.Nat.{suc-add}
 use Rattle.std.proofs.lemmas.Bool.{cases_lt}
 use Rattle.std.proofs.lemmas.List.{get_or_default}
@@ -14,7 +14,7 @@ use Rattle.known_column.specs.KnownTables.{IsKnownTable, KnownTable, column_at}
 use Rattle.known_column.specs.RowBlocks.{BlocksHaveTheirRows, IsKnownColumn, block_of}
 use Rattle.kleene_filter.specs.declared.masks.AtomMasks.{AtomMasks}
 use Rattle.kleene_filter.specs.Filters.{Judgement, StoodBefore}
-use Rattle.kleene_filter.specs.Masks.{atoms_of, AddsMasks, AreMasksOf, AreRowsOf, Follows, ReadFrom, WasFollowed, WereMasksOf}
+use Rattle.kleene_filter.specs.Masks.{atoms_of, AddsMasks, AreMasksOf, AreRowsOf, ReadFrom, WasFollowed, WereMasksOf}
 use Rattle.kleene_filter.specs.Parted.{ReadFurther}
 
 -- ---- columns of a table
@@ -39,12 +39,6 @@ same_column before table c bits read =
       rows = read.could.rows ∙ sym (read.known.knowledge.rows c read.could.column);
       is = ap (λ (t : KnownTable). column_at t c) read.taken ∙ ap as_column (get_or-set_same before.known c (longer_column (known_at before.known c) bits) nothing within);
     }
-
-pub other_column : (before table : KnownTable) (c k : ℕ) (bits : List Bool) → ReadFrom before table c bits → k ≢ c → column_at before k ≡ column_at table k
-other_column before table c k bits read other =
-    let nothing : ColumnKnowledge = record { read = 0; prefixes = [] } in
-    let as_column : ColumnKnowledge → KnownColumn = λ known. record { ends = ends_at before.frame k; known = known } in
-    sym (ap (λ (t : KnownTable). column_at t k) read.taken ∙ ap as_column (get_or-set_other before.known c k (longer_column (known_at before.known c) bits) nothing other))
 
 -- ---- elements of lists
 
@@ -90,23 +84,6 @@ right_masks all at next xs ys table are e = (let room = are.room in record {
   room = omega (arith, length-append xs ys);
   each = λ k own atom mine is. are.each (length xs + k) own atom (ap (slice_get all) (omega arith) ∙ mine) (back xs ys k ∙ is);
 })
-
-pub adds_none : (old : List AtomMasks) (table : KnownTable) → AddsMasks old old [] table
-adds_none old table = record { count = omega arith; before = λ k below. refl; added = record { room = omega arith; each = λ k own atom mine is. (cc) } }
-
-pub adds_one : (old : List AtomMasks) (own : AtomMasks) (atom : Atom) (table : KnownTable) → Follows own atom table → AddsMasks old (old ++ own ∷ []) (atom ∷ []) table
-adds_one old own atom table follows = record {
-  count = length-append old (own ∷ []);
-  before = λ k below. front old (own ∷ []) k below;
-  added = record {
-    room = omega (arith, length-append old (own ∷ []));
-    each = λ k other a mine is. one k other a (sym (back old (own ∷ []) k) ∙ mine) is;
-  };
-}
-  where
-    one : (k : ℕ) (other : AtomMasks) (a : Atom) → slice_get (own ∷ []) k ≡ Some other → slice_get (atom ∷ []) k ≡ Some a → Follows other a table
-    one zero other a mine is = subst (λ x. Follows x a table) (same_some own other mine) (subst (λ x. Follows own x table) (same_some atom a is) follows)
-    one (suc k) other a mine is = (cc)
 
 pub adds_both : (old middle new : List AtomMasks) (xs ys : List Atom) (table : KnownTable) → AddsMasks old middle xs table → AddsMasks middle new ys table → AddsMasks old new (xs ++ ys) table
 adds_both old middle new xs ys table first second =
@@ -161,14 +138,6 @@ in_block table other b law is = subst (λ (o : KnownTable). AreRowsOf table b o 
   few = omega arith;
   within = omega arith;
   ranges = λ r below. ap (ranges_of (block_of table b).frame (block_of table b).known) (zero-add r) ∙ law table b r (omega arith);
-})
-
-pub in_place : (table : KnownTable) (b : ℕ) → IsKnownTable table → 64 * b < table.frame.rows → AreRowsOf table b table (64 * b)
-in_place table b known below = (let few = known.few_rows in record {
-  columns = refl;
-  few = omega arith;
-  within = omega arith;
-  ranges = λ r inside. refl;
 })
 
 -- ---- each of the masks, before a plane was read

@@ -1,6 +1,5 @@
 use Rattle.std.proofs.Common.{map, ◌∙◌, ap}
-use Rattle.kleene_filter.specs.Filters.{Judgement}
-use Rattle.kleene_filter.specs.Filters.{is_possible}
+use Rattle.kleene_filter.specs.Filters.{Judgement, is_possible}
 use Rattle.kleene_filter.proofs.TruthBits.{possible_mask}
 use Rattle.kleene_filter.proofs.filter.Filter.may.Goals as goal
 
