@@ -1,4 +1,6 @@
 -- Which fault the bytes of a file show: a table of checks, in the order of the format, and the first that fails.
+-- No check asks that a column has the cells that its head allows: base and top need not occur, and a nullable column of
+-- texts may be without names though cells of it are not null. These have the number 0, and their text is `-`.
 use Rattle.std.specs.Prelude.{ℕ, zero, suc, ◌+◌, ◌*◌, ◌%◌, ◌==◌, nat_le, nat_lt, ℤ, pos, ◌-ℤ◌}
 use Rattle.std.specs.Prelude.{nat_abs, int_le, int_lt, Bool, true, cond, not, ◌&&◌, ◌||◌, if◌then◌else◌, Option}
 use Rattle.std.specs.Prelude.{Some, None, is_none, List, [], ◌∷◌, ◌++◌, length, map, take, drop, codes, slice_index}
@@ -155,12 +157,13 @@ fits_top (Dec scale) top = true
 fits_top Date top = is_day top
 fits_top Text top = true
 
--- ranks lie below the number of names. Without names there is the one number 0, and no cell has it
+-- ranks lie below the number of names. Without names there is the one number 0, and the column must be free to have none
 abbrev pub are_ranks_below : ℕ → ℤ → ℤ → Bool → Bool
 are_ranks_below count base top empty =
     if count == 0 then int_eq base (pos 0) && int_eq top (pos 0) && empty else int_lt top (pos count)
 
--- a column of texts has as many names as its numbers need, and every other has none; told is whether no cell has a number
+-- a column of texts has as many names as its numbers need, and every other has none; told is whether it may be without
+-- names: it is nullable, or there are no rows
 abbrev pub fits_count : Kind → ℕ → ℤ → ℤ → Bool → Bool
 fits_count Int count base top empty = count == 0
 fits_count (Dec scale) count base top empty = count == 0

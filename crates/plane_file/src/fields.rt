@@ -95,7 +95,7 @@ fn fits_top(kind: Kind, top: i64) -> bool
     }
 }
 
-// Whether the ranks from base to top are those of so many names; without names no cell may have one.
+// Whether the ranks from base to top are those of so many names; without names, where that is allowed, both are 0.
 fn are_ranks_below(count: u32, base: i64, top: i64, empty: bool) -> bool
     ensures { result ≡ are_ranks_below count base top empty }
 {
