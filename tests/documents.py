@@ -46,8 +46,14 @@ def words_of_crates():
     return set(re.findall(r"\w+", "".join(map(read, files)))) | set(crates()) | set(os.listdir(TOP))
 
 
+def names_in(page):
+    """What a page names of the code. In a table of names that were asked for, these are not the code's."""
+    text = re.sub(r"^\| Asked for \|.*\n(?:\|.*\n)+", lambda it: re.sub(r"(?m)^\| .*? \|", "", it[0]), read(page), flags=re.M)
+    return re.findall(r"`([A-Za-z_][\w:]*)`", text) + re.findall(r"\*([A-Z]\w+)\*", text)
+
+
 def lost_names(page, words):
-    for name in re.findall(r"`([A-Za-z_][\w:]*)`", read(page)) + re.findall(r"\*([A-Z]\w+)\*", read(page)):
+    for name in names_in(page):
         if not set(name.replace("::", " ").split()) <= words:
             yield "%s: nothing has the name %s" % (page, name)
 
