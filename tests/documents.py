@@ -43,7 +43,8 @@ def lost_edits(page="docs/PROMISES.md"):
 
 def words_of_crates():
     files = [path for ending in ("rt", "antt") for path in glob.glob(os.path.join(TOP, "crates", "*", "s*", "**", "*." + ending), recursive=True)]
-    return set(re.findall(r"\w+", "".join(map(read, files)))) | set(crates()) | set(os.listdir(TOP))
+    edits = {os.path.basename(path)[:-5] for path in glob.glob(os.path.join(TOP, "crates", "*", "must-fail", "*.edit"))}
+    return set(re.findall(r"\w+", "".join(map(read, files)))) | set(crates()) | set(os.listdir(TOP)) | edits
 
 
 def names_in(page):
