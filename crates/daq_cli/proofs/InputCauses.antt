@@ -6,8 +6,8 @@ use Rattle.daq_table.specs.Tables.{Contents}
 use Rattle.daq_table.specs.declared.schema_column.SchemaColumn.{SchemaColumn}
 use Rattle.outer_world.specs.Device.{SourceState}
 use Rattle.outer_world.specs.Whole.{ReadsToEnd, StopsReading, Takes}
-use Rattle.outer_world.specs.declared.whole.ReadAll.{ReadAll}
-use Rattle.outer_world.specs.declared.whole.ReadAll.TheVariants as all
+use Rattle.outer_world.specs.declared.whole.ReadAllFault.{ReadAllFault}
+use Rattle.outer_world.specs.declared.whole.ReadAllFault.TheVariants as all
 use Rattle.daq_cli.specs.Faults as of
 use Rattle.daq_cli.specs.Inputs.{InputCause, IsTableText, ReadsTable, ShowsSchema, ShowsTable, most_bytes, at_schema, at_bytes, read_fault, no_memory}
 use Rattle.daq_cli.specs.declared.refusal.Refusal.{Refusal}
@@ -32,7 +32,7 @@ module _ (schema : List ℕ) where
 
   module _ (columns : List SchemaColumn) (declared : Declares schema columns) (input input' : SourceState) where
     -- the input
-    pub stops_reading : (fault : ReadAll) (why : Refusal) → StopsReading input input' most_bytes fault → why ≡ of.input fault → InputCause schema input input' why
+    pub stops_reading : (fault : ReadAllFault) (why : Refusal) → StopsReading input input' most_bytes fault → why ≡ of.input fault → InputCause schema input input' why
     stops_reading all.Fault why stop e = subst (InputCause schema input input') (sym e) (read_fault (columns, declared) stop.rose stop.within)
     stops_reading (all.TooLong told) why stop e =
         let over = stop.over in

@@ -2,8 +2,8 @@
 use Rattle.std.proofs.Common.{◌≡◌, ◌⊎◌, ℕ, List, arith, inl, inr, subst, sym, Some}
 use Rattle.outer_world.specs.Device.{SourceState}
 use Rattle.outer_world.specs.Whole.{ReadsToEnd, StopsReading}
-use Rattle.outer_world.specs.declared.whole.ReadAll.{ReadAll}
-use Rattle.outer_world.specs.declared.whole.ReadAll.TheVariants as all
+use Rattle.outer_world.specs.declared.whole.ReadAllFault.{ReadAllFault}
+use Rattle.outer_world.specs.declared.whole.ReadAllFault.TheVariants as all
 use Rattle.session_script.specs.Answers.{IsScript, most_bytes}
 use Rattle.session_script.specs.Answers as scripts
 use Rattle.session_script.specs.Lines.{Line}
@@ -29,7 +29,7 @@ line_shown line q.NoMemory why faulty is = inr is
 
 module _ (side side' : SourceState) where
   -- the source
-  pub stops_reading : (fault : ReadAll) (why : Refusal) → StopsReading side side' most_bytes fault → why ≡ of.side fault → ScriptCause side side' why
+  pub stops_reading : (fault : ReadAllFault) (why : Refusal) → StopsReading side side' most_bytes fault → why ≡ of.side fault → ScriptCause side side' why
   stops_reading all.Fault why stop e = subst (ScriptCause side side') (sym e) (read_fault stop.rose stop.within)
   stops_reading (all.TooLong told) why stop e =
       let over = stop.over in

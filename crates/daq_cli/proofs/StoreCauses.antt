@@ -6,8 +6,8 @@ use Rattle.outer_world.specs.Device.{Rose, SinkState}
 use Rattle.outer_world.specs.Whole.{Writes}
 use Rattle.plane_file.specs.Format.{file}
 use Rattle.plane_file.specs.Writing.{StopsWriting}
-use Rattle.plane_file.specs.declared.write_fault.WriteFile.{WriteFile}
-use Rattle.plane_file.specs.declared.write_fault.WriteFile.TheVariants as w
+use Rattle.plane_file.specs.declared.write_fault.FileWriteFault.{FileWriteFault}
+use Rattle.plane_file.specs.declared.write_fault.FileWriteFault.TheVariants as w
 use Rattle.daq_cli.specs.Faults as of
 use Rattle.daq_cli.specs.Stores.{StoreCause, table_line, no_memory, write_fault}
 use Rattle.daq_cli.specs.Worlds.{partly, whole}
@@ -16,7 +16,7 @@ use Rattle.daq_cli.specs.declared.refusal.Refusal.TheVariants.{NoMemory, WriteFa
 
 module _ (word : List ℕ) (table : Contents) (made made' out : SinkState) where
   -- the file was not written
-  pub file_stops : (fault : WriteFile) (why : Refusal) → StopsWriting made made' (file 2 table) fault → made.faults ≤ made'.faults → why ≡ of.writing fault
+  pub file_stops : (fault : FileWriteFault) (why : Refusal) → StopsWriting made made' (file 2 table) fault → made.faults ≤ made'.faults → why ≡ of.writing fault
       → StoreCause word table made made' out out why
   file_stops w.Fault why stop later e =
       let cut : Writes partly made made' (file 2 table) = record { done = tt; part = stop.part; cause = record { later = later; failed = stop.rose } } in

@@ -9,8 +9,8 @@ use Rattle.plane_file.specs.Laws as laws
 use Rattle.plane_file.specs.TableReading.{IsCause, ReadsTable, ShowsFault}
 use Rattle.plane_file.specs.declared.file_fault.FileFault.TheVariants as f
 use Rattle.plane_file.specs.declared.plane_fault.PlaneFault.TheVariants as d
-use Rattle.plane_file.specs.declared.table_fault.ReadTable.{ReadTable}
-use Rattle.plane_file.specs.declared.table_fault.ReadTable.TheVariants as t
+use Rattle.plane_file.specs.declared.table_fault.TableReadFault.{TableReadFault}
+use Rattle.plane_file.specs.declared.table_fault.TableReadFault.TheVariants as t
 use Rattle.daq_cli.specs.Faults as of
 use Rattle.daq_cli.specs.Laws.{StepsAreExact}
 use Rattle.daq_cli.specs.Steps.{IsComplete, IsExact}
@@ -23,10 +23,10 @@ use Rattle.daq_cli.proofs.Files.{if_told}
 use Rattle.daq_cli.proofs.StoreCauses.{store_excused, store_unwritten}
 
 module _ (planes planes' : StoreState) (bytes : List ℕ) (told : planes.held ≡ Some bytes) where
-  shown : (fault : ReadTable) (why : Refusal) → why ≡ of.reading fault → ShowsFault bytes fault → ShowsTableFault bytes why ⊎ (why ≡ NoMemory) ⊎ Rose planes.faults planes'.faults
+  shown : (fault : TableReadFault) (why : Refusal) → why ≡ of.reading fault → ShowsFault bytes fault → ShowsTableFault bytes why ⊎ (why ≡ NoMemory) ⊎ Rose planes.faults planes'.faults
   shown fault why is faulty = inl (record { fault = fault; is = is; faulty = faulty })
 
-  by_fault : (fault : ReadTable) (why : Refusal) → why ≡ of.reading fault → IsCause planes planes' fault →
+  by_fault : (fault : TableReadFault) (why : Refusal) → why ≡ of.reading fault → IsCause planes planes' fault →
       ShowsTableFault bytes why ⊎ (why ≡ NoMemory) ⊎ Rose planes.faults planes'.faults
   by_fault (t.File f.BadMagic) why is cause = shown (t.File f.BadMagic) why is (if_told (λ b. file_fault b ≡ Some f.BadMagic) planes.held bytes told cause.0)
   by_fault (t.File (f.UnknownVersion found)) why is cause =
@@ -108,13 +108,13 @@ upgrade_unwritten planes planes' made made' out out' why (at_table table read ca
 pub upgrade_exact : laws.TablesAreOne → laws.ShowOneFault → laws.FilesShowNoFault → (bytes : List ℕ) → IsExact (upgrade_step bytes)
 upgrade_exact one fault none bytes = record {
   once = λ a b p r. (one bytes p.0 r.0 a b p.1 r.1).1;
-  same = λ why other p r. p.is ∙ ap (λ (x : ReadTable). of.reading x) (fault bytes p.fault r.fault p.faulty r.faulty) ∙ sym r.is;
+  same = λ why other p r. p.is ∙ ap (λ (x : TableReadFault). of.reading x) (fault bytes p.fault r.fault p.faulty r.faulty) ∙ sym r.is;
   apart = λ table why is p. none bytes is.0 table p.fault is.1 p.faulty;
 }
 
 pub upgrade_complete : laws.HaveTables → (bytes : List ℕ) → AreBytes bytes → IsComplete (upgrade_step bytes)
 upgrade_complete tables bytes are = by (tables bytes are)
   where
-    by : ((version : ℕ) × (table : Contents) × IsFileOf bytes version table) ⊎ ((fault : ReadTable) × ShowsFault bytes fault) → IsComplete (upgrade_step bytes)
+    by : ((version : ℕ) × (table : Contents) × IsFileOf bytes version table) ⊎ ((fault : TableReadFault) × ShowsFault bytes fault) → IsComplete (upgrade_step bytes)
     by (inl (version, table, is)) = inl (table, (version, is))
     by (inr (fault, faulty)) = inr (of.reading fault, record { fault = fault; is = refl; faulty = faulty })

@@ -6,16 +6,16 @@ use Rattle.csv_load.specs.declared.fault.TableFault.{TableFault}
 use Rattle.csv_load.specs.declared.fault.TableFault.TheVariants as t
 use Rattle.multi_session.specs.declared.limits.SessionFault.{SessionFault}
 use Rattle.multi_session.specs.declared.limits.SessionFault.TheVariants as m
-use Rattle.outer_world.specs.declared.whole.ReadAll.{ReadAll}
-use Rattle.outer_world.specs.declared.whole.ReadAll.TheVariants as all
+use Rattle.outer_world.specs.declared.whole.ReadAllFault.{ReadAllFault}
+use Rattle.outer_world.specs.declared.whole.ReadAllFault.TheVariants as all
 use Rattle.plane_file.specs.declared.file_fault.FileFault.{FileFault}
 use Rattle.plane_file.specs.declared.file_fault.FileFault.TheVariants as f
-use Rattle.plane_file.specs.declared.write_fault.WriteFile.{WriteFile}
-use Rattle.plane_file.specs.declared.write_fault.WriteFile.TheVariants as w
+use Rattle.plane_file.specs.declared.write_fault.FileWriteFault.{FileWriteFault}
+use Rattle.plane_file.specs.declared.write_fault.FileWriteFault.TheVariants as w
 use Rattle.plane_file.specs.declared.plane_fault.PlaneFault.{PlaneFault}
 use Rattle.plane_file.specs.declared.plane_fault.PlaneFault.TheVariants as d
-use Rattle.plane_file.specs.declared.table_fault.ReadTable.{ReadTable}
-use Rattle.plane_file.specs.declared.table_fault.ReadTable.TheVariants as files
+use Rattle.plane_file.specs.declared.table_fault.TableReadFault.{TableReadFault}
+use Rattle.plane_file.specs.declared.table_fault.TableReadFault.TheVariants as files
 use Rattle.plane_reads.specs.declared.fault.ReadsFault.{ReadsFault}
 use Rattle.plane_reads.specs.declared.fault.ReadsFault.TheVariants as r
 use Rattle.session_script.specs.declared.fault.ScriptFault.{ScriptFault}
@@ -61,13 +61,13 @@ abbrev pub generator : GenFault → Refusal
 generator g.TooMany = TooManyRows
 generator g.NoMemory = NoMemory
 
-abbrev pub input : ReadAll → Refusal
+abbrev pub input : ReadAllFault → Refusal
 input all.Fault = ReadFault
 input (all.TooLong limit) = TooLong limit
 input all.NoMemory = NoMemory
 
 -- that a script has too many bytes is a fault of the script
-abbrev pub side : ReadAll → Refusal
+abbrev pub side : ReadAllFault → Refusal
 side all.Fault = ReadFault
 side (all.TooLong limit) = Script (c.TooLong limit)
 side all.NoMemory = NoMemory
@@ -93,7 +93,7 @@ opening f.Fault = ReadFault
 opening f.NoMemory = NoMemory
 opening fault = File fault
 
-abbrev pub writing : WriteFile → Refusal
+abbrev pub writing : FileWriteFault → Refusal
 writing w.Fault = WriteFault
 writing w.NoMemory = NoMemory
 
@@ -102,7 +102,7 @@ plane d.Fault = ReadFault
 plane (d.PadBits column number) = PadBits column number
 plane d.WentShort = File f.WentShort
 
-abbrev pub reading : ReadTable → Refusal
+abbrev pub reading : TableReadFault → Refusal
 reading (files.File fault) = opening fault
 reading (files.Plane fault) = plane fault
 reading (files.OverTop column number row) = OverTop column number row

@@ -11,8 +11,8 @@ use command_line::Usage;
 use csv_load::TableFault;
 use daq_table::SchemaFault;
 use multi_session::SessionFault;
-use outer_world::{Failed, ReadAll};
-use plane_file::{FileFault, PlaneFault, ReadTable, WriteFile};
+use outer_world::{Failed, ReadAllFault};
+use plane_file::{FileFault, FileWriteFault, PlaneFault, TableReadFault};
 use plane_reads::ReadsFault;
 use session_script::ScriptFault;
 use sql_text::SqlFault;
@@ -102,14 +102,14 @@ impl From<SchemaFault> for Refusal {
     }
 }
 
-impl From<ReadAll> for Refusal {
+impl From<ReadAllFault> for Refusal {
     ghost from_gives = { λ fault why. why ≡ of.input fault };
 
-    fn from(fault: ReadAll) -> Self {
+    fn from(fault: ReadAllFault) -> Self {
         match fault {
-            ReadAll::Fault => Refusal::ReadFault,
-            ReadAll::TooLong { limit } => Refusal::TooLong { limit },
-            ReadAll::NoMemory => Refusal::NoMemory,
+            ReadAllFault::Fault => Refusal::ReadFault,
+            ReadAllFault::TooLong { limit } => Refusal::TooLong { limit },
+            ReadAllFault::NoMemory => Refusal::NoMemory,
         }
     }
 }
@@ -204,15 +204,19 @@ impl From<PlaneFault> for Refusal {
     }
 }
 
-impl From<ReadTable> for Refusal {
+impl From<TableReadFault> for Refusal {
     ghost from_gives = { λ fault why. why ≡ of.reading fault };
 
-    fn from(fault: ReadTable) -> Self {
+    fn from(fault: TableReadFault) -> Self {
         match fault {
-            ReadTable::File(fault) => Refusal::from(fault),
-            ReadTable::Plane(fault) => Refusal::from(fault),
-            ReadTable::OverTop { column, plane, row } => Refusal::OverTop { column, plane, row },
-            ReadTable::NoMemory => Refusal::NoMemory,
+            TableReadFault::File(fault) => Refusal::from(fault),
+            TableReadFault::Plane(fault) => Refusal::from(fault),
+            TableReadFault::OverTop { column, plane, row } => Refusal::OverTop {
+                column,
+                plane,
+                row,
+            },
+            TableReadFault::NoMemory => Refusal::NoMemory,
         }
     }
 }
@@ -231,13 +235,13 @@ impl From<Stop<PlaneFault>> for Refusal {
     }
 }
 
-impl From<WriteFile> for Refusal {
+impl From<FileWriteFault> for Refusal {
     ghost from_gives = { λ fault why. why ≡ of.writing fault };
 
-    fn from(fault: WriteFile) -> Self {
+    fn from(fault: FileWriteFault) -> Self {
         match fault {
-            WriteFile::Fault => Refusal::WriteFault,
-            WriteFile::NoMemory => Refusal::NoMemory,
+            FileWriteFault::Fault => Refusal::WriteFault,
+            FileWriteFault::NoMemory => Refusal::NoMemory,
         }
     }
 }

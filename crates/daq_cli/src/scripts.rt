@@ -12,7 +12,7 @@ ghost use Rattle.daq_cli.specs.Steps.{StopsStep, each};
 
 use crate::question::read_query;
 use crate::refusal::Refusal;
-use outer_world::{ReadAll, Source, read_all};
+use outer_world::{ReadAllFault, Source, read_all};
 use session_script::{MOST_BYTES, ScriptFault, ScriptQuery};
 use sql_text::{SqlFault, Tree};
 use std::alloc::Global;
@@ -25,13 +25,13 @@ pub(crate) struct Scripted {
 }
 
 // Why there is no script, where its source is not read to its end: that it has too many bytes is a fault of the script.
-fn unread(fault: ReadAll) -> Refusal
+fn unread(fault: ReadAllFault) -> Refusal
     ensures { result ≡ of.side fault }
 {
     match fault {
-        ReadAll::Fault => Refusal::ReadFault,
-        ReadAll::TooLong { limit } => Refusal::Script(ScriptFault::TooLong { limit }),
-        ReadAll::NoMemory => Refusal::NoMemory,
+        ReadAllFault::Fault => Refusal::ReadFault,
+        ReadAllFault::TooLong { limit } => Refusal::Script(ScriptFault::TooLong { limit }),
+        ReadAllFault::NoMemory => Refusal::NoMemory,
     }
 }
 

@@ -2,12 +2,16 @@
 
 use crate::heads::{NULLABLE, TABLE, store};
 use outer_world::MemSink;
-use plane_file::{FileFault, PlaneFault, ReadTable, read_table, write};
+use plane_file::{FileFault, PlaneFault, TableReadFault, read_table, write};
 use std::alloc::{AllocError, Global};
 use std::test::Fail;
 
 // Why the table of these bytes is not read, where each of these calls of the store fails.
-fn fault_of(alloc: Global, bytes: &[u8], fails: &[u64]) -> Result<Option<ReadTable>, AllocError> {
+fn fault_of(
+    alloc: Global,
+    bytes: &[u8],
+    fails: &[u64],
+) -> Result<Option<TableReadFault>, AllocError> {
     Ok(read_table(alloc, &mut store(alloc, bytes, 195, fails)?).err())
 }
 
@@ -17,7 +21,7 @@ fn fault_with(
     file: &[u8],
     at: usize,
     byte: u8,
-) -> Result<Option<ReadTable>, AllocError> {
+) -> Result<Option<TableReadFault>, AllocError> {
     let mut bytes = Vec::from_slice(alloc, file)?;
     if at < bytes.len() {
         bytes[at] = byte;
@@ -26,12 +30,12 @@ fn fault_with(
 }
 
 // Of the table of numbers: a place, the byte that is put there, and why the file is refused then.
-const CHANGES: [(usize, u8, ReadTable); 6] = [
-    (0, 0x00, ReadTable::File(FileFault::BadMagic)),
+const CHANGES: [(usize, u8, TableReadFault); 6] = [
+    (0, 0x00, TableReadFault::File(FileFault::BadMagic)),
     (
         131,
         0x14,
-        ReadTable::Plane(PlaneFault::PadBits {
+        TableReadFault::Plane(PlaneFault::PadBits {
             column: 0,
             plane: 0,
         }),
@@ -39,7 +43,7 @@ const CHANGES: [(usize, u8, ReadTable); 6] = [
     (
         139,
         0x06,
-        ReadTable::OverTop {
+        TableReadFault::OverTop {
             column: 0,
             plane: 1,
             row: 2,
@@ -48,7 +52,7 @@ const CHANGES: [(usize, u8, ReadTable); 6] = [
     (
         139,
         0x16,
-        ReadTable::Plane(PlaneFault::PadBits {
+        TableReadFault::Plane(PlaneFault::PadBits {
             column: 0,
             plane: 1,
         }),
@@ -56,7 +60,7 @@ const CHANGES: [(usize, u8, ReadTable); 6] = [
     (
         187,
         0x07,
-        ReadTable::OverTop {
+        TableReadFault::OverTop {
             column: 2,
             plane: 1,
             row: 1,
@@ -65,7 +69,7 @@ const CHANGES: [(usize, u8, ReadTable); 6] = [
     (
         194,
         0x01,
-        ReadTable::Plane(PlaneFault::PadBits {
+        TableReadFault::Plane(PlaneFault::PadBits {
             column: 2,
             plane: 1,
         }),
@@ -86,7 +90,7 @@ fn each_change_has_its_fault(rt: HostRuntime) -> Result<(), Fail> {
 fn null_has_no_digits(rt: HostRuntime) -> Result<(), Fail> {
     assert_eq!(rt;
         fault_with(rt.alloc(), &NULLABLE, 90, 0x06)?,
-        Some(ReadTable::OverTop {
+        Some(TableReadFault::OverTop {
             column: 0,
             plane: 1,
             row: 1
@@ -101,9 +105,9 @@ fn null_has_no_digits(rt: HostRuntime) -> Result<(), Fail> {
 fn each_failing_call_is_a_fault(rt: HostRuntime) -> Result<(), Fail> {
     for call in 0..11u64 {
         let fault = if call < 3 {
-            ReadTable::File(FileFault::Fault)
+            TableReadFault::File(FileFault::Fault)
         } else {
-            ReadTable::Plane(PlaneFault::Fault)
+            TableReadFault::Plane(PlaneFault::Fault)
         };
         assert_eq!(rt;
             fault_of(rt.alloc(), &TABLE, &[call])?,

@@ -6,7 +6,7 @@ ghost use Rattle.plane_file.specs.Format.{CanBeSpelled};
 
 use daq_table::{ColumnHead, ColumnHeads, Dictionary, Head, Kind, Name, Table};
 use outer_world::MemSink;
-use plane_file::{WriteFile, write};
+use plane_file::{FileWriteFault, write};
 use std::alloc::{AllocError, Global};
 use std::test::Fail;
 
@@ -70,7 +70,7 @@ fn stops_where_the_sink_fails(rt: HostRuntime) -> Result<(), Fail> {
     for call in 0..FILE.len() {
         let mut sink = MemSink::with_room(alloc, 100, 1, [call as u64].to_vec(alloc)?)?;
         let result = write(alloc, &table, &mut sink);
-        assert_eq!(rt; result, Err(WriteFile::Fault), "call {call}");
+        assert_eq!(rt; result, Err(FileWriteFault::Fault), "call {call}");
         assert_eq!(rt; sink.contents(), &FILE[..call], "call {call}");
     }
     Ok(())

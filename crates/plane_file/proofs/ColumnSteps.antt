@@ -19,8 +19,8 @@ use Rattle.plane_file.specs.Format.{plane_size}
 use Rattle.plane_file.specs.Places.{plane_at, plane_in}
 use Rattle.plane_file.specs.TableReading.{HavePlanes, IsIllegalPlane, IsPlane}
 use Rattle.plane_file.specs.declared.plane_fault.PlaneFault.TheVariants.{Fault, PadBits, WentShort}
-use Rattle.plane_file.specs.declared.table_fault.ReadTable.{ReadTable}
-use Rattle.plane_file.specs.declared.table_fault.ReadTable.TheVariants.{File, Plane, OverTop, NoMemory}
+use Rattle.plane_file.specs.declared.table_fault.TableReadFault.{TableReadFault}
+use Rattle.plane_file.specs.declared.table_fault.TableReadFault.TheVariants.{File, Plane, OverTop, NoMemory}
 use Rattle.plane_file.proofs.ColumnCells.{AreFull, HavePrefixes, are_full, have_planes, marks_by, planes_more, some_cells}
 use Rattle.plane_file.proofs.Handed.{handed_on}
 use Rattle.plane_file.proofs.PlanePlaces.{place_in_column}
@@ -127,7 +127,7 @@ module _ (head : Head) (column : ℕ) where
         let below : size * (plane + 1) ≤ size * planes (ends_at (frame_of head) column) = mul-le-mul (omega arith) (omega (arith, is.is_plane)) in
         omega (arith, few, below, one_more plane)
 
-    pub next_stops : (fault : ReadTable) → StopsAtNext head column plane mid new known fault → StopsInColumn head column old new fault
+    pub next_stops : (fault : TableReadFault) → StopsAtNext head column plane mid new known fault → StopsInColumn head column old new fault
     next_stops (File why) s = absurd s
     next_stops (Plane Fault) s = record {
       cause = omega (arith, s.rose, same.faults);

@@ -20,8 +20,8 @@ use Rattle.plane_file.specs.Places.{plane_at, plane_in}
 use Rattle.plane_file.specs.TableReading.{AgreesBefore, HasHeadWith, HaveColumns, HavePlanes, IsFirstIllegal, IsFirstPadded, IsIllegalPlane, IsPaddedPlane, IsPlane, ShowsFault, known_by}
 use Rattle.plane_file.specs.declared.file_fault.FileFault.{FileFault}
 use Rattle.plane_file.specs.declared.plane_fault.PlaneFault.TheVariants.{Fault, PadBits, WentShort}
-use Rattle.plane_file.specs.declared.table_fault.ReadTable.{ReadTable}
-use Rattle.plane_file.specs.declared.table_fault.ReadTable.TheVariants.{File, Plane, OverTop, NoMemory}
+use Rattle.plane_file.specs.declared.table_fault.TableReadFault.{TableReadFault}
+use Rattle.plane_file.specs.declared.table_fault.TableReadFault.TheVariants.{File, Plane, OverTop, NoMemory}
 use Rattle.plane_file.proofs.Lengths.{length-bytes_of_rows, length-column_planes}
 use Rattle.plane_file.proofs.OneHead.{file_head, one_head}
 use Rattle.plane_file.proofs.OneTable.{longer-map, same_prefixes}
@@ -277,7 +277,7 @@ module _ (bytes : List ℕ) (version : ℕ) (table : Contents) (is : IsFileOf by
       let f : IsFaultAt head bytes c j = subst (λ (h : Head). IsFaultAt h bytes c j) (sym same) h.holds in
       f.never (has_plane c j f.is_plane)
 
-  none_shown : (why : ReadTable) → ShowsFault bytes why → ⊥
+  none_shown : (why : TableReadFault) → ShowsFault bytes why → ⊥
   none_shown (File why) s = no_fault bytes why version head s (file_head bytes version table is)
   none_shown (Plane (PadBits c j)) s = no_fault_at c j (record { version = s.version; head = s.head; begins = s.begins; holds = padded_at s.head bytes c j s.holds })
   none_shown (Plane Fault) s = s

@@ -18,8 +18,8 @@ use Rattle.plane_file.specs.Places.{plane_at, plane_in}
 use Rattle.plane_file.specs.TableReading.{HaveColumns, HavePlanes, IsFirstIllegal, IsFirstPadded, IsIllegalPlane, IsPlane, ShowsFault}
 use Rattle.plane_file.specs.declared.file_fault.FileFault.{FileFault}
 use Rattle.plane_file.specs.declared.plane_fault.PlaneFault.TheVariants.{PadBits}
-use Rattle.plane_file.specs.declared.table_fault.ReadTable.{ReadTable}
-use Rattle.plane_file.specs.declared.table_fault.ReadTable.TheVariants.{File, Plane, OverTop}
+use Rattle.plane_file.specs.declared.table_fault.TableReadFault.{TableReadFault}
+use Rattle.plane_file.specs.declared.table_fault.TableReadFault.TheVariants.{File, Plane, OverTop}
 use Rattle.plane_file.proofs.AllColumns.{agrees, filled, last_there}
 use Rattle.plane_file.proofs.ColumnCells.{have_planes, planes_more}
 use Rattle.plane_file.proofs.ColumnSteps.{are_cells, cells_before, illegal_with, known_is, reached, taken_read, unread_into}
@@ -199,7 +199,7 @@ module _ (head : Head) (bytes : List ℕ) (fits : AreBytes bytes) (long : length
         within = λ c r lt row_in. (d.are c (omega (arith, lt, many))).within r row_in;
       }
 
-  told_by_head : (version : ℕ) → IsFileHead bytes version head → ((version : ℕ) × (table : Contents) × IsFileOf bytes version table) ⊎ ((fault : ReadTable) × ShowsFault bytes fault)
+  told_by_head : (version : ℕ) → IsFileHead bytes version head → ((version : ℕ) × (table : Contents) × IsFileOf bytes version table) ⊎ ((fault : TableReadFault) × ShowsFault bytes fault)
   told_by_head version begins = elim (columns_told (length head.columns) (omega arith)) [
     | inl d ↦ inl (version, record { head = head; cells = d.cells }, file_is bytes head d.cells long d.have version begins (done_table d))
     | inr (inl (column, plane, f)) ↦ inr (Plane (PadBits column plane), record { version = version; head = head; begins = begins; holds = f })
@@ -209,6 +209,6 @@ module _ (head : Head) (bytes : List ℕ) (fits : AreBytes bytes) (long : length
 pub have_tables : HaveTables
 have_tables bytes fits = by (file_fault bytes) refl
   where
-    by : (found : Option FileFault) → file_fault bytes ≡ found → ((version : ℕ) × (table : Contents) × IsFileOf bytes version table) ⊎ ((fault : ReadTable) × ShowsFault bytes fault)
+    by : (found : Option FileFault) → file_fault bytes ≡ found → ((version : ℕ) × (table : Contents) × IsFileOf bytes version table) ⊎ ((fault : TableReadFault) × ShowsFault bytes fault)
     by (Some why) e = inr (File why, e)
     by None e = let found = some_head bytes fits e in told_by_head found.1 bytes fits found.2.size found.0 found.2

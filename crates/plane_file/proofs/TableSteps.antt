@@ -21,8 +21,8 @@ use Rattle.plane_file.specs.Opening.{IsFileHead}
 use Rattle.plane_file.specs.Places.{plane_at}
 use Rattle.plane_file.specs.TableReading.{HaveColumns, HavePlanes, IsFirstIllegal, IsFirstPadded, IsIllegalPlane}
 use Rattle.plane_file.specs.declared.plane_fault.PlaneFault.TheVariants.{Fault, PadBits, WentShort}
-use Rattle.plane_file.specs.declared.table_fault.ReadTable.{ReadTable}
-use Rattle.plane_file.specs.declared.table_fault.ReadTable.TheVariants.{File, Plane, OverTop, NoMemory}
+use Rattle.plane_file.specs.declared.table_fault.TableReadFault.{TableReadFault}
+use Rattle.plane_file.specs.declared.table_fault.TableReadFault.TheVariants.{File, Plane, OverTop, NoMemory}
 use Rattle.plane_file.proofs.AllColumns.{agrees, filled, last_there}
 use Rattle.plane_file.proofs.Parts.{pieces_more}
 use Rattle.plane_file.proofs.Handed.{handed_on}
@@ -151,7 +151,7 @@ module _ (head : Head) (column : ℕ) (old mid new : StoreState) (numbers : List
     illegal = subst (λ (cells : List Cell). IsIllegalPlane head bytes column plane row cells) (sym (last_there head column (cells_from numbers marks) r.cells inside cells_done r.reached.are_cells)) r.illegal;
   }
 
-  pub column_stops : (fault : ReadTable) → StopsInColumn head column mid new fault → StopsInColumns head old new fault
+  pub column_stops : (fault : TableReadFault) → StopsInColumn head column mid new fault → StopsInColumns head old new fault
   column_stops (File why) s = absurd s.cause
   column_stops (Plane Fault) s = record { cause = omega (arith, s.cause, same.faults); count = before + s.count; handed = behind s.count s.handed; few = within s.count s.few }
   column_stops (Plane (PadBits c plane)) s = record {

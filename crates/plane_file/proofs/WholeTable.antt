@@ -19,8 +19,8 @@ use Rattle.plane_file.specs.TableReading.{HasHeadWith, HaveColumns, IsFirstIlleg
 use Rattle.plane_file.specs.declared.file_fault.FileFault.{FileFault}
 use Rattle.plane_file.specs.declared.file_fault.FileFault.TheVariants as opening
 use Rattle.plane_file.specs.declared.plane_fault.PlaneFault.TheVariants.{Fault, PadBits, WentShort}
-use Rattle.plane_file.specs.declared.table_fault.ReadTable.{ReadTable}
-use Rattle.plane_file.specs.declared.table_fault.ReadTable.TheVariants.{File, Plane, OverTop, NoMemory}
+use Rattle.plane_file.specs.declared.table_fault.TableReadFault.{TableReadFault}
+use Rattle.plane_file.specs.declared.table_fault.TableReadFault.TheVariants.{File, Plane, OverTop, NoMemory}
 use Rattle.plane_file.proofs.AllColumns.{columns_table}
 use Rattle.plane_file.proofs.Refusals.{hands_both}
 use Rattle.plane_file.proofs.TableSteps.{file_is}
@@ -74,7 +74,7 @@ module _ (old mid new : StoreState) (file : Opened) (opens : Opens old mid file)
       told old.held (λ bytes. IsFileHead bytes file.version file.head) (λ bytes. IsFileHead bytes file.version file.head) (λ bytes. HasHeadWith bytes (λ head. count ≡ plane_at head column plane + plane_size head.rows))
       (λ bytes begins _. record { version = file.version; head = file.head; begins = begins; holds = e }) opens.spelled opens.spelled
 
-  pub columns_refused : (why : ReadTable) → StopsInColumns file.head mid new why → RefusesTable old new why
+  pub columns_refused : (why : TableReadFault) → StopsInColumns file.head mid new why → RefusesTable old new why
   columns_refused (File why) s = absurd s.cause
   columns_refused (Plane Fault) s = record { cause = omega (arith, s.cause, same.faults); count = planes_at file.head + s.count; handed = behind s.count s.handed; few = few_bytes _ s.few }
   columns_refused (Plane (PadBits column plane)) s = record {

@@ -14,8 +14,8 @@ use Rattle.plane_file.specs.Places.{plane_at, plane_in}
 use Rattle.plane_file.specs.Reading.{ReadsPlane, StopsReading}
 use Rattle.plane_file.specs.TableReading.{HaveColumns, HavePlanes, IsFirstIllegal, IsFirstPadded, IsIllegalPlane, IsPaddedPlane, IsPlane}
 use Rattle.plane_file.specs.declared.plane_fault.PlaneFault.TheVariants.{Fault, PadBits, WentShort}
-use Rattle.plane_file.specs.declared.table_fault.ReadTable.{ReadTable}
-use Rattle.plane_file.specs.declared.table_fault.ReadTable.TheVariants.{File, Plane, OverTop, NoMemory}
+use Rattle.plane_file.specs.declared.table_fault.TableReadFault.{TableReadFault}
+use Rattle.plane_file.specs.declared.table_fault.TableReadFault.TheVariants.{File, Plane, OverTop, NoMemory}
 
 -- the store, where it tells its bytes, has as many as the file
 abbrev pub HoldsFile : StoreState → Head → Type 0
@@ -48,7 +48,7 @@ pub record IsNextIllegal (head : Head) (column plane : ℕ) (old new : StoreStat
   pub over : IsFirstOver known bits row
 
 -- the next plane was not taken, for this reason
-abbrev pub StopsAtNext : Head → ℕ → ℕ → StoreState → StoreState → KnownColumn → ReadTable → Type 0
+abbrev pub StopsAtNext : Head → ℕ → ℕ → StoreState → StoreState → KnownColumn → TableReadFault → Type 0
 StopsAtNext head column plane old new known (File _) = ⊥
 StopsAtNext head column plane old new known (Plane why) = StopsReading head column plane old new why
 StopsAtNext head column plane old new known (OverTop c j row) = IsNextIllegal head column plane old new known c j row
@@ -92,7 +92,7 @@ pub record ReachesIllegal (head : Head) (bytes : List ℕ) (column plane row : �
   pub illegal : IsIllegalPlane head bytes column plane row cells
 
 -- why the planes of a column were not read
-abbrev pub IsColumnCause : Head → ℕ → StoreState → StoreState → ReadTable → Type 0
+abbrev pub IsColumnCause : Head → ℕ → StoreState → StoreState → TableReadFault → Type 0
 IsColumnCause head column old new (File _) = ⊥
 IsColumnCause head column old new (Plane (PadBits c plane)) =
     (c ≡ column) × IfSome old.held (λ bytes. ReachesPadded head bytes column plane)
@@ -107,7 +107,7 @@ abbrev pub AreWithin : Head → ℕ → ℕ → Type 0
 AreWithin head count planes = count ≤ plane_size head.rows * planes
 
 -- how many bytes of a column may be read: where a plane is refused, all up to its end
-abbrev pub IsColumnReach : Head → ℕ → ReadTable → ℕ → Type 0
+abbrev pub IsColumnReach : Head → ℕ → TableReadFault → ℕ → Type 0
 IsColumnReach head column (File _) count = ⊥
 IsColumnReach head column (Plane (PadBits c plane)) count = count ≡ plane_size head.rows * (plane + 1)
 IsColumnReach head column (Plane Fault) count = AreWithin head count (planes (ends_at (frame_of head) column))
@@ -116,7 +116,7 @@ IsColumnReach head column (OverTop c plane row) count = count ≡ plane_size hea
 IsColumnReach head column NoMemory count = AreWithin head count (planes (ends_at (frame_of head) column))
 
 -- the planes of a column were not read, for this reason, and a part of them was handed over, from the first on
-pub record StopsInColumn (head : Head) (column : ℕ) (old new : StoreState) (fault : ReadTable) : Type 0 where
+pub record StopsInColumn (head : Head) (column : ℕ) (old new : StoreState) (fault : TableReadFault) : Type 0 where
   pub cause : IsColumnCause head column old new fault
   pub count : ℕ
   pub handed : HandsOver old.pieces new.pieces (places_from (plane_at head column 0) count)
@@ -155,7 +155,7 @@ abbrev pub ReadsColumns : Head → StoreState → StoreState → List (List ℕ)
 ReadsColumns head old new numbers marks = ReadsFirst head (length head.columns) old new numbers marks
 
 -- why the columns were not read
-abbrev pub IsColumnsCause : Head → StoreState → StoreState → ReadTable → Type 0
+abbrev pub IsColumnsCause : Head → StoreState → StoreState → TableReadFault → Type 0
 IsColumnsCause head old new (File _) = ⊥
 IsColumnsCause head old new (Plane (PadBits column plane)) = IfSome old.held (λ bytes. IsFirstPadded head bytes column plane)
 IsColumnsCause head old new (Plane Fault) = Rose old.faults new.faults
@@ -164,7 +164,7 @@ IsColumnsCause head old new (OverTop column plane row) = IfSome old.held (λ byt
 IsColumnsCause head old new NoMemory = ⊤
 
 -- the place up to which the bytes may be read: where a plane is refused, its end
-abbrev pub IsEnd : Head → ReadTable → ℕ → Type 0
+abbrev pub IsEnd : Head → TableReadFault → ℕ → Type 0
 IsEnd head (File _) end = ⊥
 IsEnd head (Plane (PadBits column plane)) end = end ≡ plane_at head column plane + plane_size head.rows
 IsEnd head (Plane Fault) end = end ≤ file_size head
@@ -173,7 +173,7 @@ IsEnd head (OverTop column plane row) end = end ≡ plane_at head column plane +
 IsEnd head NoMemory end = end ≤ file_size head
 
 -- the columns were not read, for this reason, and a part of the planes was handed over, from the first on
-pub record StopsInColumns (head : Head) (old new : StoreState) (fault : ReadTable) : Type 0 where
+pub record StopsInColumns (head : Head) (old new : StoreState) (fault : TableReadFault) : Type 0 where
   pub cause : IsColumnsCause head old new fault
   pub count : ℕ
   pub handed : HandsOver old.pieces new.pieces (places_from (planes_at head) count)

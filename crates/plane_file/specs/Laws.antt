@@ -7,7 +7,7 @@ use Rattle.plane_file.specs.Checks.{file_fault}
 use Rattle.plane_file.specs.Format.{IsFileOf, file}
 use Rattle.plane_file.specs.Opening.{IsFileHead}
 use Rattle.plane_file.specs.TableReading.{ShowsFault}
-use Rattle.plane_file.specs.declared.table_fault.ReadTable.{ReadTable}
+use Rattle.plane_file.specs.declared.table_fault.TableReadFault.{TableReadFault}
 
 -- bytes without a fault begin with a head, and have the size of its file
 abbrev pub HasHead : Type 0
@@ -34,15 +34,15 @@ TablesAreOne = (bytes : List ℕ) (version other : ℕ) (one another : Contents)
 
 -- bytes show one fault at most
 abbrev pub ShowOneFault : Type 0
-ShowOneFault = (bytes : List ℕ) (one other : ReadTable) → ShowsFault bytes one → ShowsFault bytes other → one ≡ other
+ShowOneFault = (bytes : List ℕ) (one other : TableReadFault) → ShowsFault bytes one → ShowsFault bytes other → one ≡ other
 
 -- the file of a table shows none
 abbrev pub FilesShowNoFault : Type 0
 FilesShowNoFault =
-    (bytes : List ℕ) (version : ℕ) (table : Contents) (fault : ReadTable) →
+    (bytes : List ℕ) (version : ℕ) (table : Contents) (fault : TableReadFault) →
     IsFileOf bytes version table → ¬ ShowsFault bytes fault
 
 -- bytes that show no fault are the file of a table
 abbrev pub HaveTables : Type 0
 HaveTables = (bytes : List ℕ) → AreBytes bytes
-    → ((version : ℕ) × (table : Contents) × IsFileOf bytes version table) ⊎ ((fault : ReadTable) × ShowsFault bytes fault)
+    → ((version : ℕ) × (table : Contents) × IsFileOf bytes version table) ⊎ ((fault : TableReadFault) × ShowsFault bytes fault)

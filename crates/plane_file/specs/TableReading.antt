@@ -15,8 +15,8 @@ use Rattle.plane_file.specs.Places.{plane_at, plane_in}
 use Rattle.plane_file.specs.declared.file_fault.FileFault.{FileFault}
 use Rattle.plane_file.specs.declared.file_fault.FileFault.TheVariants as opening
 use Rattle.plane_file.specs.declared.plane_fault.PlaneFault.TheVariants.{Fault, PadBits, WentShort}
-use Rattle.plane_file.specs.declared.table_fault.ReadTable.{ReadTable}
-use Rattle.plane_file.specs.declared.table_fault.ReadTable.TheVariants.{File, Plane, OverTop, NoMemory}
+use Rattle.plane_file.specs.declared.table_fault.TableReadFault.{TableReadFault}
+use Rattle.plane_file.specs.declared.table_fault.TableReadFault.TheVariants.{File, Plane, OverTop, NoMemory}
 
 -- ---- planes of a table
 
@@ -82,7 +82,7 @@ pub record HasHeadWith (bytes : List ℕ) (Holds : Head → Type 0) : Type 0 whe
   pub holds : Holds head
 
 -- the fault that the bytes show first: of their head, or else of their planes, in the order of the file
-abbrev pub ShowsFault : List ℕ → ReadTable → Type 0
+abbrev pub ShowsFault : List ℕ → TableReadFault → Type 0
 ShowsFault bytes (File why) = file_fault bytes ≡ Some why
 ShowsFault bytes (Plane (PadBits column plane)) = HasHeadWith bytes (λ head. IsFirstPadded head bytes column plane)
 ShowsFault bytes (Plane Fault) = ⊥
@@ -101,7 +101,7 @@ pub record ReadsTable (old new : StoreState) (table : Contents) : Type 0 where
 
 -- why no table was read: the bytes show this fault, or the store failed, or ended early. Want of memory says nothing, and
 -- is never a fault of the file
-abbrev pub IsCause : StoreState → StoreState → ReadTable → Type 0
+abbrev pub IsCause : StoreState → StoreState → TableReadFault → Type 0
 IsCause old new (File why) = HasFault old new why × ¬ (why ≡ opening.NoMemory)
 IsCause old new (Plane (PadBits column plane)) = IfSome old.held (λ bytes. ShowsFault bytes (Plane (PadBits column plane)))
 IsCause old new (Plane Fault) = Rose old.faults new.faults
@@ -114,7 +114,7 @@ abbrev pub IsUpToPlane : List ℕ → ℕ → ℕ → ℕ → Type 0
 IsUpToPlane bytes column plane count = HasHeadWith bytes (λ head. count ≡ plane_at head column plane + plane_size head.rows)
 
 -- how many bytes of a file may be read before it is refused: where a plane is refused, all up to its end
-abbrev pub IsReach : List ℕ → ReadTable → ℕ → Type 0
+abbrev pub IsReach : List ℕ → TableReadFault → ℕ → Type 0
 IsReach bytes (File _) count = count ≤ readable bytes
 IsReach bytes (Plane (PadBits column plane)) count = IsUpToPlane bytes column plane count
 IsReach bytes (Plane Fault) count = count ≤ length bytes
@@ -123,7 +123,7 @@ IsReach bytes (OverTop column plane row) count = IsUpToPlane bytes column plane 
 IsReach bytes NoMemory count = count ≤ length bytes
 
 -- the refusal of a file that is not opened
-abbrev pub refusal_of : FileFault → ReadTable
+abbrev pub refusal_of : FileFault → TableReadFault
 refusal_of opening.BadMagic = File opening.BadMagic
 refusal_of (opening.UnknownVersion found) = File (opening.UnknownVersion found)
 refusal_of (opening.BadHead at) = File (opening.BadHead at)
@@ -134,7 +134,7 @@ refusal_of opening.Fault = File opening.Fault
 refusal_of opening.NoMemory = NoMemory
 
 -- no table was read, for this reason, and a part of the file was handed over, from its front on, each byte once and in order
-pub record RefusesTable (old new : StoreState) (fault : ReadTable) : Type 0 where
+pub record RefusesTable (old new : StoreState) (fault : TableReadFault) : Type 0 where
   pub cause : IsCause old new fault
   pub count : ℕ
   pub handed : HandsOver old.pieces new.pieces (places_from 0 count)

@@ -7,7 +7,7 @@ ghost use Rattle.plane_file.specs.ColumnReading.{HoldsFile, IsReadInto, ReadsCel
 
 use crate::column_cells::{marks_of, numbers_of};
 use crate::plane_file::PlaneFile;
-use crate::table_fault::ReadTable;
+use crate::table_fault::TableReadFault;
 use daq_table::planes;
 use known_column::{Known, OverTop};
 use outer_world::Store;
@@ -22,7 +22,7 @@ fn read_next<P: Store>(
     number: u8,
     plane: &mut Plane,
     known: &mut Known,
-) -> Result<(), ReadTable>
+) -> Result<(), TableReadFault>
     requires column { column < length file.now.head.columns }
     requires number { number < planes (ends_at (frame_of file.now.head) column) }
     requires rows { length plane.old ≡ file.now.head.rows }
@@ -36,7 +36,7 @@ fn read_next<P: Store>(
     file.read_plane(store, column, number, plane)?;
     match known.take(plane) {
         Ok(()) => Ok(()),
-        Err(OverTop { row }) => Err(ReadTable::OverTop {
+        Err(OverTop { row }) => Err(TableReadFault::OverTop {
             column,
             plane: number,
             row,
@@ -51,7 +51,7 @@ fn read_known<P: Store>(
     store: &mut P,
     column: usize,
     plane: &mut Plane,
-) -> Result<Known, ReadTable>
+) -> Result<Known, TableReadFault>
     requires column { column < length file.now.head.columns }
     requires rows { length plane.old ≡ file.now.head.rows }
     requires holds { HoldsFile (P.state store.old) file.now.head }
@@ -76,7 +76,7 @@ pub(crate) fn read_column<P: Store>(
     store: &mut P,
     column: usize,
     plane: &mut Plane,
-) -> Result<(Vec<u64>, Vec<bool>), ReadTable>
+) -> Result<(Vec<u64>, Vec<bool>), TableReadFault>
     requires column { column < length file.now.head.columns }
     requires rows { length plane.old ≡ file.now.head.rows }
     requires holds { HoldsFile (P.state store.old) file.now.head }

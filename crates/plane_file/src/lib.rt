@@ -32,7 +32,7 @@ pub use laws::{
 pub use opening::open;
 pub use plane_fault::PlaneFault;
 pub use plane_file::PlaneFile;
-pub use table_fault::ReadTable;
+pub use table_fault::TableReadFault;
 pub use table_reading::read_table;
-pub use write_fault::WriteFile;
+pub use write_fault::FileWriteFault;
 pub use writing::write;

@@ -10,7 +10,7 @@ use crate::file_fault::FileFault;
 use crate::fronts::read_head;
 use crate::places::number64_at;
 use crate::plane_file::PlaneFile;
-use outer_world::{Failed, ReadAt, Store, read_exact_at};
+use outer_world::{Failed, ReadAtFault, Store, read_exact_at};
 use std::alloc::Global;
 
 // Fills the buffer with the bytes from a place on.
@@ -22,8 +22,8 @@ fn fill<P: Store>(store: &mut P, at: u64, buf: &mut [u8]) -> Result<(), FileFaul
 {
     match read_exact_at(store, at, buf) {
         Ok(()) => Ok(()),
-        Err(ReadAt::Fault) => Err(FileFault::Fault),
-        Err(ReadAt::Short { got: _ }) => Err(FileFault::WentShort),
+        Err(ReadAtFault::Fault) => Err(FileFault::Fault),
+        Err(ReadAtFault::Short { got: _ }) => Err(FileFault::WentShort),
     }
 }
 

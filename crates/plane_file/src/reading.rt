@@ -12,7 +12,7 @@ use crate::heads::planes_in;
 use crate::plane_fault::PlaneFault;
 use crate::plane_file::PlaneFile;
 use crate::words_fault::WordsFault;
-use outer_world::{ReadAt, Store, read_exact_at};
+use outer_world::{ReadAtFault, Store, read_exact_at};
 use plane_kernels::Plane;
 
 // How many bytes are read at once.
@@ -29,8 +29,8 @@ fn fetch<P: Store>(store: &mut P, place: u64, bytes: &mut [u8]) -> Result<(), Wo
 {
     match read_exact_at(store, place, bytes) {
         Ok(()) => Ok(()),
-        Err(ReadAt::Fault) => Err(WordsFault::Fault),
-        Err(ReadAt::Short { .. }) => Err(WordsFault::WentShort),
+        Err(ReadAtFault::Fault) => Err(WordsFault::Fault),
+        Err(ReadAtFault::Short { .. }) => Err(WordsFault::WentShort),
     }
 }
 

@@ -2,7 +2,7 @@
 
 ghost use Rattle.std.specs.Prelude.{◌≡◌};
 ghost use Rattle.plane_file.specs.TableReading.{refusal_of};
-ghost use Rattle.plane_file.specs.declared.table_fault.ReadTable.TheVariants.{NoMemory, Plane};
+ghost use Rattle.plane_file.specs.declared.table_fault.TableReadFault.TheVariants.{NoMemory, Plane};
 
 use crate::file_fault::FileFault;
 use crate::plane_fault::PlaneFault;
@@ -12,7 +12,7 @@ use thiserror::Error;
 /// Why the bytes of a store are the file of no table, or why they could not be read. Of several faults of the bytes the one
 /// that a reader from front to back meets first is answered. Columns, planes and rows count from 0.
 #[derive(Clone, Copy, Debug, PartialEq, Eq, Error)]
-pub enum ReadTable {
+pub enum TableReadFault {
     /// The file is not opened, for another reason than want of memory.
     #[error("{0}")]
     File(FileFault),
@@ -31,43 +31,43 @@ pub enum ReadTable {
     NoMemory,
 }
 
-impl From<FileFault> for ReadTable {
+impl From<FileFault> for TableReadFault {
     ghost from_gives = { λ fault e. e ≡ refusal_of fault };
 
     fn from(fault: FileFault) -> Self {
         match fault {
-            FileFault::NoMemory => ReadTable::NoMemory,
+            FileFault::NoMemory => TableReadFault::NoMemory,
             FileFault::BadMagic
             | FileFault::UnknownVersion { .. }
             | FileFault::BadHead { .. }
             | FileFault::LimitPassed { .. }
             | FileFault::WrongSize { .. }
             | FileFault::WentShort
-            | FileFault::Fault => ReadTable::File(fault),
+            | FileFault::Fault => TableReadFault::File(fault),
         }
     }
 }
 
-impl From<PlaneFault> for ReadTable {
+impl From<PlaneFault> for TableReadFault {
     ghost from_gives = { λ fault e. e ≡ Plane fault };
 
     fn from(fault: PlaneFault) -> Self {
-        ReadTable::Plane(fault)
+        TableReadFault::Plane(fault)
     }
 }
 
-impl From<AllocError> for ReadTable {
+impl From<AllocError> for TableReadFault {
     ghost from_gives = { λ _ e. e ≡ NoMemory };
 
     fn from(_: AllocError) -> Self {
-        ReadTable::NoMemory
+        TableReadFault::NoMemory
     }
 }
 
-impl<T: Drop> From<AllocFailed<T>> for ReadTable {
+impl<T: Drop> From<AllocFailed<T>> for TableReadFault {
     ghost from_gives = { λ _ e. e ≡ NoMemory };
 
     fn from(_: AllocFailed<T>) -> Self {
-        ReadTable::NoMemory
+        TableReadFault::NoMemory
     }
 }

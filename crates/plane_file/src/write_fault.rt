@@ -1,14 +1,14 @@
 //! Why a file is not written.
 
 ghost use Rattle.std.specs.Prelude.{◌≡◌};
-ghost use Rattle.plane_file.specs.declared.write_fault.WriteFile.TheVariants.{NoMemory};
+ghost use Rattle.plane_file.specs.declared.write_fault.FileWriteFault.TheVariants.{NoMemory};
 
 use std::alloc::{AllocError, AllocFailed};
 use thiserror::Error;
 
 /// Why a file is not written.
 #[derive(Clone, Copy, Debug, PartialEq, Eq, Error)]
-pub enum WriteFile {
+pub enum FileWriteFault {
     /// The sink failed.
     #[error("write fault")]
     Fault,
@@ -17,18 +17,18 @@ pub enum WriteFile {
     NoMemory,
 }
 
-impl From<AllocError> for WriteFile {
+impl From<AllocError> for FileWriteFault {
     ghost from_gives = { λ _ e. e ≡ NoMemory };
 
     fn from(_: AllocError) -> Self {
-        WriteFile::NoMemory
+        FileWriteFault::NoMemory
     }
 }
 
-impl<T: Drop> From<AllocFailed<T>> for WriteFile {
+impl<T: Drop> From<AllocFailed<T>> for FileWriteFault {
     ghost from_gives = { λ _ e. e ≡ NoMemory };
 
     fn from(_: AllocFailed<T>) -> Self {
-        WriteFile::NoMemory
+        FileWriteFault::NoMemory
     }
 }

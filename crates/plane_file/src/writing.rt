@@ -8,7 +8,7 @@ ghost use Rattle.plane_file.specs.Writing.{StopsWriting};
 
 use crate::heads::{plane_count, spelled_header, spelled_heads};
 use crate::planes::write_planes;
-use crate::write_fault::WriteFile;
+use crate::write_fault::FileWriteFault;
 use daq_table::{Head, Table};
 use outer_world::{Failed, Sink, write_pieces};
 use plane_kernels::Plane;
@@ -43,7 +43,7 @@ fn size_of_file(head: &Head, heads: &[u8], plane: &[u8]) -> u64
 
 /// Appends the file of the table, in version 2, and answers how many bytes that is. `Fault` comes only where the sink
 /// failed, and then a part of the file was appended, from its front. `NoMemory` comes only before the first byte.
-pub fn write<K: Sink>(alloc: Global, table: &Table, sink: &mut K) -> Result<u64, WriteFile>
+pub fn write<K: Sink>(alloc: Global, table: &Table, sink: &mut K) -> Result<u64, FileWriteFault>
     requires spelled { CanBeSpelled table.now.head }
     ensures size { IfOk result (λ size. size ≡ length (file 2 table.now)) }
     ensures written { OnOk result (Appends (K.state sink.old).written (K.state sink.new).written (file 2 table.now)) }
@@ -58,6 +58,6 @@ pub fn write<K: Sink>(alloc: Global, table: &Table, sink: &mut K) -> Result<u64,
     let size = size_of_file(head, &heads, &bytes);
     match write_parts(table, &header, &heads, &mut plane, &mut bytes, sink) {
         Ok(()) => Ok(size),
-        Err(Failed) => Err(WriteFile::Fault),
+        Err(Failed) => Err(FileWriteFault::Fault),
     }
 }

@@ -5,7 +5,7 @@ use Rattle.daq_table.specs.Tables.{Contents}
 use Rattle.outer_world.specs.Device.{SinkState, StoreState}
 use Rattle.plane_file.specs.Format.{IsFileOf}
 use Rattle.plane_file.specs.TableReading.{ReadsTable, RefusesTable, ShowsFault}
-use Rattle.plane_file.specs.declared.table_fault.ReadTable.{ReadTable}
+use Rattle.plane_file.specs.declared.table_fault.TableReadFault.{TableReadFault}
 use Rattle.daq_cli.specs.Faults as of
 use Rattle.daq_cli.specs.Steps.{Step}
 use Rattle.daq_cli.specs.Stores.{StoreCause, WritesTable}
@@ -20,7 +20,7 @@ AreTable bytes table = (version : ℕ) × IsFileOf bytes version table
 
 -- they are the file of no table, for this reason first
 pub record ShowsTableFault (bytes : List ℕ) (why : Refusal) : Type 0 where
-  pub fault : ReadTable
+  pub fault : TableReadFault
   pub is : why ≡ of.reading fault
   pub faulty : ShowsFault bytes fault
 
@@ -48,7 +48,7 @@ pub record Upgrades (planes planes' : StoreState) (made made' out out' : SinkSta
 
 -- no table was read, for this reason
 pub record StopsTable (planes planes' : StoreState) (why : Refusal) : Type 0 where
-  pub fault : ReadTable
+  pub fault : TableReadFault
   pub is : why ≡ of.reading fault
   pub refused : RefusesTable planes planes' fault
 

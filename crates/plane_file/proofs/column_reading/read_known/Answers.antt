@@ -3,7 +3,7 @@ use Rattle.std.proofs.lemmas.Result.{err_from_is_err_and}
 use Rattle.daq_table.specs.Tables.{ends_at, frame_of, planes}
 use Rattle.plane_file.specs.ColumnReading.{ReadsPlanes, StopsInColumn}
 use Rattle.plane_file.specs.TableReading.{IsPlane}
-use Rattle.plane_file.specs.declared.table_fault.ReadTable.{ReadTable}
+use Rattle.plane_file.specs.declared.table_fault.TableReadFault.{TableReadFault}
 use Rattle.known_column.proofs.CutPlanes.{declared}
 use Rattle.plane_file.proofs.ColumnSteps.{column_starves_first, next_read, next_stops, same_on, same_store, unread}
 use Rattle.plane_file.proofs.column_reading.read_known.Goals as goal
@@ -34,7 +34,7 @@ returns-in_err-read_next-clause-stopped g c =
     let ends = declared head c.head.result.now c.args.column c.index-as_slice-column.result c.head.ensures.head c.requires.column at in
     let is : IsPlane head c.args.column c.loop-number.number = record { is_column = c.requires.column; is_plane = omega (arith, c.loop-number-test.true, c.planes-number-end.ensures.all, ap planes ends) } in
     let p = err_from_is_err_and c.from_residual-in_err-read_next.result c.from_residual-in_err-read_next.ensures.1 in
-    rw p.1 (subst (λ (why : ReadTable). StopsInColumn head c.args.column old new why) (sym p.2)
+    rw p.1 (subst (λ (why : TableReadFault). StopsInColumn head c.args.column old new why) (sym p.2)
     (next_stops head c.args.column c.loop-number.number old (g.P.Store.state c.loop-number.store) new c.loop-number.known is c.loop-number.invariant.same c.loop-number.invariant.so_far
     c.in_err-read_next.field-0.0 c.in_err-read_next.ensures.stopped))
 

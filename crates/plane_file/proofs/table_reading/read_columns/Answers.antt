@@ -3,7 +3,7 @@ use Rattle.std.proofs.lemmas.List.{length-replicate, map-append}
 use Rattle.std.proofs.lemmas.Result.{err_from_is_err_and}
 use Rattle.daq_table.specs.declared.table_head.Head.{Head}
 use Rattle.plane_file.specs.ColumnReading.{StopsInColumns}
-use Rattle.plane_file.specs.declared.table_fault.ReadTable.{ReadTable}
+use Rattle.plane_file.specs.declared.table_fault.TableReadFault.{TableReadFault}
 use Rattle.plane_file.proofs.ColumnSteps.{same_on, same_store}
 use Rattle.plane_file.proofs.TableSteps.{column_read, column_stops, columns_starve, none_read}
 use Rattle.plane_file.proofs.table_reading.read_columns.Goals as goal
@@ -30,7 +30,7 @@ returns-in_err-cells-clause-stopped g c =
     let new = g.P.Store.state c.read_column.new.store in
     let inside : c.loop-column.column < length head.columns = omega (arith, c.loop-column-test.true, ap length c.as_slice-column-end.ensures, ap (λ (h : Head). length h.columns) c.head-head.ensures.head) in
     let p = err_from_is_err_and c.from_residual-in_err-cells.result c.from_residual-in_err-cells.ensures.1 in
-    rw p.1 (subst (λ (why : ReadTable). StopsInColumns head old new why) (sym p.2)
+    rw p.1 (subst (λ (why : TableReadFault). StopsInColumns head old new why) (sym p.2)
     (column_stops head c.loop-column.column old (g.P.Store.state c.loop-column.store) new (map vec_items c.loop-column.numbers.items) (map vec_items c.loop-column.nulls.items) inside
     c.loop-column.invariant.same c.loop-column.invariant.so_far c.in_err-cells.field-0.0 c.in_err-cells.ensures.stopped))
 

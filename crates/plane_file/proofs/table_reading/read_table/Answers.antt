@@ -4,7 +4,7 @@ use Rattle.daq_table.specs.Tables.{AreMarks, IsTable, cells_from, frame_of}
 use Rattle.daq_table.specs.declared.table_head.Head.{Head}
 use Rattle.daq_table.proofs.SameTables.{same_contents}
 use Rattle.plane_file.specs.TableReading.{ReadsTable, RefusesTable}
-use Rattle.plane_file.specs.declared.table_fault.ReadTable.{ReadTable}
+use Rattle.plane_file.specs.declared.table_fault.TableReadFault.{TableReadFault}
 use Rattle.plane_file.proofs.AllColumns.{columns_marks, columns_table}
 use Rattle.plane_file.proofs.WholeTable.{columns_refused, open_refused, table_read}
 use Rattle.plane_file.proofs.table_reading.read_table.Goals as goal
@@ -14,14 +14,14 @@ returns-in_err-file-clause-refused g c =
     let old = g.P.Store.state c.args.store.now in
     let new = g.P.Store.state c.open.new.store in
     let p = err_from_is_err_and c.from_residual.result c.from_residual.ensures.1 in
-    rw p.1 (subst (λ (why : ReadTable). RefusesTable old new why) (sym p.2) (open_refused old new c.in_err-file.field-0.0 c.in_err-file.ensures.refused))
+    rw p.1 (subst (λ (why : TableReadFault). RefusesTable old new why) (sym p.2) (open_refused old new c.in_err-file.field-0.0 c.in_err-file.ensures.refused))
 
 pub returns-in_err-numbers-clause-refused : goal.returns-in_err-numbers-clause-refused
 returns-in_err-numbers-clause-refused g c =
     let old = g.P.Store.state c.args.store.now in
     let new = g.P.Store.state c.read_columns.new.store in
     let p = err_from_is_err_and c.from_residual-in_err-numbers.result c.from_residual-in_err-numbers.ensures.1 in
-    rw p.1 (subst (λ (why : ReadTable). RefusesTable old new why) (sym p.2)
+    rw p.1 (subst (λ (why : TableReadFault). RefusesTable old new why) (sym p.2)
     (columns_refused old (g.P.Store.state c.open.new.store) new c.in_ok-file.file c.in_ok-file.ensures.opened c.open.ensures.same c.in_err-numbers.field-0.0 c.in_err-numbers.ensures.stopped))
 
 pub new-requires-clause-is_table : goal.new-requires-clause-is_table
