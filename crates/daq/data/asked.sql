@@ -1,0 +1,2 @@
+SELECT SUM(price) FROM t
+SELECT MAX(price), COUNT(*) FROM t WHERE price > 8
