@@ -2,7 +2,7 @@
 use Rattle.command_line.specs.declared.reader.Flag.{Flag}
 use Rattle.command_line.specs.declared.reader.Flag.TheVariants as f
 use Rattle.std.proofs.lemmas.Option.{slice_get_within, get_or_from_slice_get}
-use Rattle.std.proofs.Common.{length, ◌==◌, rules, drop, drop-cons, slice_get, suc, arith, Bool, true, false, is_none, not, if◌then◌else◌, ◌≡◌, ℕ, ◌+◌, Option, Some, None, true, false, Ok, Err, List, [], ◌∷◌, refl, sym, ap, ◌∙◌}
+use Rattle.std.proofs.Common.{length, ◌==◌, rules, drop, drop-cons, slice_get, suc, arith, Bool, true, false, is_none, not, if◌then◌else◌, ◌≡◌, ℕ, ◌+◌, Option, Some, None, Ok, Err, List, [], ◌∷◌, refl, sym, ap, ◌∙◌}
 use Rattle.command_line.specs.Commands.{Given, Options, Command, reads}
 use Rattle.command_line.specs.Reading.{Next, option, done, Left, Takes, Lacks, HasMore, after, after_flag, behind, is_free, flag_of, flag_text, at_end, answer, answers}
 

@@ -9,23 +9,12 @@ use Rattle.session_script.specs.Answers as scripts
 use Rattle.session_script.specs.Lines.{Line}
 use Rattle.session_script.specs.declared.fault.ScriptFault.{ScriptFault}
 use Rattle.session_script.specs.declared.fault.ScriptFault.TheVariants as s
-use Rattle.sql_text.specs.Answer.{IsFault}
-use Rattle.sql_text.specs.declared.fault.SqlFault.{SqlFault}
-use Rattle.sql_text.specs.declared.fault.SqlFault.TheVariants as q
 use Rattle.daq_cli.specs.Faults as of
 use Rattle.daq_cli.specs.Scripts.{ReadsScript, ScriptCause, Scripted, ShowsScript, line_step, queries_step, at_bytes, read_fault, no_memory}
 use Rattle.daq_cli.specs.Steps.{StopsStep, each}
 use Rattle.daq_cli.specs.declared.refusal.Refusal.{Refusal}
 use Rattle.daq_cli.specs.declared.refusal.Refusal.TheVariants.{NoMemory}
 use Rattle.daq_cli.proofs.Ask.{all_bytes}
-
--- the text of a line
-pub line_shown : (line : Line) (fault : SqlFault) (why : Refusal) → IsFault line.text fault → why ≡ of.line_text line.number fault → StopsStep (line_step line) why
-line_shown line q.TooLong why faulty is = inl (record { fault = q.TooLong; shown = λ n. cc; is = is; faulty = faulty })
-line_shown line (q.Syntax at) why faulty is = inl (record { fault = q.Syntax at; shown = λ n. cc; is = is; faulty = faulty })
-line_shown line (q.TooDeep at) why faulty is = inl (record { fault = q.TooDeep at; shown = λ n. cc; is = is; faulty = faulty })
-line_shown line (q.LiteralTooLarge at) why faulty is = inl (record { fault = q.LiteralTooLarge at; shown = λ n. cc; is = is; faulty = faulty })
-line_shown line q.NoMemory why faulty is = inr is
 
 module _ (side side' : SourceState) where
   -- the source
@@ -67,9 +56,6 @@ module _ (side side' : SourceState) where
       pub stops_at_line : (why : Refusal) → StopsStep (each line_step lines) why → ScriptCause side side' why
       stops_at_line why (inl shown) = shown_so why (inr (lines, is_script, shown))
       stops_at_line why (inr e) = no_room why e
-
-      pub script_read : (queries : List Scripted) → (each line_step lines).accepts queries → ReadsScript side side' queries
-      script_read queries accepted = record { script = script; read = read; accepted = (lines, is_script, accepted) }
 
 -- what was read is what was told
 pub script_told : (side side' : SourceState) (script : List ℕ) → side.left ≡ Some script → (queries : List Scripted) → ReadsScript side side' queries → (queries_step script).accepts queries

@@ -1,5 +1,5 @@
 -- Why each step of a `session` stops it, and what it comes to.
-use Rattle.std.proofs.Common.{◌≡◌, ◌≢◌, ◌⊎◌, ℕ, List, Ok, Err, Result, refl, sym, subst, inl, inr, IfSome}
+use Rattle.std.proofs.Common.{◌≡◌, ◌⊎◌, ℕ, List, Ok, Err, Result, refl, sym, subst, inl, inr, IfSome}
 use Rattle.std.specs.Prelude.{option_map}
 use Rattle.std.specs.declared.option.Option.{Option}
 use Rattle.command_line.specs.Commands as line
@@ -20,9 +20,6 @@ use Rattle.query_model.specs.Queries.{Query}
 use Rattle.session_rounds.specs.Laws.{AreValid, SessionsAreCertain}
 use Rattle.session_rounds.specs.Reading.{StopsAt}
 use Rattle.session_rounds.specs.Steps.{AreSteps}
-use Rattle.sql_typing.specs.Refusals as typing
-use Rattle.sql_typing.specs.declared.fault.TypeFault.{TypeFault}
-use Rattle.sql_typing.specs.declared.fault.TypeFault.TheVariants as y
 use Rattle.table_rounds.specs.Headline.{AreOfLongs}
 use Rattle.table_rounds.specs.Rounds.{Planes}
 use Rattle.table_rounds.specs.Sources.{Causes, OfPlanes, Places}
@@ -36,30 +33,12 @@ use Rattle.daq_cli.specs.Steps.{StopsStep, each}
 use Rattle.daq_cli.specs.commands.Query.{StopsAfter}
 use Rattle.daq_cli.specs.commands.Session.{AreAllCertain, AskedTogether, BeginsSteps, HasOpened, SessionCause, Sessions, ShowsLimit, asked_together, printed_forms, together_step, typing_step, at_file, at_queries, at_write, at_plane, no_memory}
 use Rattle.daq_cli.specs.declared.refusal.Refusal.{Refusal}
-use Rattle.daq_cli.specs.declared.refusal.Refusal.TheVariants.{LineTyping, NoMemory, Session}
+use Rattle.daq_cli.specs.declared.refusal.Refusal.TheVariants.{NoMemory, Session}
 use Rattle.daq_cli.specs.declared.stop.Stop.{Stop}
 use Rattle.daq_cli.specs.declared.stop.Stop.TheVariants.{Failed, Step}
 use Rattle.daq_cli.proofs.QueryCauses.{told_before}
 
 -- ---- what is asked of the table
-
-module _ (head : Head) (one : Scripted) where
-  untyped : (fault : TypeFault) (why : Refusal) → fault ≢ y.NoMemory → typing.Refuses one.query head fault → why ≡ LineTyping one.line fault → StopsStep (typing_step head one) why
-  untyped fault why shown faulty is = inl (record { fault = fault; shown = shown; is = is; faulty = faulty })
-
-  pub typing_shown : (fault : TypeFault) (why : Refusal) → typing.Refuses one.query head fault → why ≡ of.line_typing one.line fault → StopsStep (typing_step head one) why
-  typing_shown (y.UnknownTable at) why faulty is = untyped (y.UnknownTable at) why (λ n. cc) faulty is
-  typing_shown (y.UnknownColumn at) why faulty is = untyped (y.UnknownColumn at) why (λ n. cc) faulty is
-  typing_shown y.TooManyColumns why faulty is = untyped y.TooManyColumns why (λ n. cc) faulty is
-  typing_shown y.TooManyItems why faulty is = untyped y.TooManyItems why (λ n. cc) faulty is
-  typing_shown (y.KindsDiffer at) why faulty is = untyped (y.KindsDiffer at) why (λ n. cc) faulty is
-  typing_shown (y.ScaleTooFine at) why faulty is = untyped (y.ScaleTooFine at) why (λ n. cc) faulty is
-  typing_shown (y.NotGrouped at) why faulty is = untyped (y.NotGrouped at) why (λ n. cc) faulty is
-  typing_shown (y.TooManyValues at) why faulty is = untyped (y.TooManyValues at) why (λ n. cc) faulty is
-  typing_shown (y.LimitOutOfRange at) why faulty is = untyped (y.LimitOutOfRange at) why (λ n. cc) faulty is
-  typing_shown (y.GroupTooWide bits) why faulty is = untyped (y.GroupTooWide bits) why (λ n. cc) faulty is
-  typing_shown (y.TooWide item) why faulty is = untyped (y.TooWide item) why (λ n. cc) faulty is
-  typing_shown y.NoMemory why faulty is = inr is
 
 limit_shown : (asked : AskedTogether) (fault : SessionFault) (why : Refusal) → RefusesSession asked.head.rows asked.typed fault → why ≡ of.session fault → ShowsLimit asked why ⊎ (why ≡ NoMemory)
 limit_shown asked (m.TooMany count) why passed is = inl (record { fault = m.TooMany count; is = is; passed = passed })

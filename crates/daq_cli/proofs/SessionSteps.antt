@@ -148,11 +148,6 @@ module _ (plan : Plan) (head : Head) (queries : List Query) (bits : Planes) (pla
   fails_in_step lines [] old mid new begun last = last_in_part lines [] old mid new begun last
   fails_in_step lines (c ∷ reads) old mid new begun last = (mid, begun, last)
 
-  -- what fails in the last step is a part of the text
-  pub part_of_steps : (lines reads : List ℕ) (old new : SinkState) → FailsInStep lines head plan queries bits reads old new → Writes partly old new (lines ++ steps_text head plan queries bits reads)
-  part_of_steps lines [] old new fails = fails
-  part_of_steps lines (c ∷ reads) old new (mid, begun, last) = last_in_part lines (c ∷ reads) old mid new begun last
-
   -- why the session ends after the last step
   ending_is : (s : Session) (reads : List ℕ) → IsAfter plan queries head bits reads s → ending_in plan (session_after plan.width queries head bits reads (length reads)) ≡ ending_in plan s
   ending_is s reads after = ap (ending_in plan) (sym after.is)

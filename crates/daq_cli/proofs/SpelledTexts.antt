@@ -8,12 +8,11 @@ use Rattle.std.specs.Str.{is_utf8}
 use Rattle.daq_report.proofs.Lengths.{value_short}
 use Rattle.daq_report.specs.Ends.{decimals_of}
 use Rattle.daq_table.specs.Schemas.{fits_scale}
-use Rattle.daq_table.specs.ValueTexts.{HasText, HasTexts, HeadHasTexts, IsDay, text_of_value}
+use Rattle.daq_table.specs.ValueTexts.{HasText, HasTexts, IsDay, text_of_value}
 use Rattle.daq_table.specs.declared.head.ColumnHead.{ColumnHead}
 use Rattle.daq_table.specs.declared.head.Kind.{Kind}
 use Rattle.daq_table.specs.declared.head.Kind.TheVariants.{Int, Dec, Date, Text}
-use Rattle.daq_table.specs.declared.table_head.Head.{Head}
-use Rattle.plane_file.specs.Format.{CanBeSpelled, CanBeSpelledColumn, fits_days, is_day, is_short_text}
+use Rattle.plane_file.specs.Format.{CanBeSpelledColumn, fits_days, is_day, is_short_text}
 use Rattle.daq_cli.proofs.Signed.{le_holds}
 
 -- a number of the days
@@ -45,9 +44,6 @@ spelled_texts column spelled = record {
   between = λ value above below. has_text column.kind column.base column.top value spelled.days above below;
   names = short_names column.names spelled.texts;
 }
-
-pub head_texts : (head : Head) → CanBeSpelled head → HeadHasTexts head
-head_texts head spelled i column e = spelled_texts column (spelled.each i column e)
 
 -- ---- lengths
 

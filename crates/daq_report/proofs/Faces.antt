@@ -147,10 +147,3 @@ bound_shows head query part place item bound fits texts opened there shown =
 pub any_average_shows : (head : Head) (query : TypedQuery) (face : Face) (bound : averages.AverageBound) → CanShowAny head query face → CanShowAverage head query face bound
 any_average_shows head query face bound any =
     if_shown bound.null (CanShowEnds head query face bound.lo.num bound.hi.num) (λ some. record { low_end = any bound.lo.num; high_end = any bound.hi.num })
-
--- an average's face shows each number
-pub number_face_shows : (head : Head) (query : TypedQuery) (part : Frame) (place : ℕ) (item : Item) → IsOpenQuery query part → slice_get query.items place ≡ Some item → item.kind ≡ Avg → CanShowAny head query item.face
-number_face_shows head query part place item opened there kind =
-    let own = open_at part query.items place item opened.items there in
-    let face : FaceOf Avg item.arg item.face = subst (λ k. FaceOf k item.arg item.face) kind own.face in
-    λ value. subst (λ (f : Face). CanShow head query f value) (sym face.2) face.1

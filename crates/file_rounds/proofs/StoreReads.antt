@@ -8,7 +8,7 @@ use Rattle.daq_table.specs.Tables.{ends_at, frame_of, planes}
 use Rattle.daq_table.specs.declared.table_head.Head.{Head}
 use Rattle.outer_world.proofs.Steps.{places_from-add}
 use Rattle.outer_world.specs.Device.{StoreState}
-use Rattle.outer_world.specs.Whole.{HoldsSame, laid, places_from}
+use Rattle.outer_world.specs.Whole.{laid, places_from}
 use Rattle.plane_file.specs.Format.{file_size, plane_size}
 use Rattle.plane_file.specs.Places.{plane_at, plane_in, plane_places}
 use Rattle.plane_file.specs.Reading.{HandsOverPart, HoldsPlane, ReadsPlane, StopsReading}
@@ -29,13 +29,6 @@ holds_plane head store c j h lt holds = by store.held holds
     by : (held : Option (List ℕ)) → IfSome held (λ bytes. file_size head ≤ length bytes) → IfSome held (λ bytes. plane_at head c j + plane_size head.rows ≤ length bytes)
     by None holds = tt
     by (Some bytes) holds = let inside = within_file head c j h lt in omega (arith, inside, holds)
-
--- what is told stays
-pub told_same : (head : Head) (old new : StoreState) → HoldsSame old new → told_by head new ≡ told_by head old
-told_same head old new same = ap (λ held. record { head = head; bits = option_map (bits_at head) held }) same.held
-
-pub holds_same : (head : Head) (old new : StoreState) → HoldsSame old new → HoldsFile head old → HoldsFile head new
-holds_same head old new same = subst (λ held. IfSome held (λ bytes. file_size head ≤ length bytes)) (sym same.held)
 
 -- as many bits as rows are told
 pub are_told : (head : Head) (store : StoreState) → AreTold (told_by head store)

@@ -175,10 +175,7 @@ module _ (head : Head) (column : ℕ) where
         }
     next_stops NoMemory s = absurd s
 
-  -- memory ran out behind so many planes
-  pub column_starves : (count : ℕ) (old new : StoreState) (known : KnownColumn) → count ≤ planes (ends_at (frame_of head) column) → ReadsPlanes head column count old new known → StopsInColumn head column old new NoMemory
-  column_starves count old new known few done = record { cause = tt; count = size * count; handed = done.handed; few = mul-le-mul (omega arith) few }
-
+  -- memory ran out before the first plane
   pub column_starves_first : (store : StoreState) → StopsInColumn head column store store NoMemory
   column_starves_first store = record { cause = tt; count = 0; handed = handed_none store.pieces (plane_at head column 0); few = omega arith }
 

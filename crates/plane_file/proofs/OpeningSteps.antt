@@ -97,10 +97,6 @@ room_refused old new header size wanted s e same lt =
         let all : wanted ≡ 32 + heads_in (take 32 bytes) = same ∙ ap (λ (xs : List ℕ). 32 + heads_in xs) h.header_is in
         record { found = rw (h.size_is, all) (fault_heads bytes large passed less); few = readable_large bytes large }
 
-pub hands_header : (old new : StoreState) (header : List ℕ) (size wanted : ℕ) → IsStarted old new header size → first_fault (header_checks header) ≡ None → wanted ≡ 32 + heads_in header → wanted ≤ size
-    → HandsHeader old new header size
-hands_header old new header size wanted s e same le = record { long = s.long; passed = e; room = omega (arith, same, le); told = s.told; handed = s.handed }
-
 -- what a header that passes its checks says of the bytes
 record IsLarge (bytes header : List ℕ) : Type 0 where
   large : 32 ≤ length bytes

@@ -5,10 +5,6 @@ use Rattle.daq_table.specs.declared.table_head.Head.{Head}
 use Rattle.outer_world.specs.Whole.{places_from}
 use Rattle.plane_file.specs.Format.{plane_count, plane_size, planes_at}
 
--- the places of the head
-abbrev pub head_places : Head → List ℕ
-head_places head = places_from 0 (planes_at head)
-
 -- how many planes stand before plane j of column c
 abbrev pub planes_before : List ColumnHead → ℕ → ℕ → ℕ
 planes_before columns c j = plane_count (take c columns) + j

@@ -23,9 +23,6 @@ same_outlook stage p is = record {
   read = is.done;
 }
 
-pub some_unread : (stage : Stage) (p : Progress) → IsProgress stage p → HasUnread (outlook_at stage) → HasUnread (outlook_of p)
-some_unread stage p is (c, unread) = (c, unread_there (outlook_at stage) (outlook_of p) (turned (outlook_of p) (outlook_at stage) (same_outlook stage p is)) c unread)
-
 pub choice_there : (policy : Policy) (stage : Stage) (p : Progress) → IsProgress stage p → HasChoice policy (outlook_at stage) → HasChoice policy (outlook_of p)
 choice_there policy stage p is (c, chosen) = (c, same_choice policy (outlook_at stage) (outlook_of p) (turned (outlook_of p) (outlook_at stage) (same_outlook stage p is)) c chosen)
 
