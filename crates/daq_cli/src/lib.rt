@@ -2,7 +2,6 @@
 #![tactic(auto)]
 
 mod commands;
-mod counts;
 mod fault_lines;
 mod inputs;
 mod laws;

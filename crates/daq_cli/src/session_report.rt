@@ -19,10 +19,9 @@ ghost use Rattle.daq_cli.specs.Report.{FailsSince, HasStopCause};
 ghost use Rattle.daq_cli.specs.SessionReport.{EndsStepsOverSome, EndsToldSession, QueriesAreShownAlone, at_line, block_at};
 ghost use Rattle.daq_cli.specs.SessionReport.{blocks_at, count_line, numbered, numbered_line, own_of, queries_lines, queries_of};
 
-use crate::counts::written_count;
 use crate::report::write_ending;
 use crate::stop::Stop;
-use daq_report::write_block;
+use daq_report::{write_block, written_count};
 use daq_table::Head;
 use multi_session::Session;
 use outer_world::{Failed, Sink, write_pieces};

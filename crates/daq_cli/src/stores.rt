@@ -6,8 +6,8 @@ ghost use Rattle.plane_file.specs.Format.{CanBeSpelled, file};
 ghost use Rattle.daq_cli.specs.Stores.{StoreCause, WritesTable, table_line};
 ghost use Rattle.daq_cli.specs.Worlds.{whole};
 
-use crate::counts::written_count;
 use crate::refusal::Refusal;
+use daq_report::written_count;
 use daq_table::Table;
 use outer_world::{Failed, Sink, write_pieces};
 use plane_file::{plane_count, write};

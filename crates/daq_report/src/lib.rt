@@ -13,3 +13,4 @@ mod scope;
 mod texts;
 
 pub use block::write_block;
+pub use texts::written_count;

@@ -9,8 +9,8 @@ use daq_table::{ColumnHead, Head, Kind, NoRoom, TextBuf, value_text, written_num
 use interval_calc::Fraction;
 use query_model::{Face, TypedQuery};
 
-// A number that counts.
-pub(crate) fn written_count(count: u64) -> TextBuf
+/// A count in decimal digits.
+pub fn written_count(count: u64) -> TextBuf
     ensures text { result ≡ decimal count }
     ensures short { length result ≤ 100 }
 {

@@ -8,9 +8,9 @@ ghost use Rattle.daq_cli.specs.Worlds.{whole};
 ghost use Rattle.daq_cli.specs.commands.Info.{InfoCause, Informs, column_front, column_line};
 ghost use Rattle.daq_cli.specs.commands.Info.{column_lines, first_line, info_text, kind_text, null_mark};
 
-use crate::counts::written_count;
 use crate::fault_lines::{plain, with_number};
 use crate::refusal::Refusal;
+use daq_report::written_count;
 use daq_table::{ColumnHead, Kind, NoRoom, TextBuf, value_text, width};
 use outer_world::{Failed, Sink, Store, write_pieces};
 use plane_file::{PlaneFile, open};
