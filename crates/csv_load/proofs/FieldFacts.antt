@@ -1,20 +1,13 @@
 -- The fields of a record by their places, and the first that differs from a name.
-use Rattle.std.proofs.Common.{◌≡◌, ℕ, zero, suc, ◌+◌, ◌<◌, Bool, IsTrue, Some, None, List, [], ◌∷◌, ◌++◌, slice_get, get_or, length, take, refl, sym, ap, ◌∙◌, arith}
+use Rattle.std.proofs.Common.{◌≡◌, ℕ, ◌+◌, ◌<◌, Bool, IsTrue, Some, None, List, [], ◌∷◌, ◌++◌, slice_get, get_or, length, take, sym, ap, ◌∙◌, arith}
 use Rattle.std.proofs.lemmas.List.{get_or-map, length-map, take_more}
 use Rattle.std.proofs.lemmas.Option.{slice_get-get_or, slice_get_past, slice_get_within, unwrap_or-slice_get}
 use Rattle.std.proofs.lemmas.Slice.Eq.{bytes_eq-Decides}
 use Rattle.std.specs.Option.{unwrap_or}
 use Rattle.std.specs.Str.{bytes_eq}
-use Rattle.csv.specs.Records.{field_at}
 use Rattle.daq_table.specs.Schemas.{names_of}
 use Rattle.daq_table.specs.declared.schema_column.SchemaColumn.{SchemaColumn}
 use Rattle.csv_load.specs.Faults.{IsFirstDifference}
-
-pub same_field : (fields : List (List ℕ)) (place : ℕ) → field_at fields place ≡ slice_get fields place
-unfolding field_at
-same_field [] place = refl
-same_field (field ∷ fields) zero = refl
-same_field (field ∷ fields) (suc place) = same_field fields place
 
 pub has_some : (field text : List ℕ) (r : Bool) → r ≡ bytes_eq field text → (IsTrue r → Some field ≡ Some text) × (Some field ≡ Some text → IsTrue r)
 has_some field text r e =

@@ -1,11 +1,7 @@
 -- The values of a column have texts: its cells are values of its kind, and its least and greatest number are theirs.
-use Rattle.std.proofs.Common.{◌≡◌, ℕ, zero, suc, ◌≤◌, pos, Bool, true, false, IsFalse, All, Some, List, [], ◌∷◌, fold, slice_get, length, get_or, refl, inl, inr, arith}
+use Rattle.std.proofs.Common.{◌≡◌, ℕ, zero, suc, ◌≤◌, pos, Bool, true, false, IsFalse, All, Some, List, [], ◌∷◌, slice_get, length, get_or, refl, inl, inr, arith}
 use Rattle.std.proofs.lemmas.List.Elements.{All-cons, All-from_get_or, All-head, All-map, All-nil, All-tail}
-use Rattle.std.proofs.lemmas.Map.Views.{All-insert_key}
 use Rattle.std.proofs.lemmas.Option.{slice_get-get_or, slice_get_cases, slice_get_within}
-use Rattle.std.specs.BTreeSet.{insert_key}
-use Rattle.std.specs.Cmp.Lexicographic.{slice_cmp}
-use Rattle.std.specs.Ordering.{nat_cmp}
 use Rattle.jiff_core.specs.Calendar.{IsCivilDate, day_count, days_from_civil}
 use Rattle.jiff_core.proofs.CalendarLemmas.{day_count-day_of_year, day_count-later_year, day_count_bounds, days_from_civil-day_count}
 use Rattle.jiff_core.proofs.MarchLemmas.{day_count-early}
@@ -17,6 +13,7 @@ use Rattle.daq_table.specs.declared.head.ColumnHead.{ColumnHead}
 use Rattle.daq_table.specs.declared.head.Kind.{Kind}
 use Rattle.daq_table.specs.declared.head.Kind.TheVariants.{Int, Dec, Date, Text}
 use Rattle.daq_table.specs.declared.schema_column.SchemaColumn.{SchemaColumn}
+use Rattle.daq_table.proofs.Dictionaries.{distinct_has}
 use Rattle.daq_table.proofs.Extremes.{greatest_has, least_has}
 use Rattle.daq_table.proofs.ShownNumbers.{between_has, zero_has}
 use Rattle.csv_load.specs.Columns.{IsValue, column_texts, dictionary, is_null, numbers_of, present}
@@ -44,11 +41,6 @@ numbers_have Int texts all = λ k d lt. tt
 numbers_have (Dec scale) texts all = λ k d lt. tt
 numbers_have Date texts all = All-map IsDay date_value texts (λ k d lt. let cell = all k d lt in civil_is_day _ _ _ cell.civil)
 numbers_have Text texts all = λ k d lt. tt
-
-distinct_has : (P : List ℕ → Type 0) (texts names : List (List ℕ)) → All P names → All P texts → All P (fold (insert_key (slice_cmp nat_cmp)) names texts)
-distinct_has P [] names known all = known
-distinct_has P (text ∷ texts) names known all =
-    distinct_has P texts (insert_key (slice_cmp nat_cmp) names text) (All-insert_key (slice_cmp nat_cmp) text P names known (All-head P text texts all)) (All-tail P text texts all)
 
 abbrev IsShort : List ℕ → Type 0
 IsShort name = length name ≤ 255

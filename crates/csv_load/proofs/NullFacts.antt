@@ -2,6 +2,7 @@
 use Rattle.std.proofs.Common.{◌≡◌, ℕ, zero, suc, ◌+◌, ℤ, pos, ◌+ℤ◌, Bool, true, false, not, cond, if◌then◌else◌, IsTrue, Option, Some, None, List, [], ◌∷◌, length, map, get_or, refl, ap, subst, ◌∙◌, arith}
 use Rattle.std.proofs.lemmas.List.Sums.{sum_by-cons}
 use Rattle.std.specs.List.{count_by}
+use Rattle.daq_table.proofs.Extremes.{plain_values}
 use Rattle.daq_table.specs.Tables.{Cell, column_from, ends_of, value_of}
 use Rattle.daq_table.specs.declared.head.ColumnHead.{ColumnHead}
 use Rattle.daq_table.specs.declared.head.Kind.{Kind}
@@ -15,12 +16,6 @@ laid_values base value [] us h n = refl
 laid_values base value (true ∷ marks) us h n = rw (n, laid_values base value marks us h n) refl
 laid_values base value (false ∷ marks) [] h n = refl
 laid_values base value (false ∷ marks) (u ∷ us) h n = rw (h u, laid_values base value marks us h n) refl
-
--- what cells without a mark stand for
-pub plain_values : (base : ℤ) (value : Cell → Option ℤ) (us : List ℕ) → ((u : ℕ) → value (Some u) ≡ Some (base +ℤ pos u))
-    → map value (column_from us []) ≡ map Some (map (λ (u : ℕ). base +ℤ pos u) us)
-plain_values base value [] h = refl
-plain_values base value (u ∷ us) h = rw (h u, plain_values base value us h) refl
 
 -- the number at a mark is 0
 pub zero_marked : (marks : List Bool) (us : List ℕ) (r : ℕ) → IsTrue (get_or marks r false) → get_or (filled marks us) r 0 ≡ 0

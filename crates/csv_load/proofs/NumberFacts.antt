@@ -1,6 +1,5 @@
 -- Texts that are kept once each: what one more does to them, and to the list that the numbers tell.
 use Rattle.std.proofs.Common.{◌≡◌, ℕ, ◌+◌, ◌<◌, ℤ, pos, Bool, true, false, ◌||◌, if◌then◌else◌, Some, All, List, [], ◌∷◌, ◌++◌, slice_get, get_or, length, length-append, map, fold, take, IsTrue, refl, sym, ap, subst, ◌∙◌, arith}
-use Rattle.std.proofs.lemmas.Cmp.{nat_list_cmp_total}
 use Rattle.std.proofs.lemmas.List.{get_or-map, get_or_append_left, length-map, map-append, take_more}
 use Rattle.std.proofs.lemmas.List.Elements.{All-push, All-tail}
 use Rattle.std.proofs.lemmas.List.Folds.{list_any-from_Any}
@@ -10,53 +9,20 @@ use Rattle.std.proofs.lemmas.Option.{get_or_from_slice_get, slice_get-get_or, sl
 use Rattle.std.proofs.lemmas.Slice.Eq.{bytes_eq-Decides}
 use Rattle.std.specs.BTreeSet.{insert_key}
 use Rattle.std.specs.Cmp.Lexicographic.{slice_cmp}
-use Rattle.std.specs.List.{AllByRecursion, list_any, position}
+use Rattle.std.specs.List.{list_any, position}
 use Rattle.std.specs.Option.{option_map}
 use Rattle.std.specs.List.Sorted.{IsStrictlySortedBy}
-use Rattle.std.specs.Ordering.{is_eq, match_ordering, nat_cmp, ordering_reverse}
+use Rattle.std.specs.Ordering.{is_eq, match_ordering, nat_cmp}
 use Rattle.std.specs.Str.{bytes_eq}
 use Rattle.std.specs.declared.cmp.Ordering.{Ordering}
 use Rattle.std.specs.declared.cmp.Ordering.TheVariants.{Less, Equal, Greater}
 use Rattle.indexmap.specs.IndexSet.{insert_key as add}
-use Rattle.daq_table.proofs.Dictionaries.{all_come}
+use Rattle.daq_table.proofs.Dictionaries.{all_come, insert_viewed, known_stays, sorted_after}
 use Rattle.daq_table.specs.Dictionaries.{distinct}
 use Rattle.csv_load.specs.Numbered.{AreNumbered, HasNumber, texts_at}
 use Rattle.csv_load.proofs.RowFacts.{distinct_more}
-use Rattle.csv_load.proofs.StateFacts.{insert_viewed}
 
 -- ---- in order
-
--- a text below the first is below all
-below_all : (x y : List ℕ) (ys : List (List ℕ)) → slice_cmp nat_cmp x y ≡ Less → AllByRecursion (λ z. slice_cmp nat_cmp y z ≡ Less) ys → AllByRecursion (λ z. slice_cmp nat_cmp x z ≡ Less) ys
-below_all x y [] h all = tt
-below_all x y (z ∷ zs) h all = (nat_list_cmp_total.trans x y z h all.0, below_all x y zs h all.1)
-
-turned : (x y : List ℕ) → slice_cmp nat_cmp x y ≡ Greater → slice_cmp nat_cmp y x ≡ Less
-turned x y g = nat_list_cmp_total.antisymm y x ∙ ap ordering_reverse g
-
-below_added : (x : List ℕ) (names : List (List ℕ)) (text : List ℕ) → slice_cmp nat_cmp x text ≡ Less → AllByRecursion (λ z. slice_cmp nat_cmp x z ≡ Less) names
-    → AllByRecursion (λ z. slice_cmp nat_cmp x z ≡ Less) (insert_key (slice_cmp nat_cmp) names text)
-below_added x [] text h all = (h, tt)
-below_added x (y ∷ names) text h all =
-    let more = below_added x names text h all.1 in
-    elim (slice_cmp nat_cmp text y) as (λ o. AllByRecursion (λ z. slice_cmp nat_cmp x z ≡ Less) (match_ordering o (text ∷ y ∷ names) (y ∷ names) (y ∷ insert_key (slice_cmp nat_cmp) names text)))
-    [ Less ↦ (h, all) | Equal ↦ all | Greater ↦ (all.0, more) ]
-
-sorted_by : (text x : List ℕ) (names : List (List ℕ)) (o : Ordering) → slice_cmp nat_cmp text x ≡ o → IsStrictlySortedBy (slice_cmp nat_cmp) (x ∷ names) → IsStrictlySortedBy (slice_cmp nat_cmp) (insert_key (slice_cmp nat_cmp) names text)
-    → IsStrictlySortedBy (slice_cmp nat_cmp) (match_ordering o (text ∷ x ∷ names) (x ∷ names) (x ∷ insert_key (slice_cmp nat_cmp) names text))
-unfolding IsStrictlySortedBy
-sorted_by text x names Less e s more = ((e, below_all text x names e s.0), s)
-sorted_by text x names Equal e s more = s
-sorted_by text x names Greater e s more = (below_added x names text (turned text x e) s.0, more)
-
-sorted_added : (names : List (List ℕ)) (text : List ℕ) → IsStrictlySortedBy (slice_cmp nat_cmp) names → IsStrictlySortedBy (slice_cmp nat_cmp) (insert_key (slice_cmp nat_cmp) names text)
-unfolding IsStrictlySortedBy
-sorted_added [] text s = (tt, tt)
-sorted_added (x ∷ names) text s = sorted_by text x names (slice_cmp nat_cmp text x) refl s (sorted_added names text s.1)
-
-sorted_all : (texts names : List (List ℕ)) → IsStrictlySortedBy (slice_cmp nat_cmp) names → IsStrictlySortedBy (slice_cmp nat_cmp) (fold (insert_key (slice_cmp nat_cmp)) names texts)
-sorted_all [] names s = s
-sorted_all (text ∷ texts) names s = sorted_all texts (insert_key (slice_cmp nat_cmp) names text) (sorted_added names text s)
 
 empty_sorted : IsStrictlySortedBy (slice_cmp nat_cmp) []
 unfolding IsStrictlySortedBy
@@ -66,24 +32,6 @@ empty_sorted = tt
 
 differs : (text x : List ℕ) (o : Ordering) → slice_cmp nat_cmp text x ≡ o → bytes_eq text x ≡ is_eq o
 differs text x o e = sym (is_eq-slice_cmp text x) ∙ ap is_eq e
-
-none_above : (text : List ℕ) (names : List (List ℕ)) → AllByRecursion (λ z. slice_cmp nat_cmp text z ≡ Less) names → list_any (bytes_eq text) names ≡ false
-none_above text [] all = refl
-none_above text (x ∷ names) all = rw (differs text x Less all.0) (none_above text names all.1)
-
--- a name that is there changes nothing
-known_by : (text x : List ℕ) (names : List (List ℕ)) (o : Ordering) → slice_cmp nat_cmp text x ≡ o → IsStrictlySortedBy (slice_cmp nat_cmp) (x ∷ names) → list_any (bytes_eq text) (x ∷ names) ≡ true
-    → (list_any (bytes_eq text) names ≡ true → insert_key (slice_cmp nat_cmp) names text ≡ names)
-    → match_ordering o (text ∷ x ∷ names) (x ∷ names) (x ∷ insert_key (slice_cmp nat_cmp) names text) ≡ x ∷ names
-unfolding IsStrictlySortedBy
-known_by text x names Less e s h more = absurd (let none : list_any (bytes_eq text) (x ∷ names) ≡ false = none_above text (x ∷ names) (e, below_all text x names e s.0) in let bad : true ≡ false = sym h ∙ none in cc)
-known_by text x names Equal e s h more = refl
-known_by text x names Greater e s h more = ap (λ ns. x ∷ ns) (more (ap (λ b. b || list_any (bytes_eq text) names) (sym (differs text x Greater e)) ∙ h))
-
-known_stays : (names : List (List ℕ)) (text : List ℕ) → IsStrictlySortedBy (slice_cmp nat_cmp) names → list_any (bytes_eq text) names ≡ true → insert_key (slice_cmp nat_cmp) names text ≡ names
-unfolding IsStrictlySortedBy
-known_stays [] text s h = absurd cc
-known_stays (x ∷ names) text s h = known_by text x names (slice_cmp nat_cmp text x) refl s h (known_stays names text s.1)
 
 -- a name that is not there is one more
 longer_by : (text x : List ℕ) (names : List (List ℕ)) (o : Ordering) → slice_cmp nat_cmp text x ≡ o → list_any (bytes_eq text) (x ∷ names) ≡ false
@@ -139,7 +87,7 @@ texts_stay kept text (n ∷ numbers) all =
 numbered_known : (kept : List (List ℕ)) (numbers : List ℕ) (n : ℕ) (text : List ℕ) → AreNumbered kept numbers → slice_get kept n ≡ Some text → AreNumbered kept (numbers ++ n ∷ [])
 numbered_known kept numbers n text a e = record {
   within = All-push (λ (m : ℕ). m < length kept) numbers n a.within (slice_get_within kept n text e);
-  same = sym (known_stays (distinct kept) text (sorted_all kept [] empty_sorted) (there_in_order kept n text e)) ∙ ap (λ (ns : List (List ℕ)). insert_key (slice_cmp nat_cmp) ns text) a.same
+  same = sym (known_stays (distinct kept) text (sorted_after kept [] empty_sorted) (there_in_order kept n text e)) ∙ ap (λ (ns : List (List ℕ)). insert_key (slice_cmp nat_cmp) ns text) a.same
       ∙ distinct_more (texts_at kept numbers) text ∙ ap distinct (sym (texts_more kept numbers n text e));
   differ = a.differ;
 }

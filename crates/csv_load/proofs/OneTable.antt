@@ -1,7 +1,7 @@
 -- A text stands for one table at most.
-use Rattle.std.proofs.Common.{◌≡◌, ℕ, ◌<◌, List, [], ◌∷◌, Some, slice_get, get_or, length, sym, ap, subst, inl, inr, ◌∙◌, arith}
+use Rattle.std.proofs.Common.{◌≡◌, ℕ, ◌<◌, List, [], ◌∷◌, slice_get, get_or, length, sym, ap, subst, ◌∙◌, arith}
 use Rattle.std.proofs.lemmas.List.{same_lists}
-use Rattle.std.proofs.lemmas.Option.{get_or_from_slice_get, slice_get-get_or, slice_get_cases}
+use Rattle.std.proofs.lemmas.Option.{get_or_from_slice_get, slice_get-get_or}
 use Rattle.csv.specs.Reading.{default_config}
 use Rattle.csv.specs.declared.parser.State.TheVariants as st
 use Rattle.daq_table.specs.Schemas.{names_of}
@@ -15,6 +15,7 @@ use Rattle.csv_load.specs.Records.{AreRecordsOf, Fields, without_marks}
 use Rattle.csv_load.specs.TableOf.{IsColumnOf, IsTableOf}
 use Rattle.csv_load.specs.declared.limits.Limits.{Limits}
 use Rattle.csv_load.proofs.OneFault.{agree, ended}
+use Rattle.csv_load.proofs.TableFacts.{there}
 
 same_records : (bytes : List ℕ) (us vs : List Fields) → AreRecordsOf bytes us → AreRecordsOf bytes vs → us ≡ vs
 same_records bytes us vs h g =
@@ -30,9 +31,6 @@ same_rows bytes names us vs h g = let all : names ∷ us ≡ names ∷ vs = same
 pub record SameAt (heads others : List ColumnHead) (lists lists' : Cells) (c : ℕ) : Type 0 where
   pub head : (d : ColumnHead) → get_or heads c d ≡ get_or others c d
   pub cells : get_or lists c [] ≡ get_or lists' c []
-
-there : {X : Type 0} (xs : List X) (c : ℕ) → c < length xs → (x : X) × (slice_get xs c ≡ Some x)
-there xs c lt = elim (slice_get_cases xs c).1 [ inl inside ↦ (inside.0, inside.2) | inr past ↦ absurd (omega (arith, lt, past.0)) ]
 
 same_at : (bytes : List ℕ) (columns : List SchemaColumn) (limits : Limits) (a b : Contents) (one : IsTableOf bytes columns limits a) (other : IsTableOf bytes columns limits b) → one.rows ≡ other.rows → (c : ℕ) → c < length columns
     → SameAt a.head.columns b.head.columns a.cells b.cells c

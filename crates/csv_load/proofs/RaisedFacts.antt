@@ -1,12 +1,12 @@
 -- Raised numbers: those of a column's values, and how far they lie from a base.
-use Rattle.std.proofs.Common.{◌≡◌, ℕ, ◌<◌, ℤ, pos, ◌-ℤ◌, unsigned_abs, All, if◌then◌else◌, List, [], ◌∷◌, length, map, get_or, refl, ap, ◌∙◌, arith}
+use Rattle.std.proofs.Common.{◌≡◌, ℕ, ◌<◌, pos, All, if◌then◌else◌, List, [], ◌∷◌, length, map, get_or, refl, ap, ◌∙◌, arith}
 use Rattle.std.proofs.lemmas.List.{get_or-map, length-map}
 use Rattle.std.proofs.lemmas.List.Elements.{All-tail}
 use Rattle.daq_table.specs.declared.head.Kind.{Kind}
 use Rattle.daq_table.specs.declared.head.Kind.TheVariants.{Int, Dec, Date, Text}
 use Rattle.daq_table.specs.Dictionaries.{distinct, rank_of}
 use Rattle.csv_load.specs.Columns.{is_text}
-use Rattle.csv_load.specs.Raised.{lowered}
+use Rattle.daq_table.specs.Raised.{lowered}
 use Rattle.csv_load.specs.States.{numbers_in}
 
 -- what stands at places of a list, lowered
@@ -18,10 +18,6 @@ lowered_at ranks (n ∷ numbers) all =
 -- lists with the same length before and after two functions
 pub same_length : {A B C : Type 0} (f : A → C) (g : B → C) (xs : List A) (ys : List B) → map f xs ≡ map g ys → length xs ≡ length ys
 same_length f g xs ys e = omega (arith, length-map xs f, length-map ys g, ap length e)
-
-pub distances_are : (base : ℤ) (numbers : List ℕ) → map (λ n. unsigned_abs (lowered n -ℤ base)) numbers ≡ map (λ (z : ℤ). unsigned_abs (z -ℤ base)) (map lowered numbers)
-distances_are base [] = refl
-distances_are base (n ∷ numbers) = ap (λ us. unsigned_abs (lowered n -ℤ base) ∷ us) (distances_are base numbers)
 
 -- the numbers of a column's values
 pub chosen : (kind : Kind) (numbers ranks cells : List ℕ) (texts names : List (List ℕ)) → cells ≡ (if is_text kind then ranks else numbers) → names ≡ distinct texts

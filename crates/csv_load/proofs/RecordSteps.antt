@@ -33,10 +33,6 @@ taken_at columns cs limits records n old now new next h count same is t =
     let over = subst (λ (xs : List SchemaColumn). TakesRecord xs limits (length records) now next new) same at in
     record_taken columns limits records old new next h (subst (λ (xs : List State). TakesRecord columns limits (length records) xs next new) is over)
 
-pub taken_wide : (columns : List SchemaColumn) (limits : Limits) (records : List Fields) (states : List State) → HasTaken columns limits records states → length states ≡ length columns
-taken_wide columns limits [] states h = h.wide
-taken_wide columns limits (header ∷ rows) states h = h.states_are.wide
-
 pub taken_bound : (columns : List SchemaColumn) (limits : Limits) (records : List Fields) (states : List State) → HasTaken columns limits records states → length records ≤ limits.rows + 1
 taken_bound columns limits [] states h = omega arith
 taken_bound columns limits (header ∷ []) states h = omega arith

@@ -1,7 +1,6 @@
 -- Finished columns are the columns of a table, and are left without cells.
-use Rattle.std.proofs.Common.{◌≡◌, ℕ, ◌+◌, ◌<◌, ◌≤◌, ℤ, pos, ◌+ℤ◌, ◌-ℤ◌, ◌≤ℤ◌, unsigned_abs, Bool, true, false, if◌then◌else◌, IsTrue, All, Option, Some, None, List, [], ◌∷◌, ◌++◌, slice_get, length, map, set, get_or, refl, sym, ap, subst, inl, inr, ◌∙◌, arith, length-append}
+use Rattle.std.proofs.Common.{◌≡◌, ℕ, ◌+◌, ◌<◌, ◌≤◌, ℤ, ◌≤ℤ◌, Bool, true, false, if◌then◌else◌, IsTrue, All, Option, Some, None, List, [], ◌∷◌, ◌++◌, slice_get, length, map, set, get_or, refl, sym, ap, subst, inl, inr, ◌∙◌, arith, length-append}
 use Rattle.std.proofs.Math.Seq.{get_or-append_seam}
-use Rattle.std.proofs.lemmas.Int.{ints}
 use Rattle.std.proofs.lemmas.List.{get_or-map, get_or-set_other, get_or-set_same, get_or_append_left, get_or_read, length-map, same_lists}
 use Rattle.std.proofs.lemmas.List.Elements.{All-cons, All-head, All-map, All-nil, All-tail}
 use Rattle.std.proofs.lemmas.List.Sums.{list_all-from_AllPass}
@@ -15,7 +14,7 @@ use Rattle.daq_table.specs.declared.head.Ends.{Ends}
 use Rattle.daq_table.specs.declared.head.Kind.{Kind}
 use Rattle.daq_table.specs.declared.head.Kind.TheVariants.{Int, Dec, Date, Text}
 use Rattle.daq_table.specs.declared.schema_column.SchemaColumn.{SchemaColumn}
-use Rattle.daq_table.proofs.Extremes.{greatest_above}
+use Rattle.daq_table.proofs.Extremes.{greatest_above, within_top}
 use Rattle.daq_table.specs.Extremes.{greatest}
 use Rattle.csv_load.specs.States.{AreComplete, AreFinished, AreStored, IsComplete, IsFinished, IsStored, State, emptied, laid, numbers_in, state_of, values_in}
 use Rattle.csv_load.proofs.RowFacts.{last_place}
@@ -91,7 +90,7 @@ pub record AtPlace (columns : List SchemaColumn) (states : List State) (heads : 
   pub head_is : slice_get heads c ≡ Some head
   pub finished : IsFinished (get_or states c d) column.name head (get_or lists c []) (get_or marks c [])
 
-there : {X : Type 0} (xs : List X) (c : ℕ) → c < length xs → (x : X) × (slice_get xs c ≡ Some x)
+pub there : {X : Type 0} (xs : List X) (c : ℕ) → c < length xs → (x : X) × (slice_get xs c ≡ Some x)
 there xs c lt = elim (slice_get_cases xs c).1 [ inl inside ↦ (inside.0, inside.2) | inr past ↦ absurd (omega (arith, lt, past.0)) ]
 
 pub at_place : (columns : List SchemaColumn) (states : List State) (heads : List ColumnHead) (lists : List (List ℕ)) (marks : List (List Bool)) (c : ℕ) (d : State) → AreFinished columns states (length columns) heads lists marks
@@ -100,9 +99,6 @@ at_place columns states heads lists marks c d h lt =
     let column = there columns c lt in
     let head = there heads c (omega (arith, lt, h.heads_count)) in
     record { column = column.0; head = head.0; column_is = column.1; head_is = head.1; finished = h.each c column.0 d head.0 column.1 head.1 }
-
-within_top : (base top : ℤ) (u : ℕ) → (base +ℤ pos u) ≤ℤ top → u ≤ unsigned_abs (top -ℤ base)
-within_top base top u h = omega (arith, ints, h)
 
 -- null may stand in a nullable column, and a number up to the top in each
 abbrev Allowed : Ends → Option ℤ → Type 0

@@ -2,7 +2,6 @@ pub mod Records
 pub mod Columns
 pub mod Lines
 pub mod Numbered
-pub mod Raised
 pub mod Rows
 pub mod Faults
 pub mod TableOf

@@ -4,7 +4,6 @@
 mod building;
 mod column;
 mod exactness;
-mod extremes;
 mod fault;
 mod filling;
 mod limits;
@@ -13,7 +12,6 @@ mod loading;
 mod marks;
 mod place;
 mod plain_cells;
-mod raised;
 mod ranks;
 mod reading;
 mod record;

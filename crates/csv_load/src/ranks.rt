@@ -7,10 +7,9 @@ ghost use Rattle.std.specs.List.Sorted.{IsStrictlySortedBy};
 ghost use Rattle.std.specs.Ordering.{nat_cmp};
 ghost use Rattle.std.specs.Str.{bytes_eq};
 ghost use Rattle.daq_table.specs.Dictionaries.{rank_of};
-ghost use Rattle.csv_load.specs.Raised.{lowered};
+ghost use Rattle.daq_table.specs.Raised.{lowered};
 
-use crate::raised::raise;
-use daq_table::{Dictionary, Text};
+use daq_table::{Dictionary, Text, raise};
 use std::alloc::{AllocError, Global};
 use std::collections::BTreeSet;
 

@@ -7,7 +7,7 @@ ghost use Rattle.std.specs.List.Sorted.{IsStrictlySortedBy};
 ghost use Rattle.std.specs.Ordering.{nat_cmp};
 ghost use Rattle.daq_table.specs.Dictionaries.{distinct, rank_of};
 ghost use Rattle.csv_load.specs.Numbered.{HasNumber};
-ghost use Rattle.csv_load.specs.Raised.{lowered};
+ghost use Rattle.daq_table.specs.Raised.{lowered};
 
 use crate::ranks::{ranks_of, sorted_names};
 use daq_table::{Dictionary, Text};

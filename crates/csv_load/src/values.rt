@@ -8,13 +8,13 @@ ghost use Rattle.daq_table.specs.declared.head.Kind.TheVariants.{Text};
 ghost use Rattle.csv_load.specs.Columns.{IsShortText, is_text};
 ghost use Rattle.csv_load.specs.States.{HasValues, IsComplete, RefusesValue, TakesValue, kept_of, kept_with};
 
-use crate::extremes::{become_distances, greatest_number, least_number};
 use crate::fault::TableFault;
 use crate::place::Place;
 use crate::plain_cells::{plain_dec, plain_int};
-use crate::raised::raise;
 use crate::texts::Texts;
-use daq_table::{ColumnHead, Kind, Name, cell_value};
+use daq_table::{
+    ColumnHead, Kind, Name, become_distances, cell_value, greatest_number, least_number, raise,
+};
 use std::alloc::{AllocError, Global};
 use std::marker::Model;
 use std::str::from_utf8;
@@ -30,7 +30,7 @@ pub(crate) struct Values {
 impl Model for Values {
     ghost use Rattle.std.specs.Prelude.{map};
     ghost use Rattle.daq_table.specs.Dictionaries.{distinct};
-    ghost use Rattle.csv_load.specs.Raised.{lowered};
+    ghost use Rattle.daq_table.specs.Raised.{lowered};
     ghost use Rattle.csv_load.specs.States.{Kept};
 
     ghost Value = { Kept };

@@ -2,7 +2,7 @@
 use Rattle.std.proofs.Common.{◌≡◌, ℕ, ◌+◌, ◌<◌, ℤ, pos, Bool, true, false, ◌||◌, not, IsTrue, All, List, [], ◌∷◌, fold, length, map, get_or, refl, sym, ap, ◌∙◌, arith, cond}
 use Rattle.std.proofs.lemmas.Bool.{and_from}
 use Rattle.std.proofs.lemmas.Cmp.{nat_list_cmp_total}
-use Rattle.std.proofs.lemmas.List.Elements.{All-cons, All-from_recursion, All-map, recursion_from_All}
+use Rattle.std.proofs.lemmas.List.Elements.{All-cons, All-from_recursion, All-head, All-map, All-tail, recursion_from_All}
 use Rattle.std.proofs.lemmas.Map.Text.{is_eq-slice_cmp}
 use Rattle.std.proofs.lemmas.Map.Views.{All-insert_key}
 use Rattle.std.proofs.lemmas.Slice.Eq.{bytes_eq-Decides}
@@ -156,3 +156,18 @@ ranks_are texts = ranks_fit texts (distinct texts) (all_come texts [])
 pub some_names : (texts : List (List ℕ)) → distinct texts ≡ [] → length texts ≡ 0
 some_names [] e = refl
 some_names (text ∷ texts) e = absurd (let known : list_any (bytes_eq text) (distinct (text ∷ texts)) ≡ true = all_come (text ∷ texts) [] 0 text (omega arith) in let none : list_any (bytes_eq text) (distinct (text ∷ texts)) ≡ false = ap (list_any (bytes_eq text)) e in cc)
+
+-- what all texts have, and all names before them, the names with them have
+pub distinct_has : (P : List ℕ → Type 0) (texts names : List (List ℕ)) → All P names → All P texts → All P (fold (insert_key (slice_cmp nat_cmp)) names texts)
+distinct_has P [] names known all = known
+distinct_has P (text ∷ texts) names known all =
+    distinct_has P texts (insert_key (slice_cmp nat_cmp) names text) (All-insert_key (slice_cmp nat_cmp) text P names known (All-head P text texts all)) (All-tail P text texts all)
+
+-- keys as the texts that they are seen as
+pub insert_viewed : {K : Type 0} (view : K → List ℕ) (keys : List K) (key : K)
+    → map view (insert_key (λ x y. slice_cmp nat_cmp (view x) (view y)) keys key) ≡ insert_key (slice_cmp nat_cmp) (map view keys) (view key)
+insert_viewed view [] key = refl
+insert_viewed view (x ∷ keys) key =
+    let more = insert_viewed view keys key in
+    elim (slice_cmp nat_cmp (view key) (view x)) as (λ o. map view (match_ordering o (key ∷ x ∷ keys) (x ∷ keys) (x ∷ insert_key (λ x y. slice_cmp nat_cmp (view x) (view y)) keys key)) ≡ match_ordering o (view key ∷ view x ∷ map view keys) (view x ∷ map view keys) (view x ∷ insert_key (slice_cmp nat_cmp) (map view keys) (view key)))
+    [ Less ↦ refl | Equal ↦ refl | Greater ↦ ap (λ ks. view x ∷ ks) more ]

@@ -1,8 +1,10 @@
 -- The least and the greatest of a column's numbers: every number lies between them, and the distances from the least stand for the numbers.
-use Rattle.std.proofs.Common.{◌≡◌, ℕ, ℤ, pos, ◌+ℤ◌, ◌-ℤ◌, ◌≤ℤ◌, unsigned_abs, All, List, [], ◌∷◌, map, refl, sym, ap, subst, inl, inr, ◌∙◌, arith}
+use Rattle.std.proofs.Common.{◌≡◌, ℕ, ◌≤◌, ℤ, pos, ◌+ℤ◌, ◌-ℤ◌, ◌≤ℤ◌, unsigned_abs, All, Option, Some, List, [], ◌∷◌, map, refl, sym, ap, subst, inl, inr, ◌∙◌, arith}
 use Rattle.std.proofs.lemmas.Int.{fold-int_max_bounds, fold-int_max_reached, fold-int_min_bounds, fold-int_min_reached, ints}
 use Rattle.std.proofs.lemmas.List.Elements.{All-cons, All-tail}
 use Rattle.daq_table.specs.Extremes.{greatest, least}
+use Rattle.daq_table.specs.Raised.{lowered}
+use Rattle.daq_table.specs.Tables.{Cell, column_from}
 
 pub least_below : (zs : List ℤ) → All (λ z. least zs ≤ℤ z) zs
 least_below [] = λ k d lt. absurd (omega (arith, lt))
@@ -46,3 +48,18 @@ pub cells_of : (zs numbers : List ℤ) (base : ℤ) (cells : List ℕ) → base 
 cells_of zs numbers base cells b n c =
     let are : cells ≡ map (λ (z : ℤ). unsigned_abs (z -ℤ least zs)) zs = c ∙ ap (λ (x : ℤ). map (λ (z : ℤ). unsigned_abs (z -ℤ x)) numbers) b ∙ ap (map (λ (z : ℤ). unsigned_abs (z -ℤ least zs))) n in
     ap (map (λ (u : ℕ). base +ℤ pos u)) are ∙ ap (λ (x : ℤ). map (λ (u : ℕ). x +ℤ pos u) (map (λ (z : ℤ). unsigned_abs (z -ℤ least zs)) zs)) b ∙ cells_stand (least zs) zs (least_below zs)
+
+-- the same of numbers that are raised
+pub distances_are : (base : ℤ) (numbers : List ℕ) → map (λ n. unsigned_abs (lowered n -ℤ base)) numbers ≡ map (λ (z : ℤ). unsigned_abs (z -ℤ base)) (map lowered numbers)
+distances_are base [] = refl
+distances_are base (n ∷ numbers) = ap (λ us. unsigned_abs (lowered n -ℤ base) ∷ us) (distances_are base numbers)
+
+-- what cells without a mark stand for
+pub plain_values : (base : ℤ) (value : Cell → Option ℤ) (us : List ℕ) → ((u : ℕ) → value (Some u) ≡ Some (base +ℤ pos u))
+    → map value (column_from us []) ≡ map Some (map (λ (u : ℕ). base +ℤ pos u) us)
+plain_values base value [] h = refl
+plain_values base value (u ∷ us) h = rw (h u, plain_values base value us h) refl
+
+-- a number up to the top lies no further from the base than the top
+pub within_top : (base top : ℤ) (u : ℕ) → (base +ℤ pos u) ≤ℤ top → u ≤ unsigned_abs (top -ℤ base)
+within_top base top u h = omega (arith, ints, h)

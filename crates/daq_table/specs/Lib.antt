@@ -2,6 +2,7 @@ pub mod ColumnFacts
 pub mod HeadFacts
 pub mod Tables
 pub mod Extremes
+pub mod Raised
 pub mod Dictionaries
 pub mod Numbers
 pub mod CellTexts

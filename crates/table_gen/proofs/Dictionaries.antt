@@ -1,26 +1,16 @@
 -- The dictionary of the texts that were drawn so far.
-use Rattle.std.proofs.Common.{◌≡◌, ◌≢◌, ◌⊎◌, inl, inr, set, ℕ, ◌+◌, ◌<◌, Bool, true, false, List, [], ◌∷◌, length, map, get_or, take, refl, sym, ap, ◌∙◌, arith}
+use Rattle.std.proofs.Common.{◌≡◌, ◌≢◌, ◌⊎◌, inl, inr, set, ℕ, ◌+◌, ◌<◌, Bool, true, false, List, [], length, map, get_or, take, sym, ap, ◌∙◌, arith}
 use Rattle.std.proofs.lemmas.List.{get_or-map, get_or-set_other, length-map, length-set}
 use Rattle.std.proofs.lemmas.List.Sums.{fold_more}
 use Rattle.std.specs.BTreeSet.{insert_key}
 use Rattle.std.specs.Cmp.Lexicographic.{slice_cmp}
 use Rattle.std.specs.List.{list_any}
 use Rattle.std.specs.List.Sorted.{IsStrictlySortedBy}
-use Rattle.std.specs.Ordering.{match_ordering, nat_cmp}
+use Rattle.std.specs.Ordering.{nat_cmp}
 use Rattle.std.specs.Str.{bytes_eq}
-use Rattle.std.specs.declared.cmp.Ordering.TheVariants.{Less, Equal, Greater}
 use Rattle.daq_table.proofs.Dictionaries.{comes, distinct_sorted, known_stays, stays}
 use Rattle.daq_table.specs.Dictionaries.{distinct}
 use Rattle.table_gen.specs.Draws.{text_of}
-
--- keys as the texts that they are seen as
-pub insert_viewed : {K : Type 0} (view : K → List ℕ) (keys : List K) (key : K)
-    → map view (insert_key (λ x y. slice_cmp nat_cmp (view x) (view y)) keys key) ≡ insert_key (slice_cmp nat_cmp) (map view keys) (view key)
-insert_viewed view [] key = refl
-insert_viewed view (x ∷ keys) key =
-    let more = insert_viewed view keys key in
-    elim (slice_cmp nat_cmp (view key) (view x)) as (λ o. map view (match_ordering o (key ∷ x ∷ keys) (x ∷ keys) (x ∷ insert_key (λ x y. slice_cmp nat_cmp (view x) (view y)) keys key)) ≡ match_ordering o (view key ∷ view x ∷ map view keys) (view x ∷ map view keys) (view x ∷ insert_key (slice_cmp nat_cmp) (map view keys) (view key)))
-    [ Less ↦ refl | Equal ↦ refl | Greater ↦ ap (λ ks. view x ∷ ks) more ]
 
 -- what is known after the first of these texts: their names, and which of the sixteen were seen
 pub record HasSeen (codes : List ℕ) (end : ℕ) (names : List (List ℕ)) (seen : List Bool) : Type 0 where

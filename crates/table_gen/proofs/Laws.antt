@@ -1,17 +1,14 @@
 -- A seed has one table for each number of rows, and all of its values have texts.
-use Rattle.std.proofs.Common.{◌≡◌, ℕ, ◌<◌, ◌≤◌, ℤ, All, List, [], ◌∷◌, Some, fold, slice_get, get_or, length, map, sym, subst, ◌∙◌, arith}
+use Rattle.std.proofs.Common.{◌≡◌, ℕ, ◌<◌, ◌≤◌, ℤ, All, List, [], Some, slice_get, get_or, length, map, sym, subst, ◌∙◌, arith}
 use Rattle.std.proofs.lemmas.List.{same_lists}
-use Rattle.std.proofs.lemmas.List.Elements.{All-head, All-nil, All-tail}
-use Rattle.std.proofs.lemmas.Map.Views.{All-insert_key}
+use Rattle.std.proofs.lemmas.List.Elements.{All-nil}
 use Rattle.std.proofs.lemmas.Option.{get_or_from_slice_get, same_Some, slice_get_within}
-use Rattle.std.specs.BTreeSet.{insert_key}
-use Rattle.std.specs.Cmp.Lexicographic.{slice_cmp}
-use Rattle.std.specs.Ordering.{nat_cmp}
 use Rattle.daq_table.specs.Tables.{Cell, Contents, ends_of}
 use Rattle.daq_table.specs.ValueTexts.{HasText, HasTexts}
 use Rattle.daq_table.specs.declared.head.ColumnHead.{ColumnHead}
 use Rattle.daq_table.specs.declared.head.Kind.{Kind}
 use Rattle.daq_table.specs.declared.head.Kind.TheVariants.{Int, Dec, Date, Text}
+use Rattle.daq_table.proofs.Dictionaries.{distinct_has}
 use Rattle.daq_table.proofs.Extremes.{greatest_has, least_has}
 use Rattle.daq_table.proofs.SameTables.{same_cells, same_column, same_contents, same_head}
 use Rattle.daq_table.proofs.ShownNumbers.{between_has, zero_has}
@@ -45,11 +42,6 @@ stands_once seed rows t u one other =
 
 abbrev IsShort : List ℕ → Type 0
 IsShort name = length name ≤ 255
-
-distinct_has : (P : List ℕ → Type 0) (texts names : List (List ℕ)) → All P names → All P texts → All P (fold (insert_key (slice_cmp nat_cmp)) names texts)
-distinct_has P [] names known all = known
-distinct_has P (text ∷ texts) names known all =
-    distinct_has P texts (insert_key (slice_cmp nat_cmp) names text) (All-insert_key (slice_cmp nat_cmp) text P names known (All-head P text texts all)) (All-tail P text texts all)
 
 stores_have : (name : List ℕ) (kind : Kind) (names : List (List ℕ)) (numbers : List ℤ) (head : ColumnHead) (cells : List Cell) → Stores name kind names numbers head cells → All (HasText kind) numbers → All IsShort names
     → HasTexts head

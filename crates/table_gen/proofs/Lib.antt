@@ -1,4 +1,3 @@
-pub mod Ends
 pub mod Dictionaries
 pub mod Columns
 pub mod Tables

@@ -7,13 +7,12 @@ use Rattle.daq_table.specs.declared.head.ColumnHead.{ColumnHead}
 use Rattle.daq_table.specs.declared.head.Kind.{Kind}
 use Rattle.daq_table.specs.declared.head.Kind.TheVariants.{Int, Dec, Date, Text}
 use Rattle.daq_table.proofs.Dictionaries.{distinct_sorted, ranks_are}
-use Rattle.daq_table.proofs.Extremes.{cells_of, ends_ordered}
+use Rattle.daq_table.proofs.Extremes.{cells_of, ends_ordered, plain_values}
 use Rattle.daq_table.specs.Dictionaries.{distinct}
 use Rattle.daq_table.specs.Extremes.{greatest, least}
 use Rattle.table_gen.specs.Columns.{Stores, ranks_of}
 use Rattle.table_gen.specs.Draws.{a_of, b_of, column_of, d_of, g_of}
 use Rattle.table_gen.specs.Laws.{HaveTables}
-use Rattle.table_gen.proofs.Ends.{plain_values}
 use Rattle.table_gen.proofs.Tables.{AreMade, is_head, made_table}
 
 -- how far each number lies above the least

@@ -1,7 +1,6 @@
 -- The four columns of a seed are a table.
-use Rattle.std.proofs.Common.{◌≡◌, ℕ, zero, suc, ◌<◌, ◌≤◌, ℤ, pos, ◌+ℤ◌, ◌-ℤ◌, ◌≤ℤ◌, unsigned_abs, Bool, false, cond, IsTrue, Some, None, List, [], ◌∷◌, codes, slice_get, length, map, get_or, refl, sym, ap, subst, ◌∙◌, arith}
+use Rattle.std.proofs.Common.{◌≡◌, ℕ, zero, suc, ◌<◌, ◌≤◌, ℤ, pos, ◌+ℤ◌, ◌≤ℤ◌, Bool, false, cond, IsTrue, Some, None, List, [], ◌∷◌, codes, slice_get, length, map, get_or, refl, sym, ap, subst, ◌∙◌, arith}
 use Rattle.std.proofs.lemmas.Bool.{and_from}
-use Rattle.std.proofs.lemmas.Int.{ints}
 use Rattle.std.proofs.lemmas.List.{get_or-map, length-map}
 use Rattle.std.proofs.lemmas.Option.{same_Some}
 use Rattle.daq_table.specs.HeadFacts.{IsHead, fits_rows}
@@ -11,7 +10,7 @@ use Rattle.daq_table.specs.declared.head.Ends.{Ends}
 use Rattle.daq_table.specs.declared.head.Kind.{Kind}
 use Rattle.daq_table.specs.declared.head.Kind.TheVariants.{Int, Dec, Date, Text}
 use Rattle.daq_table.proofs.Dictionaries.{some_names}
-use Rattle.daq_table.proofs.Extremes.{greatest_above}
+use Rattle.daq_table.proofs.Extremes.{greatest_above, within_top}
 use Rattle.daq_table.specs.Dictionaries.{distinct}
 use Rattle.daq_table.specs.Extremes.{greatest}
 use Rattle.table_gen.specs.Columns.{Stores, ranks_of}
@@ -58,9 +57,6 @@ is_head seed rows a b d g ka kb kd kg made few =
       differ = rw (made.a_is.name_is, made.b_is.name_is, made.d_is.name_is, made.g_is.name_is) refl;
       texts = rw (made.a_is.kind_is, made.b_is.kind_is, made.d_is.kind_is, made.g_is.kind_is, made.g_is.plain, made.g_is.names_are) (and_from (fits_rows rows Text false (distinct texts)) _ fit refl);
     }
-
-within_top : (base top : ℤ) (u : ℕ) → (base +ℤ pos u) ≤ℤ top → u ≤ unsigned_abs (top -ℤ base)
-within_top base top u h = omega (arith, ints, h)
 
 -- a cell that stands for a number up to the top is one of the column
 number_fits : (ends : Ends) (cell : Cell) (z : ℤ) → value_of ends cell ≡ Some z → z ≤ℤ ends.top → IsCell ends cell

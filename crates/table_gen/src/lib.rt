@@ -4,7 +4,6 @@
 mod column;
 mod draws;
 mod exactness;
-mod extremes;
 mod fault;
 mod making;
 mod names;

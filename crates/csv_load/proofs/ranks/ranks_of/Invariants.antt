@@ -1,6 +1,6 @@
 use Rattle.std.proofs.Common.{◌≡◌, List, ℕ, pos, map, take, vec_items}
 use Rattle.daq_table.specs.Dictionaries.{rank_of}
-use Rattle.csv_load.specs.Raised.{lowered}
+use Rattle.daq_table.specs.Raised.{lowered}
 use Rattle.csv_load.proofs.ranks.ranks_of.Given as goal
 
 abbrev pub invariant-loop-text : goal.invariant-loop-text

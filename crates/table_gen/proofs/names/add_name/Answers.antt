@@ -2,7 +2,7 @@ use Rattle.std.proofs.Common.{◌∙◌, ℕ, List, Vec, Global, ap, map}
 use Rattle.std.specs.BTreeSet.{insert_key}
 use Rattle.std.specs.Cmp.Lexicographic.{slice_cmp}
 use Rattle.std.specs.Ordering.{nat_cmp}
-use Rattle.table_gen.proofs.Dictionaries.{insert_viewed}
+use Rattle.daq_table.proofs.Dictionaries.{insert_viewed}
 use Rattle.table_gen.proofs.names.add_name.Goals as goal
 
 pub returns : goal.returns

@@ -3,7 +3,7 @@ use Rattle.std.proofs.lemmas.List.{take_at}
 use Rattle.std.specs.List.{list_any}
 use Rattle.std.specs.Str.{bytes_eq}
 use Rattle.daq_table.specs.Dictionaries.{distinct, rank_of}
-use Rattle.csv_load.specs.Raised.{lowered}
+use Rattle.daq_table.specs.Raised.{lowered}
 use Rattle.csv_load.proofs.NumberFacts.{all_known, ranks_at}
 use Rattle.csv_load.proofs.RaisedFacts.{lowered_at, same_length}
 use Rattle.csv_load.proofs.texts.Texts.into_ranks.Goals as goal

@@ -1,12 +1,12 @@
 use Rattle.std.proofs.Common.{◌≡◌, ◌∙◌, map, length, drop, ap, subst, refl, arith, w64, to_z, of_z, to_z-of_z, FitsSigned}
 use Rattle.std.proofs.lemmas.List.{take_at}
 use Rattle.daq_table.specs.ColumnFacts.{IsName}
-use Rattle.daq_table.proofs.Extremes.{cells_of}
+use Rattle.daq_table.proofs.Extremes.{cells_of, distances_are}
 use Rattle.daq_table.specs.Extremes.{greatest, least}
-use Rattle.csv_load.specs.Raised.{lowered}
+use Rattle.daq_table.specs.Raised.{lowered}
 use Rattle.csv_load.specs.States.{Kept, numbers_in}
 use Rattle.csv_load.proofs.EndFacts.{column_is}
-use Rattle.csv_load.proofs.RaisedFacts.{chosen, distances_are}
+use Rattle.csv_load.proofs.RaisedFacts.{chosen}
 use Rattle.csv_load.proofs.values.Values.finish.Goals as goal
 
 pub invariant_of-head : goal.invariant_of-head

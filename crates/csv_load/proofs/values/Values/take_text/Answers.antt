@@ -1,6 +1,6 @@
 use Rattle.std.proofs.Common.{ap, length, map, refl, arith, rules}
 use Rattle.csv_load.specs.Columns.{IsShortText}
-use Rattle.csv_load.specs.Raised.{lowered}
+use Rattle.daq_table.specs.Raised.{lowered}
 use Rattle.csv_load.proofs.StateFacts.{names_taken, text_is_value, text_taken}
 use Rattle.csv_load.proofs.values.Values.take_text.Goals as goal
 

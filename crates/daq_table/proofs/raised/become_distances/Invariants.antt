@@ -1,6 +1,6 @@
 use Rattle.std.proofs.Common.{◌≡◌, ◌≤◌, ◌<◌, ℕ, ◌-ℤ◌, unsigned_abs, get_or}
-use Rattle.csv_load.specs.Raised.{lowered}
-use Rattle.csv_load.proofs.extremes.become_distances.Given as goal
+use Rattle.daq_table.specs.Raised.{lowered}
+use Rattle.daq_table.proofs.raised.become_distances.Given as goal
 
 abbrev pub invariant-loop-number : goal.invariant-loop-number
 invariant-loop-number l = record {
