@@ -1,6 +1,6 @@
 -- Keywords and signs, told apart by their numbers.
 use Rattle.std.proofs.Common.{◌≡◌, ℕ, [], ◌∷◌, true, get_or, refl, sym, ap, ◌∙◌}
-use Rattle.std.proofs.lemmas.Bool.{eqb-true, eq-eqb}
+use Rattle.std.proofs.lemmas.Bool.{eqb-true}
 use denote.Enum.Declared.{tag_of}
 use denote.Enum.Bare.{sameb}
 use Rattle.sql_tokens.specs.contracts.token.Fixed.{the_type}
@@ -91,6 +91,3 @@ fixed_of-index_of fixed.GreaterEqual = refl
 
 pub same_is : (f k : Fixed) → same f k ≡ true → f ≡ k
 same_is f k h = sym (fixed_of-index_of f) ∙ ap fixed_of (eqb-true (index_of f) (index_of k) h) ∙ fixed_of-index_of k
-
-pub same_self : (k : Fixed) → same k k ≡ true
-same_self k = eq-eqb (index_of k) (index_of k) refl

@@ -20,10 +20,6 @@ pub at_map : (E F : Lexeme → Type 0) → ((t : Lexeme) → E t → F t) → (w
 at_map E F f [] h = tt
 at_map E F f (t ∷ w) h = f t h
 
-first_at : (E : Lexeme → Type 0) (w : List Lexeme) → At E w → (t : Lexeme) (v : List Lexeme) → w ≡ t ∷ v → E t
-first_at E [] h t v e = absurd cc
-first_at E (s ∷ w) h t v e = let i : s ≡ t = cc in subst E i h
-
 over : (E : Lexeme → Type 0) (v rest : List Lexeme) → ((t : Lexeme) (w : List Lexeme) → v ≡ t ∷ w → E t) → (v ≡ [] → At E rest) → At E (v ++ rest)
 over E [] rest f h = h refl
 over E (t ∷ v) rest f h = f t v refl

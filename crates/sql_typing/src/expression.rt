@@ -12,11 +12,11 @@ ghost use Rattle.sql_typing.specs.declared.fault.TypeFault.TheVariants.{ScaleToo
 
 use crate::fault::TypeFault;
 use crate::numbering::Numbering;
-use crate::scale::{MOST_SCALE, power_of_ten, raised_number, scale_of, scale_of_kind};
+use crate::scale::{MOST_SCALE, power_of_ten, raised_number, scale_of};
 use crate::table::kind_of;
 use daq_table::{ColumnHead, Kind};
 use query_model::Expr;
-use sql_text::{ExprTree, Named, Num};
+use sql_text::{ExprTree, Named};
 use std::alloc::{AllocError, Global};
 
 fn literal_of(expr: &Expr) -> Option<i128>
