@@ -56,10 +56,6 @@ Spells {A} L view c ms = (ts : List Lexeme) → marks_of ts ≡ ms → (a : A) �
 abbrev pub gone : ℕ → Bool
 gone p = true
 
--- what a test says of a token of this mark, wherever it stands
-abbrev pub Says : {X C : Type 0} → (Lexeme → Option X) → Mark → (X → C → Type 0) → C → Type 0
-Says {X} test m P c = (p : ℕ) → (x : X) × (test (token p m) ≡ Some x) × P x c
-
 module _ (fits : Limits) (I : Parts) {C : Type 0} where
   pub sp_give : {A : Type 0} (view : A → C) (a : A) (c : C) → view a ≡ c → Spells (IsOf fits I (give a)) view c []
   sp_give view a c e ts h = (a, (none ts h, refl), e)

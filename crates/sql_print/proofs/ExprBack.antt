@@ -72,10 +72,6 @@ right_need (Mul at a b) = omega arith
 
 -- ---- numbers
 
-abbrev pub units_fit : ℤ → Type 0
-units_fit (pos u) = u < 2 ^ 63
-units_fit (negsuc u) = suc u ≤ 2 ^ 63
-
 -- what a mark of the text says of it
 module _ (Ok : Mark → Type 0) where
   abbrev pub AllOk : List Mark → Type 0

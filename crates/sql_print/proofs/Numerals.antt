@@ -166,10 +166,6 @@ trimmed_last g d h =
     let n : prefix_len is_zero (reverse f) ≡ 0 = ap (prefix_len is_zero) r ∙ rw h refl in
     ap (λ k. take (length f - k) f) n ∙ take_all (length f - 0) f (omega arith)
 
-point_class : class_of 46 ≡ Other
-unfolding class_of
-point_class = refl
-
 point_ends : (w : List ℕ) → NotFirst in_number (46 ∷ w)
 unfolding class_of
 point_ends w = refl
