@@ -9,6 +9,3 @@ pub use command::{
     Ask, Command, Demo, Info, Load, Options, Query, ReadOrder, Session, Upgrade, Usage, one_command,
 };
 pub use words::Words;
-
-#[cfg(test)]
-mod tests;

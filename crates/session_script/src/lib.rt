@@ -8,6 +8,3 @@ mod script;
 pub use fault::ScriptFault;
 pub use laws::{answers_are_one, scripts_have_answers};
 pub use script::{MOST_BYTES, MOST_QUERIES, ScriptQuery, queries};
-
-#[cfg(test)]
-mod tests;

@@ -6,8 +6,6 @@ mod cut;
 mod numeral;
 mod sign;
 mod string;
-#[cfg(test)]
-mod tests;
 mod token;
 mod word;
 

@@ -1,7 +1,6 @@
 //! Tokens of texts, made by hand.
 
-use crate::token::{Fixed, KEYWORDS, Kind, Number};
-use crate::tokens;
+use sql_tokens::{Fixed, KEYWORDS, Kind, Number, tokens};
 use std::test::Fail;
 
 /// A text, how many tokens it has, and where they end.

@@ -1,6 +1,8 @@
 //! Lists of words, and the place where they go wrong or the command that they ask for.
 
-use super::*;
+use command_line::{
+    Ask, Command, Demo, Info, Load, Options, Query, ReadOrder, Session, Upgrade, Usage, Words,
+};
 use std::alloc::{AllocError, Global};
 use std::test::Fail;
 

@@ -1,6 +1,6 @@
 //! Scripts, and bytes that are none.
 
-use super::*;
+use session_script::{MOST_BYTES, ScriptFault, ScriptQuery, queries};
 use std::alloc::{AllocError, Global};
 use std::test::Fail;
 
