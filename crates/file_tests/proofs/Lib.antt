@@ -1,2 +1,0 @@
--- What the proofs of the tests share.
-pub mod SmallTable
