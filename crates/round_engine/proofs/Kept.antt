@@ -10,15 +10,11 @@ use Rattle.query_model.specs.declared.bounds.Bound.{Bound}
 use Rattle.query_model.specs.declared.bounds.Truth.{Truth}
 use Rattle.known_column.specs.KnownTables.{KnownTable}
 use Rattle.query_model.specs.Queries.{Aggregate}
-use Rattle.query_model.specs.declared.query.Shape.{Shape}
-use Rattle.query_model.specs.declared.query.Shape.TheVariants.{Plain, Grouped, Top}
 use Rattle.query_model.specs.declared.query.ItemKind.{ItemKind}
 use Rattle.query_model.specs.declared.query.ItemKind.TheVariants.{Avg}
 use Rattle.query_model.specs.Bounds.{Pair, average_under, bound_under, fractions_of, pairs}
 use Rattle.query_model.specs.Knowledge.{ranges_of}
 use Rattle.query_model.specs.Truths.{truth_of}
-use Rattle.query_model.specs.Validity.{IsTop}
-use Rattle.round_engine.specs.declared.answers.Answers.{Answers}
 use Rattle.round_engine.specs.declared.answers.Answers.TheVariants.{Totals, Groups, Ranking}
 use Rattle.round_engine.specs.declared.follower.Follower.{Follower}
 use Rattle.round_engine.specs.declared.totals.Totals as declared
@@ -26,9 +22,9 @@ use Rattle.round_engine.specs.declared.groups.Groups as cells
 use Rattle.round_engine.specs.declared.ranking.Ranking as rankings
 use Rattle.round_engine.specs.CellAnswers.{AreGroups}
 use Rattle.round_engine.specs.Rankings.{IsRanking}
-use Rattle.round_engine.specs.Engines.{AreAnswers, IsGroupsForm, IsRankingForm, IsTotalsForm, stage_of}
+use Rattle.round_engine.specs.Engines.{AreAnswers, stage_of}
 use Rattle.round_engine.specs.Followers.{query_of, Follows}
-use Rattle.round_engine.specs.Stages.{IsGrouped, IsOpenItem, IsOpenStage, Stage}
+use Rattle.round_engine.specs.Stages.{IsOpenItem, IsOpenStage, Stage}
 use Rattle.round_engine.specs.declared.item_bound.ItemBound.{ItemBound}
 use Rattle.round_engine.specs.declared.item_bound.ItemBound.TheVariants.{Numbers, Fractions}
 use Rattle.round_engine.specs.Totals.{AreEach, AreTotals, HasFractions, HasNumbers, IsBoundOf}
@@ -116,44 +112,11 @@ answers_at columns follower stage kept is = subst (λ s. AreAnswers s follower.s
 pub totals_at : (columns : KnownTable) (follower : Follower) (stage : Stage) (totals : declared.Totals) → Follows columns follower → stage_of (query_of follower) columns ≡ stage → follower.state.answers ≡ Totals totals → AreTotals stage totals.bounds.items
 totals_at columns follower stage totals kept is form = (subst (AreAnswers stage) form (answers_at columns follower stage kept is)).1
 
--- a query without groups and order has totals
-totals_form : (stage : Stage) (answers : Answers) → stage.query.shape ≡ Plain → AreAnswers stage answers → IsTotalsForm answers
-totals_form stage (Totals totals) plain are = tt
-totals_form stage (Groups groups) plain are = subst IsGrouped plain are.grouped
-totals_form stage (Ranking ranking) plain are = subst IsTop (sym are.holds.order ∙ plain) tt
-
-pub has_totals : (columns : KnownTable) (follower : Follower) (stage : Stage) → Follows columns follower → stage_of (query_of follower) columns ≡ stage → stage.query.shape ≡ Plain → IsTotalsForm follower.state.answers
-has_totals columns follower stage kept is plain = totals_form stage follower.state.answers plain (answers_at columns follower stage kept is)
-
 pub ranking_at : (columns : KnownTable) (follower : Follower) (stage : Stage) (ranking : rankings.Ranking) → Follows columns follower → stage_of (query_of follower) columns ≡ stage → follower.state.answers ≡ Ranking ranking → IsRanking stage ranking
 ranking_at columns follower stage ranking kept is form = subst (AreAnswers stage) form (answers_at columns follower stage kept is)
 
--- rows that are grouped are in no order
-only_grouped : (shape : Shape) → IsGrouped shape → IsTop shape → ⊥
-only_grouped Plain grouped top = grouped
-only_grouped (Grouped columns) grouped top = top
-only_grouped (Top key down limit) grouped top = grouped
-
 pub groups_at : (columns : KnownTable) (follower : Follower) (stage : Stage) (groups : cells.Groups) → Follows columns follower → stage_of (query_of follower) columns ≡ stage → follower.state.answers ≡ Groups groups → AreGroups stage groups
 groups_at columns follower stage groups kept is form = subst (AreAnswers stage) form (answers_at columns follower stage kept is)
-
--- a query with groups has their answers
-groups_form : (stage : Stage) (answers : Answers) → IsGrouped stage.query.shape → AreAnswers stage answers → IsGroupsForm answers
-groups_form stage (Totals totals) grouped are = subst IsGrouped are.0 grouped
-groups_form stage (Groups groups) grouped are = tt
-groups_form stage (Ranking ranking) grouped are = subst IsGrouped are.holds.order grouped
-
-pub has_groups : (columns : KnownTable) (follower : Follower) (stage : Stage) → Follows columns follower → stage_of (query_of follower) columns ≡ stage → IsGrouped stage.query.shape → IsGroupsForm follower.state.answers
-has_groups columns follower stage kept is grouped = groups_form stage follower.state.answers grouped (answers_at columns follower stage kept is)
-
--- a query for rows in an order has a ranking
-ranking_form : (stage : Stage) (answers : Answers) → IsTop stage.query.shape → AreAnswers stage answers → IsRankingForm answers
-ranking_form stage (Totals totals) top are = subst IsTop are.0 top
-ranking_form stage (Groups groups) top are = only_grouped stage.query.shape are.grouped top
-ranking_form stage (Ranking ranking) top are = tt
-
-pub has_ranking : (columns : KnownTable) (follower : Follower) (stage : Stage) → Follows columns follower → stage_of (query_of follower) columns ≡ stage → IsTop stage.query.shape → IsRankingForm follower.state.answers
-has_ranking columns follower stage kept is top = ranking_form stage follower.state.answers top (answers_at columns follower stage kept is)
 
 pub open_at : (columns : KnownTable) (follower : Follower) (stage : Stage) → Follows columns follower → stage_of (query_of follower) columns ≡ stage → IsOpenStage stage
 open_at columns follower stage kept is = subst IsOpenStage is kept.open_stage

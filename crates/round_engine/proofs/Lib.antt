@@ -6,7 +6,7 @@ pub mod Certain
 pub mod Shown
 pub mod Ratios
 pub mod Interleaved
-pub mod Counted
+pub mod MaskTruths
 pub mod Narrow
 pub mod Declared
 pub mod Places

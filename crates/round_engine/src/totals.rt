@@ -2,7 +2,6 @@
 
 ghost use Rattle.std.specs.Prelude.{◌≡◌, ◌<◌, ◌+◌, ◌*◌, ◌^◌, ℕ, min, false, List, length, slice_get, Some, IfOk};
 ghost use Rattle.aggregates.specs.Runnings.{StandsFor};
-ghost use Rattle.query_model.specs.declared.query.Shape.TheVariants.{Plain};
 ghost use Rattle.kleene_filter.specs.Filters.{truths_under};
 ghost use Rattle.query_model.specs.declared.query.Shape.TheVariants.{Plain};
 ghost use Rattle.query_model.specs.Bounds.{Pair};

@@ -1,6 +1,6 @@
 use Rattle.std.proofs.Common.{length, ap, ◌∙◌, arith}
 use Rattle.kleene_filter.specs.Filters.{is_certain, is_possible}
-use Rattle.round_engine.proofs.Counted.{told_true, told_unknown, told_false}
+use Rattle.round_engine.proofs.MaskTruths.{told_true, told_unknown, told_false}
 use Rattle.round_engine.proofs.Kept.{judged_at, bit_at, rows_judged}
 use Rattle.round_engine.proofs.engine_view.EngineView.truth.Goals as goal
 
