@@ -15,6 +15,7 @@ pub mod Walks
 pub mod KeptSums
 pub mod Masked
 pub mod Rows
+pub mod SumEnds
 pub mod SelectedPairs
 pub mod SelectedBounds
 pub mod RankedRows

@@ -1,15 +1,11 @@
 -- The rows of a mask that another has, and their pairs.
-use Rattle.std.proofs.Common.{◌≡◌, ℕ, zero, suc, ◌+◌, ◌<◌, ◌≤◌, ℤ, pos, ◌+ℤ◌, ◌≤ℤ◌, int_le, int_lt, Bool, true, false, ◌&&◌, ◌||◌, cond, List, [], ◌∷◌, length, map, filter, count_by, inl, inr, refl, sym, ap, ◌∙◌, arith}
-use Rattle.std.specs.List.{list_any, range_with_len}
-use Rattle.std.proofs.lemmas.Bool.{cases_Bool, false≢true, or_left, or_parts, or_right}
-use Rattle.std.proofs.lemmas.Int.{ints, clamps}
+use Rattle.std.proofs.Common.{◌≡◌, ℕ, zero, suc, ◌+◌, ◌<◌, ◌≤◌, ℤ, Bool, true, false, ◌&&◌, cond, if◌then◌else◌, Some, None, List, [], ◌∷◌, length, map, filter, count_by, inl, inr, refl, sym, ap, ◌∙◌, arith}
+use Rattle.std.specs.List.{cons_option, filter_map, range_with_len}
+use Rattle.std.proofs.lemmas.Bool.{cases_Bool, false≢true}
 use Rattle.std.proofs.lemmas.List.FromFn.{fill_by_all}
 use Rattle.aggregates.specs.Selections.{has_row, rows_in}
-use Rattle.known_column.specs.Columns.{KnownColumn, numbers_at}
-use Rattle.query_model.specs.Answers.{greatest, least, total}
-use Rattle.query_model.specs.Bounds.{certain_count, certain_highs, certain_lows, greatest_sum, high_share, highs, least_sum, low_share, lows}
-use Rattle.query_model.proofs.ListBounds.{keeps_high, keeps_low}
-use Rattle.aggregates.proofs.BoundFacts.{high_sum_stands, lone_high, lone_low, low_sum_stands, same_numbers}
+use Rattle.known_column.specs.Columns.{KnownColumn}
+use Rattle.query_model.specs.Bounds.{Pair, certain_count}
 use Rattle.round_engine.specs.Selected.{pair_in}
 use Rattle.round_engine.proofs.Masked.{count-tested}
 
@@ -47,13 +43,18 @@ no_element [] e = refl
 no_element (r ∷ rs) e = absurd (omega (arith, e))
 
 -- a row that passes, and one that does not
-passed : (b : Bool) (r : ℕ) (rs : List ℕ) → b ≡ true → length (cond b (r ∷ rs) rs) ≡ suc (length rs)
+pub passed : (b : Bool) (r : ℕ) (rs : List ℕ) → b ≡ true → length (cond b (r ∷ rs) rs) ≡ suc (length rs)
 passed true r rs e = refl
 passed false r rs e = absurd (false≢true e)
 
-skipped : (b : Bool) (r : ℕ) (rs : List ℕ) → b ≡ false → length (cond b (r ∷ rs) rs) ≡ length rs
+pub skipped : (b : Bool) (r : ℕ) (rs : List ℕ) → b ≡ false → length (cond b (r ∷ rs) rs) ≡ length rs
 skipped true r rs e = absurd (false≢true (sym e))
 skipped false r rs e = refl
+
+-- the number of a row that passes
+one_number : (g : ℕ → ℤ) (b : Bool) (r : ℕ) (ns : List ℤ) (rs : List ℕ) → ns ≡ map g rs → cons_option (if b then Some (g r) else None) ns ≡ map g (cond b (r ∷ rs) rs)
+one_number g true r ns rs same = ap (λ l. g r ∷ l) same
+one_number g false r ns rs same = same
 
 -- ---- the pairs of some rows, of which a mask's count for certain
 
@@ -66,164 +67,6 @@ module _ (column : KnownColumn) (must : List Bool) where
         | inr f ↦ rw f (certain_of rs)
       ]
 
-  pub certain_lows_of : (rs : List ℕ) → certain_lows (map (pair_in column must) rs) ≡ map (λ r. (numbers_at column r).low) (filter (has_row must) rs)
-  certain_lows_of [] = refl
-  certain_lows_of (r ∷ rs) =
-      elim (cases_Bool (has_row must r)) [
-        | inl t ↦ rw t (ap (λ xs. (numbers_at column r).low ∷ xs) (certain_lows_of rs))
-        | inr f ↦ rw f (certain_lows_of rs)
-      ]
-
-  pub certain_highs_of : (rs : List ℕ) → certain_highs (map (pair_in column must) rs) ≡ map (λ r. (numbers_at column r).high) (filter (has_row must) rs)
-  certain_highs_of [] = refl
-  certain_highs_of (r ∷ rs) =
-      elim (cases_Bool (has_row must r)) [
-        | inl t ↦ rw t (ap (λ xs. (numbers_at column r).high ∷ xs) (certain_highs_of rs))
-        | inr f ↦ rw f (certain_highs_of rs)
-      ]
-
-  -- what is added up: the ends of the rows that count for certain, and of those that lower the sum, or raise it
-  abbrev pub lowers : ℕ → Bool
-  lowers r = int_lt (numbers_at column r).low (pos 0) || has_row must r
-
-  abbrev pub raises : ℕ → Bool
-  raises r = int_lt (pos 0) (numbers_at column r).high || has_row must r
-
-  pub low_shares : (rs : List ℕ) → total (map low_share (map (pair_in column must) rs)) ≡ total (map (λ r. (numbers_at column r).low) (filter lowers rs))
-  low_shares [] = refl
-  low_shares (r ∷ rs) =
-      let low = (numbers_at column r).low in
-      let rest = low_shares rs in
-      elim (cases_Bool (has_row must r)) [
-        | inl t ↦ elim (cases_Bool (int_lt low (pos 0))) [
-          | inl below ↦ rw t (rw below (ap (λ z. low +ℤ z) rest))
-          | inr above ↦ rw t (rw above (ap (λ z. low +ℤ z) rest))
-        ]
-        | inr f ↦ elim (cases_Bool (int_lt low (pos 0))) [
-          | inl below ↦ rw f (rw below (omega (arith, ints, clamps, rest)))
-          | inr above ↦ rw f (rw above (omega (arith, ints, clamps, rest)))
-        ]
-      ]
-
-  pub high_shares : (rs : List ℕ) → total (map high_share (map (pair_in column must) rs)) ≡ total (map (λ r. (numbers_at column r).high) (filter raises rs))
-  high_shares [] = refl
-  high_shares (r ∷ rs) =
-      let high = (numbers_at column r).high in
-      let rest = high_shares rs in
-      elim (cases_Bool (has_row must r)) [
-        | inl t ↦ elim (cases_Bool (int_lt (pos 0) high)) [
-          | inl above ↦ rw t (rw above (ap (λ z. high +ℤ z) rest))
-          | inr below ↦ rw t (rw below (ap (λ z. high +ℤ z) rest))
-        ]
-        | inr f ↦ elim (cases_Bool (int_lt (pos 0) high)) [
-          | inl above ↦ rw f (rw above (omega (arith, ints, clamps, rest)))
-          | inr below ↦ rw f (rw below (omega (arith, ints, clamps, rest)))
-        ]
-      ]
-
-  -- where some row is added up, the sum of the shares stands
-  some_lowers : (rs : List ℕ) → 0 < length (filter lowers rs) → list_any keeps_low (map (pair_in column must) rs) ≡ true
-  some_lowers [] some = absurd (omega arith)
-  some_lowers (r ∷ rs) some =
-      elim (cases_Bool (lowers r)) [
-        | inl t ↦ or_left (keeps_low (pair_in column must r)) (list_any keeps_low (map (pair_in column must) rs)) (keeps (has_row must r) (numbers_at column r).low t)
-        | inr f ↦ (let rest : 0 < length (filter lowers rs) = omega (arith, some, skipped (lowers r) r (filter lowers rs) f) in or_right (keeps_low (pair_in column must r)) (list_any keeps_low (map (pair_in column must) rs)) (some_lowers rs rest))
-      ]
-    where
-      keeps : (m : Bool) (z : ℤ) → (int_lt z (pos 0) || m) ≡ true → (m || int_le z (pos 0)) ≡ true
-      keeps true z h = refl
-      keeps false z h =
-          elim (cases_Bool (int_lt z (pos 0))) [
-            | inl t ↦ sym (let e : true ≡ int_le z (pos 0) = omega (arith, ints, t) in e)
-            | inr f ↦ absurd (false≢true (ap (λ b. b || false) (sym f) ∙ h))
-          ]
-
-  some_raises : (rs : List ℕ) → 0 < length (filter raises rs) → list_any keeps_high (map (pair_in column must) rs) ≡ true
-  some_raises [] some = absurd (omega arith)
-  some_raises (r ∷ rs) some =
-      elim (cases_Bool (raises r)) [
-        | inl t ↦ or_left (keeps_high (pair_in column must r)) (list_any keeps_high (map (pair_in column must) rs)) (keeps (has_row must r) (numbers_at column r).high t)
-        | inr f ↦ (let rest : 0 < length (filter raises rs) = omega (arith, some, skipped (raises r) r (filter raises rs) f) in or_right (keeps_high (pair_in column must r)) (list_any keeps_high (map (pair_in column must) rs)) (some_raises rs rest))
-      ]
-    where
-      keeps : (m : Bool) (z : ℤ) → (int_lt (pos 0) z || m) ≡ true → (m || int_le (pos 0) z) ≡ true
-      keeps true z h = refl
-      keeps false z h =
-          elim (cases_Bool (int_lt (pos 0) z)) [
-            | inl t ↦ sym (let e : true ≡ int_le (pos 0) z = omega (arith, ints, t) in e)
-            | inr f ↦ absurd (false≢true (ap (λ b. b || false) (sym f) ∙ h))
-          ]
-
-  pub added_lows : (rs : List ℕ) → 0 < length (filter lowers rs) → total (map (λ r. (numbers_at column r).low) (filter lowers rs)) ≡ least_sum (map (pair_in column must) rs)
-  added_lows rs some = (let sum = low_shares rs in rw (some_lowers rs some) (sym sum))
-
-  pub added_highs : (rs : List ℕ) → 0 < length (filter raises rs) → total (map (λ r. (numbers_at column r).high) (filter raises rs)) ≡ greatest_sum (map (pair_in column must) rs)
-  added_highs rs some = (let sum = high_shares rs in rw (some_raises rs some) (sym sum))
-
-  -- where no row is, no row counts for certain, and each low is at least 0
-  none_lower : (rs : List ℕ) → length (filter lowers rs) ≡ 0 → (certain_count (map (pair_in column must) rs) ≡ 0) × (pos 0 ≤ℤ least (lows (map (pair_in column must) rs)))
-  none_lower [] none = (refl, omega (arith, ints))
-  none_lower (r ∷ []) none =
-      elim (cases_Bool (lowers r)) [
-        | inl t ↦ absurd (omega (arith, none, passed (lowers r) r [] t))
-        | inr f ↦ (let parts = or_parts (int_lt (numbers_at column r).low (pos 0)) (has_row must r) f in let above = parts.0 in (rw parts.1 refl, omega (arith, ints, above)))
-      ]
-  none_lower (r ∷ s ∷ rs) none =
-      elim (cases_Bool (lowers r)) [
-        | inl t ↦ absurd (omega (arith, none, passed (lowers r) r (filter lowers (s ∷ rs)) t))
-        | inr f ↦
-            (let parts = or_parts (int_lt (numbers_at column r).low (pos 0)) (has_row must r) f in
-            let above = parts.0 in
-            let rest = none_lower (s ∷ rs) (sym (skipped (lowers r) r (filter lowers (s ∷ rs)) f) ∙ none) in
-            let others = rest.1 in (rw parts.1 rest.0, omega (arith, ints, clamps, above, others)))
-      ]
-
-  none_raises : (rs : List ℕ) → length (filter raises rs) ≡ 0 → (certain_count (map (pair_in column must) rs) ≡ 0) × (greatest (highs (map (pair_in column must) rs)) ≤ℤ pos 0)
-  none_raises [] none = (refl, omega (arith, ints))
-  none_raises (r ∷ []) none =
-      elim (cases_Bool (raises r)) [
-        | inl t ↦ absurd (omega (arith, none, passed (raises r) r [] t))
-        | inr f ↦ (let parts = or_parts (int_lt (pos 0) (numbers_at column r).high) (has_row must r) f in let below = parts.0 in (rw parts.1 refl, omega (arith, ints, below)))
-      ]
-  none_raises (r ∷ s ∷ rs) none =
-      elim (cases_Bool (raises r)) [
-        | inl t ↦ absurd (omega (arith, none, passed (raises r) r (filter raises (s ∷ rs)) t))
-        | inr f ↦
-            (let parts = or_parts (int_lt (pos 0) (numbers_at column r).high) (has_row must r) f in
-            let below = parts.0 in
-            let rest = none_raises (s ∷ rs) (sym (skipped (raises r) r (filter raises (s ∷ rs)) f) ∙ none) in
-            let others = rest.1 in (rw parts.1 rest.0, omega (arith, ints, clamps, below, others)))
-      ]
-
-  -- then the least value stands alone
-  pub lone_least : (rs : List ℕ) → length (filter lowers rs) ≡ 0 → least (lows (map (pair_in column must) rs)) ≡ least_sum (map (pair_in column must) rs)
-  lone_least [] none = refl
-  lone_least (r ∷ rs) none =
-      let ps = map (pair_in column must) (r ∷ rs) in
-      let low = least (lows ps) in
-      let facts = none_lower (r ∷ rs) none in
-      let above = facts.1 in
-      let no_rows : filter lowers (r ∷ rs) ≡ [] = no_element (filter lowers (r ∷ rs)) none in
-      let sum : total (map low_share ps) ≡ pos 0 = low_shares (r ∷ rs) ∙ ap (λ xs. total (map (λ k. (numbers_at column k).low) xs)) no_rows in
-      elim (cases_Bool (int_lt (pos 0) low)) [
-        | inl positive ↦ lone_low ps low refl facts.0 (omega (arith, ints, positive))
-        | inr other ↦
-            (let same : low ≡ total (map low_share ps) = omega (arith, ints, above, other, sum) in
-            same ∙ low_sum_stands ps (λ no_certain m is. (let found : m ≡ low = same_numbers m low is in omega (arith, ints, found, other))))
-      ]
-
-  pub lone_greatest : (rs : List ℕ) → length (filter raises rs) ≡ 0 → greatest (highs (map (pair_in column must) rs)) ≡ greatest_sum (map (pair_in column must) rs)
-  lone_greatest [] none = refl
-  lone_greatest (r ∷ rs) none =
-      let ps = map (pair_in column must) (r ∷ rs) in
-      let high = greatest (highs ps) in
-      let facts = none_raises (r ∷ rs) none in
-      let below = facts.1 in
-      let no_rows : filter raises (r ∷ rs) ≡ [] = no_element (filter raises (r ∷ rs)) none in
-      let sum : total (map high_share ps) ≡ pos 0 = high_shares (r ∷ rs) ∙ ap (λ xs. total (map (λ k. (numbers_at column k).high) xs)) no_rows in
-      elim (cases_Bool (int_lt high (pos 0))) [
-        | inl negative ↦ lone_high ps high refl facts.0 (omega (arith, ints, negative))
-        | inr other ↦
-            (let same : high ≡ total (map high_share ps) = omega (arith, ints, below, other, sum) in
-            same ∙ high_sum_stands ps (λ no_certain m is. (let found : m ≡ high = same_numbers m high is in omega (arith, ints, found, other))))
-      ]
+  pub certain_numbers_of : (f : Pair → ℤ) (rs : List ℕ) → filter_map (λ p. if p.certain then Some (f p) else None) (map (pair_in column must) rs) ≡ map (λ r. f (pair_in column must r)) (filter (has_row must) rs)
+  certain_numbers_of f [] = refl
+  certain_numbers_of f (r ∷ rs) = one_number (λ k. f (pair_in column must k)) (has_row must r) r _ (filter (has_row must) rs) (certain_numbers_of f rs)

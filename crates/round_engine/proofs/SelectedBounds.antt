@@ -1,5 +1,5 @@
 -- Counts, ends and sums of a selection's pairs, by masks.
-use Rattle.std.proofs.Common.{◌≡◌, ℕ, ◌+◌, ◌<◌, ℤ, pos, ◌+ℤ◌, int_lt, Bool, true, false, not, ◌&&◌, ◌||◌, List, length, map, filter, get_or, count_by, refl, sym, ap, ◌∙◌, arith}
+use Rattle.std.proofs.Common.{◌≡◌, ℕ, ◌+◌, ◌<◌, ℤ, pos, ◌+ℤ◌, Bool, true, false, not, ◌&&◌, ◌||◌, List, length, map, filter, get_or, count_by, refl, sym, ap, ◌∙◌, arith}
 use Rattle.std.specs.declared.option.Option.{Option}
 use Rattle.std.specs.Option.{option_or, unwrap_or}
 use Rattle.std.specs.Simd.Lanes.{zip2}
@@ -8,7 +8,9 @@ use Rattle.std.proofs.lemmas.Int.{ints}
 use Rattle.std.proofs.lemmas.List.{length-map}
 use Rattle.std.proofs.lemmas.List.FromFn.{get_or-map-range_with_len, length-map-range_with_len}
 use Rattle.std.proofs.lemmas.Simd.{get_or-zip2, length-zip2, map-map}
-use Rattle.aggregates.specs.Selections.{IsPartOf, MayHaveValues, has_row, highs_in, lows_in, rows_in, those_of}
+use Rattle.aggregates.specs.declared.ends.End.{End}
+use Rattle.aggregates.specs.declared.ends.End.TheVariants.{Low, High}
+use Rattle.aggregates.specs.Selections.{IsPartOf, MayHaveValues, end_at, ends_in, has_row, highs_in, lows_in, rows_in, those_of}
 use Rattle.aggregates.proofs.BlockWords.{row_within}
 use Rattle.aggregates.proofs.MaskSums.{count_apart, total_apart}
 use Rattle.aggregates.proofs.BoundFacts.{greatest_or_zero, high_of_least_is, least_or_zero, low_of_greatest_is}
@@ -17,10 +19,12 @@ use Rattle.query_model.specs.declared.bounds.Bound.{Bound}
 use Rattle.query_model.specs.declared.bounds.Nullity.{Nullity}
 use Rattle.query_model.specs.declared.query.ItemKind.TheVariants.{Max, Min}
 use Rattle.query_model.specs.Answers.{answer, greatest, least, total}
-use Rattle.query_model.specs.Bounds.{certain_count, certain_highs, certain_lows, greatest_sum, high_of_least, high_share, highs, least_sum, low_of_greatest, low_share, lows}
+use Rattle.query_model.specs.Bounds.{certain_count, certain_highs, certain_lows, high_of_least, highs, low_of_greatest, lows}
 use Rattle.round_engine.specs.declared.selection.Selection.{Selection}
 use Rattle.round_engine.specs.Selected.{IsSelection, pair_in, pairs_in}
-use Rattle.round_engine.proofs.Rows.{added_highs, added_lows, certain_highs_of, certain_lows_of, certain_of, count_rows, high_shares, low_shares, lone_greatest, lone_least, lowers, narrowed, no_element, raises}
+use Rattle.round_engine.specs.SumEnds.{ends_of, inner_end, innermost, outermost, share_at, sum_at, widening_rows, widens}
+use Rattle.round_engine.proofs.Rows.{certain_numbers_of, certain_of, count_rows, narrowed, no_element}
+use Rattle.round_engine.proofs.SumEnds.{adds, alone, outermost_or_zero, shares, stands}
 
 -- rows of one mask among those of another
 among : (a b : Bool) → (b ≡ true → a ≡ true) → b ≡ (a && b)
@@ -63,11 +67,15 @@ module _ (column : KnownColumn) (selection : Selection) (is : IsSelection column
   pub highs_are : highs_in column selection.may ≡ highs (pairs_in column selection)
   highs_are = sym (map-map (λ p. p.high) (pair_in column selection.must) (rows_in selection.may))
 
+  pub ends_are : (e : End) → ends_in e column selection.may ≡ ends_of e (pairs_in column selection)
+  ends_are Low = lows_are
+  ends_are High = highs_are
+
   pub certain_lows_are : lows_in column selection.must ≡ certain_lows (pairs_in column selection)
-  certain_lows_are = ap (map (λ r. (numbers_at column r).low)) must_rows ∙ sym (certain_lows_of column selection.must (rows_in selection.may))
+  certain_lows_are = ap (map (λ r. (numbers_at column r).low)) must_rows ∙ sym (certain_numbers_of column selection.must (λ p. p.low) (rows_in selection.may))
 
   pub certain_highs_are : highs_in column selection.must ≡ certain_highs (pairs_in column selection)
-  certain_highs_are = ap (map (λ r. (numbers_at column r).high)) must_rows ∙ sym (certain_highs_of column selection.must (rows_in selection.may))
+  certain_highs_are = ap (map (λ r. (numbers_at column r).high)) must_rows ∙ sym (certain_numbers_of column selection.must (λ p. p.high) (rows_in selection.may))
 
   pub least_is : unwrap_or (answer Min (lows_in column selection.may)) (pos 0) ≡ least (lows (pairs_in column selection))
   least_is = least_or_zero (lows_in column selection.may) ∙ ap least lows_are
@@ -75,17 +83,21 @@ module _ (column : KnownColumn) (selection : Selection) (is : IsSelection column
   pub greatest_is : unwrap_or (answer Max (highs_in column selection.may)) (pos 0) ≡ greatest (highs (pairs_in column selection))
   greatest_is = greatest_or_zero (highs_in column selection.may) ∙ ap greatest highs_are
 
-  pub high_of_least_told : (o p : Option ℤ) → o ≡ answer Min (highs_in column selection.must) → p ≡ answer Max (highs_in column selection.may) → unwrap_or (option_or o p) (pos 0) ≡ high_of_least (pairs_in column selection)
+  high_of_least_told : (o p : Option ℤ) → o ≡ answer Min (highs_in column selection.must) → p ≡ answer Max (highs_in column selection.may) → unwrap_or (option_or o p) (pos 0) ≡ high_of_least (pairs_in column selection)
   high_of_least_told o p least greatest =
       ap (λ x. unwrap_or (option_or x p) (pos 0)) (least ∙ ap (answer Min) certain_highs_are)
       ∙ ap (λ x. unwrap_or (option_or (answer Min (certain_highs (pairs_in column selection))) x) (pos 0)) (greatest ∙ ap (answer Max) highs_are)
       ∙ high_of_least_is (pairs_in column selection)
 
-  pub low_of_greatest_told : (o p : Option ℤ) → o ≡ answer Max (lows_in column selection.must) → p ≡ answer Min (lows_in column selection.may) → unwrap_or (option_or o p) (pos 0) ≡ low_of_greatest (pairs_in column selection)
+  low_of_greatest_told : (o p : Option ℤ) → o ≡ answer Max (lows_in column selection.must) → p ≡ answer Min (lows_in column selection.may) → unwrap_or (option_or o p) (pos 0) ≡ low_of_greatest (pairs_in column selection)
   low_of_greatest_told o p greatest least =
       ap (λ x. unwrap_or (option_or x p) (pos 0)) (greatest ∙ ap (answer Max) certain_lows_are)
       ∙ ap (λ x. unwrap_or (option_or (answer Max (certain_lows (pairs_in column selection))) x) (pos 0)) (least ∙ ap (answer Min) lows_are)
       ∙ low_of_greatest_is (pairs_in column selection)
+
+  pub inner_end_told : (e : End) (o p : Option ℤ) → o ≡ innermost e (ends_in e column selection.must) → p ≡ outermost e (ends_in e column selection.may) → unwrap_or (option_or o p) (pos 0) ≡ inner_end e (pairs_in column selection)
+  inner_end_told Low o p inner outer = low_of_greatest_told o p inner outer
+  inner_end_told High o p inner outer = high_of_least_told o p inner outer
 
   -- the values of a selection's certain rows may be numbers
   pub must_values : MayHaveValues column selection.must
@@ -109,9 +121,6 @@ module _ (column : KnownColumn) (selection : Selection) (is : IsSelection column
         ∙ get_or-zip2 (λ a b. a || b) (those_of selection.may test) selection.must r false false false (omega (arith, below, those_long test, is.rows.may)) (omega (arith, below, is.rows.may, is.rows.must))
         ∙ ap (λ b. b || has_row selection.must r) (get_or-map-range_with_len (λ row. has_row selection.may row && test row) 0 (length selection.may) r r false below (omega arith))
         ∙ among_either (has_row selection.may r) (test r) (has_row selection.must r) (is.nested r)
-
-    pub added_values : MayHaveValues column added
-    added_values r has = is.values r (first_of (has_row selection.may r) _ (sym (at_row r (omega (arith, row_within added r has, added_long, is.rows.may))) ∙ has))
 
     pub added_rows : rows_in added ≡ filter (λ r. test r || has_row selection.must r) (rows_in selection.may)
     added_rows = narrowed selection.may added (λ r. test r || has_row selection.must r) (added_long ∙ sym is.rows.may) at_row
@@ -144,37 +153,25 @@ module _ (column : KnownColumn) (selection : Selection) (is : IsSelection column
 
   -- ---- sums
 
-  module _ (added : List Bool) where
-    module _ (added_is : added ≡ zip2 (λ a b. a || b) (those_of selection.may (λ row. int_lt (numbers_at column row).low (pos 0))) selection.must) where
-      low_rows : rows_in added ≡ filter (lowers column selection.must) (rows_in selection.may)
-      low_rows = added_rows (λ row. int_lt (numbers_at column row).low (pos 0)) added added_is
+  module _ (e : End) (others : List Bool) (others_is : others ≡ widening_rows e column selection) where
+    abbrev all : List Bool
+    all = zip2 (λ a b. a || b) (those_of selection.may (λ row. widens e (end_at e column row))) selection.must
 
-      low_count : count_by (λ b. b) added ≡ length (filter (lowers column selection.must) (rows_in selection.may))
-      low_count = count_rows added ∙ ap length low_rows
+    adding_rows : rows_in all ≡ filter (adds e column selection.must) (rows_in selection.may)
+    adding_rows = added_rows (λ row. widens e (end_at e column row)) all refl
 
-      pub lows_shared : total (lows_in column added) ≡ total (map low_share (pairs_in column selection))
-      lows_shared = ap (λ rs. total (map (λ r. (numbers_at column r).low) rs)) low_rows ∙ sym (low_shares column selection.must (rows_in selection.may))
+    adding_count : count_by (λ b. b) selection.must + count_by (λ b. b) others ≡ length (filter (adds e column selection.must) (rows_in selection.may))
+    adding_count = sym (count_with (λ row. widens e (end_at e column row)) others others_is) ∙ count_rows all ∙ ap length adding_rows
 
-      pub sum_of_lows : 0 < count_by (λ b. b) added → total (lows_in column added) ≡ least_sum (pairs_in column selection)
-      sum_of_lows some =
-          ap (λ rs. total (map (λ r. (numbers_at column r).low) rs)) low_rows ∙ added_lows column selection.must (rows_in selection.may) (omega (arith, some, low_count))
+    pub shares_are : total (ends_in e column selection.must) +ℤ total (ends_in e column others) ≡ total (map (share_at e) (pairs_in column selection))
+    shares_are =
+        sym (total_with (λ row. widens e (end_at e column row)) others others_is (end_at e column))
+        ∙ ap (λ rs. total (map (end_at e column) rs)) adding_rows ∙ sym (shares e column selection.must (rows_in selection.may))
 
-      pub least_alone : count_by (λ b. b) added ≡ 0 → unwrap_or (answer Min (lows_in column selection.may)) (pos 0) ≡ least_sum (pairs_in column selection)
-      least_alone none = least_is ∙ lone_least column selection.must (rows_in selection.may) (sym low_count ∙ none)
+    pub sum_of_shares : 0 < count_by (λ b. b) selection.must + count_by (λ b. b) others → total (map (share_at e) (pairs_in column selection)) ≡ sum_at e (pairs_in column selection)
+    sum_of_shares some = stands e column selection.must (rows_in selection.may) (omega (arith, some, adding_count))
 
-    module _ (added_is : added ≡ zip2 (λ a b. a || b) (those_of selection.may (λ row. int_lt (pos 0) (numbers_at column row).high)) selection.must) where
-      high_rows : rows_in added ≡ filter (raises column selection.must) (rows_in selection.may)
-      high_rows = added_rows (λ row. int_lt (pos 0) (numbers_at column row).high) added added_is
-
-      high_count : count_by (λ b. b) added ≡ length (filter (raises column selection.must) (rows_in selection.may))
-      high_count = count_rows added ∙ ap length high_rows
-
-      pub highs_shared : total (highs_in column added) ≡ total (map high_share (pairs_in column selection))
-      highs_shared = ap (λ rs. total (map (λ r. (numbers_at column r).high) rs)) high_rows ∙ sym (high_shares column selection.must (rows_in selection.may))
-
-      pub sum_of_highs : 0 < count_by (λ b. b) added → total (highs_in column added) ≡ greatest_sum (pairs_in column selection)
-      sum_of_highs some =
-          ap (λ rs. total (map (λ r. (numbers_at column r).high) rs)) high_rows ∙ added_highs column selection.must (rows_in selection.may) (omega (arith, some, high_count))
-
-      pub greatest_alone : count_by (λ b. b) added ≡ 0 → unwrap_or (answer Max (highs_in column selection.may)) (pos 0) ≡ greatest_sum (pairs_in column selection)
-      greatest_alone none = greatest_is ∙ lone_greatest column selection.must (rows_in selection.may) (sym high_count ∙ none)
+    pub one_alone : count_by (λ b. b) selection.must + count_by (λ b. b) others ≡ 0 → unwrap_or (outermost e (ends_in e column selection.may)) (pos 0) ≡ sum_at e (pairs_in column selection)
+    one_alone none =
+        ap (λ ns. unwrap_or (outermost e ns) (pos 0)) (ends_are e) ∙ outermost_or_zero e (pairs_in column selection)
+        ∙ alone e column selection.must (rows_in selection.may) (sym adding_count ∙ none)

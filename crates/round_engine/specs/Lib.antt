@@ -6,6 +6,7 @@ pub mod Progresses
 pub mod Moves
 pub mod Counts
 pub mod Selected
+pub mod SumEnds
 pub mod Totals
 pub mod KeptSums
 pub mod OneCell

@@ -2,25 +2,16 @@
 
 ghost use Rattle.std.specs.Prelude.{◌≡◌, ◌<◌, ◌+◌, ◌*◌, min};
 ghost use Rattle.kleene_filter.specs.Filters.{truths_under};
-ghost use Rattle.plane_kernels.specs.Rows.{digit_at};
 ghost use Rattle.round_engine.specs.CellAnswers.{HasRoom, IsParted, StandBelow, StandForCells};
 ghost use Rattle.round_engine.specs.Engines.{stage_of};
 ghost use Rattle.round_engine.specs.Stages.{IsOpenItem, IsOpenStage};
 
-use aggregates::Running;
+use aggregates::{Running, has_bit};
 use kleene_filter::Filter;
 use known_column::{LentColumns, RowBlock};
 use query_model::{Item, TypedQuery, pairs_are_few, sums_of_items_fit};
 use row_groups::{Cells, cells_tell_keys};
 use row_values::BlockValues;
-
-// Whether a bit of the word is 1, counted from the lowest.
-fn has_bit(word: u64, bit: usize) -> bool
-    requires { bit < 64 }
-    ensures { result ≡ digit_at bit word }
-{
-    word >> bit & 1 == 1
-}
 
 // Adds the rows of a block to an item, each to the cell that it is in: each at which the condition may hold and the item's argument
 // is not surely null. It counts for certain where both are sure and the cell holds one key.

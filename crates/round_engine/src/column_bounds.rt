@@ -1,40 +1,20 @@
 //! Bounds of a bare column's items, from the rows that give a value, by masks and planes.
 
-ghost use Rattle.std.specs.Prelude.{◌≡◌, ◌<◌, pos, int_le, if◌then◌else◌, length, count_by, IfSome, IsFalse, IsTrue};
+ghost use Rattle.std.specs.Prelude.{◌≡◌, ◌<◌, length, count_by, IfSome, IsFalse, IsTrue};
 ghost use Rattle.aggregates.specs.KeptSums.{IsKept};
-ghost use Rattle.aggregates.specs.Selections.{highs_in, lows_in, IsSmallSum};
 ghost use Rattle.known_column.specs.Columns.{KnownColumn, rows_of_column};
-ghost use Rattle.query_model.specs.Answers.{answer, total};
 ghost use Rattle.query_model.specs.declared.query.ItemKind.TheVariants.{Count, Max, Min, Sum};
-ghost use Rattle.query_model.specs.Bounds.{average_bound_of, bound_of, fractions_of, greatest_sum};
-ghost use Rattle.query_model.specs.Bounds.{high_of_least, least_sum, low_of_greatest, nullity_of};
+ghost use Rattle.query_model.specs.Bounds.{average_bound_of, bound_of, fractions_of, nullity_of};
 ghost use Rattle.round_engine.specs.Selected.{IsSelection, pairs_in};
 ghost use Rattle.round_engine.specs.Totals.{IsBoundOf};
 
 use crate::item_bound::ItemBound;
 use crate::kept_sums::ends_by_kept;
 use crate::selection::Selected;
-use aggregates::{
-    KeptSum, greatest_ends, greatest_high, least_ends, least_low, negative_lows, positive_highs,
-    sum_highs, sum_lows,
-};
-use interval_calc::Fraction;
+use aggregates::{End, KeptSum, greatest_ends, least_ends, quotient};
 use known_column::Known;
 use plane_kernels::Mask;
 use query_model::{AverageBound, Bound, ItemKind, Nullity};
-
-// A sum divided by one number where it is not negative, else by another.
-fn quotient(sum: i128, most: u64, least: u64) -> Fraction
-    requires most { 0 < most }
-    requires least { 0 < least }
-    ensures num { result.num ≡ sum }
-    ensures den { result.den ≡ if int_le (pos 0) sum then most else least }
-{
-    Fraction {
-        num: sum,
-        den: if sum >= 0 { most } else { least },
-    }
-}
 
 // Whether a mask has rows.
 pub(crate) fn has_rows(mask: &Mask) -> bool
@@ -69,30 +49,6 @@ impl Selected<'_> {
         }
     }
 
-    // The greatest that the least value can be, where this is the least high end at the rows that surely count.
-    fn high_of_least(&self, known: &Known, certain: Option<i128>) -> i128
-        requires selection { IsSelection known.now self.now }
-        requires certain { certain ≡ answer Min (highs_in known.now self.now.must) }
-        ensures { result ≡ high_of_least (pairs_in known.now self.now) }
-    {
-        match certain {
-            Some(high) => high,
-            None => greatest_high(known, self.may).unwrap_or(0),
-        }
-    }
-
-    // The least that the greatest value can be, where this is the greatest low end at the rows that surely count.
-    fn low_of_greatest(&self, known: &Known, certain: Option<i128>) -> i128
-        requires selection { IsSelection known.now self.now }
-        requires certain { certain ≡ answer Max (lows_in known.now self.now.must) }
-        ensures { result ≡ low_of_greatest (pairs_in known.now self.now) }
-    {
-        match certain {
-            Some(low) => low,
-            None => least_low(known, self.may).unwrap_or(0),
-        }
-    }
-
     // The bound of the least value.
     fn least(&self, known: &Known) -> Bound
         requires { IsSelection known.now self.now }
@@ -102,7 +58,7 @@ impl Selected<'_> {
         Bound {
             null: self.nullity(),
             lo: ends.low.unwrap_or(0),
-            hi: self.high_of_least(known, ends.high),
+            hi: self.inner_end(End::High, known, ends.high),
         }
     }
 
@@ -114,49 +70,8 @@ impl Selected<'_> {
         let ends = greatest_ends(known, self.may, self.must);
         Bound {
             null: self.nullity(),
-            lo: self.low_of_greatest(known, ends.low),
+            lo: self.inner_end(End::Low, known, ends.low),
             hi: ends.high.unwrap_or(0),
-        }
-    }
-
-    // The least sum: of the rows that surely count, whose low ends come to this, and of the others that lower it. Where there are
-    // none, the least value stands alone.
-    fn least_sum(&self, known: &Known, certain: i128, others: &mut Mask) -> i128
-        requires selection { IsSelection known.now self.now }
-        requires certain { certain ≡ total (lows_in known.now self.now.must) }
-        requires small { IsSmallSum certain }
-        requires room { length others.old ≡ rows_of_column known.now }
-        ensures room { length others.new ≡ rows_of_column known.now }
-        ensures sum { result ≡ least_sum (pairs_in known.now self.now) }
-    {
-        negative_lows(known, self.may, others);
-        others.and_not_into(self.must);
-        if has_rows(others) {
-            certain + sum_lows(known, others)
-        } else if has_rows(self.must) {
-            certain
-        } else {
-            least_low(known, self.may).unwrap_or(0)
-        }
-    }
-
-    // The greatest sum, in the same way.
-    fn greatest_sum(&self, known: &Known, certain: i128, others: &mut Mask) -> i128
-        requires selection { IsSelection known.now self.now }
-        requires certain { certain ≡ total (highs_in known.now self.now.must) }
-        requires small { IsSmallSum certain }
-        requires room { length others.old ≡ rows_of_column known.now }
-        ensures room { length others.new ≡ rows_of_column known.now }
-        ensures sum { result ≡ greatest_sum (pairs_in known.now self.now) }
-    {
-        positive_highs(known, self.may, others);
-        others.and_not_into(self.must);
-        if has_rows(others) {
-            certain + sum_highs(known, others)
-        } else if has_rows(self.must) {
-            certain
-        } else {
-            greatest_high(known, self.may).unwrap_or(0)
         }
     }
 
@@ -172,8 +87,8 @@ impl Selected<'_> {
         let certain = ends_by_kept(kept, known, self.must);
         Bound {
             null: self.nullity(),
-            lo: self.least_sum(known, certain.low, others),
-            hi: self.greatest_sum(known, certain.high, others),
+            lo: self.sum_end(End::Low, known, certain.low, others),
+            hi: self.sum_end(End::High, known, certain.high, others),
         }
     }
 
@@ -190,8 +105,8 @@ impl Selected<'_> {
         let most = self.may.count().max(1);
         let fewest = self.must.count().max(1);
         let certain = ends_by_kept(kept, known, self.must);
-        let low = self.least_sum(known, certain.low, others);
-        let high = self.greatest_sum(known, certain.high, others);
+        let low = self.sum_end(End::Low, known, certain.low, others);
+        let high = self.sum_end(End::High, known, certain.high, others);
         AverageBound {
             null: self.nullity(),
             lo: quotient(low, most, fewest),

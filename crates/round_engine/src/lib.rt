@@ -32,6 +32,7 @@ mod roles;
 mod row_masks;
 mod selection;
 mod state;
+mod sum_ends;
 mod totals;
 
 pub use engine::Engine;

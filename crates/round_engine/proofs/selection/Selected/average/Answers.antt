@@ -11,13 +11,13 @@ use Rattle.round_engine.proofs.selection.Selected.average.Goals as goal
 pub ends_by_kept-certain-requires-clause-values : goal.ends_by_kept-certain-requires-clause-values
 ends_by_kept-certain-requires-clause-values c = subst (λ s. MayHaveValues c.args.known.now s.must) (sym c.self.view_is) (must_values c.args.known.now c.args.self.now c.requires.selection)
 
-pub least_sum-low-requires-clause-certain : goal.least_sum-low-requires-clause-certain
-least_sum-low-requires-clause-certain c =
+pub sum_end-low-requires-clause-certain : goal.sum_end-low-requires-clause-certain
+sum_end-low-requires-clause-certain c =
     let same : to_z w128 (of_z w128 c.ends_by_kept-certain.result.low) ≡ c.ends_by_kept-certain.result.low = omega (arith, ints, c.ends_by_kept-certain.ensures.few.0) in
     same ∙ c.ends_by_kept-certain.ensures.low ∙ ap (λ s. total (lows_in c.args.known.now s.must)) c.self.view_is
 
-pub greatest_sum-high-requires-clause-certain : goal.greatest_sum-high-requires-clause-certain
-greatest_sum-high-requires-clause-certain c =
+pub sum_end-high-requires-clause-certain : goal.sum_end-high-requires-clause-certain
+sum_end-high-requires-clause-certain c =
     let same : to_z w128 (of_z w128 c.ends_by_kept-certain.result.high) ≡ c.ends_by_kept-certain.result.high = omega (arith, ints, c.ends_by_kept-certain.ensures.few.1) in
     same ∙ c.ends_by_kept-certain.ensures.high ∙ ap (λ s. total (highs_in c.args.known.now s.must)) c.self.view_is
 
@@ -26,12 +26,12 @@ returns-clause-bound c =
     let column = c.args.known.now in
     let selection = c.args.self.now in
     let is = c.requires.selection in
-    let low : to_z w128 (of_z w128 c.least_sum-low.result) ≡ c.least_sum-low.result = omega (arith, ints) in
-    let high : to_z w128 (of_z w128 c.greatest_sum-high.result) ≡ c.greatest_sum-high.result = omega (arith, ints) in
+    let low : to_z w128 (of_z w128 c.sum_end-low.result) ≡ c.sum_end-low.result = omega (arith, ints) in
+    let high : to_z w128 (of_z w128 c.sum_end-high.result) ≡ c.sum_end-high.result = omega (arith, ints) in
     average_is (pairs_in column selection) _ _ _ _ _ c.max-most.result c.max-fewest.result (record {
       word_is = c.nullity.ensures column is;
-      low_is = c.quotient.ensures.num ∙ low ∙ c.least_sum-low.ensures.sum;
-      high_is = c.quotient-2.ensures.num ∙ high ∙ c.greatest_sum-high.ensures.sum;
+      low_is = c.quotient.ensures.num ∙ low ∙ c.sum_end-low.ensures.sum;
+      high_is = c.quotient-2.ensures.num ∙ high ∙ c.sum_end-high.ensures.sum;
       most_is = c.max-most.ensures ∙ ap (λ n. max n 1) (c.count.ensures ∙ ap (λ s. count_by (λ b. b) s.may) c.self.view_is ∙ all_is column selection is);
       fewest_is = c.max-fewest.ensures ∙ ap (λ n. max n 1) (c.count-2.ensures ∙ ap (λ s. count_by (λ b. b) s.must) c.self.view_is ∙ certain_is column selection is);
       low_den_is = c.quotient.ensures.den ∙ ap (λ n. cond (int_le (pos 0) n) c.max-most.result c.max-fewest.result) (sym c.quotient.ensures.num);

@@ -9,18 +9,18 @@ use Rattle.round_engine.proofs.selection.Selected.sum.Goals as goal
 pub ends_by_kept-certain-requires-clause-values : goal.ends_by_kept-certain-requires-clause-values
 ends_by_kept-certain-requires-clause-values c = subst (λ s. MayHaveValues c.args.known.now s.must) (sym c.self.view_is) (must_values c.args.known.now c.args.self.now c.requires.selection)
 
-pub least_sum-requires-clause-certain : goal.least_sum-requires-clause-certain
-least_sum-requires-clause-certain c =
+pub sum_end-requires-clause-certain : goal.sum_end-requires-clause-certain
+sum_end-requires-clause-certain c =
     let same : to_z w128 (of_z w128 c.ends_by_kept-certain.result.low) ≡ c.ends_by_kept-certain.result.low = omega (arith, ints, c.ends_by_kept-certain.ensures.few.0) in
     same ∙ c.ends_by_kept-certain.ensures.low ∙ ap (λ s. total (lows_in c.args.known.now s.must)) c.self.view_is
 
-pub greatest_sum-requires-clause-certain : goal.greatest_sum-requires-clause-certain
-greatest_sum-requires-clause-certain c =
+pub sum_end-requires-2-clause-certain : goal.sum_end-requires-2-clause-certain
+sum_end-requires-2-clause-certain c =
     let same : to_z w128 (of_z w128 c.ends_by_kept-certain.result.high) ≡ c.ends_by_kept-certain.result.high = omega (arith, ints, c.ends_by_kept-certain.ensures.few.1) in
     same ∙ c.ends_by_kept-certain.ensures.high ∙ ap (λ s. total (highs_in c.args.known.now s.must)) c.self.view_is
 
 pub returns-clause-bound : goal.returns-clause-bound
 returns-clause-bound c =
-    let low : to_z w128 (of_z w128 c.least_sum.result) ≡ c.least_sum.result = omega (arith, ints) in
-    let high : to_z w128 (of_z w128 c.greatest_sum.result) ≡ c.greatest_sum.result = omega (arith, ints) in
-    same_bound _ _ _ _ _ _ (c.nullity.ensures c.args.known.now c.requires.selection) (low ∙ c.least_sum.ensures.sum) (high ∙ c.greatest_sum.ensures.sum)
+    let low : to_z w128 (of_z w128 c.sum_end.result) ≡ c.sum_end.result = omega (arith, ints) in
+    let high : to_z w128 (of_z w128 c.sum_end-2.result) ≡ c.sum_end-2.result = omega (arith, ints) in
+    same_bound _ _ _ _ _ _ (c.nullity.ensures c.args.known.now c.requires.selection) (low ∙ c.sum_end.ensures.sum) (high ∙ c.sum_end-2.ensures.sum)
