@@ -136,10 +136,6 @@ pub same_bound : (null null' : Nullity) (lo lo' hi hi' : ℤ) → null ≡ null'
 same_bound null null' lo lo' hi hi' e l h =
     ap (λ w. record { null = w; lo = lo; hi = hi }) e ∙ ap (λ x. record { null = null'; lo = x; hi = hi }) l ∙ ap (λ x. record { null = null'; lo = lo'; hi = x }) h
 
--- of no pairs the bound is the same
-pub nothing_clipped : (kind : ItemKind) (clip : Clip) (ps : List Pair) → ps ≡ [] → bound_of kind (map (clipped clip) ps) ≡ bound_of kind ps
-nothing_clipped kind clip ps none = subst (λ qs. bound_of kind (map (clipped clip) qs) ≡ bound_of kind qs) (sym none) refl
-
 -- the kind is that of an extreme
 abbrev pub IsExtremeKind : ItemKind → Type 0
 IsExtremeKind Count = ⊥

@@ -21,7 +21,7 @@ use Rattle.query_model.specs.Meaning.{ReadsBelow}
 use Rattle.query_model.specs.Queries.{Aggregate, Term}
 use Rattle.query_model.specs.Validity.{FitsHead}
 use Rattle.query_model.proofs.Fits.{wide_inside}
-use Rattle.query_model.proofs.ListBounds.{nullity_of-certain, nullity_of-no_pair}
+use Rattle.query_model.proofs.ListBounds.{nullity_of-certain}
 use Rattle.query_model.proofs.ListExtremes.{bounds_are_extremes_of_lists}
 use Rattle.query_model.proofs.WholeTables.{fitting_heads_have_parts}
 use Rattle.round_engine.specs.Promises.{IsShownWithin}
@@ -34,7 +34,7 @@ use Rattle.clip_bounds.specs.ClipLaws.{IsOfLongs}
 use Rattle.clip_bounds.specs.Sums.{IsItemWithClip, IsSumWithClip, is_always, is_sum, is_uncertain}
 use Rattle.clip_bounds.proofs.ClipBounds.{clips_lie_within, pairs_ordered}
 use Rattle.clip_bounds.proofs.Certain.{clips_are_certain}
-use Rattle.clip_bounds.proofs.ClippedEnds.{IsExtremeKind, extreme_clipped, nothing_clipped, nullity_clipped, same_bound}
+use Rattle.clip_bounds.proofs.ClippedEnds.{IsExtremeKind, extreme_clipped, nullity_clipped, same_bound}
 use Rattle.clip_bounds.proofs.ClippedSums.{greatest_sum_lowered, greatest_sum_moved, least_sum_moved, least_sum_raised}
 use Rattle.clip_bounds.proofs.Rows.{clipped_by, not_average}
 
@@ -115,13 +115,6 @@ shown_between frame (OfColumn c) outer inner lies shown = λ some.
     let least = ends.0.above in
     let greatest = ends.1.below in
     (record { above = omega (arith, ints); below = omega (arith, ints) }, record { above = omega (arith, ints); below = omega (arith, ints) })
-
--- where there is no answer, there is none
-pub none_clipped : (stage : Stage) (i : Aggregate) (clip : Clip) → clip_of stage.query i ≡ Some clip → (bound_under stage.query i [] stage.frame stage.known).null ≡ Always → bound_under stage.query i [] stage.frame stage.known ≡ clipped_in stage i clip
-none_clipped stage i clip has always =
-    let own = clipped_by stage.query i clip has in
-    let none = nullity_of-no_pair (pairs_in stage i) (sym (null_of i.kind (pairs_in stage i) own.kind) ∙ always) in
-    sym (nothing_clipped i.kind clip (pairs_in stage i) none)
 
 -- ---- extremes
 
@@ -258,11 +251,6 @@ never_word Always h = absurd (false≢true (sym h))
 
 pub not_never_word : (w : Nullity) → is_uncertain w ≡ true → w ≢ Never
 not_never_word w h e = false≢true (sym (ap is_uncertain e) ∙ h)
-
-pub always_word : (w : Nullity) → is_always w ≡ true → w ≡ Always
-always_word Never h = absurd (false≢true h)
-always_word Possibly h = absurd (false≢true h)
-always_word Always h = refl
 
 pub not_always_word : (w : Nullity) → is_always w ≡ false → w ≢ Always
 not_always_word w h e = false≢true (sym h ∙ ap is_always e)

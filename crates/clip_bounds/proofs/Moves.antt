@@ -14,7 +14,7 @@ use Rattle.query_model.specs.declared.bounds.Nullity.TheVariants.{Never, Possibl
 use Rattle.query_model.specs.declared.bounds.Truth.{Truth}
 use Rattle.query_model.specs.declared.bounds.Truth.TheVariants.{False, Unknown, True}
 use Rattle.query_model.specs.Answers.{total}
-use Rattle.query_model.specs.Bounds.{Pair, high_share, low_share, pair_of, pair_unless_false, pairs}
+use Rattle.query_model.specs.Bounds.{Pair, pair_of, pair_unless_false, pairs}
 use Rattle.query_model.specs.Knowledge.{IsKnowledge, IsLegal, known_at, null_with, prefix_at, range_of, ranges_of}
 use Rattle.query_model.specs.Laws.{NoneEmpty}
 use Rattle.query_model.specs.Queries.{Aggregate, Query}
@@ -29,12 +29,16 @@ use Rattle.known_column.proofs.CodeDigits.{prefix_mono}
 use Rattle.known_column.proofs.TableBlocks.{rebuilt}
 use Rattle.kleene_filter.specs.Filters.{is_possible, truth_at, truths_under}
 use Rattle.kleene_filter.proofs.SideTruths.{has_prefix}
-use Rattle.aggregates.specs.Selections.{sum_where}
+use Rattle.aggregates.specs.declared.ends.End.{End}
+use Rattle.aggregates.specs.declared.ends.End.TheVariants.{Low, High}
+use Rattle.aggregates.specs.Selections.{end_of, sum_where}
+use Rattle.round_engine.specs.SumEnds.{share_at}
 use Rattle.clip_bounds.specs.declared.clip.Clip.{Clip}
 use Rattle.clip_bounds.specs.declared.level.Level.{Level}
 use Rattle.clip_bounds.specs.Clips.{IsLong}
 use Rattle.clip_bounds.specs.Clipped.{clipped}
 use Rattle.clip_bounds.specs.ClipLaws.{IsOfLongs}
+use Rattle.clip_bounds.specs.Ends.{clip_end, level_end, part_of}
 use Rattle.clip_bounds.specs.Levels.{IsLevelOf, count_at}
 use Rattle.clip_bounds.proofs.Passing.{HasNumberIn, may_hold_within, range_of_clip, surely_within}
 use Rattle.clip_bounds.proofs.Rows.{IsClippedBy, IsPairOf, column_pair, long_number, may_hold, pair_is}
@@ -91,11 +95,6 @@ possible_holds : (t : Truth) → Allows t true → is_possible t ≡ true
 possible_holds False a = absurd (true≢false a)
 possible_holds Unknown a = refl
 possible_holds True a = refl
-
-holds_possible : (t : Truth) → is_possible t ≡ true → Allows t true
-holds_possible False e = absurd (false≢true e)
-holds_possible Unknown e = tt
-holds_possible True e = refl
 
 some_pair : (p : Pair) → Some p ≡ None → ⊥
 some_pair p e = cc
@@ -192,6 +191,51 @@ high_share_kept : (c : Bool) (l b d : ℤ) → l ≤ℤ b → cond c (int_min l 
 high_share_kept true l b d h = omega (arith, ints, clamps)
 high_share_kept false l b d h = omega (arith, ints, clamps)
 
+-- ---- an end
+
+-- a number lies no further out than another
+abbrev IsInside : End → ℤ → ℤ → Type 0
+IsInside Low a n = a ≤ℤ n
+IsInside High a n = n ≤ℤ a
+
+abbrev pair_end : End → Pair → ℤ
+pair_end Low p = p.low
+pair_end High p = p.high
+
+share_cut : (e : End) (clip : Clip) (p : Pair) (n : ℤ) → pair_end e p ≡ n → IsInside e n (clip_end e clip) → (p.certain ≡ true → IsInside e (clip_end e clip) (pair_end e p)) →
+    share_at e (clipped clip p) ≡ (share_at e p +ℤ (pos 1 *ℤ (part_of e (clip_end e clip) -ℤ part_of e n)))
+share_cut Low clip p n is inside sure = low_share_cut p.certain p.low clip.low n is inside sure
+share_cut High clip p n is inside sure = high_share_cut p.certain p.high clip.high n is inside sure
+
+share_kept : (e : End) (clip : Clip) (p : Pair) (d : ℤ) → IsInside e (clip_end e clip) (pair_end e p) → share_at e (clipped clip p) ≡ (share_at e p +ℤ (pos 0 *ℤ d))
+share_kept Low clip p d h = low_share_kept p.certain p.low clip.low d h
+share_kept High clip p d h = high_share_kept p.certain p.high clip.high d h
+
+own_end : (e : End) (t : Truth) (null : Nullity) (span : Interval) (p : Pair) → IsPairOf t null span p → pair_end e p ≡ end_of e span
+own_end Low t null span p is = is.low
+own_end High t null span p is = is.high
+
+end_within : (e : End) (i : Interval) → i.low ≤ℤ i.high → Within i (end_of e i)
+end_within Low i ordered = low_within i ordered
+end_within High i ordered = high_within i ordered
+
+inside_clip : (e : End) (clip : Clip) (n : ℤ) → Within (range_of_clip clip) n → IsInside e (clip_end e clip) n
+inside_clip Low clip n within = within.above
+inside_clip High clip n within = within.below
+
+inside_level : (e : End) (level : Level) (a : ℤ) → (level.low ≤ℤ a) × (a ≤ℤ level.high) → IsInside e (level_end e level) a
+inside_level Low level a holds = holds.0
+inside_level High level a holds = holds.1
+
+end_of_level : (e : End) (column : KnownColumn) (a : ℤ) (level : Level) → IsLevelOf column a level → level_end e level ≡ end_of e (range_of column.ends column.known.read level.prefix).numbers
+end_of_level Low column a level is = is.low
+end_of_level High column a level is = is.high
+
+past_level : (e : End) (column : KnownColumn) (a : ℤ) (level : Level) (p : ℕ) (x : ℤ) → IsLevelOf column a level → column.ends.base ≤ℤ a → IsLegal column.ends column.known.read p → IsTrue (may_be_number (null_with column.ends column.known.read p)) →
+    Within (range_of column.ends column.known.read p).numbers x → IsInside e a x → (p == level.prefix) ≡ false → IsInside e a (end_of e (range_of column.ends column.known.read p).numbers)
+past_level Low column a level p x is base legal some within inside other = above_level column a level p x is base legal some within inside other
+past_level High column a level p x is base legal some within inside other = below_level column a level p x is base legal some within inside other
+
 -- ---- all rows
 
 module _ (query : Query) (item : Aggregate) (clip : Clip) (table : KnownTable) (own : IsClippedBy query item clip) (longs : IsOfLongs table.frame clip.column) (k : IsKnowledge table.frame table.known)
@@ -265,79 +309,56 @@ module _ (query : Query) (item : Aggregate) (clip : Clip) (table : KnownTable) (
       no_product : (y : ℤ) (n : ℕ) → (y +ℤ (pos n *ℤ pos 0)) ≡ (y +ℤ pos 0)
       no_product y n = omega (arith, ints)
 
-  -- ---- low ends
+  -- ---- an end of the pairs
 
-  -- a clip that begins at no number above the least, or above the greatest, cuts nothing
-  pub low_shares_kept : (clip.low ≤ℤ column.ends.base) ⊎ (column.ends.top <ℤ clip.low) →
-      total (map low_share (map (clipped clip) (pairs query item [] table.frame table.known))) ≡ (total (map low_share (pairs query item [] table.frame table.known)) +ℤ pos 0)
-  low_shares_kept outside = nothing_added (total (map low_share (map (clipped clip) (pairs query item [] table.frame table.known)))) (total (map low_share (pairs query item [] table.frame table.known))) (pos 0)
-      (sum_where (map counted (range_with_len 0 table.frame.rows)) (map (λ (r : ℕ). 0) (range_with_len 0 table.frame.rows))) refl (moved_where low_share (λ r. 0) (pos 0) (λ r p r_in is.
-      let found = has_passing r r_in is.holds in
-      low_share_kept p.certain p.low clip.low (pos 0) (begins r p found is.low outside)))
-    where
-      begins : (r : ℕ) (p : Pair) → HasPassing r → p.low ≡ (row_ranges r c).numbers.low → (clip.low ≤ℤ column.ends.base) ⊎ (column.ends.top <ℤ clip.low) → clip.low ≤ℤ p.low
-      begins r p found e (inl h) = (let outside = declared_outside table.frame table.known r c in let low = outside.low in omega (arith, ints))
-      begins r p found e (inr h) =
-          let outside = declared_outside table.frame table.known r c in
-          let high = outside.high in
-          let below = found.there.below in
-          let above = found.above in
-          absurd (omega (arith, ints))
+  -- a clip that ends at no number of the column cuts nothing
+  uncut : (e : End) (r : ℕ) (p : Pair) → HasPassing r → pair_end e p ≡ end_of e (row_ranges r c).numbers → (clip_end e clip <ℤ column.ends.base) ⊎ (column.ends.top <ℤ clip_end e clip) → IsInside e (clip_end e clip) (pair_end e p)
+  uncut Low r p found is (inl h) = (let outside = declared_outside table.frame table.known r c in let low = outside.low in omega (arith, ints))
+  uncut Low r p found is (inr h) =
+      let outside = declared_outside table.frame table.known r c in
+      let high = outside.high in
+      let below = found.there.below in
+      let above = found.above in
+      absurd (omega (arith, ints))
+  uncut High r p found is (inl h) =
+      let outside = declared_outside table.frame table.known r c in
+      let low = outside.low in
+      let below = found.below in
+      let above = found.there.above in
+      absurd (omega (arith, ints))
+  uncut High r p found is (inr h) = (let outside = declared_outside table.frame table.known r c in let high = outside.high in omega (arith, ints))
 
-  pub low_shares_moved : (level : Level) (mask : List Bool) (truths : List Truth) → IsLevelOf column clip.low level → column.ends.base ≤ℤ clip.low → clip.low ≤ℤ column.ends.top → mask ≡ map is_possible truths → truths ≡ truths_under query.pred table →
-      total (map low_share (map (clipped clip) (pairs query item [] table.frame table.known)))
-      ≡ (total (map low_share (pairs query item [] table.frame table.known)) +ℤ (pos (count_at level.prefix mask column.known.prefixes) *ℤ (int_min clip.low (pos 0) -ℤ int_min level.low (pos 0))))
-  low_shares_moved level mask truths is base top mask_is judged =
-      let d = int_min clip.low (pos 0) -ℤ int_min level.low (pos 0) in
-      moved_where low_share (λ r. cond (prefix_at table.known c r == level.prefix) 1 0) d (λ r p r_in of. at_row r p r_in of (prefix_at table.known c r == level.prefix) refl)
-      ∙ ap (λ n. total (map low_share (pairs query item [] table.frame table.known)) +ℤ (pos n *ℤ d)) (sym (count_by_rows query table c level.prefix mask truths mask_is judged (k.rows c within)))
-    where
-      at_row : (r : ℕ) (p : Pair) → r < table.frame.rows → IsPairOf (truth_of query.pred (row_ranges r)) (row_ranges r c).null (row_ranges r c).numbers p → (b : Bool) → (prefix_at table.known c r == level.prefix) ≡ b →
-          low_share (clipped clip p) ≡ (low_share p +ℤ (pos (cond b 1 0) *ℤ (int_min clip.low (pos 0) -ℤ int_min level.low (pos 0))))
-      at_row r p r_in of true e =
-          let same : (row_ranges r c).numbers.low ≡ level.low = ap (λ q. (range_of column.ends column.known.read q).numbers.low) (eqb-true (prefix_at table.known c r) level.prefix e) ∙ sym is.low in
-          let ordered = none_empty r r_in c in
-          low_share_cut p.certain p.low clip.low level.low (of.low ∙ same) (level_holds column clip.low level is base top).0
-          (λ sure. subst (λ z. clip.low ≤ℤ z) (sym of.low) (sure_end r r_in (of.certain sure) (row_ranges r c).numbers.low of.number (low_within (row_ranges r c).numbers ordered)).above)
-      at_row r p r_in of false e =
-          let found = has_passing r r_in of.holds in
-          low_share_kept p.certain p.low clip.low (int_min clip.low (pos 0) -ℤ int_min level.low (pos 0))
-          (subst (λ z. clip.low ≤ℤ z) (sym of.low) (above_level column clip.low level (prefix_at table.known c r) found.number is base (k.legal c r within r_in) of.number found.there found.above e))
+  pub ends_kept : (e : End) → (clip_end e clip <ℤ column.ends.base) ⊎ (column.ends.top <ℤ clip_end e clip) →
+      total (map (share_at e) (map (clipped clip) (pairs query item [] table.frame table.known))) ≡ (total (map (share_at e) (pairs query item [] table.frame table.known)) +ℤ pos 0)
+  ends_kept e outside = nothing_added (total (map (share_at e) (map (clipped clip) (pairs query item [] table.frame table.known)))) (total (map (share_at e) (pairs query item [] table.frame table.known))) (pos 0)
+      (sum_where (map counted (range_with_len 0 table.frame.rows)) (map (λ (r : ℕ). 0) (range_with_len 0 table.frame.rows))) refl (moved_where (share_at e) (λ r. 0) (pos 0) (λ r p r_in is.
+      share_kept e clip p (pos 0) (uncut e r p (has_passing r r_in is.holds) (own_end e (truth_of query.pred (row_ranges r)) (row_ranges r c).null (row_ranges r c).numbers p is) outside)))
 
-  -- ---- high ends
+  passing_inside : (e : End) (r : ℕ) (found : HasPassing r) → IsInside e (clip_end e clip) found.number
+  passing_inside Low r found = found.above
+  passing_inside High r found = found.below
 
-  pub high_shares_kept : (column.ends.top ≤ℤ clip.high) ⊎ (clip.high <ℤ column.ends.base) →
-      total (map high_share (map (clipped clip) (pairs query item [] table.frame table.known))) ≡ (total (map high_share (pairs query item [] table.frame table.known)) +ℤ pos 0)
-  high_shares_kept outside = nothing_added (total (map high_share (map (clipped clip) (pairs query item [] table.frame table.known)))) (total (map high_share (pairs query item [] table.frame table.known))) (pos 0)
-      (sum_where (map counted (range_with_len 0 table.frame.rows)) (map (λ (r : ℕ). 0) (range_with_len 0 table.frame.rows))) refl (moved_where high_share (λ r. 0) (pos 0) (λ r p r_in is.
-      let found = has_passing r r_in is.holds in
-      high_share_kept p.certain p.high clip.high (pos 0) (ends r p found is.high outside)))
-    where
-      ends : (r : ℕ) (p : Pair) → HasPassing r → p.high ≡ (row_ranges r c).numbers.high → (column.ends.top ≤ℤ clip.high) ⊎ (clip.high <ℤ column.ends.base) → p.high ≤ℤ clip.high
-      ends r p found e (inl h) = (let outside = declared_outside table.frame table.known r c in let high = outside.high in omega (arith, ints))
-      ends r p found e (inr h) =
-          let outside = declared_outside table.frame table.known r c in
-          let low = outside.low in
-          let below = found.below in
-          let above = found.there.above in
-          absurd (omega (arith, ints))
-
-  pub high_shares_moved : (level : Level) (mask : List Bool) (truths : List Truth) → IsLevelOf column clip.high level → column.ends.base ≤ℤ clip.high → clip.high ≤ℤ column.ends.top → mask ≡ map is_possible truths → truths ≡ truths_under query.pred table →
-      total (map high_share (map (clipped clip) (pairs query item [] table.frame table.known)))
-      ≡ (total (map high_share (pairs query item [] table.frame table.known)) +ℤ (pos (count_at level.prefix mask column.known.prefixes) *ℤ (int_max clip.high (pos 0) -ℤ int_max level.high (pos 0))))
-  high_shares_moved level mask truths is base top mask_is judged =
-      let d = int_max clip.high (pos 0) -ℤ int_max level.high (pos 0) in
-      moved_where high_share (λ r. cond (prefix_at table.known c r == level.prefix) 1 0) d (λ r p r_in of. at_row r p r_in of (prefix_at table.known c r == level.prefix) refl)
-      ∙ ap (λ n. total (map high_share (pairs query item [] table.frame table.known)) +ℤ (pos n *ℤ d)) (sym (count_by_rows query table c level.prefix mask truths mask_is judged (k.rows c within)))
+  pub ends_moved : (e : End) (level : Level) (mask : List Bool) (truths : List Truth) → IsLevelOf column (clip_end e clip) level → column.ends.base ≤ℤ clip_end e clip → clip_end e clip ≤ℤ column.ends.top →
+      mask ≡ map is_possible truths → truths ≡ truths_under query.pred table →
+      total (map (share_at e) (map (clipped clip) (pairs query item [] table.frame table.known)))
+      ≡ (total (map (share_at e) (pairs query item [] table.frame table.known)) +ℤ (pos (count_at level.prefix mask column.known.prefixes) *ℤ (part_of e (clip_end e clip) -ℤ part_of e (level_end e level))))
+  ends_moved e level mask truths is base top mask_is judged =
+      let d = part_of e (clip_end e clip) -ℤ part_of e (level_end e level) in
+      moved_where (share_at e) (λ r. cond (prefix_at table.known c r == level.prefix) 1 0) d (λ r p r_in of. at_row r p r_in of (prefix_at table.known c r == level.prefix) refl)
+      ∙ ap (λ n. total (map (share_at e) (pairs query item [] table.frame table.known)) +ℤ (pos n *ℤ d)) (sym (count_by_rows query table c level.prefix mask truths mask_is judged (k.rows c within)))
     where
       at_row : (r : ℕ) (p : Pair) → r < table.frame.rows → IsPairOf (truth_of query.pred (row_ranges r)) (row_ranges r c).null (row_ranges r c).numbers p → (b : Bool) → (prefix_at table.known c r == level.prefix) ≡ b →
-          high_share (clipped clip p) ≡ (high_share p +ℤ (pos (cond b 1 0) *ℤ (int_max clip.high (pos 0) -ℤ int_max level.high (pos 0))))
-      at_row r p r_in of true e =
-          let same : (row_ranges r c).numbers.high ≡ level.high = ap (λ q. (range_of column.ends column.known.read q).numbers.high) (eqb-true (prefix_at table.known c r) level.prefix e) ∙ sym is.high in
+          share_at e (clipped clip p) ≡ (share_at e p +ℤ (pos (cond b 1 0) *ℤ (part_of e (clip_end e clip) -ℤ part_of e (level_end e level))))
+      at_row r p r_in of true e_is =
+          let numbers = (row_ranges r c).numbers in
+          let own = own_end e (truth_of query.pred (row_ranges r)) (row_ranges r c).null numbers p of in
+          let same : end_of e numbers ≡ level_end e level = ap (λ q. end_of e (range_of column.ends column.known.read q).numbers) (eqb-true (prefix_at table.known c r) level.prefix e_is) ∙ sym (end_of_level e column (clip_end e clip) level is) in
           let ordered = none_empty r r_in c in
-          high_share_cut p.certain p.high clip.high level.high (of.high ∙ same) (level_holds column clip.high level is base top).1
-          (λ sure. subst (λ z. z ≤ℤ clip.high) (sym of.high) (sure_end r r_in (of.certain sure) (row_ranges r c).numbers.high of.number (high_within (row_ranges r c).numbers ordered)).below)
-      at_row r p r_in of false e =
+          share_cut e clip p (level_end e level) (own ∙ same) (inside_level e level (clip_end e clip) (level_holds column (clip_end e clip) level is base top))
+          (λ sure. subst (IsInside e (clip_end e clip)) (sym own) (inside_clip e clip (end_of e numbers) (sure_end r r_in (of.certain sure) (end_of e numbers) of.number (end_within e numbers ordered))))
+      at_row r p r_in of false e_is =
+          let numbers = (row_ranges r c).numbers in
+          let own = own_end e (truth_of query.pred (row_ranges r)) (row_ranges r c).null numbers p of in
           let found = has_passing r r_in of.holds in
-          high_share_kept p.certain p.high clip.high (int_max clip.high (pos 0) -ℤ int_max level.high (pos 0))
-          (subst (λ z. z ≤ℤ clip.high) (sym of.high) (below_level column clip.high level (prefix_at table.known c r) found.number is base (k.legal c r within r_in) of.number found.there found.below e))
+          share_kept e clip p (part_of e (clip_end e clip) -ℤ part_of e (level_end e level))
+          (subst (IsInside e (clip_end e clip)) (sym own) (past_level e column (clip_end e clip) level (prefix_at table.known c r) found.number is base (k.legal c r within r_in) of.number found.there (passing_inside e r found) e_is))

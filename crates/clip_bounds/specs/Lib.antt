@@ -3,3 +3,4 @@ pub mod Clipped
 pub mod ClipLaws
 pub mod Levels
 pub mod Sums
+pub mod Ends

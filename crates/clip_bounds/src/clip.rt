@@ -5,7 +5,9 @@ ghost use Rattle.query_model.specs.Meaning.{columns_of_atom, columns_of_pred};
 ghost use Rattle.query_model.specs.Queries.{condition_of, term_of};
 ghost use Rattle.clip_bounds.specs.Clips.{before, behind, clip_in, clip_of, clip_of_argument, clip_of_atom};
 ghost use Rattle.clip_bounds.specs.Clips.{clip_of_comparison, is_clipped_kind, is_plain};
+ghost use Rattle.clip_bounds.specs.Ends.{clip_end};
 
+use aggregates::End;
 use query_model::{Atom, Comparison, Expr, ItemKind, Pred, Shape, TypedQuery};
 
 /// A range of the numbers of a column of the query.
@@ -14,6 +16,18 @@ pub struct Clip {
     pub column: u8,
     pub low: i128,
     pub high: i128,
+}
+
+impl Clip {
+    // One of its ends.
+    pub(crate) fn end(self, end: End) -> i128
+        ensures { result ≡ clip_end end self }
+    {
+        match end {
+            End::Low => self.low,
+            End::High => self.high,
+        }
+    }
 }
 
 // The numbers next to another.

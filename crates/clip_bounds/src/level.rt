@@ -1,7 +1,7 @@
 //! The rows of a column whose range holds a number: those with the number's prefix.
 
 ghost use Rattle.std.specs.Prelude.{◌≡◌, ◌≤◌, ◌<◌, ◌+◌, ◌-◌, ◌*◌, ◌^◌, ◌≤ℤ◌};
-ghost use Rattle.std.specs.Prelude.{◌-ℤ◌, min, nat_abs, length, map, sum_by, if◌then◌else◌};
+ghost use Rattle.std.specs.Prelude.{◌-ℤ◌, nat_abs, length, map, sum_by, if◌then◌else◌};
 ghost use Rattle.std.specs.Int.{bit_not, w64};
 ghost use Rattle.std.specs.Int.Bits.{bit_and};
 ghost use Rattle.std.specs.Int.Count.{ones};
@@ -13,9 +13,11 @@ ghost use Rattle.known_column.specs.Columns.{digit_of, rows_of_column};
 ghost use Rattle.known_column.specs.RowBlocks.{IsKnownColumn};
 ghost use Rattle.query_model.specs.Knowledge.{prefix_of};
 ghost use Rattle.clip_bounds.specs.Clips.{IsLong};
+ghost use Rattle.clip_bounds.specs.Ends.{level_end};
 ghost use Rattle.clip_bounds.specs.Levels.{IsLevelOf, count_at};
 
-use known_column::Known;
+use aggregates::End;
+use known_column::{Known, numbers_of_prefix};
 use plane_kernels::Mask;
 use std::simd::prelude::*;
 
@@ -83,33 +85,6 @@ fn prefix_of(known: &Known, number: i128) -> u128
     (least_code(known) + distance(known, number)) >> planes_unread(known)
 }
 
-// How many codes share a prefix, where so many digits are unread.
-fn codes_in_level(unread: u8) -> u128
-    requires { unread ≤ 65 }
-    ensures size { result ≡ 2 ^ unread }
-    ensures some { 1 ≤ result }
-    ensures few { result ≤ 2 ^ 65 }
-{
-    1u128 << unread
-}
-
-// The first and the last number with the prefix, of those up to the greatest.
-fn numbers_of_prefix(greatest: u64, least: u128, unread: u8, prefix: u128) -> (u64, u64)
-    requires digits { unread ≤ 65 }
-    requires few { least ≤ 2 ^ 64 }
-    requires legal { prefix * 2 ^ unread ≤ least + greatest }
-    ensures first { result.0 ≡ prefix * 2 ^ unread - least }
-    ensures last { result.1 ≡ min ((prefix + 1) * 2 ^ unread - 1 - least) greatest }
-    ensures few { result.0 ≤ greatest }
-    ensures ordered { result.1 ≤ greatest }
-{
-    let codes = codes_in_level(unread);
-    let first = prefix * codes;
-    let last = first + (codes - 1);
-    let last = last.saturating_sub(least).min(u128::from(greatest));
-    (first.saturating_sub(least) as u64, last as u64)
-}
-
 // The rows of a block that have this bit in a plane.
 fn kept(rows: &[u64; 8], plane: &[u64; 8], bit: bool) -> [u64; 8]
     ensures { result ≡ zip2 bit_and rows.now (if bit then plane.now else map (bit_not w64) plane.now) }
@@ -148,6 +123,16 @@ impl Level {
             prefix,
             low: base + i128::from(first),
             high: base + i128::from(last),
+        }
+    }
+
+    // The end of its numbers.
+    pub(crate) fn end(&self, end: End) -> i128
+        ensures { result ≡ level_end end self.now }
+    {
+        match end {
+            End::Low => self.low,
+            End::High => self.high,
         }
     }
 

@@ -2,21 +2,23 @@
 
 ghost use Rattle.std.specs.Prelude.{◌≡◌, ◌<◌, ◌≤◌, ◌^◌, ◌≤ℤ◌, ◌+ℤ◌};
 ghost use Rattle.std.specs.Prelude.{◌-ℤ◌, ◌*ℤ◌, length, map, negsuc, pos, slice_get, IfSome};
-ghost use Rattle.std.specs.Int.{int_max, int_min};
 ghost use Rattle.std.specs.declared.option.Option.TheVariants.{Some};
 ghost use Rattle.known_column.specs.Columns.{rows_of_column};
 ghost use Rattle.known_column.specs.KnownTables.{column_at};
 ghost use Rattle.query_model.specs.Answers.{total};
-ghost use Rattle.query_model.specs.Bounds.{greatest_sum, high_share, least_sum, low_share};
+ghost use Rattle.query_model.specs.Bounds.{greatest_sum, least_sum};
 ghost use Rattle.query_model.specs.Knowledge.{IsKnowledge};
+ghost use Rattle.round_engine.specs.SumEnds.{share_at};
 ghost use Rattle.clip_bounds.specs.ClipLaws.{IsOfLongs};
 ghost use Rattle.clip_bounds.specs.Clips.{IsLong, clip_of};
 ghost use Rattle.clip_bounds.specs.Clipped.{clipped_in, clipped_pairs, pairs_in};
+ghost use Rattle.clip_bounds.specs.Ends.{part_of};
 ghost use Rattle.clip_bounds.specs.Levels.{count_at};
 ghost use Rattle.clip_bounds.specs.Sums.{IsSumWithClip, is_uncertain};
 
 use crate::clip::Clip;
 use crate::level::Level;
+use aggregates::End;
 use known_column::Known;
 use plane_kernels::Mask;
 use query_model::{Bound, Nullity};
@@ -49,24 +51,26 @@ pub(crate) fn column_of<'a>(engine: &'a EngineView<'_>, item: usize, clip: Clip)
     known
 }
 
-// How far the part of a number below 0 moves.
-fn low_step(from: i128, to: i128) -> i128
-    requires from { IsLong from }
-    requires to { IsLong to }
-    ensures step { result ≡ int_min to (pos 0) -ℤ int_min from (pos 0) }
-    ensures few { (negsuc 18446744073709551616 ≤ℤ result) × (result ≤ℤ pos 18446744073709551616) }
+// The part of a number that widens a sum at this end.
+fn part_of(end: End, number: i128) -> i128
+    requires { IsLong number }
+    ensures part { result ≡ part_of end number }
+    ensures long { IsLong result }
 {
-    to.min(0) - from.min(0)
+    match end {
+        End::Low => number.min(0),
+        End::High => number.max(0),
+    }
 }
 
-// How far the part above 0 moves.
-fn high_step(from: i128, to: i128) -> i128
+// How far that part moves.
+fn end_step(end: End, from: i128, to: i128) -> i128
     requires from { IsLong from }
     requires to { IsLong to }
-    ensures step { result ≡ int_max to (pos 0) -ℤ int_max from (pos 0) }
+    ensures step { result ≡ part_of end to -ℤ part_of end from }
     ensures few { (negsuc 18446744073709551616 ≤ℤ result) × (result ≤ℤ pos 18446744073709551616) }
 {
-    to.max(0) - from.max(0)
+    part_of(end, to) - part_of(end, from)
 }
 
 // The step at each row of the level that may pass.
@@ -82,46 +86,24 @@ fn all_steps(level: Level, known: &Known, may: &Mask, step: i128) -> i128
     times(level.count(known, may), step)
 }
 
-// How far the shares of the least sum move where low ends are clipped: those of the rows whose prefix is that of the clip's low end.
-// Rows that surely pass have no number below it.
-fn low_move(engine: &EngineView<'_>, item: usize, clip: Clip) -> i128
+// How far the shares of an end of the sum move where the clip cuts the numbers at that end: those of the rows whose prefix is that of
+// the clip's own number. Rows that surely pass have no number beyond it.
+fn sum_move(end: End, engine: &EngineView<'_>, item: usize, clip: Clip) -> i128
     requires item { item < length engine.now.query.items }
     requires clip { IfSome (slice_get engine.now.query.items item) (λ i. clip_of engine.now.query i ≡ Some clip) }
     ensures { IfSome (slice_get engine.now.query.items item) (λ i.
-        total (map low_share (clipped_pairs engine.now i clip)) ≡ (total (map low_share (pairs_in engine.now i)) +ℤ result)) }
+        total (map (share_at end) (clipped_pairs engine.now i clip)) ≡ (total (map (share_at end) (pairs_in engine.now i)) +ℤ result)) }
 {
     let known = column_of(engine, item, clip);
-    let base = i128::from(known.base());
-    let top = i128::from(known.top());
-    if clip.low <= base {
+    let number = clip.end(end);
+    if number < i128::from(known.base()) {
         return 0;
     }
-    if top < clip.low {
+    if i128::from(known.top()) < number {
         return 0;
     }
-    let level = Level::of(known, clip.low);
-    let step = low_step(level.low, clip.low);
-    all_steps(level, known, engine.filter().may(), step)
-}
-
-// The same for the greatest sum and high ends.
-fn high_move(engine: &EngineView<'_>, item: usize, clip: Clip) -> i128
-    requires item { item < length engine.now.query.items }
-    requires clip { IfSome (slice_get engine.now.query.items item) (λ i. clip_of engine.now.query i ≡ Some clip) }
-    ensures { IfSome (slice_get engine.now.query.items item) (λ i.
-        total (map high_share (clipped_pairs engine.now i clip)) ≡ (total (map high_share (pairs_in engine.now i)) +ℤ result)) }
-{
-    let known = column_of(engine, item, clip);
-    let base = i128::from(known.base());
-    let top = i128::from(known.top());
-    if top <= clip.high {
-        return 0;
-    }
-    if clip.high < base {
-        return 0;
-    }
-    let level = Level::of(known, clip.high);
-    let step = high_step(level.high, clip.high);
+    let level = Level::of(known, number);
+    let step = end_step(end, level.end(end), number);
     all_steps(level, known, engine.filter().may(), step)
 }
 
@@ -146,7 +128,7 @@ fn least_sum(engine: &EngineView<'_>, item: usize, clip: Clip, plain: &Bound) ->
     if clip.low > 0 && is_uncertain(plain.null) {
         low.max(clip.low)
     } else {
-        low + low_move(engine, item, clip)
+        low + sum_move(End::Low, engine, item, clip)
     }
 }
 
@@ -161,7 +143,7 @@ fn greatest_sum(engine: &EngineView<'_>, item: usize, clip: Clip, plain: &Bound)
     if clip.high < 0 && is_uncertain(plain.null) {
         high.min(clip.high)
     } else {
-        high + high_move(engine, item, clip)
+        high + sum_move(End::High, engine, item, clip)
     }
 }
 
