@@ -109,9 +109,6 @@ module _ (stage : Stage) (item c : ℕ) (over : IsOverColumn stage item c) (end 
   span : ℕ → Interval
   span r = (ranges_of stage.frame stage.known r c).numbers
 
-  truth : ℕ → Truth
-  truth r = truth_of stage.query.pred (ranges_of stage.frame stage.known r)
-
   null : ℕ → Nullity
   null r = (ranges_of stage.frame stage.known r c).null
 

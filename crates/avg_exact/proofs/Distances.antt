@@ -21,13 +21,6 @@ same_tests a b z w more less = elim (cases_lt w z) [
   | inr over ↦ lt_is a b (more over) ∙ sym (test_is z w over)
 ]
 
--- the high end
-pub high_none : (base top floor : ℤ) → base ≤ℤ top → top ≤ℤ floor → IsDistance High base top floor None
-high_none base top floor ordered above w few = not_lt floor (base +ℤ pos w) (omega (arith, ints))
-
-pub high_all : (base top floor : ℤ) → floor <ℤ base → IsDistance High base top floor (Some 0)
-high_all base top floor below = (omega arith, λ w few. same_tests floor (base +ℤ pos w) 0 w (λ h. omega (arith, ints)) (λ h. absurd (omega (arith, h))))
-
 pub high_some : (base top floor : ℤ) (z : ℕ) → base ≤ℤ floor → floor <ℤ top → pos z ≡ floor -ℤ (base -ℤ pos 1) → IsDistance High base top floor (Some z)
 high_some base top floor z above below is = (omega (arith, ints), λ w few. same_tests floor (base +ℤ pos w) z w (λ h. omega (arith, ints)) (λ h. omega (arith, ints)))
 

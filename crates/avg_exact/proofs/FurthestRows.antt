@@ -8,7 +8,7 @@ use Rattle.std.proofs.lemmas.List.{get_or-drop, get_or-take, length-take}
 use Rattle.std.proofs.lemmas.List.Sums.{sum_by-cons}
 use Rattle.plane_kernels.specs.Rows.{kept_rows}
 use Rattle.known_column.specs.Columns.{KnownColumn, digit_of}
-use Rattle.aggregates.specs.Selections.{IsSound, block_of, has_row}
+use Rattle.aggregates.specs.Selections.{IsSound, block_of}
 use Rattle.aggregates.proofs.BlockWords.{row_within}
 use Rattle.aggregates.proofs.EndSums.{Counts, number_in, numbers}
 use Rattle.aggregates.proofs.MaskSums.{AtRows}
@@ -264,10 +264,6 @@ module _ (toward : End) (column : KnownColumn) (rows : List Bool) where
   get_block : {A : Type 0} (block : ℕ) (xs : List A) (i : ℕ) (d : A) → i < 512 → get_or (block_of block xs) i d ≡ get_or xs (512 * block + i) d
   get_block block xs i d small = get_or-take 512 (drop (512 * block) xs) i d small ∙ get_or-drop (512 * block) xs i d
 
-  -- past the last row there is none
-  past : (r : ℕ) → length rows ≤ r → has_row rows r ≡ false
-  past r out = elim (cases_Bool (has_row rows r)) [ inl t ↦ absurd (omega (arith, out, row_within rows r t)) | inr f ↦ f ]
-
   -- the rows of a block, as rows of the column
   pub of_block : (block : ℕ) (x : Option ℕ) → IsFurthest toward (block_column column block) (block_of block rows) x → IsFurthestFrom toward column rows (512 * block) (512 * (block + 1)) x
   of_block block None p = λ r above below.
@@ -296,9 +292,6 @@ module _ (toward : End) (column : KnownColumn) (rows : List Bool) where
             let number = get_block block column.known.prefixes i 0 small ∙ ap (λ r. get_or column.known.prefixes r 0) at in
             ap (λ p. lies_beyond toward n (number_in column p)) (sym number) ∙ p.furthest i (omega arith) (row_within (block_of block rows) i here) here;
       }
-
-  pub none_yet : IsFurthestFrom toward column rows 0 (512 * 0) None
-  none_yet = λ r above below. absurd (omega arith)
 
   pub all_rows_seen : (m : ℕ) (x : Option ℕ) → length rows ≤ m → IsFurthestFrom toward column rows 0 m x → IsFurthest toward column rows x
   all_rows_seen m None out p = λ r above below. p r above (omega arith)

@@ -201,10 +201,6 @@ module _ (end : End) (column : KnownColumn) (rows : List Bool) (t : ℕ) (counts
       ∙ ap (λ m. lies_beyond end m n || (n == m)) (sym (ap (λ i. t / 2 ^ i) none ∙ div-one t))
       ∙ ap (λ m. lies_beyond end (t / 2 ^ k) m || (m == (t / 2 ^ k))) (sym (ap (λ i. n / 2 ^ i) none ∙ div-one n)))
 
-pub length-kept : (digit : Bool) (level bits : List Bool) → length bits ≡ length level → length (kept_rows digit level bits) ≡ length level
-length-kept true level bits e = length-zip2 (λ a b. a && b) level bits (sym e)
-length-kept false level bits e = length-zip2 (λ a b. a && not b) level bits (sym e)
-
 pub length-that : (test : ℕ → Bool) (rows : List Bool) (ps : List ℕ) → length rows ≡ length ps → length (rows_that test rows ps) ≡ length rows
 length-that test rows ps e = length-zip2 (λ has p. has && test p) rows ps e
 

@@ -120,9 +120,6 @@ module _ (stage : Stage) (item c : ℕ) (over : IsOverColumn stage item c) where
       map_twice f g [] = refl
       map_twice f g (x ∷ xs) = ap (λ l. f (g x) ∷ l) (map_twice f g xs)
 
-  truth : ℕ → Truth
-  truth r = truth_of stage.query.pred (ranges_of stage.frame stage.known r)
-
   null : ℕ → Nullity
   null r = (ranges_of stage.frame stage.known r c).null
 

@@ -4,7 +4,7 @@ use Rattle.std.specs.Int.{int_max, int_min, w128}
 use Rattle.std.specs.List.{cons_option}
 use Rattle.std.specs.Option.{option_map}
 use Rattle.std.proofs.Math.Nat.{mul-le-mul_left, mul-le-mul_right}
-use Rattle.std.proofs.lemmas.Bool.{cond_both, cases_Bool, cases_lt}
+use Rattle.std.proofs.lemmas.Bool.{cond_both, cases_Bool}
 use Rattle.std.proofs.lemmas.Int.{ints, clamps}
 use Rattle.std.proofs.lemmas.Option.{slice_get-get_or}
 use Rattle.interval_calc.specs.declared.Fraction.{Fraction}
@@ -80,10 +80,6 @@ span_small stage item r span averaged r_in s =
     let at_low = ap (λ (s : Interval). s.low) lies in
     let at_high = ap (λ (s : Interval). s.high) lies in
     (omega (arith, ints), omega (arith, ints))
-
--- over plain numbers: so many rows, and a size
-square_some : (n : ℕ) → 1 ≤ n → 1 ≤ n * n
-square_some n h = (let more = mul-le-mul_left n h in omega arith)
 
 size_below : (n m : ℕ) → 1 ≤ n → n * m ≤ n * n * m
 size_below n m h = (let more = mul-le-mul_right (n * m) h in omega arith)
@@ -187,20 +183,12 @@ rows_step stage item end r r_in =
     let more : stage.frame.rows - r ≡ suc (stage.frame.rows - (r + 1)) = omega arith in
     ap (rows_from stage item end r) more
 
-pub no_rows_left : (stage : Stage) (item : ℕ) (end : End) (r : ℕ) → r ≡ stage.frame.rows → rows_from stage item end r (stage.frame.rows - r) ≡ []
-no_rows_left stage item end r e =
-    let none : stage.frame.rows - r ≡ 0 = omega arith in
-    ap (rows_from stage item end r) none
-
 -- two tallies together
 abbrev pub together : Tally → Tally → Tally
 together t u = record { sum = t.sum +ℤ u.sum; rows = t.rows + u.rows; taken = t.taken + u.taken }
 
 pub same_tally : (a b : Tally) → a.sum ≡ b.sum → a.rows ≡ b.rows → a.taken ≡ b.taken → a ≡ b
 same_tally a b s r t = grind (arith, s, r, t)
-
-nothing_left : (t : Tally) (over : Option Fraction) → together t (tally_of over []) ≡ t
-nothing_left t over = same_tally (together t (tally_of over [])) t (omega (arith, ints)) (omega arith) (omega arith)
 
 tally_step : (over : Option Fraction) (p : Pair) (ps : List Pair) (t : Tally) →
     together (with_row over (Some (value_of p)) t) (tally_of over ps) ≡ together t (tally_of over (p ∷ ps))
@@ -225,12 +213,6 @@ with_rest : (over : Option Fraction) (s : Option Pair) (ps : List Pair) (t : Tal
 with_rest over None ps t = refl
 with_rest over (Some p) ps t = tally_step over p ps t
 
-pub tally_starts : (stage : Stage) (item : ℕ) (end : End) (over : Option Fraction) → HasTally stage item end over 0 (record { sum = pos 0; rows = 0; taken = 0 })
-tally_starts stage item end over =
-    let all : stage.frame.rows - 0 ≡ stage.frame.rows = omega arith in
-    ap (λ n. together (record { sum = pos 0; rows = 0; taken = 0 }) (tally_of over (rows_from stage item end 0 n))) all
-    ∙ same_tally (together (record { sum = pos 0; rows = 0; taken = 0 }) (tally_of over (all_rows stage item end))) (tally_of over (all_rows stage item end)) (omega (arith, ints)) (omega arith) (omega arith)
-
 pub tally_goes_on : (stage : Stage) (item : ℕ) (end : End) (over : Option Fraction) (r : ℕ) (row : Option RowValue) (t : Tally) → r < stage.frame.rows →
     row ≡ option_map value_of (seen_at stage item end r) → HasTally stage item end over r t → HasTally stage item end over (r + 1) (with_row over row t)
 tally_goes_on stage item end over r row t r_in e h =
@@ -238,10 +220,6 @@ tally_goes_on stage item end over r row t r_in e h =
     ap (λ o. together (with_row over o t) (tally_of over rest)) e
     ∙ with_rest over (seen_at stage item end r) rest t
     ∙ ap (λ ps. together t (tally_of over ps)) (sym (rows_step stage item end r r_in)) ∙ h
-
-pub tally_ends : (stage : Stage) (item : ℕ) (end : End) (over : Option Fraction) (r : ℕ) (t : Tally) → r ≡ stage.frame.rows → HasTally stage item end over r t → t ≡ tally_of over (all_rows stage item end)
-tally_ends stage item end over r t e h =
-    sym (nothing_left t over) ∙ ap (λ ps. together t (tally_of over ps)) (sym (no_rows_left stage item end r e)) ∙ h
 
 -- ---- the least and the greatest
 
@@ -262,14 +240,6 @@ greatest_assoc None b c = refl
 greatest_assoc (Some x) None c = refl
 greatest_assoc (Some x) (Some y) None = refl
 greatest_assoc (Some x) (Some y) (Some z) = ap (λ v. Some v) (max_assoc x y z)
-
-least_right : (a : Cut) → least_of a None ≡ a
-least_right None = refl
-least_right (Some x) = refl
-
-greatest_right : (a : Cut) → greatest_of a None ≡ a
-greatest_right None = refl
-greatest_right (Some x) = refl
 
 abbrev pub HasLeast : Stage → ℕ → End → Fraction → ℕ → Cut → Type 0
 HasLeast stage item end over r c = least_of c (least_taken over (rows_from stage item end r (stage.frame.rows - r))) ≡ least_taken over (all_rows stage item end)
@@ -301,32 +271,11 @@ greatest_goes_on stage item end r row c r_in e h =
     ∙ greatest_assoc c (option_map (λ (v : RowValue). v.value) (option_map value_of (seen_at stage item end r))) (greatest_high rest)
     ∙ ap (greatest_of c) (greatest_rest (seen_at stage item end r) rest ∙ ap greatest_high (sym (rows_step stage item end r r_in))) ∙ h
 
-pub least_starts : (stage : Stage) (item : ℕ) (end : End) (over : Fraction) → HasLeast stage item end over 0 None
-least_starts stage item end over = (let all : stage.frame.rows - 0 ≡ stage.frame.rows = omega arith in ap (λ n. least_taken over (rows_from stage item end 0 n)) all)
-
-pub greatest_starts : (stage : Stage) (item : ℕ) (end : End) → HasGreatest stage item end 0 None
-greatest_starts stage item end = (let all : stage.frame.rows - 0 ≡ stage.frame.rows = omega arith in ap (λ n. greatest_high (rows_from stage item end 0 n)) all)
-
-pub least_ends : (stage : Stage) (item : ℕ) (end : End) (over : Fraction) (r : ℕ) (c : Cut) → r ≡ stage.frame.rows → HasLeast stage item end over r c → c ≡ least_taken over (all_rows stage item end)
-least_ends stage item end over r c e h =
-    sym (least_right c) ∙ ap (λ ps. least_of c (least_taken over ps)) (sym (no_rows_left stage item end r e)) ∙ h
-
-pub greatest_ends : (stage : Stage) (item : ℕ) (end : End) (r : ℕ) (c : Cut) → r ≡ stage.frame.rows → HasGreatest stage item end r c → c ≡ greatest_high (all_rows stage item end)
-greatest_ends stage item end r c e h =
-    sym (greatest_right c) ∙ ap (λ ps. greatest_of c (greatest_high ps)) (sym (no_rows_left stage item end r e)) ∙ h
-
 -- ---- sizes of what is found
 
 pub end_small : (end : End) (span : Interval) (m : ℕ) → nat_abs span.low ≤ m → nat_abs span.high ≤ m → nat_abs (end_value end span) ≤ m
 end_small Low span m l h = omega (arith, ints)
 end_small High span m l h = h
-
-pub small_tally_turns : (stage : Stage) (item r : ℕ) (t : Tally) → IsAveraged stage item → r ≡ stage.frame.rows → IsSmallTally stage item r t → nat_abs t.sum < 2 ^ 127
-small_tally_turns stage item r t averaged e small = elim (cases_lt 0 stage.frame.rows) [
-  | inl some ↦ (let sum = small.sum in let f = averaged.fits.sfits in let two = size_below stage.frame.rows (size_at stage item) some in
-      let all : r * size_at stage item ≡ stage.frame.rows * size_at stage item = ap (λ n. n * size_at stage item) e in omega arith)
-  | inr none ↦ (let sum = small.sum in let zero : r ≡ 0 = omega arith in let all : r * size_at stage item ≡ 0 * size_at stage item = ap (λ n. n * size_at stage item) zero in omega arith)
-]
 
 min_small : (x y : ℤ) → nat_abs x < 2 ^ 127 → nat_abs y < 2 ^ 127 → nat_abs (int_min x y) < 2 ^ 127
 min_small x y h g = omega (arith, ints, clamps)
@@ -377,12 +326,6 @@ uncertain_goes_on stage item end r row n r_in e h =
     ap (λ o. (n + cond (is_uncertain o) 1 0) + uncertain_count rest) e
     ∙ uncertain_rest n (seen_at stage item end r) rest
     ∙ ap (λ ps. n + uncertain_count ps) (sym (rows_step stage item end r r_in)) ∙ h
-
-pub uncertain_starts : (stage : Stage) (item : ℕ) (end : End) → HasUncertain stage item end 0 0
-uncertain_starts stage item end = (let all : stage.frame.rows - 0 ≡ stage.frame.rows = omega arith in ap (λ n. 0 + uncertain_count (rows_from stage item end 0 n)) all ∙ omega arith)
-
-pub uncertain_ends : (stage : Stage) (item : ℕ) (end : End) (r n : ℕ) → r ≡ stage.frame.rows → HasUncertain stage item end r n → n ≡ uncertain_count (all_rows stage item end)
-uncertain_ends stage item end r n e h = (let none = ap uncertain_count (no_rows_left stage item end r e) in omega (arith, h, none))
 
 pub uncertain_few : (stage : Stage) (item r n : ℕ) (b : Bool) → IsAveraged stage item → r < stage.frame.rows → n ≤ r → n + cond b 1 0 ≤ r + 1
 uncertain_few stage item r n b averaged r_in few = (let one = one_or_none b in omega arith)

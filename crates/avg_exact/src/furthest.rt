@@ -9,7 +9,8 @@ ghost use Rattle.avg_exact.specs.Furthest.{further_of, wanted, IsFurthest};
 
 use crate::block::Block;
 use crate::passes::End;
-use crate::planes::{Part, is_passed_over, keep, number_planes, part_block};
+use crate::planes::{Part, is_passed_over, keep, part_block};
+use aggregates::number_planes;
 use round_engine::EngineView;
 
 // Those of `level` that have this digit, or all of them where none has it, and the digit that they have.

@@ -1,16 +1,17 @@
 //! The rows of an average over a bare column, by blocks of the column's planes.
 
 ghost use Rattle.std.specs.Prelude.{◌≡◌, ◌≤◌, ◌<◌, ◌+◌, ◌*◌, ◌^◌};
-ghost use Rattle.std.specs.Prelude.{◌==◌, min, cond, length, map};
+ghost use Rattle.std.specs.Prelude.{◌==◌, length, map};
 ghost use Rattle.std.specs.List.{count_by};
 ghost use Rattle.plane_kernels.specs.Rows.{digit_at, kept_rows};
 ghost use Rattle.known_column.specs.Columns.{number_of};
-ghost use Rattle.aggregates.specs.Selections.{block_of, sum_where, IsSound};
+ghost use Rattle.aggregates.specs.Selections.{block_of, sum_where};
 ghost use Rattle.avg_exact.specs.Blocks.{beyond_rows, block_column, column_of, is_passed_over, is_sure_row, is_unsure_row, part_rows};
 ghost use Rattle.avg_exact.specs.Blocks.{reached_rows, rows_with, IsMeasure, IsOverColumn, IsShort, IsShortPart, MarkUncertain};
 
 use crate::block::Block;
 use crate::passes::End;
+use aggregates::number_planes;
 use known_column::Known;
 use round_engine::EngineView;
 
@@ -27,18 +28,6 @@ pub(crate) struct Measure {
     pub(crate) rows: u64,
     pub(crate) numbers: u128,
     pub(crate) at_top: u64,
-}
-
-// The planes of a column that hold digits of its numbers: from this one up to before that one.
-pub(crate) fn number_planes(known: &Known) -> (u8, u8)
-    ensures from { result.0 ≡ min (cond known.now.ends.nullable 1 0) known.now.known.read }
-    ensures to { result.1 ≡ known.now.known.read }
-    ensures sound { IsSound known.now }
-{
-    let nullable = u8::from(known.nullable());
-    let read = known.width() + nullable - known.unread();
-    let _rows = known.rows();
-    (nullable.min(read), read)
 }
 
 // The certain rows of a block.
