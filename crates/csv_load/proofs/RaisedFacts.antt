@@ -5,7 +5,7 @@ use Rattle.std.proofs.lemmas.List.Elements.{All-tail}
 use Rattle.daq_table.specs.declared.head.Kind.{Kind}
 use Rattle.daq_table.specs.declared.head.Kind.TheVariants.{Int, Dec, Date, Text}
 use Rattle.daq_table.specs.Dictionaries.{distinct, rank_of}
-use Rattle.csv_load.specs.Columns.{is_text}
+use Rattle.daq_table.specs.ColumnFacts.{is_text}
 use Rattle.daq_table.specs.Raised.{lowered}
 use Rattle.csv_load.specs.States.{numbers_in}
 

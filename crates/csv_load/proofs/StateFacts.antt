@@ -3,7 +3,8 @@ use Rattle.std.proofs.Common.{◌≡◌, ℕ, ℤ, true, List, [], ◌∷◌, �
 use Rattle.daq_table.specs.declared.head.Kind.{Kind}
 use Rattle.daq_table.specs.declared.head.Kind.TheVariants.{Int, Dec, Date, Text}
 use Rattle.daq_table.specs.Dictionaries.{distinct}
-use Rattle.csv_load.specs.Columns.{IsShortText, IsValue, is_text}
+use Rattle.daq_table.specs.ColumnFacts.{is_text}
+use Rattle.csv_load.specs.Columns.{IsShortText, IsValue}
 use Rattle.csv_load.specs.States.{Kept, kept_with, names_with}
 use Rattle.csv_load.proofs.RowFacts.{distinct_more}
 

@@ -3,6 +3,7 @@ use Rattle.std.specs.Prelude.{ℕ, ◌≤◌, ℤ, pos, Bool, true, false, not, 
 use Rattle.std.specs.Prelude.{Some, None, List, [], ◌∷◌, ◌++◌, length, map, slice_index_or, IsUtf8}
 use Rattle.std.specs.List.{filter}
 use Rattle.daq_table.specs.CellTexts.{IsCellText, cell_number}
+use Rattle.daq_table.specs.ColumnFacts.{is_text}
 use Rattle.daq_table.specs.declared.head.Kind.{Kind}
 use Rattle.daq_table.specs.declared.head.Kind.TheVariants.{Int, Dec, Date, Text}
 use Rattle.daq_table.specs.declared.schema_column.SchemaColumn.{SchemaColumn}
@@ -23,12 +24,6 @@ is_null true (byte ∷ text) = false
 -- the texts that are not null
 abbrev pub present : Bool → List (List ℕ) → List (List ℕ)
 present nullable texts = filter (λ text. not (is_null nullable text)) texts
-
-abbrev pub is_text : Kind → Bool
-is_text Int = false
-is_text (Dec scale) = false
-is_text Date = false
-is_text Text = true
 
 -- a text of UTF-8 and at most 255 bytes
 pub record IsShortText (bytes : List ℕ) : Type 0 where

@@ -16,7 +16,8 @@ use Rattle.daq_table.specs.declared.head.Kind.TheVariants.{Int}
 use Rattle.daq_table.specs.declared.schema_column.SchemaColumn.{SchemaColumn}
 use Rattle.daq_table.specs.Dictionaries.{rank_of}
 use Rattle.daq_table.specs.Extremes.{greatest, least}
-use Rattle.csv_load.specs.Columns.{IsValue, column_texts, dictionary, is_null, is_text, present}
+use Rattle.daq_table.specs.ColumnFacts.{is_text}
+use Rattle.csv_load.specs.Columns.{IsValue, column_texts, dictionary, is_null, present}
 use Rattle.csv_load.specs.Records.{AreRecordsOf, Fields}
 use Rattle.csv_load.specs.Faults.{IsFirstDifference}
 use Rattle.csv_load.specs.Rows.{AreGoodRows}

@@ -5,7 +5,8 @@ ghost use Rattle.std.specs.Prelude.{IfOk, IfSome, OnOk, IfErr, IsTrue, [], true,
 ghost use Rattle.std.specs.Option.{SomeIff};
 ghost use Rattle.daq_table.specs.CellTexts.{IsCellText, cell_number};
 ghost use Rattle.daq_table.specs.declared.head.Kind.TheVariants.{Text};
-ghost use Rattle.csv_load.specs.Columns.{IsShortText, is_text};
+ghost use Rattle.daq_table.specs.ColumnFacts.{is_text};
+ghost use Rattle.csv_load.specs.Columns.{IsShortText};
 ghost use Rattle.csv_load.specs.States.{HasValues, IsComplete, RefusesValue, TakesValue, kept_of, kept_with};
 
 use crate::fault::TableFault;

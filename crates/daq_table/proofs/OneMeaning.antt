@@ -18,12 +18,12 @@ use Rattle.daq_table.specs.declared.schema_column.SchemaColumn.{SchemaColumn}
 use Rattle.daq_table.specs.declared.schema_fault.SchemaFault.{SchemaFault}
 use Rattle.daq_table.specs.declared.schema_fault.SchemaFault.TheVariants.{BadItem, TooMany, RepeatedName, NoMemory}
 
-not_both : (b : Bool) → not b ≡ true → b ≡ true → ⊥
+pub not_both : (b : Bool) → not b ≡ true → b ≡ true → ⊥
 not_both true h k = absurd cc
 not_both false h k = absurd cc
 
 -- of names that differ no two are one
-differ_apart : (names : List (List ℕ)) → IsTrue (all_differ names) → (i j : ℕ) → i < j → j < length names → get_or names i [] ≡ get_or names j [] → ⊥
+pub differ_apart : (names : List (List ℕ)) → IsTrue (all_differ names) → (i j : ℕ) → i < j → j < length names → get_or names i [] ≡ get_or names j [] → ⊥
 differ_apart [] h i j lt within e = omega (arith, within)
 differ_apart (name ∷ names) h i zero lt within e = omega (arith, lt)
 differ_apart (name ∷ names) h zero (suc j) lt within e =

@@ -1,36 +1,18 @@
 -- A name is that of one column of the query at most.
-use Rattle.std.proofs.Common.{◌≡◌, ◌≢◌, ◌⊎◌, ℕ, zero, suc, ◌<◌, ◌≤◌, ◌==◌, Bool, true, false, not, List, [], ◌∷◌, length, map, get_or, sym, ◌∙◌, subst, inl, inr, arith, IsTrue}
+use Rattle.std.proofs.Common.{◌≡◌, ◌≢◌, ◌⊎◌, ℕ, zero, suc, ◌<◌, ◌≤◌, ◌==◌, true, false, not, List, [], ◌∷◌, length, map, get_or, sym, ◌∙◌, subst, inl, inr, arith, IsTrue}
 use Rattle.std.proofs.lemmas.Bool.{and_parts, cases_Bool, cases_lt}
 use Rattle.std.proofs.lemmas.Bool.Decides.{nat_tests}
 use Rattle.std.proofs.lemmas.List.{length-map}
 use Rattle.std.proofs.lemmas.List.Folds.{list_any_at}
-use Rattle.std.proofs.lemmas.Map.Text.{is_eq-slice_cmp}
 use Rattle.std.proofs.lemmas.Slice.Eq.{bytes_eq-Decides}
-use Rattle.std.specs.Cmp.Lexicographic.{slice_cmp}
 use Rattle.std.specs.List.{AllByRecursion, list_any}
-use Rattle.std.specs.Ordering.{is_eq, nat_cmp}
 use Rattle.std.specs.Str.{bytes_eq}
-use Rattle.daq_table.specs.HeadFacts.{all_differ}
+use Rattle.daq_table.proofs.OneMeaning.{differ_apart, not_both}
 use Rattle.daq_table.specs.declared.head.ColumnHead.{ColumnHead}
 use Rattle.daq_table.specs.declared.table_head.Head.{Head}
 use Rattle.query_model.specs.Validity.{IsValid, no_repeats}
 use Rattle.query_model.specs.Queries.{Query}
 use Rattle.plane_reads.specs.Reads.{IsNamed}
-
-not_both : (b : Bool) → not b ≡ true → b ≡ true → ⊥
-not_both true h k = absurd cc
-not_both false h k = absurd cc
-
--- of names that differ no two are one
-names_apart : (names : List (List ℕ)) → IsTrue (all_differ names) → (i j : ℕ) → i < j → j < length names → get_or names i [] ≡ get_or names j [] → ⊥
-names_apart [] h i j lt within e = omega (arith, within)
-names_apart (name ∷ names) h i zero lt within e = omega (arith, lt)
-names_apart (name ∷ names) h zero (suc j) lt within e =
-    let same = λ (other : List ℕ). is_eq (slice_cmp nat_cmp name other) in
-    let here : is_eq (slice_cmp nat_cmp name (get_or names j [])) ≡ true = is_eq-slice_cmp name (get_or names j []) ∙ (bytes_eq-Decides name (get_or names j [])).1 e in
-    not_both (list_any same names) (and_parts (not (list_any same names)) (all_differ names) h).0 (list_any_at same names j [] (omega (arith, within)) here)
-names_apart (name ∷ names) h (suc i) (suc j) lt within e =
-    names_apart names (and_parts (not (list_any (λ other. is_eq (slice_cmp nat_cmp name other)) names)) (all_differ names) h).1 i j (omega (arith, lt)) (omega (arith, within)) e
 
 same_numbers : (a b : ℕ) → a ≡ b → (a == b) ≡ true
 same_numbers a b e = grind (arith, nat_tests)
@@ -61,8 +43,8 @@ module _ (query : Query) (head : Head) (valid : IsValid head query) where
   places_apart i j inside within e = by (cases_lt i j) (cases_lt j i)
     where
       by : ((i < j) ⊎ (j ≤ i)) → ((j < i) ⊎ (i ≤ j)) → i ≡ j
-      by (inl less) other = absurd (names_apart (names_in head) head.is_head.differ i j less within e)
-      by (inr k) (inl less) = absurd (names_apart (names_in head) head.is_head.differ j i less inside (sym e))
+      by (inl less) other = absurd (differ_apart (names_in head) head.is_head.differ i j less within e)
+      by (inr k) (inl less) = absurd (differ_apart (names_in head) head.is_head.differ j i less inside (sym e))
       by (inr k) (inr l) = omega (arith, k, l)
 
   pub one_column : (name : List ℕ) (c d : ℕ) → IsNamed query head c name → IsNamed query head d name → c ≡ d

@@ -4,6 +4,7 @@ use Rattle.std.specs.Char.{digit_value}
 use Rattle.std.specs.Str.Parse.{digits_value}
 use Rattle.std.specs.List.{list_all}
 use Rattle.jiff_core.specs.Calendar.{days_in_month}
+use Rattle.daq_table.specs.ColumnFacts.{is_text}
 use Rattle.daq_table.specs.CellTexts.{day_digits, month_digits, year_digits}
 use Rattle.daq_table.specs.declared.head.Kind.{Kind}
 use Rattle.daq_table.specs.declared.head.Kind.TheVariants.{Int, Dec, Date, Text}
@@ -20,12 +21,6 @@ is_day Int = false
 is_day (Dec scale) = false
 is_day Date = true
 is_day Text = false
-
-abbrev pub is_text : Kind → Bool
-is_text Int = false
-is_text (Dec scale) = false
-is_text Date = false
-is_text Text = true
 
 -- the decimals of a column's numbers
 abbrev pub scale_of_kind : Kind → ℕ
