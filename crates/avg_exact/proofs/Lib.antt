@@ -9,7 +9,6 @@ pub mod Certain
 pub mod RowPasses
 pub mod Searches
 pub mod Assembled
-pub mod BlockRows
 pub mod RowLists
 pub mod Reaching
 pub mod NumberReach

@@ -35,7 +35,7 @@ use Rattle.avg_exact.specs.declared.planes.Part.{Part}
 use Rattle.avg_exact.specs.declared.planes.Part.TheVariants.{Certain, Reached}
 use Rattle.avg_exact.specs.Blocks.{IsOverColumn, MarkUncertain, column_of, is_passed_over, is_sure_row, is_unsure_row, part_rows, reaches, rows_with}
 use Rattle.avg_exact.specs.Passes.{item_at, seen, seen_at}
-use Rattle.avg_exact.proofs.BlockRows.{zip2_mapped}
+use Rattle.plane_kernels.proofs.WordSteps.{zip2_of_mapped}
 
 -- ---- lists, two at a time
 
@@ -306,7 +306,7 @@ module _ (stage : Stage) (item c : ℕ) (over : IsOverColumn stage item c) where
       let none = marks block there (unmarked (get_or blocks block false) e) in
       let few = count_both-le unsure (map test (block_of block column.known.prefixes)) in
       let is : block_of block (part_rows stage item c (Reached end t)) ≡ zip2 (λ a b. a && b) unsure (map test (block_of block column.known.prefixes)) =
-      block-zip2 (λ has p. has && test p) block (rows_with stage item is_unsure_row) column.known.prefixes ∙ sym (zip2_mapped (λ a b. a && b) test unsure (block_of block column.known.prefixes)) in
+      block-zip2 (λ has p. has && test p) block (rows_with stage item is_unsure_row) column.known.prefixes ∙ sym (zip2_of_mapped (λ a b. a && b) test unsure (block_of block column.known.prefixes)) in
       ap (count_by (λ b. b)) is ∙ omega (arith, none, few)
     where
       unmarked : (b : Bool) → not b ≡ true → b ≡ false

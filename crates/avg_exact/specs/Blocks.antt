@@ -11,7 +11,7 @@ use Rattle.daq_table.specs.Tables.{ends_at}
 use Rattle.query_model.specs.Bounds.{Pair}
 use Rattle.query_model.specs.Knowledge.{is_legal, known_at, range_of}
 use Rattle.query_model.specs.Queries.{Column}
-use Rattle.plane_kernels.specs.Rows.{IsPadded, greater_rows, less_rows}
+use Rattle.plane_kernels.specs.Rows.{greater_rows, less_rows}
 use Rattle.known_column.specs.Columns.{KnownColumn, is_at_top, is_possible, number_of, rows_where}
 use Rattle.aggregates.specs.Selections.{block_of, sum_where}
 use Rattle.round_engine.specs.Stages.{Stage}
@@ -22,12 +22,6 @@ use Rattle.avg_exact.specs.declared.planes.Part.{Part}
 use Rattle.avg_exact.specs.declared.planes.Part.TheVariants.{Certain, Reached}
 use Rattle.avg_exact.specs.ExactAverages.{negative}
 use Rattle.avg_exact.specs.Passes.{IsAveraged, end_value, item_at, seen_at}
-
--- eight words hold so many rows
-pub record IsBlock (n : ℕ) (words : List ℕ) : Type 0 where
-  pub few : n ≤ 512
-  pub eight : length words ≡ 8
-  pub padded : IsPadded n words
 
 -- the argument of the average is this column
 pub record IsOverColumn (stage : Stage) (item c : ℕ) : Type 0 where

@@ -7,10 +7,10 @@ ghost use Rattle.aggregates.specs.Selections.{block_of};
 ghost use Rattle.avg_exact.specs.Blocks.{block_column, column_of, part_rows, IsOverColumn, IsShortPart, MarkUncertain};
 ghost use Rattle.avg_exact.specs.Furthest.{further_of, wanted, IsFurthest};
 
-use crate::block::Block;
 use crate::passes::End;
 use crate::planes::{Part, is_passed_over, keep, part_block};
 use aggregates::number_planes;
+use plane_kernels::Block;
 use round_engine::EngineView;
 
 // Those of `level` that have this digit, or all of them where none has it, and the digit that they have.

@@ -2,7 +2,6 @@
 #![tactic(auto)]
 
 mod average;
-mod block;
 mod exact;
 mod furthest;
 mod laws;

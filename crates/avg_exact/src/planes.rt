@@ -9,10 +9,10 @@ ghost use Rattle.aggregates.specs.Selections.{block_of, sum_where};
 ghost use Rattle.avg_exact.specs.Blocks.{beyond_rows, block_column, column_of, is_passed_over, is_sure_row, is_unsure_row, part_rows};
 ghost use Rattle.avg_exact.specs.Blocks.{reached_rows, rows_with, IsMeasure, IsOverColumn, IsShort, IsShortPart, MarkUncertain};
 
-use crate::block::Block;
 use crate::passes::End;
 use aggregates::number_planes;
 use known_column::Known;
+use plane_kernels::Block;
 use round_engine::EngineView;
 
 /// Some of the rows: the certain ones, or the uncertain ones that an end reaches.

@@ -1,6 +1,0 @@
-use Rattle.std.proofs.Common.{count_by, ap, ◌∙◌}
-use Rattle.avg_exact.proofs.BlockRows.{counted_rows}
-use Rattle.avg_exact.proofs.block.Block.count.Goals as goal
-
-pub returns : goal.returns
-returns c = c.count_words.ensures ∙ counted_rows c.self.inside.rows c.self.inside.words c.self.invariant ∙ ap (count_by (λ b. b)) c.self.view_is
