@@ -19,10 +19,3 @@ pub use laws::bytes_are_exact;
 pub use mask::{Mask, split, step_compare};
 pub use pad_bits::PadBits;
 pub use plane::{Plane, transpose, validity};
-
-#[cfg(test)]
-mod block_tests;
-#[cfg(test)]
-mod byte_tests;
-#[cfg(test)]
-mod tests;

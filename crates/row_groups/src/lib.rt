@@ -17,6 +17,3 @@ pub use cells::Cells;
 pub use laws::{cells_tell_keys, opening_stands, others_leave_cells, refining_stands};
 pub use part::GroupPart;
 pub use prefix::PartRange;
-
-#[cfg(test)]
-mod tests;

@@ -4,7 +4,7 @@ use Rattle.std.proofs.lemmas.List.{length-take-le, take_all}
 use Rattle.std.proofs.lemmas.Simd.{take_more_put_chunk}
 use Rattle.plane_kernels.specs.Bytes.{bytes_of_rows}
 use Rattle.plane_kernels.proofs.BytesLemmas.{length-bytes_of_rows}
-use Rattle.plane_kernels.proofs.byte_tests.load_pieces.Goals as goal
+use Rattle.tests_columns.proofs.kernel_bytes.load_pieces.Goals as goal
 
 pub loop-first-preserved : goal.loop-first-preserved
 loop-first-preserved c =

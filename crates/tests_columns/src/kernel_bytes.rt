@@ -3,8 +3,8 @@
 ghost use Rattle.std.specs.Prelude.{◌≡◌, ◌*◌, length, IfOk, OnOk};
 ghost use Rattle.plane_kernels.specs.Bytes.{bytes_of_rows, word_count};
 
-use super::*;
-use crate::tests::{LENGTHS, plane_of_rows};
+use crate::kernels::{LENGTHS, plane_of_rows};
+use plane_kernels::{PadBits, Plane};
 use std::alloc::{AllocError, Global};
 use std::test::Fail;
 

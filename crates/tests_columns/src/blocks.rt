@@ -2,7 +2,7 @@
 
 ghost use Rattle.std.specs.Prelude.{◌≡◌, ◌≤◌, ◌<◌, ◌≤ℤ◌, length, IfOk};
 
-use crate::columns::column_head;
+use crate::heads::column_head;
 use daq_table::{ColumnHeads, Head};
 use interval_calc::Interval;
 use known_column::{Known, KnownColumns, LentColumns, RowBlock};

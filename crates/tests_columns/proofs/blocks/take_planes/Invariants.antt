@@ -1,5 +1,5 @@
 use Rattle.std.proofs.Common.{◌≡◌}
-use Rattle.column_tests.proofs.blocks.take_planes.Given as goal
+use Rattle.tests_columns.proofs.blocks.take_planes.Given as goal
 
 abbrev pub invariant-loop : goal.invariant-loop
 invariant-loop l = l.columns.frame ≡ l.initial.columns.frame

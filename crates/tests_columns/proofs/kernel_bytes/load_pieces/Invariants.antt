@@ -1,6 +1,6 @@
 use Rattle.std.proofs.Common.{◌≡◌, ◌≤◌, ◌-◌, ◌*◌, length, take}
 use Rattle.plane_kernels.specs.Bytes.{bytes_of_rows}
-use Rattle.plane_kernels.proofs.byte_tests.load_pieces.Given as goal
+use Rattle.tests_columns.proofs.kernel_bytes.load_pieces.Given as goal
 
 abbrev pub invariant-loop-first : goal.invariant-loop-first
 invariant-loop-first l = record {

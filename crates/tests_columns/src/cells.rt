@@ -2,11 +2,10 @@
 
 ghost use Rattle.std.specs.Prelude.{◌≡◌, ◌<◌, length, IfOk};
 
-use super::*;
-use crate::planes::planes;
-use daq_table::Ends;
+use daq_table::{Ends, digits_of};
 use plane_kernels::{Plane, transpose};
 use query_model::Nullity;
+use row_groups::{Cells, PartRange};
 use std::alloc::{AllocError, Global};
 use std::test::Fail;
 
@@ -27,7 +26,7 @@ fn third_rows(alloc: Global, rows: usize) -> Result<Plane, AllocError>
 
 // The rows after one plane of a column.
 fn parted(alloc: Global, ends: Ends, rows: usize) -> Result<Option<Cells>, AllocError> {
-    let width = planes(ends);
+    let width = digits_of(ends.top.abs_diff(ends.base)) + u8::from(ends.nullable);
     if width == 0 || width > 16 {
         return Ok(None);
     }

@@ -5,7 +5,7 @@ use Rattle.std.proofs.lemmas.Simd.{length-zip2}
 use Rattle.std.proofs.lemmas.List.FromFn.{length-map-range_with_len}
 use Rattle.known_column.specs.Columns.{rows_of_column}
 use Rattle.topk_bounds.specs.Standings.{Judged, is_in, standing_by}
-use Rattle.column_tests.proofs.firsts.judge.Goals as goal
+use Rattle.tests_columns.proofs.firsts.judge.Goals as goal
 
 within_both : (xs ys : List Bool) (r : ℕ) → is_in (zip2 (λ a b. a && b) xs ys) r ≡ true → is_in ys r ≡ true
 within_both [] ys r t = absurd (false≢true t)
