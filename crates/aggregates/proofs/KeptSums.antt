@@ -1,5 +1,5 @@
 -- Sums that follow the rows of a block that come and leave, and planes that are read.
-use Rattle.std.proofs.Common.{◌≤◌, ◌&&◌, count_by, Result, Ok, Err, OnOk, OnErr, ◌≡◌, ℕ, zero, suc, ◌+◌, ◌-◌, ◌*◌, ◌/◌, ◌^◌, min, Bool, true, false, cond, List, [], ◌∷◌, ◌++◌, length, map, take, drop, replicate, refl, ap, sym, subst, ◌∙◌, arith}
+use Rattle.std.proofs.Common.{◌≤◌, ◌&&◌, count_by, ◌≡◌, ℕ, zero, suc, ◌+◌, ◌-◌, ◌*◌, ◌/◌, ◌^◌, min, Bool, true, false, cond, List, [], ◌∷◌, ◌++◌, length, map, take, drop, replicate, refl, ap, sym, subst, ◌∙◌, arith}
 use Rattle.std.specs.Simd.Lanes.{put_chunk, zip2}
 use Rattle.std.proofs.lemmas.List.Sums.{sum_by-cons}
 use Rattle.std.proofs.Math.Nat.{pow-suc, div-div-eq-div-mul}
@@ -172,8 +172,3 @@ still_kept column bits kept long is =
       adds = is.adds ∙ ap (sum_where kept.mask) (sym (map_longer (early_number (read_further column bits) kept.read) (early_number column kept.read)
           (λ p b. ap (λ k. number_of column.ends kept.read ((2 * p + cond b 1 0) / 2 ^ k)) next ∙ ap (number_of column.ends kept.read) (first_digits p (read - kept.read) b)) ps bits long));
     }
-
--- also where a plane was refused
-pub kept_either : {E : Type 0} (old new : KnownColumn) (bits : List Bool) (r : Result (Unit {0}) E) → OnOk r (new ≡ read_further old bits) → OnErr r (new ≡ old) → length bits ≡ rows_of_column old → (kept : KeptSum) → IsKept old kept → IsKept new kept
-kept_either old new bits (Ok a) taken same long kept is = subst (λ w. IsKept w kept) (sym taken) (still_kept old bits kept long is)
-kept_either old new bits (Err e) taken same long kept is = subst (λ w. IsKept w kept) (sym same) is

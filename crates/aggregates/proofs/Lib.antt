@@ -11,5 +11,4 @@ pub mod ExtremeEnds
 pub mod KeptSums
 pub mod MaskSums
 pub mod NumberRows
-pub mod Small
 pub mod Values

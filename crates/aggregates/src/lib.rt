@@ -23,10 +23,3 @@ pub use running::Running;
 pub use spans::{lows_of_rows, spans_of_rows};
 pub use sums::SumSpan;
 pub use tally::{Tally, has_bit, quotient};
-
-#[cfg(test)]
-mod block_tests;
-#[cfg(test)]
-mod kept_tests;
-#[cfg(test)]
-mod tests;

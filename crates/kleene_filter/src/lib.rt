@@ -16,8 +16,3 @@ mod words;
 
 pub use filter::Filter;
 pub use reads::pred_reads;
-
-#[cfg(test)]
-mod filter_tests;
-#[cfg(test)]
-mod truth_tests;

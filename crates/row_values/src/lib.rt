@@ -14,8 +14,3 @@ mod spans;
 pub use block_values::BlockValues;
 pub use nulls::null_of;
 pub use spans::span_of;
-
-#[cfg(test)]
-mod block_tests;
-#[cfg(test)]
-mod tests;

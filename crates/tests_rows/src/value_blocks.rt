@@ -6,13 +6,12 @@ ghost use Rattle.query_model.specs.Meaning.{ReadsBelow};
 ghost use Rattle.query_model.specs.Queries.{term_of};
 ghost use Rattle.query_model.specs.Validity.{declared_ranges, FitsWide};
 
-use crate::block_values::BlockValues;
-use crate::nulls::null_of;
-use crate::spans::span_of;
-use daq_table::{ColumnHead, ColumnHeads, Dictionary, Head, Kind, Name};
+use crate::heads::column_head;
+use daq_table::{ColumnHeads, Head};
 use known_column::{KnownColumns, LentColumns, RowBlock};
 use plane_kernels::{Plane, transpose, validity};
 use query_model::{Expr, Nullity};
+use row_values::{BlockValues, null_of, span_of};
 use std::alloc::{AllocError, Global};
 use std::test::Fail;
 
@@ -26,14 +25,7 @@ fn columns(alloc: Global, rows: u32) -> Result<KnownColumns, AllocError>
     ensures first { IfOk result (λ columns. (declared_ranges columns.frame 0).numbers ≡ record { low = negsuc 4; high = pos 10 }) }
     ensures second { IfOk result (λ columns. (declared_ranges columns.frame 1).numbers ≡ record { low = negsuc 4; high = pos 10 }) }
 {
-    let change = ColumnHead {
-        name: Name::new(b"change".to_vec(alloc)?),
-        kind: Kind::Int,
-        nullable: true,
-        base: -5,
-        top: 10,
-        names: Dictionary::new(Vec::new(alloc)),
-    };
+    let change = column_head(alloc, b"change", -5, 10, true)?;
     let head = Head {
         rows: u64::from(rows),
         columns: ColumnHeads::new(vec![in alloc; change]?),

@@ -1,17 +1,16 @@
-//! Filters that follow the planes of a column, and conditions on values that may be null.
+//! Filters that follow the planes of a column.
 
 ghost use Rattle.std.specs.Prelude.{◌≡◌, ◌<◌, ◌≤◌, length, IfOk, IfSome};
-ghost use Rattle.query_model.specs.Meaning.{AtomReadsBelow, PredReadsBelow};
+ghost use Rattle.query_model.specs.Meaning.{PredReadsBelow};
 ghost use Rattle.query_model.specs.Queries.{condition_of};
 ghost use Rattle.kleene_filter.specs.Filters.{StandsFor};
 
-use crate::Filter;
-use crate::atoms::atom_at;
-use crate::truth_tests::{F, FN, N, T, TF, TFN, TN};
-use daq_table::{ColumnHead, ColumnHeads, Dictionary, Head, Kind, Name};
-use known_column::{KnownColumns, LentColumns, RowBlock};
+use crate::heads::column_head;
+use daq_table::{ColumnHeads, Head};
+use kleene_filter::Filter;
+use known_column::{KnownColumns, RowBlock};
 use plane_kernels::{Plane, transpose};
-use query_model::{Atom, Comparison, Pred, Truths, Values};
+use query_model::{Atom, Comparison, Pred, Values};
 use std::alloc::{AllocError, Global};
 use std::test::Fail;
 
@@ -21,22 +20,8 @@ fn columns(alloc: Global, nullable: bool) -> Result<KnownColumns, AllocError>
     ensures rows { IfOk result (λ columns. columns.frame.rows ≡ 4) }
     ensures two { IfOk result (λ columns. length columns.frame.columns ≡ 2) }
 {
-    let price = ColumnHead {
-        name: Name::new(b"price".to_vec(alloc)?),
-        kind: Kind::Int,
-        nullable,
-        base: 3,
-        top: 12,
-        names: Dictionary::new(Vec::new(alloc)),
-    };
-    let amount = ColumnHead {
-        name: Name::new(b"amount".to_vec(alloc)?),
-        kind: Kind::Int,
-        nullable,
-        base: 1,
-        top: 4,
-        names: Dictionary::new(Vec::new(alloc)),
-    };
+    let price = column_head(alloc, b"price", 3, 12, nullable)?;
+    let amount = column_head(alloc, b"amount", 1, 4, nullable)?;
     let head = Head {
         rows: 4,
         columns: ColumnHeads::new(vec![in alloc; price, amount]?),
@@ -224,95 +209,5 @@ fn null_is_in_no_list_and_out_of_none(rt: HostRuntime) -> Result<(), Fail> {
     let pred = Pred::Not(Box::new(alloc, listed)?);
     let counts = followed(alloc, &pred, true, &[18, 0, 25, 16], 5)?;
     assert_eq!(rt; counts, Some([(0, 3), (2, 2), (2, 2)]));
-    Ok(())
-}
-
-// The truths of an atom at the four rows.
-fn at_rows(atom: Atom, columns: &LentColumns<'_>) -> [Truths; 4]
-    requires reads { AtomReadsBelow (length columns.now.frame.columns) atom }
-    requires rows { columns.now.frame.rows ≡ 4 }
-{
-    [
-        atom_at(&atom, 0, columns),
-        atom_at(&atom, 1, columns),
-        atom_at(&atom, 2, columns),
-        atom_at(&atom, 3, columns),
-    ]
-}
-
-// What five atoms are at the four rows: two comparisons, BETWEEN, IN and a comparison of both columns.
-fn atoms_at_rows(alloc: Global, columns: &LentColumns<'_>) -> Result<[[Truths; 4]; 5], AllocError>
-    requires two { length columns.now.frame.columns ≡ 2 }
-    requires rows { columns.now.frame.rows ≡ 4 }
-{
-    let values = Values::new(vec![in alloc; 1, 2]?);
-    let differs = Atom::Compare {
-        column: 0,
-        op: Comparison::Ne,
-        value: 20,
-    };
-    let above = Atom::Compare {
-        column: 0,
-        op: Comparison::Gt,
-        value: 7,
-    };
-    let between = Atom::Between {
-        column: 0,
-        low: 3,
-        high: 12,
-    };
-    let listed = Atom::OneOf { column: 0, values };
-    let compared = Atom::CompareColumns {
-        left: 0,
-        op: Comparison::Le,
-        right: 1,
-    };
-    Ok([
-        at_rows(differs, columns),
-        at_rows(above, columns),
-        at_rows(between, columns),
-        at_rows(listed, columns),
-        at_rows(compared, columns),
-    ])
-}
-
-// Reads the plane that tells null of a column, of which nothing is read: 1 where the row has a number.
-fn tell_null(columns: &mut KnownColumns, column: usize, bits: &[u64; 4], plane: &mut Plane)
-    requires column { column < length columns.old.frame.columns }
-    requires rows { columns.old.frame.rows ≡ 4 }
-    requires plane { length plane.old ≡ 4 }
-    ensures frame { columns.new.frame ≡ columns.old.frame }
-    ensures plane { length plane.new ≡ 4 }
-{
-    transpose(bits, 1, 0, plane);
-    if columns.unread(column) > 0 {
-        let _taken = columns.take(column, plane).is_ok();
-    }
-}
-
-// The atoms before null is told or after it: then both columns have numbers, or the second is null, or the first, or both.
-fn known_atoms(alloc: Global, told: bool) -> Result<[[Truths; 4]; 5], AllocError> {
-    let mut plane = Plane::blank(alloc, 4)?;
-    let mut columns = columns(alloc, true)?;
-    if told {
-        tell_null(&mut columns, 0, &[1, 1, 0, 0], &mut plane);
-        tell_null(&mut columns, 1, &[1, 0, 1, 0], &mut plane);
-    }
-    atoms_at_rows(alloc, &columns.lend())
-}
-
-#[test]
-fn atoms_of_values_that_may_be_null(rt: HostRuntime) -> Result<(), Fail> {
-    let alloc = rt.alloc();
-    let before = [[TN; 4], [TFN; 4], [TN; 4], [FN; 4], [TFN; 4]];
-    assert_eq!(rt; known_atoms(alloc, false)?, before);
-    let after = [
-        [T, T, N, N],
-        [TF, TF, N, N],
-        [T, T, N, N],
-        [F, F, N, N],
-        [TF, N, N, N],
-    ];
-    assert_eq!(rt; known_atoms(alloc, true)?, after);
     Ok(())
 }

@@ -1,4 +1,4 @@
--- Lists of pairs with ends of 16 bits, of which the tests make some.
+-- Lists of pairs with ends of 16 bits.
 use Rattle.std.proofs.Common.{◌*◌, ◌<◌, ◌≤◌, pos, negsuc, ◌+ℤ◌, ◌≤ℤ◌, Bool, List, [], ◌∷◌, ◌++◌, length, map, arith, FitsSigned}
 use Rattle.std.specs.Int.{w16, w128, int_min, int_max}
 use Rattle.std.proofs.lemmas.Int.{ints, clamps}

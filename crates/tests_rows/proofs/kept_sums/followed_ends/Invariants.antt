@@ -1,5 +1,5 @@
 use Rattle.aggregates.specs.KeptSums.{IsKept}
-use Rattle.aggregates.proofs.kept_tests.followed_ends.Given as goal
+use Rattle.tests_rows.proofs.kept_sums.followed_ends.Given as goal
 
 abbrev pub invariant-loop : goal.invariant-loop
 invariant-loop l = IsKept l.known l.kept

@@ -1,8 +1,8 @@
 use Rattle.std.proofs.Common.{◌≡◌, ◌<◌, List, length}
 use Rattle.query_model.specs.Bounds.{Pair}
 use Rattle.aggregates.specs.Runnings.{StandsFor}
-use Rattle.aggregates.proofs.Small.{AreSmall}
-use Rattle.aggregates.proofs.tests.filled.Given as goal
+use Rattle.tests_rows.proofs.Small.{AreSmall}
+use Rattle.tests_rows.proofs.bounds.filled.Given as goal
 
 abbrev pub invariant-loop-row : goal.invariant-loop-row
 invariant-loop-row l = record {

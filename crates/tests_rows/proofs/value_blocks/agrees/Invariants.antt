@@ -1,5 +1,5 @@
 use Rattle.std.proofs.Common.{◌≡◌}
-use Rattle.row_values.proofs.block_tests.agrees.Given as goal
+use Rattle.tests_rows.proofs.value_blocks.agrees.Given as goal
 
 abbrev pub invariant-loop : goal.invariant-loop
 invariant-loop l = record {

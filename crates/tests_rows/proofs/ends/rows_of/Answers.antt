@@ -5,7 +5,7 @@ use Rattle.std.specs.Simd.Lanes.{zip2}
 use Rattle.known_column.specs.Columns.{is_possible, rows_where}
 use Rattle.aggregates.specs.Selections.{MayHaveValues}
 use Rattle.aggregates.proofs.Values.{taken_from_possible}
-use Rattle.aggregates.proofs.tests.rows_of.Goals as goal
+use Rattle.tests_rows.proofs.ends.rows_of.Goals as goal
 
 pub returns-clause-rows : goal.returns-clause-rows
 returns-clause-rows c =

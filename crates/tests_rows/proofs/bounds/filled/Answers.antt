@@ -1,7 +1,7 @@
 use Rattle.std.proofs.Common.{◌∙◌, arith}
 use Rattle.aggregates.proofs.Appending.{length-more}
-use Rattle.aggregates.proofs.Small.{is_small, may_get_small, small-more}
-use Rattle.aggregates.proofs.tests.filled.Goals as goal
+use Rattle.tests_rows.proofs.Small.{is_small, may_get_small, small-more}
+use Rattle.tests_rows.proofs.bounds.filled.Goals as goal
 
 pub add-requires : goal.add-requires
 add-requires c =

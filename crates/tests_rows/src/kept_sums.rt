@@ -1,7 +1,7 @@
 //! Sums that are kept while rows come and leave and planes are read, worked out by hand.
 
-use super::tests::{partly_read, read_next, rows_of};
-use super::{KeptSum, SumSpan};
+use crate::ends::{partly_read, read_next, rows_of};
+use aggregates::{KeptSum, SumSpan};
 use std::alloc::{AllocError, Global};
 use std::test::Fail;
 

@@ -1,5 +1,5 @@
 use Rattle.std.proofs.Common.{◌≡◌}
-use Rattle.row_values.proofs.block_tests.blocks_agree.Given as goal
+use Rattle.tests_rows.proofs.value_blocks.blocks_agree.Given as goal
 
 abbrev pub invariant-loop-row : goal.invariant-loop-row
 invariant-loop-row l = l.block.frame.columns ≡ l.columns.frame.columns

@@ -1,0 +1,19 @@
+//! What is known of rows: conditions, expressions, and bounds of aggregates.
+#![tactic(auto)]
+
+#[cfg(test)]
+mod bounds;
+#[cfg(test)]
+mod ends;
+#[cfg(test)]
+mod filters;
+#[cfg(test)]
+mod heads;
+#[cfg(test)]
+mod kept_sums;
+#[cfg(test)]
+mod truths;
+#[cfg(test)]
+mod value_blocks;
+#[cfg(test)]
+mod values;
