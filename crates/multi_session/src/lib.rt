@@ -11,6 +11,3 @@ mod session;
 
 pub use limits::SessionFault;
 pub use session::Session;
-
-#[cfg(test)]
-mod tests;

@@ -9,6 +9,3 @@ mod reads;
 pub use fault::ReadsFault;
 pub use laws::{answers_are_one, words_have_answers};
 pub use reads::check_reads;
-
-#[cfg(test)]
-mod tests;

@@ -12,6 +12,3 @@ pub use laws::{choices_are_one, policies_choose};
 pub use policies::{filter_first, in_order, listed, widest};
 pub use policy::{Ending, Extras, Plan, Policy};
 pub use progress::{Progress, Role};
-
-#[cfg(test)]
-mod tests;

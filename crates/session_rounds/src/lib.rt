@@ -10,6 +10,3 @@ pub use laws::{
     sessions_begin, sessions_have_an_end,
 };
 pub use reading::{ending, read_next};
-
-#[cfg(test)]
-mod tests;

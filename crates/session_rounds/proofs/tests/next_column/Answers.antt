@@ -1,4 +1,0 @@
-use Rattle.session_rounds.proofs.tests.next_column.Goals as goal
-
-pub read_next-requires-clause-unread : goal.read_next-requires-clause-unread
-read_next-requires-clause-unread c = c.in-None.ensures.unread c.args.source.now.head c.requires.fits
