@@ -13,6 +13,7 @@ pub mod ScriptCauses
 pub mod StoreCauses
 pub mod AskCauses
 pub mod DemoCauses
+pub mod OfTables
 pub mod QueryCauses
 pub mod SessionCauses
 pub mod Ask

@@ -1,5 +1,5 @@
 -- Why each step of a `session` stops it, and what it comes to.
-use Rattle.std.proofs.Common.{◌≡◌, ◌⊎◌, ℕ, List, Ok, Err, Result, refl, sym, subst, inl, inr, IfSome}
+use Rattle.std.proofs.Common.{◌≡◌, ◌⊎◌, ℕ, List, length, Ok, Err, Result, refl, sym, subst, inl, inr, IfSome}
 use Rattle.std.specs.Prelude.{option_map}
 use Rattle.std.specs.declared.option.Option.{Option}
 use Rattle.command_line.specs.Commands as line
@@ -11,32 +11,38 @@ use Rattle.multi_session.specs.declared.limits.SessionFault.{SessionFault}
 use Rattle.multi_session.specs.declared.limits.SessionFault.TheVariants as m
 use Rattle.outer_world.specs.Device.{SinkState, SourceState, StoreState}
 use Rattle.outer_world.specs.Whole.{laid}
-use Rattle.plane_file.specs.Opening.{Opened, Refuses}
+use Rattle.plane_file.specs.Opening.{IsFileHead, Opened, Refuses}
 use Rattle.plane_file.specs.Places.{plane_places}
 use Rattle.plane_file.specs.declared.file_fault.FileFault.{FileFault}
 use Rattle.plane_file.specs.declared.plane_fault.PlaneFault.{PlaneFault}
 use Rattle.plane_schedule.specs.declared.policy.Plan.{Plan}
+use Rattle.query_model.specs.Laws.{ValidQueriesNameColumns}
 use Rattle.query_model.specs.Queries.{Query}
+use Rattle.query_model.specs.Validity.{IsValid}
 use Rattle.session_rounds.specs.Laws.{AreValid, SessionsAreCertain}
 use Rattle.session_rounds.specs.Reading.{StopsAt}
-use Rattle.session_rounds.specs.Steps.{AreSteps}
-use Rattle.table_rounds.specs.Headline.{AreOfLongs}
+use Rattle.session_rounds.proofs.Lists.{all_there}
+use Rattle.session_rounds.specs.Steps.{AreSteps, own_reads, places_read, plan_alone}
+use Rattle.table_rounds.proofs.OfTables.{same_stages}
+use Rattle.table_rounds.specs.Headline.{AreOfLongs, RoundsHaveTables}
 use Rattle.table_rounds.specs.Rounds.{Planes}
 use Rattle.table_rounds.specs.Sources.{Causes, OfPlanes, Places}
 use Rattle.table_rounds.specs.declared.reading.StepFault.{StepFault}
 use Rattle.table_rounds.specs.declared.reading.StepFault.TheVariants.{Source, OverTop}
 use Rattle.daq_cli.specs.Faults as of
+use Rattle.daq_cli.specs.OfTables.{AllAreOfTables}
 use Rattle.daq_cli.specs.Report.{CausesAfter, HasStopCause}
 use Rattle.daq_cli.specs.Scripts.{ReadsScript, Scripted}
-use Rattle.daq_cli.specs.SessionReport.{EndsSession, EndsStepsOverSome, queries_lines}
+use Rattle.daq_cli.specs.SessionReport.{EndsSession, EndsStepsOverSome, QueriesAreShownAlone, queries_lines}
 use Rattle.daq_cli.specs.Steps.{StopsStep, each}
 use Rattle.daq_cli.specs.commands.Query.{StopsAfter}
-use Rattle.daq_cli.specs.commands.Session.{AreAllCertain, AskedTogether, BeginsSteps, HasOpened, SessionCause, Sessions, ShowsLimit, asked_together, printed_forms, together_step, typing_step, at_file, at_queries, at_write, at_plane, no_memory}
+use Rattle.daq_cli.specs.commands.Session.{AreAllCertain, AskedTogether, BeginsSteps, Completed, HasOpened, SessionCause, Sessions, ShowsLimit, asked_together, printed_forms, together_step, typing_step, at_file, at_queries, at_write, at_plane, no_memory}
 use Rattle.daq_cli.specs.declared.refusal.Refusal.{Refusal}
 use Rattle.daq_cli.specs.declared.refusal.Refusal.TheVariants.{NoMemory, Session}
 use Rattle.daq_cli.specs.declared.stop.Stop.{Stop}
 use Rattle.daq_cli.specs.declared.stop.Stop.TheVariants.{Failed, Step}
-use Rattle.daq_cli.proofs.QueryCauses.{told_before}
+use Rattle.daq_cli.proofs.OfTables.{are_of_tables}
+use Rattle.daq_cli.proofs.QueryCauses.{told_before, told_with}
 
 -- ---- what is asked of the table
 
@@ -101,7 +107,7 @@ module _ {E : Type 0} (causes others : CausesAfter E) (weaker : (at : Option (Li
   }
 
 module _ (words : line.Session) (side side' : SourceState) (planes opened planes' : StoreState) (out out' : SinkState) (begun : BeginsSteps words side side' planes opened)
-    (certain : SessionsAreCertain) (valid : AreValid begun.file.head begun.typed) (longs : AreOfLongs (frame_of begun.file.head)) where
+    (certain : SessionsAreCertain) (alone : QueriesAreShownAlone) (have : RoundsHaveTables) (names : ValidQueriesNameColumns) (valid : AreValid begun.file.head begun.typed) (longs : AreOfLongs (frame_of begun.file.head)) where
   abbrev Ends : Result (Unit {0}) (Stop PlaneFault) → List ℕ → Type 0
   Ends result bytes =
       EndsSession (queries_lines (printed_forms begun.queries)) begun.file.head begun.plan begun.typed (bits_at begun.file.head bytes) (plane_places begun.file.head) (IsUnpadded begun.file.head bytes)
@@ -113,14 +119,30 @@ module _ (words : line.Session) (side side' : SourceState) (planes opened planes
 
   headline : (bytes reads : List ℕ) → AreSteps begun.plan begun.typed begun.file.head (bits_at begun.file.head bytes) reads →
       AreAllCertain begun.plan begun.typed begun.file.head (bits_at begun.file.head bytes) reads
-  headline bytes reads steps = λ n query there cells has. certain begun.plan begun.typed begun.file.head (bits_at begun.file.head bytes) reads n query cells valid longs steps there has
+  headline bytes reads steps = λ n query there cells has. (certain begun.plan begun.typed begun.file.head (bits_at begun.file.head bytes) reads n query cells valid longs steps there has,
+      λ round h. same_stages query (frame_of begun.file.head) (bits_at begun.file.head bytes)
+      (own_reads begun.plan.width (frame_of begun.file.head) (bits_at begun.file.head bytes) (places_read begun.typed reads) query (length reads)) cells has round)
+
+  -- each query alone
+  tables : (bytes reads : List ℕ) → IsFileHead bytes begun.file.version begun.file.head → AreSteps begun.plan begun.typed begun.file.head (bits_at begun.file.head bytes) reads →
+      AllAreOfTables begun.plan begun.typed begun.file.head bytes reads
+  tables bytes reads front steps n query there =
+      let head = begun.file.head in
+      let own = own_reads begun.plan.width (frame_of head) (bits_at head bytes) (places_read begun.typed reads) query (length reads) in
+      let shown = alone begun.plan begun.typed head (bits_at head bytes) reads n query steps there in
+      let named = names head query (all_there (IsValid head) begun.typed n query valid there) in
+      (shown, are_of_tables have head begun.file.version (plan_alone begun.plan own) query bytes own front named shown.rounds (λ cells has. (headline bytes reads steps n query there cells has).0))
+
+  completes : (bytes : List ℕ) → Ends (Ok tt) bytes → IsFileHead bytes begun.file.version begun.file.head → Completed words side side' planes opened planes' out out' begun bytes
+  completes bytes steps front =
+      record { steps = steps; headline = headline bytes steps.reads steps.steps.steps; tables = tables bytes steps.reads front steps.steps.steps }
 
   pub session_done : Written (Ok tt) → IfSome opened.held (Ends (Ok tt)) → Sessions words side side' planes planes' out out'
   session_done written ends = record {
     opened = opened;
     begun = begun;
     written = written;
-    completed = told_before planes opened begun.has_opened.same _ _ (λ bytes steps. record { steps = steps; headline = headline bytes steps.reads steps.steps.steps }) ends;
+    completed = told_with planes opened begun.has_opened.same _ _ _ completes ends begun.has_opened.opens.spelled;
   }
 
   stop_steps : (bytes : List ℕ) (causes : Causes PlaneFault) (fault : StepFault PlaneFault) (reads handed : List ℕ) →

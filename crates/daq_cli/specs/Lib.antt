@@ -9,6 +9,7 @@ pub mod Files
 pub mod Stores
 pub mod Report
 pub mod SessionReport
+pub mod OfTables
 pub mod Questions
 pub mod commands
 pub mod Runs

@@ -5,11 +5,12 @@ use Rattle.std.specs.declared.option.Option.TheVariants.{None}
 use Rattle.std.specs.declared.result.Result.{Result}
 use Rattle.command_line.specs.Commands.{Options}
 use Rattle.command_line.specs.Commands as line
-use Rattle.daq_table.specs.Tables.{Cells, Frame, frame_of}
+use Rattle.daq_table.specs.Tables.{Contents, frame_of}
 use Rattle.daq_table.specs.declared.table_head.Head.{Head}
 use Rattle.file_rounds.specs.Told.{IsUnpadded, bits_at}
 use Rattle.outer_world.specs.Device.{Rose, SinkState, StoreState}
 use Rattle.outer_world.specs.Whole.{HoldsSame, laid}
+use Rattle.plane_file.specs.Format.{IsFileOf}
 use Rattle.plane_file.specs.Opening.{Opened, Opens}
 use Rattle.plane_file.specs.Places.{plane_places}
 use Rattle.plane_file.specs.Reading.{StopsReading}
@@ -19,14 +20,13 @@ use Rattle.query_model.specs.declared.query.TypedQuery.{TypedQuery}
 use Rattle.sql_print.specs.Printed.{printed}
 use Rattle.sql_text.specs.Answer.{IsText}
 use Rattle.sql_text.specs.Tree as sql
-use Rattle.table_rounds.specs.Headline.{AreCertain}
 use Rattle.table_rounds.specs.Outcomes.{EndIn, Outcome, ended, refused, unreadable}
-use Rattle.table_rounds.specs.Rounds.{HasPlanes, Planes, counts_after}
 use Rattle.table_rounds.specs.Sources.{OnFailed}
 use Rattle.table_rounds.specs.declared.reading.StepFault.{StepFault}
 use Rattle.daq_cli.specs.Faults as of
 use Rattle.daq_cli.specs.Files.{StopsOpening, file_step}
-use Rattle.daq_cli.specs.Questions.{Asked, IsAnswerable, IsPlanned, ShowsQuestion, asked_with, sql_step}
+use Rattle.daq_cli.specs.OfTables.{AreCertainOf, AreOfTables}
+use Rattle.daq_cli.specs.Questions.{Asked, IsAnswerable, IsPlanned, IsReport, ShowsQuestion, asked_with, question_of, sql_step}
 use Rattle.daq_cli.specs.Report.{CausesAfter, EndsRounds, Fails, FailsOverSome, Finishes, Stops, WritesOverSome, query_line, report}
 use Rattle.daq_cli.specs.Steps.{Step, then}
 use Rattle.daq_cli.specs.declared.refusal.Refusal.{Refusal}
@@ -104,11 +104,6 @@ pub record Begins (words : line.Query) (planes opened : StoreState) : Type 0 whe
   pub plan : Plan
   pub planned : IsPlanned (asked_with query words.options file.head) typed plan
 
--- the bounds of all rounds are certain, of each table that has the planes read
-abbrev pub AreCertainOf : TypedQuery → Frame → Planes → List ℕ → Type 0
-AreCertainOf typed frame bits reads =
-    (cells : Cells) → HasPlanes typed frame bits (counts_after typed reads (length reads)) cells → AreCertain typed frame cells reads
-
 -- why a plane is not read, behind the opening, with these places handed over before
 abbrev pub StopsAfter : Head → StoreState → StoreState → CausesAfter PlaneFault
 StopsAfter head opened last at column number fault =
@@ -124,12 +119,17 @@ EndsFile text plan typed head result opened last out out' =
 module _ (words : line.Query) (planes opened planes' : StoreState) (out out' : SinkState) (begun : Begins words planes opened)
     (bytes : List ℕ) where
   -- the report of all rounds was written, each of whose intervals is certain; behind the head the places of the planes read were handed
-  -- over, each once, in order, and no others; and none of these has a bit past its last row
+  -- over, each once, in order, and no others; and none of these has a bit past its last row. The report is that of each table that has
+  -- the planes read; and where the bytes are the file of a table, it is the report of the question to that table, which `ask` writes
   pub record Completed : Type 0 where
     pub rounds : Finishes (query_line (printed begun.query)) begun.file.head begun.plan begun.typed (bits_at begun.file.head bytes)
         (plane_places begun.file.head) (IsUnpadded begun.file.head bytes) out out'
         (option_map laid opened.pieces) (option_map laid planes'.pieces)
     pub headline : AreCertainOf begun.typed (frame_of begun.file.head) (bits_at begun.file.head bytes) rounds.reads
+    pub tables : AreOfTables begun.file.head begun.plan begun.typed bytes rounds.reads
+    pub as_asked : (version : ℕ) (table : Contents) → IsFileOf bytes version table →
+        IsReport (question_of begun.query words.options table)
+        (report (printed begun.query) begun.file.head begun.plan begun.typed (bits_at begun.file.head bytes) rounds.reads)
 
   -- a write failed in the last of these rounds, for which no plane past theirs was read
   pub record CutOff : Type 0 where

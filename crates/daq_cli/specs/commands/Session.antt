@@ -31,12 +31,13 @@ use Rattle.table_rounds.specs.Rounds.{Planes}
 use Rattle.table_rounds.specs.declared.reading.StepFault.{StepFault}
 use Rattle.daq_cli.specs.Faults as of
 use Rattle.daq_cli.specs.Files.{StopsOpening, file_step}
+use Rattle.daq_cli.specs.OfTables.{AllAreOfTables, AreCertainOf}
 use Rattle.daq_cli.specs.Questions.{extras_of}
 use Rattle.daq_cli.specs.Scripts.{ReadsScript, ScriptCause, Scripted, queries_step}
 use Rattle.daq_cli.specs.SessionReport.{EndsSession, FailsSession, FailsStepsOverSome, FinishesSession}
 use Rattle.daq_cli.specs.SessionReport.{StopsSession, WritesStepsOverSome, queries_lines, session_report}
 use Rattle.daq_cli.specs.Steps.{Step, each, then}
-use Rattle.daq_cli.specs.commands.Query.{AreCertainOf, PlaneCause, StopsAfter, refusal_at}
+use Rattle.daq_cli.specs.commands.Query.{PlaneCause, StopsAfter, refusal_at}
 use Rattle.daq_cli.specs.declared.refusal.Refusal.{Refusal}
 use Rattle.daq_cli.specs.declared.refusal.Refusal.TheVariants.{LineTyping, Session, WriteFault, NoMemory}
 use Rattle.daq_cli.specs.declared.stop.Stop.{Stop}
@@ -172,12 +173,14 @@ EndsSteps sqls plan queries head result opened last out out' =
 module _ (words : line.Session) (side side' : SourceState) (planes opened planes' : StoreState) (out out' : SinkState)
     (begun : BeginsSteps words side side' planes opened) (bytes : List ℕ) where
   -- the report of all steps was written, each of whose intervals is certain; behind the head the places of the planes read were handed
-  -- over, each once, in order, and no others; and none of these has a bit past its last row
+  -- over, each once, in order, and no others; and none of these has a bit past its last row. What is shown of each query are the blocks of
+  -- its report alone, which is that of each table that has the planes that it read, as the table has whose file the bytes are
   pub record Completed : Type 0 where
     pub steps : FinishesSession (queries_lines (printed_forms begun.queries)) begun.file.head begun.plan begun.typed
         (bits_at begun.file.head bytes) (plane_places begun.file.head) (IsUnpadded begun.file.head bytes) out out'
         (option_map laid opened.pieces) (option_map laid planes'.pieces)
     pub headline : AreAllCertain begun.plan begun.typed begun.file.head (bits_at begun.file.head bytes) steps.reads
+    pub tables : AllAreOfTables begun.plan begun.typed begun.file.head bytes steps.reads
 
   -- a write failed in the last of these steps, for which no plane past theirs was read
   pub record CutOff : Type 0 where

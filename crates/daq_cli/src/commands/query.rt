@@ -28,7 +28,7 @@ use query_model::valid_queries_name_columns;
 use round_engine::Engine;
 use sql_text::Tree;
 use std::alloc::Global;
-use table_rounds::{heads_are_of_longs, rounds_are_certain};
+use table_rounds::{heads_are_of_longs, rounds_are_certain, rounds_have_tables};
 
 // Writes the report of a query with that printed form over a file, on which it was opened. The planes of its rounds are read, each
 // before its block.
@@ -110,6 +110,7 @@ fn answer_file<P: Store, K: Sink>(
     ensures same { HoldsSame (P.state planes.old) (P.state planes.new) }
 {
     rounds_are_certain();
+    rounds_have_tables();
     valid_queries_name_columns();
     let head = file.head();
     heads_are_of_longs(head);

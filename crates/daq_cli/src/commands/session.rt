@@ -22,7 +22,7 @@ ghost use Rattle.daq_cli.specs.commands.Session.{EndsSteps, HasOpened, SessionCa
 
 use crate::refusal::Refusal;
 use crate::scripts::{Scripted, read_queries};
-use crate::session_report::write_session;
+use crate::session_report::{queries_are_shown_alone, write_session};
 use crate::stop::Stop;
 use crate::together::prepare_all;
 use command_line::Session as Asked;
@@ -32,9 +32,10 @@ use outer_world::{Sink, Source, Store};
 use plane_file::{PlaneFault, PlaneFile, open};
 use plane_kernels::Plane;
 use plane_schedule::Plan;
+use query_model::valid_queries_name_columns;
 use session_rounds::sessions_are_certain;
 use std::alloc::Global;
-use table_rounds::heads_are_of_longs;
+use table_rounds::{heads_are_of_longs, rounds_have_tables};
 
 // Writes the report of a session of queries with those printed forms over a file, on which it was opened. The planes of its steps are read,
 // each before the blocks of its step.
@@ -118,6 +119,9 @@ fn answer_file<P: Store, K: Sink>(
     ensures same { HoldsSame (P.state planes.old) (P.state planes.new) }
 {
     sessions_are_certain();
+    queries_are_shown_alone();
+    rounds_have_tables();
+    valid_queries_name_columns();
     let head = file.head();
     heads_are_of_longs(head);
     let mut together = prepare_all(alloc, queries, &asked.options, head)?;

@@ -52,7 +52,7 @@ returns-in_err-report_file-clause-refused g c first has =
     (Err stop) old new (option_map laid opened.pieces) (option_map laid last.pieces))) (c.as_bytes.ensures.value ∙ c.in_ok-prepared.ensures.text) c.in_err-report_file.ensures.ends in
     let written = subst (λ l. EndsOverSome (query_line l) file.head made.plan made.engine.query (Err stop) old new) (c.as_bytes.ensures.value ∙ c.in_ok-prepared.ensures.text) c.in_err-report_file.ensures.written in
     let p = err_from_is_err_and c.from_residual-in_err-report_file.result c.from_residual-in_err-report_file.ensures.1 in
-    rw p.1 (query_stop asked planes opened last old new begun c.rounds_are_certain.ensures named longs stop p.0 p.2 c.in_err-report_file.ensures.cause written ends)
+    rw p.1 (query_stop asked planes opened last old new begun c.rounds_are_certain.ensures c.rounds_have_tables.ensures named longs stop p.0 p.2 c.in_err-report_file.ensures.cause written ends)
 
 pub returns-clause-done : goal.returns-clause-done
 returns-clause-done g c first has =
@@ -80,4 +80,4 @@ returns-clause-done g c first has =
     let ends = subst (λ l. IfSome opened.held (λ bytes. EndsRounds (query_line l) file.head made.plan made.engine.query (bits_at file.head bytes) (plane_places file.head) (IsUnpadded file.head bytes) (StopsAfter file.head opened last)
     (Ok tt) old new (option_map laid opened.pieces) (option_map laid last.pieces))) (c.as_bytes.ensures.value ∙ c.in_ok-prepared.ensures.text) c.in_ok-report_file.ensures.ends in
     let written = subst (λ l. WritesOverSome (query_line l) file.head made.plan made.engine.query IsSome old new) (c.as_bytes.ensures.value ∙ c.in_ok-prepared.ensures.text) c.in_ok-report_file.ensures.written in
-    query_done asked planes opened last old new begun c.rounds_are_certain.ensures named longs written ends
+    query_done asked planes opened last old new begun c.rounds_are_certain.ensures c.rounds_have_tables.ensures named longs written ends

@@ -46,7 +46,7 @@ returns-in_err-report_file-clause-refused g c before side first has =
     let ends = subst (λ l. EndsSteps l made.plan (queries_of made.session) file.head (Err stop) opened last old new) (ap (map string_bytes) c.deref.ensures.value ∙ c.in_ok-together.ensures.texts) c.in_err-report_file.ensures.ends in
     let written = subst (λ l. EndsStepsOverSome (queries_lines l) file.head made.plan (queries_of made.session) (Err stop) old new) (ap (map string_bytes) c.deref.ensures.value ∙ c.in_ok-together.ensures.texts) c.in_err-report_file.ensures.written in
     let p = err_from_is_err_and c.from_residual-in_err-report_file.result c.from_residual-in_err-report_file.ensures.1 in
-    rw p.1 (session_stop asked before side first opened last old new begun c.sessions_are_certain.ensures valid longs stop p.0 p.2 c.in_err-report_file.ensures.cause written ends)
+    rw p.1 (session_stop asked before side first opened last old new begun c.sessions_are_certain.ensures c.queries_are_shown_alone.ensures c.rounds_have_tables.ensures c.valid_queries_name_columns.ensures valid longs stop p.0 p.2 c.in_err-report_file.ensures.cause written ends)
 
 pub returns-clause-done : goal.returns-clause-done
 returns-clause-done g c before side first has =
@@ -71,4 +71,4 @@ returns-clause-done g c before side first has =
     let longs = subst (λ h. AreOfLongs (frame_of h)) c.head-head.ensures.head c.heads_are_of_longs.ensures in
     let ends = subst (λ l. EndsSteps l made.plan (queries_of made.session) file.head (Ok tt) opened last old new) (ap (map string_bytes) c.deref.ensures.value ∙ c.in_ok-together.ensures.texts) c.in_ok-report_file.ensures.ends in
     let written = subst (λ l. WritesStepsOverSome (queries_lines l) file.head made.plan (queries_of made.session) IsSome old new) (ap (map string_bytes) c.deref.ensures.value ∙ c.in_ok-together.ensures.texts) c.in_ok-report_file.ensures.written in
-    session_done asked before side first opened last old new begun c.sessions_are_certain.ensures valid longs written ends
+    session_done asked before side first opened last old new begun c.sessions_are_certain.ensures c.queries_are_shown_alone.ensures c.rounds_have_tables.ensures c.valid_queries_name_columns.ensures valid longs written ends
