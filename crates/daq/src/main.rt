@@ -1,16 +1,13 @@
 //! The program `daq`: hands the words of the command line, files and streams to `run`, and ends with its status.
 #![tactic(auto)]
 
-mod faults;
-mod files;
-
 use command_line::{Command, Words};
 use daq_cli::{Status, World, code, run};
-use files::{FileSink, FileSource, FileStore, hold_standard_places};
 use std::alloc::{AllocError, Global};
 use std::env;
 use std::io::ErrorKind;
 use std::process::ExitCode;
+use system_devices::{FileSink, FileSource, FileStore, hold_standard_places};
 
 // The words of the command line, without the program's name; none where one of them is no text.
 fn read_words(rt: &HostRuntime, alloc: Global) -> Result<Option<Words>, AllocError> {

@@ -3,7 +3,7 @@
 ghost use Rattle.std.specs.Prelude.{◌≡◌, ◌≤◌, [], IfOk, None, OnErr, OnOk, length, take};
 ghost use Rattle.std.specs.Io.Buffered.{writer_buffer, writer_contents};
 ghost use Rattle.std.specs.Io.KnownBytes.{Appends};
-ghost use Rattle.daq.specs.Lines.{EndsLine, IsNamed, IsOpened};
+ghost use Rattle.system_devices.specs.Lines.{EndsLine, IsNamed, IsOpened};
 
 use crate::faults::Faults;
 use outer_world::{Failed, Sink, Source, Store};
@@ -227,98 +227,5 @@ impl Sink for FileSink {
             Target::Named(..) if piece.is_empty() => Ok(0),
             Target::Closed | Target::Named(..) => Err(self.faults.add()),
         }
-    }
-}
-
-#[cfg(test)]
-mod tests {
-    use super::*;
-    use std::test::Fail;
-    use std::{env, process};
-
-    #[test]
-    fn no_file_and_a_directory_fail_at_each_read(rt: HostRuntime) {
-        for path in ["no such file", "/"] {
-            let mut source = FileSource::open(&rt, path);
-            let mut buf = [0u8; 4];
-            assert_eq!(rt; source.read(&mut buf), Err(Failed));
-            assert_eq!(rt; source.read(&mut buf), Err(Failed));
-            assert_eq!(rt; source.faults.count, 2);
-        }
-    }
-
-    #[test]
-    fn an_empty_file_ends_at_once(rt: HostRuntime) {
-        let mut source = FileSource::open(&rt, "/dev/null");
-        let mut buf = [0u8; 4];
-        assert_eq!(rt; source.read(&mut buf), Ok(0));
-        assert_eq!(rt; source.faults.count, 0);
-    }
-
-    #[test]
-    fn no_store_has_a_size(rt: HostRuntime) {
-        let mut store = FileStore::closed();
-        let mut buf = [0u8; 4];
-        assert_eq!(rt; store.size(), Err(Failed));
-        assert_eq!(rt; store.read_at(0, &mut buf), Err(Failed));
-        assert_eq!(rt; store.faults.count, 2);
-    }
-
-    #[test]
-    fn a_file_without_a_byte_has_none_at_its_end(rt: HostRuntime) {
-        let mut store = FileStore::open(&rt, "/dev/null");
-        let mut buf = [0u8; 4];
-        assert_eq!(rt; store.size(), Ok(0));
-        assert_eq!(rt; store.read_at(0, &mut buf), Ok(0));
-        assert_eq!(rt; store.faults.count, 0);
-        assert_eq!(rt; store.ends, 1);
-    }
-
-    #[test]
-    fn a_stream_takes_a_piece_and_nowhere_takes_none(rt: HostRuntime) -> Result<(), Fail> {
-        let mut out = FileSink::out(&rt)?;
-        assert_eq!(rt; out.write(b"one"), Ok(3));
-        assert_eq!(rt; out.write(b"\n"), Ok(1));
-        let mut nowhere = FileSink::closed();
-        assert_eq!(rt; nowhere.write(b"one\n"), Err(Failed));
-        assert_eq!(rt; nowhere.faults.count, 1);
-        Ok(())
-    }
-
-    #[test]
-    fn what_a_named_file_takes_is_read_back(rt: HostRuntime) -> Result<(), Fail> {
-        let name = format!(in rt.alloc(); "daq-test-{}", process::id(rt.process()))?;
-        let path = env::temp_dir(&rt)?.join(rt.alloc(), name.as_str())?;
-        let mut sink = FileSink::named(&rt, path.as_str())?;
-        let taken = [sink.write(b"three "), sink.write(b""), sink.write(b"words")];
-        let mut store = FileStore::open(&rt, path.as_str());
-        let mut source = FileSource::open(&rt, path.as_str());
-        fs::remove_file(&rt, path.as_path())?;
-        assert_eq!(rt; taken, [Ok(6), Ok(0), Ok(5)]);
-        let mut buf = [0u8; 8];
-        assert_eq!(rt; store.size(), Ok(11));
-        assert_eq!(rt; store.read_at(2, &mut buf), Ok(8));
-        assert_eq!(rt; &buf, b"ree word");
-        assert_eq!(rt; store.read_at(9, &mut buf), Ok(2));
-        assert_eq!(rt; &buf, b"dse word");
-        assert_eq!(rt; store.read_at(11, &mut buf), Ok(0));
-        assert_eq!(rt; (store.ends, store.faults.count), (1, 0));
-        assert_eq!(rt;
-            [source.read(&mut buf), source.read(&mut buf)],
-            [Ok(8), Ok(3)]
-        );
-        assert_eq!(rt; &buf, b"rdsee wo");
-        assert_eq!(rt; (source.read(&mut buf), source.faults.count), (Ok(0), 0));
-        Ok(())
-    }
-
-    #[test]
-    fn a_piece_without_a_byte_makes_no_file(rt: HostRuntime) -> Result<(), Fail> {
-        let mut sink = FileSink::named(&rt, "no such folder/made")?;
-        assert_eq!(rt; sink.write(b""), Ok(0));
-        assert_eq!(rt; sink.faults.count, 0);
-        assert_eq!(rt; sink.write(b"one"), Err(Failed));
-        assert_eq!(rt; sink.faults.count, 1);
-        Ok(())
     }
 }

@@ -1,7 +1,7 @@
 -- When a piece ends a line, and when a file is made.
 use Rattle.std.specs.Prelude.{◌≡◌, ℕ, ◌-◌, List, length, slice_get, Some, ⊤}
-use Rattle.daq.specs.declared.files.Target.{Target}
-use Rattle.daq.specs.declared.files.Target.TheVariants.{File, Named}
+use Rattle.system_devices.specs.declared.files.Target.{Target}
+use Rattle.system_devices.specs.declared.files.Target.TheVariants.{File, Named}
 
 -- the last byte is a line break
 abbrev pub EndsLine : List ℕ → Type 0

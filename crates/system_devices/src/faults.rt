@@ -2,7 +2,7 @@
 
 ghost use Rattle.std.specs.Prelude.{◌≡◌, ◌≤◌};
 ghost use Rattle.outer_world.specs.Device.{HasCause};
-ghost use Rattle.daq.specs.Answers.{AnswersRead, AnswersWrite, one_more};
+ghost use Rattle.system_devices.specs.Answers.{AnswersRead, AnswersWrite, one_more};
 
 use outer_world::Failed;
 use std::io;

@@ -1,0 +1,53 @@
+//! Devices over files and streams, where there is none, a folder, or a file without a byte.
+
+use outer_world::{Failed, Sink, Source, Store};
+use std::test::Fail;
+use system_devices::{FileSink, FileSource, FileStore};
+
+#[test]
+fn no_file_and_a_directory_fail_at_each_read(rt: HostRuntime) {
+    for path in ["no such file", "/"] {
+        let mut source = FileSource::open(&rt, path);
+        let mut buf = [0u8; 4];
+        assert_eq!(rt; source.read(&mut buf), Err(Failed));
+        assert_eq!(rt; source.read(&mut buf), Err(Failed));
+    }
+}
+
+#[test]
+fn an_empty_file_ends_at_once(rt: HostRuntime) {
+    let mut source = FileSource::open(&rt, "/dev/null");
+    let mut store = FileStore::open(&rt, "/dev/null");
+    let mut buf = [0u8; 4];
+    assert_eq!(rt; source.read(&mut buf), Ok(0));
+    assert_eq!(rt; store.size(), Ok(0));
+    assert_eq!(rt; store.read_at(0, &mut buf), Ok(0));
+}
+
+#[test]
+fn where_there_is_no_file_each_call_fails(rt: HostRuntime) {
+    let mut source = FileSource::closed();
+    let mut store = FileStore::closed();
+    let mut nowhere = FileSink::closed();
+    let mut buf = [0u8; 4];
+    assert_eq!(rt; source.read(&mut buf), Err(Failed));
+    assert_eq!(rt; store.size(), Err(Failed));
+    assert_eq!(rt; store.read_at(0, &mut buf), Err(Failed));
+    assert_eq!(rt; nowhere.write(b"one\n"), Err(Failed));
+}
+
+#[test]
+fn a_stream_takes_a_piece(rt: HostRuntime) -> Result<(), Fail> {
+    let mut out = FileSink::out(&rt)?;
+    assert_eq!(rt; out.write(b"one"), Ok(3));
+    assert_eq!(rt; out.write(b"\n"), Ok(1));
+    Ok(())
+}
+
+#[test]
+fn a_piece_without_a_byte_makes_no_file(rt: HostRuntime) -> Result<(), Fail> {
+    let mut sink = FileSink::named(&rt, "no such folder/made")?;
+    assert_eq!(rt; sink.write(b""), Ok(0));
+    assert_eq!(rt; sink.write(b"one"), Err(Failed));
+    Ok(())
+}
