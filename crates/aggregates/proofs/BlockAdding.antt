@@ -1,5 +1,5 @@
 -- The rows of a block, added one by one.
-use Rattle.std.proofs.Common.{◌≡◌, ℕ, zero, suc, ◌+◌, ◌-◌, ◌<◌, ◌≤◌, ℤ, pos, ◌≤ℤ◌, Bool, true, false, List, [], ◌∷◌, ◌++◌, length, map, take, set, refl, ap, sym, ◌∙◌, subst, arith, Option, Some, None, slice_get, get_or, min, length-take, length-set, length-append, append-nil, FitsSigned, if◌then◌else◌}
+use Rattle.std.proofs.Common.{◌≡◌, ℕ, zero, suc, ◌+◌, ◌-◌, ◌<◌, pos, ◌≤ℤ◌, Bool, true, false, List, [], ◌∷◌, ◌++◌, length, map, take, set, refl, ap, sym, ◌∙◌, subst, arith, Option, Some, None, slice_get, get_or, min, length-take, length-set, length-append, append-nil, FitsSigned, if◌then◌else◌}
 use Rattle.std.specs.Int.{w128, int_min, int_max}
 use Rattle.std.specs.List.{filter_map, range_with_len}
 use Rattle.std.specs.Option.{option_map}

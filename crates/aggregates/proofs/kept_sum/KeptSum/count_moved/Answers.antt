@@ -1,4 +1,4 @@
-use Rattle.std.proofs.Common.{◌-◌, sym, ◌∙◌, arith}
+use Rattle.std.proofs.Common.{sym, ◌∙◌, arith}
 use Rattle.aggregates.proofs.KeptSums.{both_le, none_moved}
 use Rattle.aggregates.proofs.kept_sum.KeptSum.count_moved.Goals as goal
 

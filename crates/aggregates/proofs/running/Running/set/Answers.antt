@@ -1,4 +1,4 @@
-use Rattle.std.proofs.Common.{length, length-take, take, set, ap, subst, arith}
+use Rattle.std.proofs.Common.{length, length-take, set, ap, subst, arith}
 use Rattle.aggregates.specs.Runnings.{IsSet, Tallies}
 use Rattle.aggregates.proofs.Adding.{is_set, seen}
 use Rattle.aggregates.proofs.running.Running.set.Goals as goal

@@ -2,7 +2,7 @@ use Rattle.std.proofs.Common.{◌≡◌, ◌+◌, ◌∷◌, [], ◌++◌, ap, s
 use Rattle.std.proofs.lemmas.Bool.{eqb-true}
 use Rattle.std.proofs.lemmas.Int.{ints}
 use Rattle.query_model.specs.declared.query.ItemKind.TheVariants.{Min, Max}
-use Rattle.query_model.specs.Answers.{answer, total}
+use Rattle.query_model.specs.Answers.{answer}
 use Rattle.query_model.specs.Bounds.{certain_count, lows, highs, low_share, high_share}
 use Rattle.aggregates.specs.declared.tally.Tally.{Tally}
 use Rattle.aggregates.specs.Tallies.{pair_with}

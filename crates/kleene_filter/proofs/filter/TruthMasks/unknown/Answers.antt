@@ -1,4 +1,4 @@
-use Rattle.std.proofs.Common.{◌-◌, arith}
+use Rattle.std.proofs.Common.{arith}
 use Rattle.kleene_filter.proofs.TruthBits.{unknown_count}
 use Rattle.kleene_filter.proofs.filter.TruthMasks.unknown.Goals as goal
 
