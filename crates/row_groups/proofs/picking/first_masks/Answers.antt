@@ -1,4 +1,4 @@
-use Rattle.std.proofs.Common.{◌==◌, ◌∷◌, [], length, length-append, replicate, sym, ap, ◌∙◌, arith}
+use Rattle.std.proofs.Common.{◌==◌, ◌∷◌, [], length-append, replicate, sym, ap, ◌∙◌, arith}
 use Rattle.row_groups.proofs.Picked.{first_more}
 use Rattle.row_groups.proofs.picking.first_masks.Goals as goal
 
