@@ -119,9 +119,11 @@ module _ (words : line.Session) (side side' : SourceState) (planes opened planes
 
   headline : (bytes reads : List ℕ) → AreSteps begun.plan begun.typed begun.file.head (bits_at begun.file.head bytes) reads →
       AreAllCertain begun.plan begun.typed begun.file.head (bits_at begun.file.head bytes) reads
-  headline bytes reads steps = λ n query there cells has. (certain begun.plan begun.typed begun.file.head (bits_at begun.file.head bytes) reads n query cells valid longs steps there has,
-      λ round h. same_stages query (frame_of begun.file.head) (bits_at begun.file.head bytes)
-      (own_reads begun.plan.width (frame_of begun.file.head) (bits_at begun.file.head bytes) (places_read begun.typed reads) query (length reads)) cells has round)
+  headline bytes reads steps = λ n query there cells has. (
+    certain begun.plan begun.typed begun.file.head (bits_at begun.file.head bytes) reads n query cells valid longs steps there has,
+    λ round h. same_stages query (frame_of begun.file.head) (bits_at begun.file.head bytes)
+        (own_reads begun.plan.width (frame_of begun.file.head) (bits_at begun.file.head bytes) (places_read begun.typed reads) query (length reads)) cells has round,
+  )
 
   -- each query alone
   tables : (bytes reads : List ℕ) → IsFileHead bytes begun.file.version begun.file.head → AreSteps begun.plan begun.typed begun.file.head (bits_at begun.file.head bytes) reads →
