@@ -1,7 +1,8 @@
-//! Devices over files and streams, where there is none, a folder, or a file without a byte.
+//! Devices over files and streams: what a named file took is read back; and where there is none, a folder, or a file without a byte.
 
 use outer_world::{Failed, Sink, Source, Store};
 use std::test::Fail;
+use std::{env, fs, process};
 use system_devices::{FileSink, FileSource, FileStore};
 
 #[test]
@@ -41,6 +42,32 @@ fn a_stream_takes_a_piece(rt: HostRuntime) -> Result<(), Fail> {
     let mut out = FileSink::out(&rt)?;
     assert_eq!(rt; out.write(b"one"), Ok(3));
     assert_eq!(rt; out.write(b"\n"), Ok(1));
+    Ok(())
+}
+
+#[test]
+fn what_a_named_file_takes_is_read_back(rt: HostRuntime) -> Result<(), Fail> {
+    let name = format!(in rt.alloc(); "daq-test-{}", process::id(rt.process()))?;
+    let path = env::temp_dir(&rt)?.join(rt.alloc(), name.as_str())?;
+    let mut sink = FileSink::named(&rt, path.as_str())?;
+    let taken = [sink.write(b"three "), sink.write(b""), sink.write(b"words")];
+    let mut store = FileStore::open(&rt, path.as_str());
+    let mut source = FileSource::open(&rt, path.as_str());
+    fs::remove_file(&rt, path.as_path())?;
+    assert_eq!(rt; taken, [Ok(6), Ok(0), Ok(5)]);
+    let mut buf = [0u8; 8];
+    assert_eq!(rt; store.size(), Ok(11));
+    assert_eq!(rt; store.read_at(2, &mut buf), Ok(8));
+    assert_eq!(rt; &buf, b"ree word");
+    assert_eq!(rt; store.read_at(9, &mut buf), Ok(2));
+    assert_eq!(rt; &buf, b"dse word");
+    assert_eq!(rt; store.read_at(11, &mut buf), Ok(0));
+    assert_eq!(rt;
+        [source.read(&mut buf), source.read(&mut buf)],
+        [Ok(8), Ok(3)]
+    );
+    assert_eq!(rt; &buf, b"rdsee wo");
+    assert_eq!(rt; source.read(&mut buf), Ok(0));
     Ok(())
 }
 
