@@ -40,9 +40,11 @@ fn joins(alloc: Global, rows: usize) -> Result<bool, AllocError> {
     joined.copy_from(&fives);
     joined.and_into(&threes);
     let both = has_exactly(&joined, |row| row % 15 == 0);
+    let mut joined = Mask::none(alloc, rows)?;
     joined.copy_from(&fives);
     joined.or_into(&threes);
     let either = has_exactly(&joined, |row| row % 3 == 0 || row % 5 == 0);
+    let mut joined = Mask::none(alloc, rows)?;
     joined.copy_from(&fives);
     joined.and_not_into(&threes);
     let rest = has_exactly(&joined, |row| row % 3 != 0 && row % 5 == 0);
