@@ -266,6 +266,18 @@ fn comparisons_of_values_that_may_be_null(rt: HostRuntime) -> Result<(), Fail> {
     Ok(())
 }
 
+// What is told of each comparison of two of the threes.
+fn told_of_two(alloc: Global, left: u8, right: u8) -> Result<[Told; 3], AllocError>
+    requires left { left < 3 }
+    requires right { right < 3 }
+{
+    Ok([
+        told_by(alloc, compared_columns(left, Comparison::Ge, 3 + right), 64)?,
+        told_by(alloc, compared_columns(left, Comparison::Gt, 3 + right), 64)?,
+        told_by(alloc, compared_columns(left, Comparison::Lt, 3 + right), 64)?,
+    ])
+}
+
 // The same of two values, by whether they are null: told that they are not, untold, null.
 #[test]
 fn comparisons_of_two_values(rt: HostRuntime) -> Result<(), Fail> {
@@ -280,18 +292,10 @@ fn comparisons_of_two_values(rt: HostRuntime) -> Result<(), Fail> {
         (2, 1, [N, N, N]),
         (2, 2, [N, N, N]),
     ] {
-        for (op, truth) in [Comparison::Ge, Comparison::Gt, Comparison::Lt]
-            .iter()
-            .zip(expected.iter())
-        {
-            assert!(rt; left < 3 && right < 3);
-            let pred = compared_columns(left, *op, 3 + right);
-            assert_eq!(rt;
-                told_by(rt.alloc(), pred, 64)?,
-                truth.told,
-                "{left} {right}"
-            );
-        }
+        assert!(rt; left < 3 && right < 3);
+        let told = told_of_two(rt.alloc(), left, right)?;
+        let wanted = [expected[0].told, expected[1].told, expected[2].told];
+        assert_eq!(rt; told, wanted, "{left} {right}");
     }
     Ok(())
 }
