@@ -1,11 +1,12 @@
 #!/usr/bin/python3
 """Finds in a report of `daq query` the first block in which each interval is within so many hundredths of its value.
 
-Within 1 % means: high - low <= 1 % of the least absolute value of the interval, which is 0 where the interval has 0. So an interval about 0
-is not within before its ends are equal. Neither is one where it is not known whether there is an answer (`or null`), nor a block with a group
-that is only possible, since another cell of its keys may be in the result. Items are numbers and averages; no dates and texts, no orders.
-Prints how many planes were read for that block, the number of the report's line with which it ends, and how many planes the report reads in
-all; the first two are `-` where no block is so narrow.
+Within 1 % means: high - low <= 1 % of the least absolute value of the interval, which is 0 where the interval has 0. So an interval about
+0 is not within before its ends are equal. Neither is one where it is not known whether there is an answer (`or null`), nor a block with a
+group that is only possible, since another cell of its keys may be in the result. Items are numbers and averages; no dates and texts, no
+orders.
+Prints how many planes were read for that block, the number of the report's line with which it ends, and how many planes the report reads
+in all; the first two are `-` where no block is so narrow.
 usage: within.py HUNDREDTHS < REPORT
 """
 import re
