@@ -1,0 +1,154 @@
+"""Plane files: making one of a CSV, opening one, and asking it."""
+from __future__ import annotations
+
+import os
+import re
+from dataclasses import dataclass
+from typing import Iterator, Optional, Sequence, Union
+
+from .errors import QueryError, ReportError
+from .goal import Goal, Within
+from .guess import guess_schema
+from .program import Failed, Run, file_error, find_program, load_error, output_of, query_error
+from .report import Block, Report
+from .result import Result
+from .values import VALUE, Value, parse_ends
+
+_LOADED = re.compile(r"loaded [0-9]+ rows, [0-9]+ columns, [0-9]+ planes, [0-9]+ bytes")
+_HEAD = re.compile(r"version [0-9]+ rows ([0-9]+) columns ([0-9]+)")
+_COLUMN = re.compile(r"column ([0-9]+) (.+) (int|dec[0-9]|date|text)(\??) width ([0-9]+) from (%s) to (%s)" % (VALUE, VALUE), re.DOTALL)
+
+Reads = Union[str, Sequence[str], None]
+
+
+@dataclass(frozen=True)
+class Column:
+    """A column as the head of its file declares it: how many planes it has, and between which values it lies."""
+
+    name: str
+    type: str
+    nullable: bool
+    planes: int
+    least: Optional[Value]
+    greatest: Optional[Value]
+
+
+class Table:
+    """A plane file that can be asked."""
+
+    def __init__(self, path: str, program: str) -> None:
+        self.path, self.program = path, program
+        try:
+            lines = output_of(program, ["info", path])
+        except Failed as failed:
+            raise file_error(failed, path) from None
+        self.rows, self.columns = parse_info(lines)
+
+    def __repr__(self) -> str:
+        return "<daq.Table %s: %d rows, %d columns>" % (self.path, self.rows, len(self.columns))
+
+    def sql(self, text: str, within: Optional[Within] = None, policy: Optional[str] = None, rounds: Optional[int] = None,
+            reads: Reads = None, list: bool = False, clip: bool = False, exact_avg: bool = False) -> Result:
+        """Asks a query, until each answer is known, or narrow enough: `within="1%"`, or `within=100` in the units of the values."""
+        asked = Asked(self, text, within, options(policy, rounds, reads, list, clip, exact_avg))
+        blocks = [*asked]
+        return Result(blocks[-1].query, blocks, asked.end)
+
+    def rounds(self, text: str, within: Optional[Within] = None, policy: Optional[str] = None, rounds: Optional[int] = None,
+               reads: Reads = None, list: bool = False, clip: bool = False, exact_avg: bool = False) -> Iterator[Block]:
+        """The blocks of a query as they come. Leaving the loop ends the program."""
+        yield from Asked(self, text, within, options(policy, rounds, reads, list, clip, exact_avg))
+
+
+class Asked:
+    """A query that is asked as soon as it is iterated; `end` says behind the last block why the rounds ended."""
+
+    def __init__(self, table: Table, text: str, within: Optional[Within], words: Sequence[str]) -> None:
+        self.table, self.text, self.words = table, text, words
+        self.goal = None if within is None else Goal.of(within)
+        self.end = ""
+        check_text(text)
+
+    def __iter__(self) -> Iterator[Block]:
+        run = Run(self.table.program, ["query", self.table.path, self.text, *self.words])
+        try:
+            report = Report(run.lines(), "--clip" in self.words or "--exact-avg" in self.words, "--list" in self.words)
+            for block in report:
+                reached = self.goal is not None and self.goal.reached(block)
+                self.end = "within" if reached else ""
+                yield block
+                if reached:
+                    return
+            self.end = report.end or ""
+        except Failed as failed:
+            raise query_error(failed, self.table.path, self.text, [column.name for column in self.table.columns]) from None
+        finally:
+            run.stop()
+
+
+def open_table(file: Union[str, os.PathLike], program: Optional[str] = None) -> Table:
+    """Opens a plane file. The program is `program`, or that of the variable DAQ, or the one installed."""
+    return Table(os.fspath(file), find_program(program))
+
+
+def load(csv: Union[str, os.PathLike], file: Union[str, os.PathLike], schema: Optional[str] = None, program: Optional[str] = None) -> Table:
+    """Writes the table of a CSV as a plane file, and opens it. A schema that is not given is guessed.
+
+    What stood at the path of the file stands there until the new file is whole.
+    """
+    csv, file = os.fspath(csv), os.fspath(file)
+    if os.path.exists(file) and os.path.exists(csv) and os.path.samefile(csv, file):
+        raise ValueError("the file would take the place of its own CSV: %s" % file)
+    schema = guess_schema(csv) if schema is None else schema
+    found = find_program(program)
+    part = os.path.join(os.path.dirname(file), ".%s.%d.part" % (os.path.basename(file), os.getpid()))
+    try:
+        lines = output_of(found, ["load", csv, part, schema])
+        if len(lines) != 1 or not _LOADED.fullmatch(lines[0]):
+            raise ReportError("load printed no line of its own: %r" % lines[:2])
+        os.replace(part, file)
+    except Failed as failed:
+        raise load_error(failed, csv, file, schema) from None
+    finally:
+        if os.path.exists(part):
+            os.remove(part)
+    return Table(file, found)
+
+
+def options(policy: Optional[str], rounds: Optional[int], reads: Reads, list: bool, clip: bool, exact_avg: bool) -> list[str]:
+    """The words of the program for these options of a query."""
+    if policy is not None and reads is not None:
+        raise ValueError("policy and reads both say which column is read next: give one of them")
+    words = [] if policy is None else ["--policy", policy]
+    words += [] if rounds is None else ["--rounds", str(int(rounds))]
+    words += [] if reads is None else ["--reads", reads if isinstance(reads, str) else ",".join(reads)]
+    return words + [word for word, given in (("--list", list), ("--clip", clip), ("--exact-avg", exact_avg)) if given]
+
+
+def check_text(text: str) -> None:
+    """A query goes to the program as one word, so it has no NUL, and only signs that UTF-8 has."""
+    place = next((place for place, sign in enumerate(text) if sign == "\0" or "\ud800" <= sign <= "\udfff"), None)
+    if place is not None:
+        raise QueryError("no text", text, place, "A query has no NUL and no half of a sign.")
+
+
+def parse_info(lines: Sequence[str]) -> tuple[int, list[Column]]:
+    """The number of rows and the columns that `info` tells."""
+    head = _HEAD.fullmatch(lines[0]) if lines else None
+    columns = [parse_column(number, line) for number, line in enumerate(lines[1:], 1)]
+    if not head or int(head[2]) != len(columns):
+        raise ReportError("info told no head of a file: %r" % lines[:1])
+    return int(head[1]), columns
+
+
+def parse_column(number: int, line: str) -> Column:
+    """The column of a line of `info`."""
+    found = _COLUMN.fullmatch(line)
+    try:
+        ends = parse_ends(found[6], found[7]) if found and int(found[1]) == number else None
+    except ValueError:
+        ends = None
+    if not ends:
+        raise ReportError("info told no column %d: %r" % (number, line[:120]))
+    nullable = found[4] == "?"
+    return Column(found[2], found[3], nullable, int(found[5]) + nullable, *ends)
