@@ -1,0 +1,27 @@
+"""Stands for the program in tests: prints what the scene says for a command. The variable FAKE_DAQ names the scene, a JSON file.
+
+A scene has for each command: out, err, status, pause (seconds before each block), signal (its own end), and log (a file for its words).
+"""
+import json
+import os
+import sys
+import time
+
+with open(os.environ["FAKE_DAQ"], encoding="utf-8") as file:
+    told = json.load(file)[sys.argv[1]]
+if "log" in told:
+    with open(told["log"], "w", encoding="utf-8") as log:
+        json.dump({"pid": os.getpid(), "words": sys.argv[1:]}, log)
+for line in told.get("out", "").splitlines(keepends=True):
+    if line.startswith("round "):
+        time.sleep(told.get("pause", 0))
+    sys.stdout.buffer.write(line.encode("utf-8", "surrogateescape"))
+    sys.stdout.buffer.flush()
+if "made" in told:
+    with open(sys.argv[3], "w", encoding="utf-8") as made:
+        made.write(told["made"])
+sys.stderr.write(told.get("err", ""))
+sys.stderr.flush()
+if "signal" in told:
+    os.kill(os.getpid(), told["signal"])
+sys.exit(told.get("status", 0))

@@ -1,0 +1,63 @@
+"""With the program that the variable DAQ names: the examples, loaded and asked."""
+import os
+import tempfile
+import time
+import unittest
+from fractions import Fraction
+
+from support import TOP, daq
+
+PROGRAM = os.environ.get("DAQ")
+
+
+@unittest.skipUnless(PROGRAM, "DAQ names no program")
+class WithTheProgram(unittest.TestCase):
+    @classmethod
+    def setUpClass(cls):
+        folder = tempfile.TemporaryDirectory()
+        cls.addClassCleanup(folder.cleanup)
+        cls.folder = folder.name
+        cls.shop = daq.load(TOP / "examples" / "shop.csv", os.path.join(cls.folder, "shop.daq"))
+        cls.zones = daq.load(TOP / "examples" / "zones.csv", os.path.join(cls.folder, "zones.daq"))
+
+    def test_columns(self):
+        self.assertEqual([(column.name, column.type, column.planes, column.least, column.greatest) for column in self.shop.columns],
+                         [("price", "int", 4, 3, 12), ("qty", "int", 2, 1, 4), ("city", "text", 2, "Bern", "Rome")])
+        self.assertEqual((self.zones.rows, self.zones.columns[-1].nullable), (418, True))
+
+    def test_answers(self):
+        self.assertEqual(self.shop.sql("SELECT SUM(price) FROM t").rows[0].low, 29)
+        answer = self.shop.sql("SELECT city, AVG(price) FROM t GROUP BY city")
+        self.assertEqual([(row.keys, row.low) for row in answer.rows], [(("Bern",), 3), (("Oslo",), Fraction(17, 2)), (("Rome",), 9)])
+        self.assertEqual([row.keys for row in self.shop.sql("SELECT * FROM t ORDER BY price DESC LIMIT 2").rows], [(2,), (3,)])
+
+    def test_enough(self):
+        answer = self.zones.sql("SELECT AVG(longitude) FROM t WHERE area = 'America'", within="1%", policy="filter")
+        row = answer.rows[0]
+        self.assertEqual(answer.end, "within")
+        self.assertLessEqual(row.relative_width, Fraction(1, 100))
+        self.assertTrue(row.low <= Fraction("-11565.5289") / 144 <= row.high)
+
+    def test_leaving_the_loop(self):
+        begun = time.monotonic()
+        for block in self.zones.rounds("SELECT SUM(latitude), SUM(longitude) FROM t"):
+            if block.round == 3:
+                break
+        self.assertLess(time.monotonic() - begun, 30)
+
+    def test_refusals(self):
+        with self.assertRaises(daq.QueryError) as raised:
+            self.shop.sql("SELECT SUM(pris) FROM t")
+        self.assertEqual((raised.exception.place, raised.exception.cause), (11, "unknown column"))
+        with self.assertRaises(daq.FileError):
+            daq.open(os.path.join(self.folder, "nosuch.daq"))
+        with self.assertRaises(daq.FileError):
+            daq.open(TOP / "examples" / "shop.csv")
+        with self.assertRaises(daq.TableError) as raised:
+            daq.load(TOP / "examples" / "shop.csv", os.path.join(self.folder, "bad.daq"), "price:int,qty:int,city:date")
+        self.assertEqual((raised.exception.record, raised.exception.column), (2, 3))
+        self.assertFalse(os.path.exists(os.path.join(self.folder, "bad.daq")))
+
+
+if __name__ == "__main__":
+    unittest.main()
