@@ -1,12 +1,13 @@
-# Installs the program, its manual and its completions for bash:
+# Installs the program, its manual, its completions for bash, and the companion, a package for Python with the script daq-view:
 #   make install PREFIX=/usr/local        make uninstall PREFIX=/usr/local
-# With DESTDIR all goes below that folder, as for a package.
+# With DESTDIR all goes below that folder, as for a package. `make test-companion` runs the tests of the companion.
 
 PREFIX = /usr/local
 DESTDIR =
 bin = $(DESTDIR)$(PREFIX)/bin
 man = $(DESTDIR)$(PREFIX)/share/man/man1
 completions = $(DESTDIR)$(PREFIX)/share/bash-completion/completions
+share = $(DESTDIR)$(PREFIX)/share/daq
 
 # The script proves and builds what is missing or older than its sources, and is then asked something small.
 build:
@@ -16,8 +17,15 @@ install: build
 	install -D -m 755 crates/daq/out/daq $(bin)/daq
 	install -D -m 644 docs/daq.1 $(man)/daq.1
 	install -D -m 644 completions/daq.bash $(completions)/daq
+	install -D -m 755 companion/daq-view $(bin)/daq-view
+	install -d $(share)/python/daq
+	install -m 644 companion/daq/*.py $(share)/python/daq
 
 uninstall:
-	rm -f $(bin)/daq $(man)/daq.1 $(completions)/daq
+	rm -f $(bin)/daq $(bin)/daq-view $(man)/daq.1 $(completions)/daq
+	rm -rf $(share)
 
-.PHONY: build install uninstall
+test-companion:
+	python3 -m unittest discover -s companion/tests
+
+.PHONY: build install uninstall test-companion
