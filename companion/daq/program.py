@@ -36,7 +36,7 @@ class Run:
     """A run of the program whose output is read as it comes."""
 
     def __init__(self, program: str, words: Sequence[str]) -> None:
-        self._errors = tempfile.TemporaryFile()
+        self._words, self._errors = words, tempfile.TemporaryFile()
         try:
             self._process = subprocess.Popen(
                 [program, *words], stdin=subprocess.DEVNULL, stdout=subprocess.PIPE, stderr=self._errors)
@@ -61,7 +61,7 @@ class Run:
         if status:
             self._errors.seek(0)
             line = self._errors.read(10000).decode("utf-8", "replace").strip()
-            raise Failed(status, line)
+            raise Failed(status, line, self._words)
 
     def stop(self) -> None:
         """Ends the run where it is: nothing more is read, and nothing more is computed."""
@@ -73,10 +73,10 @@ class Run:
 
 
 class Failed(Exception):
-    """How a run ended that did not end well: its status, and what it wrote on standard error."""
+    """How a run with these words ended that did not end well: its status, and what it wrote on standard error."""
 
-    def __init__(self, status: int, line: str) -> None:
-        self.status, self.line = status, line
+    def __init__(self, status: int, line: str, words: Sequence[str]) -> None:
+        self.status, self.line, self.words = status, line, words
         super().__init__(status, line)
 
     @property
@@ -133,8 +133,10 @@ def load_error(failed: Failed, csv: str, file: str, schema: str) -> DaqError:
 
 
 def other_error(failed: Failed) -> ProgramError:
-    if failed.status == 2:
-        return ProgramError("the program takes no such arguments (%s); it may be older than this package" % failed.cause, 2)
+    refused = re.fullmatch(r"usage: word ([0-9]+)", failed.cause)
+    if failed.status == 2 and refused:
+        word = "".join(failed.words[int(refused[1]) - 1 : int(refused[1])])
+        return ProgramError("the program takes no argument %r there; it may be older than this package" % word, 2)
     ended = "was ended by signal %d" % -failed.status if failed.status < 0 else "ended with status %d" % failed.status
     return ProgramError("the program %s%s" % (ended, failed.line and ": " + failed.line), failed.status)
 

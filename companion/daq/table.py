@@ -6,7 +6,7 @@ import re
 from dataclasses import dataclass
 from typing import Iterator, Optional, Sequence, Union
 
-from .errors import QueryError, ReportError
+from .errors import FileError, QueryError, ReportError
 from .goal import Goal, Within
 from .guess import guess_schema
 from .program import Failed, Run, file_error, find_program, load_error, output_of, query_error
@@ -97,22 +97,31 @@ def load(csv: Union[str, os.PathLike], file: Union[str, os.PathLike], schema: Op
     What stood at the path of the file stands there until the new file is whole.
     """
     csv, file = os.fspath(csv), os.fspath(file)
-    if os.path.exists(file) and os.path.exists(csv) and os.path.samefile(csv, file):
-        raise ValueError("the file would take the place of its own CSV: %s" % file)
+    check_target(csv, file)
     schema = guess_schema(csv) if schema is None else schema
     found = find_program(program)
-    part = os.path.join(os.path.dirname(file), ".%s.%d.part" % (os.path.basename(file), os.getpid()))
+    # A link stays, and what it leads to is made anew.
+    target = os.path.realpath(file)
+    part = os.path.join(os.path.dirname(target), ".%s.%d.part" % (os.path.basename(target), os.getpid()))
     try:
         lines = output_of(found, ["load", csv, part, schema])
         if len(lines) != 1 or not _LOADED.fullmatch(lines[0]):
             raise ReportError("load printed no line of its own: %r" % lines[:2])
-        os.replace(part, file)
+        os.replace(part, target)
     except Failed as failed:
         raise load_error(failed, csv, file, schema) from None
     finally:
         if os.path.exists(part):
             os.remove(part)
     return Table(file, found)
+
+
+def check_target(csv: str, file: str) -> None:
+    """A plane file takes the place of nothing or of a regular file, and not of its own CSV."""
+    if os.path.exists(file) and not os.path.isfile(file):
+        raise FileError("stands there already, and is no regular file", file)
+    if os.path.exists(file) and os.path.exists(csv) and os.path.samefile(csv, file):
+        raise FileError("would take the place of its own CSV", file)
 
 
 def options(policy: Optional[str], rounds: Optional[int], reads: Reads, list: bool, clip: bool, exact_avg: bool) -> list[str]:

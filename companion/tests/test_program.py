@@ -99,8 +99,19 @@ class Runs(FakeTest):
         self.assertEqual(self.logged()["words"][3], "price:int,city:text")
         with open(file, encoding="utf-8") as made:
             self.assertEqual(made.read(), "new")
-        with self.assertRaises(ValueError):
-            daq.load(csv, csv)
+
+    def test_load_takes_the_place_of_regular_files_alone(self):
+        csv = self.path("my.csv")
+        with open(csv, "w", encoding="utf-8") as made:
+            made.write("price\n5\n")
+        os.symlink(csv, self.path("link.csv"))
+        for file in (csv, self.path("link.csv"), self.folder, "/dev/null"):
+            with self.subTest(file), self.assertRaises(daq.FileError):
+                daq.load(csv, file, "price:int")
+        os.symlink(self.path("new.daq"), self.path("link.daq"))
+        self.scene(load={"made": "new", "out": "loaded 4 rows, 3 columns, 8 planes, 195 bytes\n"}, info={"out": INFO})
+        daq.load(csv, self.path("link.daq"), "price:int")
+        self.assertTrue(os.path.islink(self.path("link.daq")) and os.path.isfile(self.path("new.daq")))
 
 
 class Refusals(FakeTest):
@@ -154,7 +165,8 @@ class Refusals(FakeTest):
                 ("file refused: column 1 plane 2 has pad bits", 5, part, daq.FileError, "column 1 plane 2 has pad bits"),
                 ("read fault", 6, part, daq.FileError, "No such file"),
                 ("no memory", 8, "", daq.ProgramError, "no memory"),
-                ("usage: word 4", 2, "", daq.ProgramError, "word 4"),
+                ("usage: word 3", 2, "", daq.ProgramError, "no argument 'SELECT SUM(price) FROM t'"),
+                ("usage: word 4", 2, "", daq.ProgramError, "no argument ''"),
                 ("query refused: ", 3, "", daq.ProgramError, "status 3"),
                 ("what now", 99, part[:-3], daq.ProgramError, "status 99: daq: what now")):
             with self.subTest(line):

@@ -7,6 +7,7 @@ import os
 import pty
 import re
 import select
+import signal
 import subprocess
 import sys
 import unittest
@@ -117,6 +118,16 @@ class Commands(FakeTest):
         running.stdout.close()
         self.assertEqual((running.stderr.read(), running.wait()), (b"", 0))
         running.stderr.close()
+
+    def test_control_c_stops(self):
+        self.play(pause=0.5)
+        running = subprocess.Popen([sys.executable, VIEW, "watch", "shop.daq", ASK], stdout=subprocess.PIPE, stderr=subprocess.PIPE)
+        running.stdout.readline()
+        running.send_signal(signal.SIGINT)
+        out, err = running.communicate()
+        self.assertEqual((out.decode().splitlines()[-1], err, running.returncode), ("stopped", b"", 0))
+        with self.assertRaises(ProcessLookupError):
+            os.kill(self.logged()["pid"], 0)
 
 
 class Terminal(FakeTest):
