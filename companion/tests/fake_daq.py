@@ -1,6 +1,7 @@
 """Stands for the program in tests: prints what the scene says for a command. The variable FAKE_DAQ names the scene, a JSON file.
 
-A scene has for each command: out, err, status, pause (seconds before each block), signal (its own end), and log (a file for its words).
+A scene has for each command, or for the command with its SQL: out, err, status, pause (seconds before each block), signal (its own end),
+made (what load writes) and log (a file for its words).
 """
 import json
 import os
@@ -8,7 +9,8 @@ import sys
 import time
 
 with open(os.environ["FAKE_DAQ"], encoding="utf-8") as file:
-    told = json.load(file)[sys.argv[1]]
+    scene = json.load(file)
+told = scene.get(" ".join(sys.argv[1:2] + sys.argv[3:4])) or scene[sys.argv[1]]
 if "log" in told:
     with open(told["log"], "w", encoding="utf-8") as log:
         json.dump({"pid": os.getpid(), "words": sys.argv[1:]}, log)

@@ -1,4 +1,5 @@
 """What the tests share: the package, kept reports, and a program that is none."""
+import doctest
 import io
 import json
 import os
@@ -66,6 +67,17 @@ def read(text, **settings):
     """The report of a text, and its blocks."""
     report = Report(whole_lines(io.BytesIO(text.encode("utf-8", "surrogateescape")).readline), **settings)
     return report, list(report)
+
+
+def tour(folder):
+    """Runs the examples of the README in the folder; how many failed, and how many there are."""
+    os.symlink(TOP / "examples", os.path.join(folder, "examples"))
+    kept = os.getcwd()
+    os.chdir(folder)
+    try:
+        return doctest.testfile(str(TESTS.parent / "README.md"), module_relative=False)
+    finally:
+        os.chdir(kept)
 
 
 def kept_reports():

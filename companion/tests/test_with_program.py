@@ -5,7 +5,7 @@ import time
 import unittest
 from fractions import Fraction
 
-from support import TOP, daq
+from support import TOP, daq, tour
 
 PROGRAM = os.environ.get("DAQ")
 
@@ -57,6 +57,10 @@ class WithTheProgram(unittest.TestCase):
             daq.load(TOP / "examples" / "shop.csv", os.path.join(self.folder, "bad.daq"), "price:int,qty:int,city:date")
         self.assertEqual((raised.exception.record, raised.exception.column), (2, 3))
         self.assertFalse(os.path.exists(os.path.join(self.folder, "bad.daq")))
+
+    def test_the_tour_of_the_readme(self):
+        with tempfile.TemporaryDirectory() as folder:
+            self.assertEqual(tour(folder).failed, 0)
 
 
 if __name__ == "__main__":
