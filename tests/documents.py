@@ -9,6 +9,7 @@ import re
 import sys
 
 TOP = os.path.dirname(os.path.dirname(os.path.abspath(__file__)))
+FOLDERS = ("", "docs", "docs/proof", "examples", "companion")
 
 
 def read(path):
@@ -17,7 +18,7 @@ def read(path):
 
 
 def pages():
-    return sorted(os.path.relpath(path, TOP) for folder in ("", "docs", "examples") for path in glob.glob(os.path.join(TOP, folder, "*.md")))
+    return sorted(os.path.relpath(path, TOP) for folder in FOLDERS for path in glob.glob(os.path.join(TOP, folder, "*.md")))
 
 
 def dead_links(page):
@@ -27,7 +28,7 @@ def dead_links(page):
             yield "%s: no file %s" % (page, link)
 
 
-def lost_definitions(page="docs/DEFINITIONS.md"):
+def lost_definitions(page="docs/proof/definitions.md"):
     for names, path in re.findall(r"^\| (\*.*?) \|.*\| `(.*)` \|$", read(page), re.M):
         text = read(path) if os.path.exists(os.path.join(TOP, path)) else ""
         for name in re.findall(r"\*(\w+)\*", names):
@@ -35,7 +36,7 @@ def lost_definitions(page="docs/DEFINITIONS.md"):
                 yield "%s: no definition of %s in %s" % (page, name, path)
 
 
-def lost_edits(page="docs/PROMISES.md"):
+def lost_edits(page="docs/proof/promises.md"):
     for crate, edit in re.findall(r"^\| .* \| `(\w+)/(\w+)` \|$", read(page), re.M):
         if not os.path.exists(os.path.join(TOP, "crates", crate, "must-fail", edit + ".edit")):
             yield "%s: no edit %s of %s" % (page, edit, crate)
@@ -63,7 +64,7 @@ def crates():
     return re.findall(r"^(\w+)[^:\n#]*:", read("crates.txt"), re.M)
 
 
-def miscounted_crates(page="docs/ARCHITECTURE.md"):
+def miscounted_crates(page="docs/proof/architecture.md"):
     lines = [name for names in re.findall(r"^\| ([a-z_, ]+) \|", read(page), re.M) for name in names.split(", ")]
     for crate in sorted(set(crates() + lines)):
         if (lines.count(crate), crates().count(crate)) != (1, 1):
@@ -73,7 +74,7 @@ def miscounted_crates(page="docs/ARCHITECTURE.md"):
 def main():
     faults = [fault for page in pages() for fault in dead_links(page)] + list(lost_definitions()) + list(lost_edits())
     words = words_of_crates()
-    named = ("ARCHITECTURE", "DECISIONS", "DEFINITIONS", "FILE", "PROMISES", "REPORT", "SQL", "WORDS")
+    named = ("output", "sql", "proof/architecture", "proof/decisions", "proof/definitions", "proof/file", "proof/promises", "proof/words")
     faults += [fault for page in named for fault in lost_names("docs/%s.md" % page, words)] + list(miscounted_crates())
     print("\n".join(faults) or "ok: links, names, edits and crates are there")
     sys.exit(bool(faults))

@@ -46,7 +46,7 @@ def comparisons(program):
     with tempfile.TemporaryDirectory() as work:
         os.symlink(program, os.path.join(work, "daq"))
         os.symlink(os.path.join(TOP, "examples"), os.path.join(work, "examples"))
-        for commands, kept in list(page_examples(read("README.md"))) + list(page_examples(read("docs", "SQL.md"))):
+        for commands, kept in list(page_examples(read("README.md"))) + list(page_examples(read("docs", "sql.md"))):
             yield commands[-1], output("\n".join(commands), work, shell=True), kept
         yield "docs/picture.svg", output("./daq query shop.daq 'SELECT SUM(price) FROM t' | examples/picture --rows 4", work, shell=True), \
             read("docs", "picture.svg")

@@ -68,7 +68,7 @@ class FileColumn(reports.Column):
 
 
 class Reader:
-    """The head of a file, by docs/FILE.md."""
+    """The head of a file, by docs/proof/file.md."""
 
     def __init__(self, data):
         self.data = data

@@ -1,4 +1,4 @@
-"""What the scripts beside this one share: runs of the program in a folder, what they leave, and plane files written by docs/FILE.md."""
+"""What the scripts beside this one share: runs of the program in a folder, what they leave, and plane files written by docs/proof/file.md."""
 import os
 import subprocess
 import sys

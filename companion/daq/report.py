@@ -1,4 +1,4 @@
-"""Reads a report line by line, as docs/REPORT.md gives its form. A line of another form is an error: nothing is guessed at."""
+"""Reads a report line by line, as docs/output.md gives its form. A line of another form is an error: nothing is guessed at."""
 from __future__ import annotations
 
 import datetime
