@@ -1,6 +1,6 @@
 # Installs the program, its manual, its completions for bash, and the companion, a package for Python with the script daq-view:
 #   make install PREFIX=/usr/local        make uninstall PREFIX=/usr/local
-# With DESTDIR all goes below that folder, as for a package. `make test-companion` runs the tests of the companion.
+# With DESTDIR all goes below that folder, as for a package. `make test` runs the merge gate, `make test-companion` the tests of the companion.
 
 PREFIX = /usr/local
 DESTDIR =
@@ -25,7 +25,10 @@ uninstall:
 	rm -f $(bin)/daq $(bin)/daq-view $(man)/daq.1 $(completions)/daq
 	rm -rf $(share)
 
+test:
+	.ci/run
+
 test-companion:
 	python3 -m unittest discover -s companion/tests
 
-.PHONY: build install uninstall test-companion
+.PHONY: build install uninstall test test-companion
