@@ -201,7 +201,7 @@ def main():
     words = words_of_crates()
     faults += [fault for page in NAMING for fault in lost_names("docs/%s.md" % page, words)] + list(miscounted_crates())
     readme, manual = read("README.md"), read("docs/daq.1")
-    faults += [*wrong_limits(), *other_limits("README.md", readme[: readme.index("\n## ")]), *other_limits("docs/csv.md", read("docs/csv.md"))]
+    faults += [*wrong_limits(), *other_limits("README.md", re.search(r"^- \*\*Limits.*$", readme, re.M)[0]), *other_limits("docs/csv.md", read("docs/csv.md"))]
     faults += [*other_limits("docs/daq.1", manual[manual.index(".Sh LIMITS") : manual.index(".Sh FILES")]), *long_readme(), *uneven_lists()]
     print("\n".join(faults) or "ok: links, names, edits, crates, limits, commands and options are there")
     sys.exit(bool(faults))
