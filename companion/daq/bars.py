@@ -52,6 +52,12 @@ def bar(interval: Interval, span: Span, sure: bool, width: int) -> str:
     return "".join(signs)
 
 
+def mean_column(title: str) -> Optional[str]:
+    """The column of which an item is the average; None of another item."""
+    mean = re.fullmatch(r'AVG\("?([^"()*+]+?)"?\)', title)
+    return mean[1] if mean else None
+
+
 class Chart:
     """Draws the blocks of one query. The scale of an item is what its first block leaves open, of the average of a column its values."""
 
@@ -60,11 +66,23 @@ class Chart:
         self._spans: dict[str, Span] = {}
         self._name_room = self._text_room = 0
 
-    def lines(self, block: Block, width: int, height: Optional[int] = None) -> list[str]:
-        """The block as lines for so wide a screen; with a height none is wider, and rows that do not fit are counted."""
+    def rows(self, block: Block) -> list[Row]:
+        """The rows of the block, for which there is a scale now."""
         rows = rows_of(block)
         for row in rows:
             self._widen(row)
+        return rows
+
+    def ends(self, row: Row) -> Optional[tuple[float, float]]:
+        """Where the ends of a row lie on its scale, from 0 to 1 where they do not leave it; None where there are none."""
+        span = self._spans.get(_scale_name(row))
+        if not span or row.low is None or row.high is None:
+            return None
+        return place(row.low, span), place(row.high, span)
+
+    def lines(self, block: Block, width: int, height: Optional[int] = None) -> list[str]:
+        """The block as lines for so wide a screen; with a height none is wider, and rows that do not fit are counted."""
+        rows = self.rows(block)
         room = len(rows) if height is None else max(height - 2, 1)
         lines = [head_text(block), *self._rows(rows[:room], width)]
         lines += ["%d more rows" % (len(rows) - room)] if len(rows) > room else []
@@ -74,8 +92,7 @@ class Chart:
         low, high, title = row.low, row.high, _scale_name(row)
         if low is None or high is None:
             return
-        mean = re.fullmatch(r'AVG\("?([^"]+?)"?\)', title)
-        column = self._columns.get(mean[1]) if mean else None
+        column = self._columns.get(mean_column(title) or "")
         if column and column.least is not None and column.greatest is not None:
             self._spans[title] = (column.least, column.greatest)
             return
@@ -92,8 +109,12 @@ class Chart:
 
     def _bar(self, row: Row, room: int) -> str:
         span = self._spans.get(_scale_name(row))
-        sure = row.state in ("", "present", "certain") and not row.maybe_null
-        return bar(row.interval, span, sure, room) if span else " " * room
+        return bar(row.interval, span, is_sure(row), room) if span else " " * room
+
+
+def is_sure(row: Row) -> bool:
+    """Whether there is an answer, and its group or row belongs."""
+    return row.state in ("", "present", "certain") and not row.maybe_null
 
 
 def _scale_name(row: Row) -> str:
@@ -136,4 +157,18 @@ def head_text(block: Block) -> str:
     read = "" if block.column is None else ", the last of %s (%d of %d)" % (block.column, block.plane, block.planes)
     ranking = block.ranking
     found = "; %d of %d rows certain, %d possible" % (ranking.certain, ranking.limit, ranking.possible) if ranking else ""
-    return "%s%s%s" % (planes_text(block.planes_read), read, found)
+    return "%s%s%s" % (read_text(block), read, found)
+
+
+def read_text(block: Block) -> str:
+    """How many planes were read, and their bytes where a plane has any."""
+    planes = planes_text(block.planes_read)
+    return planes.replace(" read", ", %s read" % bytes_text(block.bytes_read)) if block.bytes_read else planes
+
+
+def bytes_text(count: int) -> str:
+    """A number of bytes for people."""
+    for unit, size in (("GB", 10**9), ("MB", 10**6), ("kB", 10**3)):
+        if count >= size:
+            return "%.1f %s" % (count / size, unit)
+    return "%d bytes" % count

@@ -1,58 +1,108 @@
-"""Guesses the schema of a CSV: for each column the narrowest type that all its fields have, as examples/schema does."""
+"""Guesses the schema of a CSV: for each column the narrowest type that all its fields have; and says what would be refused."""
 from __future__ import annotations
 
 import csv
 import datetime
 import re
-from dataclasses import dataclass
+from dataclasses import dataclass, field as default_of
 from decimal import Decimal
 from fractions import Fraction
-from typing import Iterator
+from typing import Iterable, Iterator, Optional, Sequence
 
 from .errors import FileError, TableError
 
+MOST_COLUMNS = 64
+MOST_TEXTS = 65_536
+MOST_BYTES = 255
 _NUMBER = re.compile(r"[+-]?(?=\.?[0-9])[0-9]*(\.([0-9]*?)0*)?")
 _DATE = re.compile(r"[0-9]{4}-[0-9]{2}-[0-9]{2}")
-_NAME = re.compile(r'[ !#-+\--9;-~]{1,64}')
+_NAME = re.compile(r"[ !#-+\--9;-~]{1,64}")
+# Texts that often stand for nothing, between numbers or days.
+NOTHINGS = frozenset(("NA", "N/A", "na", "n/a", "NULL", "null", "None", "NaN", "nan", r"\N", "-", "?"))
 
 
 @dataclass
 class Guess:
-    """What the fields of a column are so far: all numbers, with so many decimals and between these ends, or all dates; some empty."""
+    """What the fields of a column are so far."""
 
-    numbers: bool = True
-    dates: bool = True
     empty: bool = False
     any: bool = False
+    # Whether all are numbers or stand for nothing, with so many decimals, and between these ends; and whether some have zeros in front.
+    numbers: bool = True
     point: bool = False
+    zeros: bool = False
     scale: int = 0
     least: Decimal = Decimal(0)
     greatest: Decimal = Decimal(0)
+    # Whether all are days or stand for nothing.
+    dates: bool = True
+    nothings: set[str] = default_of(default_factory=set)
+    # The different texts, up to one more than a column takes, and the most bytes of one.
+    texts: set[str] = default_of(default_factory=set)
+    longest: int = 0
 
     def take(self, field: str) -> None:
         if not field:
             self.empty = True
             return
+        if len(self.texts) <= MOST_TEXTS:
+            self.texts.add(field)
+        if len(field) * 4 > self.longest:
+            self.longest = max(self.longest, len(field.encode("utf-8", "surrogateescape")))
+        if field in NOTHINGS:
+            self.nothings.add(field)
+            return
         self.any = True
-        self.dates = self.dates and is_date(field)
         if self.numbers:
             self._take_number(field)
+        if self.dates:
+            self.dates = is_date(field)
 
     def _take_number(self, field: str) -> None:
         number = _NUMBER.fullmatch(field)
-        self.numbers = bool(number)
-        if number:
-            self.point = self.point or number[1] is not None
-            self.scale = max(self.scale, len(number[2] or ""))
-            self.least, self.greatest = min(self.least, Decimal(field)), max(self.greatest, Decimal(field))
+        if not number:
+            self.numbers = False
+            return
+        self.point = self.point or number[1] is not None
+        self.zeros = self.zeros or field[0] == "0" and field[1:2].isdigit()
+        self.scale = max(self.scale, len(number[2] or ""))
+        # Shorter ones fit with each scale.
+        if len(field) > 9:
+            value = Decimal(field)
+            self.least, self.greatest = min(self.least, value), max(self.greatest, value)
+
+    def number_type(self) -> Optional[str]:
+        """The type of numbers that all of them have."""
+        least, greatest = (Fraction(end) * 10**self.scale for end in (self.least, self.greatest))
+        fits = self.any and self.numbers and self.scale <= 9 and -(2**63) <= least and greatest < 2**63
+        return ("dec%d" % self.scale if self.point else "int") if fits else None
+
+    def narrow_type(self) -> Optional[str]:
+        """The type of all that is not for nothing, where it is not text."""
+        return self.number_type() or ("date" if self.any and self.dates else None)
 
     def type(self) -> str:
-        least, greatest = (Fraction(end) * 10**self.scale for end in (self.least, self.greatest))
-        if self.any and self.numbers and self.scale <= 9 and -(2**63) <= least and greatest < 2**63:
-            kind = "dec%d" % self.scale if self.point else "int"
-        else:
-            kind = "date" if self.any and self.dates else "text"
+        kind = "text" if self.nothings else self.narrow_type() or "text"
         return kind + "?" * self.empty
+
+    def refusals(self) -> Iterator[str]:
+        """Why a column of this type would be refused, and what to do."""
+        if self.type().startswith("text"):
+            if len(self.texts) > MOST_TEXTS:
+                yield "it has more than 65,536 different texts: leave it out, by skip in daq.load"
+            if self.longest > MOST_BYTES:
+                yield "a text has more than 255 bytes: leave the column out, or make its texts shorter"
+
+    def advice(self) -> Iterator[str]:
+        """What another type would take."""
+        narrow = self.narrow_type()
+        if self.nothings and narrow:
+            told = " and ".join(sorted(self.nothings))
+            yield "all but %s is %s: where that stands for nothing, leave the field empty and write %s?" % (told, narrow, narrow)
+        if self.any and self.numbers and self.scale > 9:
+            yield "its numbers have %d decimals, and a column has at most 9: round them for a dec9" % self.scale
+        if self.type().startswith("int") and self.zeros:
+            yield "its numbers have zeros in front, which int drops: text keeps them"
 
 
 def is_date(field: str) -> bool:
@@ -62,11 +112,53 @@ def is_date(field: str) -> bool:
         return False
 
 
-def guess_schema(path: str) -> str:
-    """The schema of the CSV at the path, as price:dec2,city:text?."""
+def name_fault(name: str, before: Sequence[str]) -> str:
+    """Why no schema takes the name, and what to do; nothing where one does."""
+    if not _NAME.fullmatch(name):
+        return "a name has 1 to 64 signs from space to ~, none of them a comma, a colon or a double quote: change the header"
+    return "a column before it has this name: change the header" if name in before else ""
+
+
+class Guesses:
+    """The columns of a CSV by name, with what their fields are."""
+
+    def __init__(self, records: Iterable[list[str]]) -> None:
+        rest = iter(records)
+        names = next(rest, None)
+        if names is None:
+            raise TableError("no header", hint="The first record of a CSV names its columns.")
+        self.names, self.columns = names, [Guess() for _ in names]
+        for record in rest:
+            for column, field in zip(self.columns, record):
+                column.take(field)
+
+    @property
+    def schema(self) -> str:
+        return ",".join("%s:%s" % (name, column.type()) for name, column in zip(self.names, self.columns))
+
+    def name_faults(self) -> Iterator[tuple[int, str]]:
+        """The columns, by number, whose names stand in no schema, and why."""
+        for number, name in enumerate(self.names, 1):
+            fault = name_fault(name, self.names[: number - 1])
+            if fault:
+                yield number, fault
+
+    def refusals(self) -> list[tuple[int, str]]:
+        """The columns, by number, that would be refused, and what to do."""
+        more = [(MOST_COLUMNS + 1, "a CSV has at most 64 columns: leave some out, by skip in daq.load")] if len(self.names) > MOST_COLUMNS else []
+        found = [*more, *self.name_faults(), *((number, why) for number, column in enumerate(self.columns, 1) for why in column.refusals())]
+        return sorted(found)
+
+    def advice(self) -> list[tuple[int, str]]:
+        return [(number, why) for number, column in enumerate(self.columns, 1) for why in column.advice()]
+
+
+def records_of(path: str, delimiter: str = ",") -> Iterator[list[str]]:
+    """The records of the CSV at the path; lines without a byte are none."""
+    csv.field_size_limit(2**30)
     try:
         with open(path, newline="", encoding="utf-8-sig") as file:
-            return schema_of(record for record in csv.reader(file) if record)
+            yield from filter(None, csv.reader(file, delimiter=delimiter))
     except OSError as error:
         raise FileError("cannot be read: %s" % error.strerror, path) from error
     except UnicodeDecodeError as error:
@@ -75,25 +167,10 @@ def guess_schema(path: str) -> str:
         raise TableError("no CSV: %s" % error) from error
 
 
-def schema_of(records: Iterator[list[str]]) -> str:
-    """The schema of records, the first of which names the columns."""
-    names = next(records, None)
-    if names is None:
-        raise TableError("no header", hint="The first record of a CSV names its columns.")
-    for number, name in enumerate(names, 1):
-        check_name(number, name, names[: number - 1])
-    guesses = [Guess() for _ in names]
-    for record in records:
-        for guess, field in zip(guesses, record):
-            guess.take(field)
-    return ",".join("%s:%s" % (name, guess.type()) for name, guess in zip(names, guesses))
-
-
-def check_name(number: int, name: str, before: list[str]) -> None:
-    """A schema takes names of 1 to 64 signs from space to ~, none of them a comma, a colon or a double quote."""
-    if not _NAME.fullmatch(name):
-        hint = "A name has 1 to 64 signs of ASCII, and no comma, colon or double quote: change the header."
-        raise TableError("the name of column %d cannot stand in a schema: %r" % (number, name[:80]), column=number, hint=hint)
-    if name in before:
-        raise TableError("columns %d and %d have one name: %s" % (before.index(name) + 1, number, name), column=number,
-                         hint="Give one of them another name in the header.")
+def guess_schema(path: str) -> str:
+    """The schema of the CSV at the path, as price:dec2,city:text?."""
+    guesses = Guesses(records_of(path))
+    for number, fault in guesses.name_faults():
+        cause = "the name of column %d cannot stand in a schema: %r" % (number, guesses.names[number - 1][:80])
+        raise TableError(cause, column=number, hint=fault[:1].upper() + fault[1:] + ".")
+    return guesses.schema

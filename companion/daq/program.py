@@ -63,10 +63,14 @@ class Run:
             line = self._errors.read(10000).decode("utf-8", "replace").strip()
             raise Failed(status, line, self._words)
 
-    def stop(self) -> None:
-        """Ends the run where it is: nothing more is read, and nothing more is computed."""
+    def kill(self) -> None:
+        """Ends the program where it is: nothing more is read, and nothing more is computed."""
         if self._process.poll() is None:
             self._process.kill()
+
+    def stop(self) -> None:
+        """Ends the program, and lets go of its streams."""
+        self.kill()
         self._process.wait()
         self._process.stdout.close()
         self._errors.close()

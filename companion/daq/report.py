@@ -100,7 +100,8 @@ class Ranking:
 class Block:
     """A round of a query: the next of the `planes` of `column` was read, and `plane` of them are read now. Round 0 read none.
 
-    `planes_read` counts the planes that are read altogether, in a session by all its queries; `number` is the query's in a session.
+    `planes_read` counts the planes that are read altogether, in a session by all its queries, and `bytes_read` their bytes; `number` is the
+    query's in a session.
     """
 
     query: Query
@@ -112,18 +113,19 @@ class Block:
     ranking: Optional[Ranking]
     planes_read: int
     number: int = 1
+    bytes_read: int = 0
 
 
 class Report:
     """A report, read as it comes. It is iterated once, block by block; behind the last block `end` says why the rounds ended.
 
     With `sharper` there may be lines of clip and exact_avg, and with `listed` possible rows; where there are none, a block is
-    handed over with its last line, else (and for groups) with the first line of the next one.
+    handed over with its last line, else (and for groups) with the first line of the next one. A plane has `plane_bytes`.
     """
 
-    def __init__(self, lines: Iterable[str], sharper: bool = True, listed: bool = True) -> None:
+    def __init__(self, lines: Iterable[str], sharper: bool = True, listed: bool = True, plane_bytes: int = 0) -> None:
         self._lines = iter(lines)
-        self._sharper, self._listed = sharper, listed
+        self._sharper, self._listed, self._plane_bytes = sharper, listed, plane_bytes
         self._heads: dict[int, Block] = {}
         self._planes: dict[tuple[int, Optional[str]], tuple[int, int]] = {}
         self.end: Optional[str] = None
@@ -197,7 +199,8 @@ class Report:
         reader = _Body(query, body)
         groups, ranking = ((), reader.ranking()) if query.order is not None else (reader.groups(), None)
         reader.finish()
-        block = Block(query, place, column, plane, planes, groups, ranking, place if planes_read is None else planes_read, number)
+        read = place if planes_read is None else planes_read
+        block = Block(query, place, column, plane, planes, groups, ranking, read, number, read * self._plane_bytes)
         self._heads[number] = block
         return block
 

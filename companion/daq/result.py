@@ -15,7 +15,7 @@ from .report import Block, Item, Key, KeyRange, Query
 from .values import Interval, Number, Value, interval_text, is_number, percent_text, rounded, shown_ends, value_text
 
 FIELDS = ("item", "low", "high", "mid", "relative_width", "maybe_null", "state")
-ROUND_FIELDS = ("round", "column", "plane", "planes")
+ROUND_FIELDS = ("round", "column", "plane", "planes", "bytes_read")
 # So many rows a prompt or a notebook shows.
 ROWS_SHOWN = 60
 
@@ -32,6 +32,7 @@ class Row:
     column: Optional[str]
     plane: int
     planes: int
+    bytes_read: int
     keys: tuple[Key, ...]
     item: str
     interval: Interval
@@ -84,7 +85,7 @@ class Row:
 
 def rows_of(block: Block) -> list[Row]:
     """The rows of a block, in the order of its lines."""
-    front = (block.round, block.column, block.plane, block.planes)
+    front = (block.round, block.column, block.plane, block.planes, block.bytes_read)
     if block.ranking:
         title = block.query.order or ""
         return [Row(*front, (row.row,), title, row.interval, row.state) for row in block.ranking.rows]
@@ -123,7 +124,8 @@ def titles(query: Query, history: bool = False) -> list[str]:
 class Result:
     """What a query has answered. `blocks` are its rounds, of which the last has the sharpest intervals.
 
-    `end` says why the rounds ended: "narrow", "rounds" or "reads" as in a report, or "within", where the companion had seen enough.
+    `end` says why the rounds ended: "narrow", "rounds" or "reads" as in a report, "within", where the companion had seen enough, or
+    "stopped"; it is empty while they go on.
     """
 
     def __init__(self, query: Query, blocks: Sequence[Block], end: str) -> None:
@@ -160,6 +162,12 @@ class Result:
             file.write(text)
         return None
 
+    def plot(self, axes: Optional[Sequence[Any]] = None) -> list[Any]:
+        """Draws with matplotlib how the intervals of each item narrow; with groups or rows where they lie now. Gives the axes."""
+        from .plots import plot
+
+        return plot(self, axes)
+
     def __str__(self) -> str:
         return "%s\n%s" % (table_text(self.query, self.rows), end_text(self))
 
@@ -179,19 +187,28 @@ def as_float(value: Any, side: Optional[float] = None) -> Any:
     return math.nextafter(near, side) if wrong_side else near
 
 
+def more_rows_text(count: int) -> str:
+    """Of so many rows, those that are not shown."""
+    return "%d more rows" % (count - ROWS_SHOWN) if count > ROWS_SHOWN else ""
+
+
 def more_text(result: Result) -> str:
     """A line for the rows that are not shown."""
-    more = len(result.rows) - ROWS_SHOWN
-    return "%d more rows\n" % more if more > 0 else ""
+    more = more_rows_text(len(result.rows))
+    return more and more + "\n"
+
+
+def end_word(end: str) -> str:
+    """Why the rounds ended, for people."""
+    return {"narrow": "finished", "rounds": "stopped after so many planes", "reads": "stopped behind the last read",
+            "within": "stopped, narrow enough", "stopped": "stopped", "": "going on"}[end]
 
 
 def end_text(result: Result) -> str:
     """One line that says how far the rounds went."""
-    why = {"narrow": "finished", "rounds": "stopped after so many planes", "reads": "stopped behind the last read",
-           "within": "stopped, narrow enough"}
     ranking = result.block.ranking
     found = "%d of %d rows certain, %d possible; " % (ranking.certain, ranking.limit, ranking.possible) if ranking else ""
-    return "%s%s, %s" % (found, planes_text(result.block.planes_read), why[result.end])
+    return "%s%s, %s" % (found, planes_text(result.block.planes_read), end_word(result.end))
 
 
 def planes_text(count: int) -> str:

@@ -3,15 +3,17 @@ from __future__ import annotations
 
 import os
 import re
+from contextlib import contextmanager
 from dataclasses import dataclass
-from typing import Iterator, Optional, Sequence, Union
+from typing import Callable, Iterator, Optional, Sequence, Union
 
-from .errors import FileError, QueryError, ReportError
+from .errors import CutError, FileError, QueryError, ReportError
 from .goal import Goal, Within
 from .guess import guess_schema
 from .program import Failed, Run, file_error, find_program, load_error, output_of, query_error
 from .report import Block, Report
 from .result import Result
+from .rewrite import Rewriting, rewrite
 from .values import VALUE, Value, parse_ends
 
 _LOADED = re.compile(r"loaded [0-9]+ rows, [0-9]+ columns, [0-9]+ planes, [0-9]+ bytes")
@@ -19,6 +21,8 @@ _HEAD = re.compile(r"version [0-9]+ rows ([0-9]+) columns ([0-9]+)")
 _COLUMN = re.compile(r"column ([0-9]+) (.+) (int|dec[0-9]|date|text)(\??) width ([0-9]+) from (%s) to (%s)" % (VALUE, VALUE), re.DOTALL)
 
 Reads = Union[str, Sequence[str], None]
+# The policies, the one for large tables first.
+POLICIES = ("balanced", "widest", "filter", "order")
 
 
 @dataclass(frozen=True)
@@ -44,6 +48,11 @@ class Table:
             raise file_error(failed, path) from None
         self.rows, self.columns = parse_info(lines)
 
+    @property
+    def plane_bytes(self) -> int:
+        """The bytes of a plane: 8 for each 64 rows."""
+        return 8 * -(-self.rows // 64)
+
     def __repr__(self) -> str:
         return "<daq.Table %s: %d rows, %d columns>" % (self.path, self.rows, len(self.columns))
 
@@ -59,6 +68,29 @@ class Table:
         """The blocks of a query as they come. Leaving the loop ends the program."""
         yield from Asked(self, text, within, options(policy, rounds, reads, list, clip, exact_avg))
 
+    def show(self, text: str, within: Optional[Within] = None, policy: Optional[str] = None, rounds: Optional[int] = None,
+             reads: Reads = None, list: bool = False, clip: bool = False, exact_avg: bool = False) -> Result:
+        """Asks a query and shows each block: in a notebook in one cell that narrows in place, else as text."""
+        question = Asked(self, text, within, options(policy, rounds, reads, list, clip, exact_avg))
+        display, blocks = cell(), []
+        for block in question:
+            blocks.append(block)
+            display(Result(block.query, blocks, question.end))
+        return Result(blocks[-1].query, blocks, question.end)
+
+
+def cell() -> Callable[[Result], None]:
+    """Shows results one over the other in the cell of a notebook; elsewhere prints them."""
+    try:
+        from IPython import get_ipython
+        from IPython.display import display
+    except ImportError:
+        get_ipython = None
+    if get_ipython is None or not hasattr(get_ipython(), "kernel"):
+        return print
+    handle = display(display_id=True)
+    return lambda result: handle.update(result)
+
 
 class Asked:
     """A query that is asked as soon as it is iterated; `end` says behind the last block why the rounds ended."""
@@ -67,20 +99,52 @@ class Asked:
         self.table, self.text, self.words = table, text, words
         self.goal = None if within is None else Goal.of(within)
         self.end = ""
+        self._run: Optional[Run] = None
         check_text(text)
 
+    @property
+    def policy(self) -> str:
+        """The policy that is asked for; `reads` where a list of reads takes its place."""
+        if "--reads" in self.words:
+            return "reads"
+        return self.words[self.words.index("--policy") + 1] if "--policy" in self.words else "widest"
+
+    def by_policy(self, policy: str) -> Asked:
+        """The same question by another policy: it begins anew."""
+        words = list(self.words)
+        for word in ("--policy", "--reads"):
+            if word in words:
+                place = words.index(word)
+                del words[place : place + 2]
+        asked = Asked(self.table, self.text, None, ["--policy", policy, *words])
+        asked.goal = self.goal
+        return asked
+
+    def stop(self) -> None:
+        """Ends the program, from another thread too: whoever iterates gets no more blocks, and no error."""
+        self.end = "stopped"
+        if self._run:
+            self._run.kill()
+
     def __iter__(self) -> Iterator[Block]:
-        run = Run(self.table.program, ["query", self.table.path, self.text, *self.words])
+        if self.end == "stopped":
+            return
+        run = self._run = Run(self.table.program, ["query", self.table.path, self.text, *self.words])
         try:
-            report = Report(run.lines(), "--clip" in self.words or "--exact-avg" in self.words, "--list" in self.words)
+            sharper = "--clip" in self.words or "--exact-avg" in self.words
+            report = Report(run.lines(), sharper, "--list" in self.words, self.table.plane_bytes)
             for block in report:
                 reached = self.goal is not None and self.goal.reached(block)
-                self.end = "within" if reached else ""
+                self.end = "within" if reached else self.end
                 yield block
-                if reached:
+                if reached or self.end == "stopped":
                     return
             self.end = report.end or ""
-        except Failed as failed:
+        except (Failed, CutError) as failed:
+            if self.end == "stopped":
+                return
+            if isinstance(failed, CutError):
+                raise
             raise query_error(failed, self.table.path, self.text, [column.name for column in self.table.columns]) from None
         finally:
             run.stop()
@@ -91,29 +155,44 @@ def open_table(file: Union[str, os.PathLike], program: Optional[str] = None) -> 
     return Table(os.fspath(file), find_program(program))
 
 
-def load(csv: Union[str, os.PathLike], file: Union[str, os.PathLike], schema: Optional[str] = None, program: Optional[str] = None) -> Table:
+def load(csv: Union[str, os.PathLike], file: Union[str, os.PathLike], schema: Optional[str] = None, skip: Sequence[str] = (),
+         null: Union[str, Sequence[str], None] = None, delimiter: str = ",", program: Optional[str] = None) -> Table:
     """Writes the table of a CSV as a plane file, and opens it. A schema that is not given is guessed.
 
-    What stood at the path of the file stands there until the new file is whole.
+    `skip` names columns that are left out, `null` the texts that stand for nothing, and `delimiter` what separates fields: for these the CSV
+    is written anew, beside the file, before it is loaded; a schema then names the columns that are left. What stood at the path of the file
+    stands there until the new file is whole.
     """
     csv, file = os.fspath(csv), os.fspath(file)
     check_target(csv, file)
-    schema = guess_schema(csv) if schema is None else schema
     found = find_program(program)
     # A link stays, and what it leads to is made anew.
     target = os.path.realpath(file)
-    part = os.path.join(os.path.dirname(target), ".%s.%d.part" % (os.path.basename(target), os.getpid()))
-    try:
-        lines = output_of(found, ["load", csv, part, schema])
+    rewriting = Rewriting.of(skip, null, delimiter)
+    with temporary(target, "csv") as clean, temporary(target, "part") as part:
+        if rewriting.changes:
+            rewrite(csv, clean, rewriting)
+        given = clean if rewriting.changes else csv
+        schema = guess_schema(given) if schema is None else schema
+        try:
+            lines = output_of(found, ["load", given, part, schema])
+        except Failed as failed:
+            raise load_error(failed, csv, file, schema) from None
         if len(lines) != 1 or not _LOADED.fullmatch(lines[0]):
             raise ReportError("load printed no line of its own: %r" % lines[:2])
         os.replace(part, target)
-    except Failed as failed:
-        raise load_error(failed, csv, file, schema) from None
-    finally:
-        if os.path.exists(part):
-            os.remove(part)
     return Table(file, found)
+
+
+@contextmanager
+def temporary(target: str, ending: str) -> Iterator[str]:
+    """A path beside the target, where nothing stands afterwards."""
+    path = os.path.join(os.path.dirname(target), ".%s.%d.%s" % (os.path.basename(target), os.getpid(), ending))
+    try:
+        yield path
+    finally:
+        if os.path.exists(path):
+            os.remove(path)
 
 
 def check_target(csv: str, file: str) -> None:

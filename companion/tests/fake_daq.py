@@ -1,10 +1,11 @@
 """Stands for the program in tests: prints what the scene says for a command. The variable FAKE_DAQ names the scene, a JSON file.
 
 A scene has for each command, or for the command with its SQL: out, err, status, pause (seconds before each block), signal (its own end),
-made (what load writes) and log (a file for its words).
+made (what load writes), copy (a file for the CSV that load is given) and log (a file for its words).
 """
 import json
 import os
+import shutil
 import sys
 import time
 
@@ -19,6 +20,8 @@ for line in told.get("out", "").splitlines(keepends=True):
         time.sleep(told.get("pause", 0))
     sys.stdout.buffer.write(line.encode("utf-8", "surrogateescape"))
     sys.stdout.buffer.flush()
+if "copy" in told:
+    shutil.copy(sys.argv[2], told["copy"])
 if "made" in told:
     with open(sys.argv[3], "w", encoding="utf-8") as made:
         made.write(told["made"])

@@ -100,7 +100,7 @@ class Forms(unittest.TestCase):
         columns, cells = result(GROUPS).df()
         self.assertEqual((columns[:3], cells[3][:4]), (["city", "item", "low"], ["Rome", "AVG(qty)", Fraction(1), Fraction(4)]))
         columns, cells = result(GROUPS).df(history=True, floats=True)
-        self.assertEqual((columns[:5], cells[1][:7]), (["round", "column", "plane", "planes", "city"],
+        self.assertEqual((columns[:6], [*cells[1][:4], *cells[1][5:8]]), (["round", "column", "plane", "planes", "bytes_read", "city"],
                                                        [0, None, 0, 0, "Bern..Rome", "AVG(qty)", 0.25]))
 
 

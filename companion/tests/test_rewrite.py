@@ -1,0 +1,49 @@
+"""CSVs that are written anew before they are loaded."""
+import os
+import unittest
+
+from support import INFO, FakeTest, daq
+
+GIVEN = 'key;price;city;note\n1;"1,5";Oslo;NA\n\n2;;"Ro;me";"two\nlines"\n3;NA;NULL;-\n'
+
+
+class Rewritten(FakeTest):
+    def loaded(self, text=GIVEN, **settings):
+        """What the program is given: the CSV and the schema."""
+        with open(self.path("my.csv"), "w", encoding="utf-8", newline="") as file:
+            file.write(text)
+        line = "loaded 3 rows, 3 columns, 8 planes, 195 bytes\n"
+        self.scene(load={"made": "new", "out": line, "log": self.path("log"), "copy": self.path("copy")}, info={"out": INFO})
+        daq.load(self.path("my.csv"), self.path("my.daq"), **settings)
+        with open(self.path("copy"), encoding="utf-8", newline="") as file:
+            return file.read(), self.logged()["words"][3]
+
+    def test_columns_nulls_and_delimiters(self):
+        text, schema = self.loaded(skip=["key"], null=["NA", "NULL"], delimiter=";")
+        self.assertEqual(text, 'price,city,note\n"1,5",Oslo,\n,Ro;me,"two\nlines"\n,,-\n')
+        self.assertEqual(schema, "price:text?,city:text?,note:text?")
+        self.assertEqual(sorted(os.listdir(self.folder)), ["copy", "daq", "log", "my.csv", "my.daq", "scene"])
+
+    def test_a_schema_of_the_columns_that_are_left(self):
+        self.assertEqual(self.loaded("a,b\n1,x\n", skip="b", schema="a:dec2"), ("a\n1\n", "a:dec2"))
+
+    def test_a_null_of_one_column_is_a_record(self):
+        self.assertEqual(self.loaded("a\n1\nNA\n", null="NA"), ('a\n1\n""\n', "a:int?"))
+
+    def test_what_needs_no_change_is_not_copied(self):
+        self.loaded("a\n1\n")
+        self.assertEqual(self.logged()["words"][1], self.path("my.csv"))
+
+    def test_faults(self):
+        for text, settings, kind in (("a,b\n1\n", {"skip": "a"}, daq.TableError), ("a,b\n1,2\n", {"skip": "c"}, daq.TableError),
+                                     ("a\n1\n", {"delimiter": ";;"}, ValueError), ("", {"null": "NA"}, daq.TableError)):
+            with self.subTest(text), self.assertRaises(kind):
+                self.loaded(text, **settings)
+        self.assertNotIn("my.daq", os.listdir(self.folder))
+        with self.assertRaises(daq.TableError) as raised:
+            self.loaded("a,b\n1,2\n3\n", skip="a")
+        self.assertEqual(raised.exception.record, 3)
+
+
+if __name__ == "__main__":
+    unittest.main()
