@@ -19,7 +19,7 @@ install: build
 	install -D -m 644 completions/daq.bash $(completions)/daq
 	install -D -m 755 companion/daq-view $(bin)/daq-view
 	install -d $(share)/python/daq
-	install -m 644 companion/daq/*.py $(share)/python/daq
+	install -m 644 companion/daq/*.py companion/daq/page.html $(share)/python/daq
 
 uninstall:
 	rm -f $(bin)/daq $(bin)/daq-view $(man)/daq.1 $(completions)/daq

@@ -1,30 +1,32 @@
-"""The commands of daq-view: a live view of a query, and its answers as a table, CSV or JSON lines."""
+"""The commands of daq-view: a live view of a query, its answers in other forms, pictures, schemas, and a page for a browser."""
 from __future__ import annotations
 
 import argparse
 import os
-import shutil
 import sys
-import termios
-import tty
-from contextlib import contextmanager
-from typing import Callable, Iterator, Optional, Sequence
+from typing import Callable, Optional, Sequence
 
-from .bars import Chart
-from .errors import DaqError, FileError, ProgramError, QueryError
-from .report import Block
+from .errors import DaqError, FileError, ProgramError, QueryError, TableError
+from .guess import Guesses, records_of
+from .page import PageServer
+from .picture import Picture, svg_of, text_of
+from .program import Failed, Run, query_error
+from .report import Block, whole_lines
 from .result import Result, csv_text, end_text, json_lines, rows_of, table_text
-from .table import Asked, Table, open_table, options
+from .table import POLICIES, Asked, Table, open_table, options
+from .watch import watch
 
-STATUSES = ((QueryError, 3), (FileError, 5))
+STATUSES = ((QueryError, 3), (TableError, 4), (FileError, 5))
+SCHEMA_REFUSED = 1
 
 
 def main(words: Optional[Sequence[str]] = None) -> int:
     """Runs the command of these words; the status is that of the program where it refuses something."""
     given = parser().parse_args(words)
     try:
-        COMMANDS[given.command](open_table(given.file, given.program), given)
+        status = given.call(given)
         sys.stdout.flush()
+        return status or 0
     except BrokenPipeError:
         # Nobody reads on. What Python would still write at its end goes nowhere.
         os.dup2(os.open(os.devnull, os.O_WRONLY), sys.stdout.fileno())
@@ -42,23 +44,44 @@ def status_of(error: Exception) -> int:
     return next((status for kind, status in STATUSES if isinstance(error, kind)), 2 if isinstance(error, ValueError) else 1)
 
 
+# ---- the words
+
+
 def parser() -> argparse.ArgumentParser:
     whole = argparse.ArgumentParser(prog="daq-view", description="Shows what daq answers to a query over a plane file.")
     commands = whole.add_subparsers(dest="command", required=True, metavar="COMMAND")
-    add_command(commands, "watch", "bars that narrow as planes are read; plain lines where there is no terminal").add_argument(
-        "--pause", action="store_true", help="wait for a key behind each block: space for the next, g to go on, q to stop")
-    for name, what in (("table", "a table of plain text"), ("csv", "CSV"), ("jsonl", "JSON, an object in a line")):
-        add_command(commands, name, "the last block as %s" % what).add_argument(
+    live = add_query(commands, "watch", "bars that narrow as planes are read; plain lines where there is no terminal", watch_query)
+    live.add_argument("--pause", action="store_true", help="begin with a pause: s shows the next block, the space bar goes on")
+    for name, what, call in (("table", "a table of plain text", show_table), ("csv", "CSV", show_csv),
+                             ("jsonl", "JSON, an object in a line", show_json)):
+        add_query(commands, name, "the last block as %s" % what, call).add_argument(
             "--all", action="store_true", help="each block, as it comes")
+    drawn = add_query(commands, "picture", "a picture of all rounds as SVG, of a query or of the report on standard input", picture, "?")
+    drawn.add_argument("--text", action="store_true", help="draw for a terminal")
+    drawn.add_argument("--rows", type=int, metavar="N", help="tell the bytes read beside each round, of a table of so many rows")
+    guessed = add_command(commands, "schema", "the schema of a CSV, guessed, and what would be refused", schema)
+    guessed.add_argument("csv", metavar="CSV", help="a CSV with a header")
+    guessed.add_argument("--delimiter", default=",", metavar="D", help="what separates its fields")
+    served = add_command(commands, "page", "a page for a browser on this machine: columns, a query, and bars that narrow", page)
+    served.add_argument("file", metavar="FILE", help="a plane file, as daq load writes it")
+    served.add_argument("--port", type=int, default=0, metavar="N", help="the port; else any that is free")
+    served.add_argument("--program", metavar="PATH", help="the program daq")
     return whole
 
 
-def add_command(commands, name: str, what: str) -> argparse.ArgumentParser:
+def add_command(commands, name: str, what: str, call: Callable[[argparse.Namespace], Optional[int]]) -> argparse.ArgumentParser:
     command = commands.add_parser(name, help=what, description="Shows %s." % what)
-    command.add_argument("file", metavar="FILE", help="a plane file, as daq load writes it")
-    command.add_argument("sql", metavar="SQL", help="a query of the table t")
+    command.set_defaults(call=call)
+    return command
+
+
+def add_query(commands, name: str, what: str, call: Callable[[argparse.Namespace], Optional[int]], count: Optional[str] = None
+              ) -> argparse.ArgumentParser:
+    command = add_command(commands, name, what, call)
+    command.add_argument("file", metavar="FILE", nargs=count, help="a plane file, as daq load writes it")
+    command.add_argument("sql", metavar="SQL", nargs=count, help="a query of the table t")
     command.add_argument("--within", metavar="W", help="stop once each interval is so narrow: 1%%, or a number in the units of the values")
-    command.add_argument("--policy", help="which column is read next: widest, order or filter")
+    command.add_argument("--policy", help="which column is read next: %s" % ", ".join(POLICIES))
     command.add_argument("--rounds", type=int, metavar="N", help="stop after so many planes")
     command.add_argument("--reads", metavar="A,B", help="read these columns, a plane each, in this order")
     command.add_argument("--list", action="store_true", help="list the rows too that are only possible")
@@ -68,25 +91,39 @@ def add_command(commands, name: str, what: str) -> argparse.ArgumentParser:
     return command
 
 
+def table_of(given: argparse.Namespace) -> Table:
+    return open_table(given.file, given.program)
+
+
+def words_of(given: argparse.Namespace) -> list[str]:
+    return options(given.policy, given.rounds, given.reads, given.list, given.clip, given.exact_avg)
+
+
 def asked(table: Table, given: argparse.Namespace) -> Asked:
-    return Asked(table, given.sql, given.within, options(
-        given.policy, given.rounds, given.reads, given.list, given.clip, given.exact_avg))
+    return Asked(table, given.sql, given.within, words_of(given))
 
 
-def show(text_of: Callable[[Block, bool], str], table: Table, given: argparse.Namespace) -> None:
+# ---- a query
+
+
+def watch_query(given: argparse.Namespace) -> None:
+    watch(asked(table_of(given), given), given.pause)
+
+
+def show(text: Callable[[Block, bool], str], given: argparse.Namespace) -> None:
     """Writes the last block, or each as it comes; the text of the first one written has titles."""
     last, first = None, True
-    for last in asked(table, given):
+    for last in asked(table_of(given), given):
         if given.all:
-            sys.stdout.write(text_of(last, first))
+            sys.stdout.write(text(last, first))
             sys.stdout.flush()
             first = False
     if last and not given.all:
-        sys.stdout.write(text_of(last, True))
+        sys.stdout.write(text(last, True))
 
 
-def show_table(table: Table, given: argparse.Namespace) -> None:
-    question = asked(table, given)
+def show_table(given: argparse.Namespace) -> None:
+    question = asked(table_of(given), given)
     blocks = []
     for block in question:
         blocks = [block]
@@ -96,63 +133,54 @@ def show_table(table: Table, given: argparse.Namespace) -> None:
     print(end_text(result) if given.all else result)
 
 
-def show_csv(table: Table, given: argparse.Namespace) -> None:
-    show(lambda block, first: csv_text(block.query, rows_of(block), given.all, first), table, given)
+def show_csv(given: argparse.Namespace) -> None:
+    show(lambda block, first: csv_text(block.query, rows_of(block), given.all, first), given)
 
 
-def show_json(table: Table, given: argparse.Namespace) -> None:
-    show(lambda block, first: json_lines(block.query, rows_of(block), given.all), table, given)
+def show_json(given: argparse.Namespace) -> None:
+    show(lambda block, first: json_lines(block.query, rows_of(block), given.all), given)
 
 
-def watch(table: Table, given: argparse.Namespace) -> None:
-    """Draws each block over the one before in a terminal, and below it elsewhere. Control-C stops it as the key q does."""
-    question, chart = asked(table, given), Chart(table.columns)
-    screen, last, stopped = Screen(), None, False
+def picture(given: argparse.Namespace) -> None:
+    """Draws the report of a query, or the one on standard input."""
+    if given.file and not given.sql:
+        raise ValueError("picture takes a FILE and a SQL, or neither and a report on standard input")
+    if given.within is not None:
+        raise ValueError("picture draws whole reports: it takes no --within")
+    drawn = picture_of(given) if given.file else Picture(whole_lines(sys.stdin.buffer.readline))
+    sys.stdout.write((text_of if given.text else svg_of)(drawn, given.rows))
+
+
+def picture_of(given: argparse.Namespace) -> Picture:
+    table = table_of(given)
+    run = Run(table.program, ["query", table.path, given.sql, *words_of(given)])
     try:
-        with keys(given.pause) as key:
-            for last in question:
-                screen.draw(lambda width, height: chart.lines(last, width, height))
-                pressed = key()
-                if pressed == "q":
-                    raise KeyboardInterrupt
-                key = key if pressed != "g" else lambda: ""
-    except KeyboardInterrupt:
-        stopped = True
-    if last:
-        print("stopped" if stopped else end_text(Result(last.query, [last], question.end)))
-
-
-class Screen:
-    """Where blocks are drawn: in a terminal each takes the place of the one before."""
-
-    def __init__(self) -> None:
-        self.is_terminal = sys.stdout.isatty() and os.environ.get("TERM", "dumb") != "dumb"
-        self._drawn = 0
-
-    def draw(self, lines_of: Callable[[int, Optional[int]], list[str]]) -> None:
-        if not self.is_terminal:
-            print("\n".join(lines_of(100, None)), flush=True)
-            return
-        width, height = shutil.get_terminal_size()
-        lines = lines_of(width - 1, height - 2)
-        back = "\x1b[%dA" % self._drawn if self._drawn else ""
-        sys.stdout.write(back + "".join("\x1b[2K%s\n" % line for line in lines) + "\x1b[J")
-        sys.stdout.flush()
-        self._drawn = len(lines)
-
-
-@contextmanager
-def keys(pause: bool) -> Iterator[Callable[[], str]]:
-    """A call that waits for a key and returns it, where the view pauses; else one that returns at once."""
-    if not pause or not sys.stdin.isatty():
-        yield lambda: ""
-        return
-    kept = termios.tcgetattr(sys.stdin)
-    try:
-        tty.setcbreak(sys.stdin)
-        yield lambda: sys.stdin.read(1)
+        return Picture(run.lines(), table.columns)
+    except Failed as failed:
+        raise query_error(failed, table.path, given.sql, [column.name for column in table.columns]) from None
     finally:
-        termios.tcsetattr(sys.stdin, termios.TCSADRAIN, kept)
+        run.stop()
 
 
-COMMANDS = {"watch": watch, "table": show_table, "csv": show_csv, "jsonl": show_json}
+# ---- a CSV, and a page
+
+
+def schema(given: argparse.Namespace) -> int:
+    """Prints the guessed schema, and on standard error each column that would be refused, and advice."""
+    guesses = Guesses(records_of(given.csv, given.delimiter))
+    print(guesses.schema)
+    refusals = guesses.refusals()
+    for number, why in refusals + guesses.advice():
+        name = guesses.names[number - 1] if number <= len(guesses.names) else ""
+        print("daq-view: column %d%s: %s" % (number, name and " " + name, why), file=sys.stderr)
+    return SCHEMA_REFUSED if refusals else 0
+
+
+def page(given: argparse.Namespace) -> None:
+    """Serves the page until Control-C."""
+    with PageServer(table_of(given), given.port) as server:
+        print("%s (Control-C ends it)" % server.url, flush=True)
+        try:
+            server.serve_forever()
+        except KeyboardInterrupt:
+            print("stopped")

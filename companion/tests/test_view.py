@@ -74,14 +74,14 @@ class Commands(FakeTest):
         lines = told.stdout.splitlines()
         self.assertEqual((told.returncode, told.stderr, len(lines)), (0, "", 11))
         self.assertEqual((lines[0], lines[2], lines[-1]),
-                         ("0 planes read", "1 plane read, the last of price (1 of 4)", "4 planes read, finished"))
+                         ("0 planes read", "1 plane, 8 bytes read, the last of price (1 of 4)", "4 planes read, finished"))
         self.assertNotIn("\x1b", told.stdout)
         lines = self.view("watch", "shop.daq", ASK, "--within", "20%").stdout.splitlines()
         self.assertEqual(lines[-1], "3 planes read, stopped, narrow enough")
 
     def test_first_rows(self):
         self.play(TOP_ROWS)
-        self.assertIn("2 planes read, the last of price (2 of 4); 2 of 2 rows certain, 0 possible\nrow 2 |",
+        self.assertIn("2 planes, 16 bytes read, the last of price (2 of 4); 2 of 2 rows certain, 0 possible\nrow 2 |",
                       self.view("watch", "shop.daq", "SELECT * FROM t ORDER BY price DESC LIMIT 2").stdout)
 
     def test_table_csv_and_json(self):
@@ -131,11 +131,11 @@ class Commands(FakeTest):
 
 
 class Terminal(FakeTest):
-    def watched(self, *words, keys=b"", wait_for=b""):
-        """What a terminal is shown, where keys are pressed behind each text that is waited for."""
+    def watched(self, *words, keys=()):
+        """What a terminal is shown, where each key is pressed once a text was shown."""
         master, slave = pty.openpty()
         running = subprocess.Popen([sys.executable, VIEW, "watch", "shop.daq", ASK, *words], stdin=slave, stdout=slave, stderr=slave,
-                                   env=dict(os.environ, TERM="xterm", COLUMNS="80", LINES="24"))
+                                   env=dict(os.environ, TERM="xterm", COLUMNS="120", LINES="24"))
         os.close(slave)
         shown, left = b"", list(keys)
         while True:
@@ -147,24 +147,41 @@ class Terminal(FakeTest):
             if not piece:
                 break
             shown += piece
-            if left and wait_for in piece:
-                os.write(master, bytes([left.pop(0)]))
+            if left and left[0][0] in shown:
+                os.write(master, left.pop(0)[1])
         os.close(master)
         return running.wait(), shown.decode()
 
     def test_a_block_takes_the_place_of_the_one_before(self):
         self.play(pause=0.05)
         status, shown = self.watched()
-        self.assertEqual((status, shown.count("\x1b[2A")), (0, 4))
+        self.assertEqual((status, shown.count("\x1b[3A")), (0, 4))
+        self.assertIn("running, policy widest: q stops", shown)
         self.assertTrue(shown.endswith("4 planes read, finished\r\n"), shown)
 
     def test_pause_waits_for_keys(self):
         self.play()
-        status, shown = self.watched("--pause", keys=b"  q", wait_for=b"SUM(price)")
-        self.assertEqual((status, shown.count("SUM(price)")), (0, 3))
+        status, shown = self.watched("--pause", keys=((b"0 planes", b"s"), (b"1 of 4", b"s"), (b"2 of 4", b"q")))
+        self.assertEqual((status, "2 of 4" in shown, "3 of 4" in shown), (0, True, False))
+        self.assertIn("paused, policy widest", shown)
         self.assertTrue(shown.endswith("stopped\r\n"), shown)
-        status, shown = self.watched("--pause", keys=b" g", wait_for=b"SUM(price)")
-        self.assertEqual((status, shown.count("SUM(price)")), (0, 5))
+        status, shown = self.watched("--pause", keys=((b"0 planes", b"s"), (b"1 of 4", b" ")))
+        self.assertEqual((status, "3 of 4" in shown), (0, True))
+        self.assertTrue(shown.endswith("4 planes read, finished\r\n"), shown)
+
+    def test_the_space_bar_pauses_and_q_ends_the_program(self):
+        self.play(pause=0.2)
+        status, shown = self.watched(keys=((b"1 of 4", b" "), (b"paused", b"q")))
+        self.assertEqual((status, "4 of 4" in shown), (0, False))
+        with self.assertRaises(ProcessLookupError):
+            os.kill(self.logged()["pid"], 0)
+
+    def test_another_policy(self):
+        self.play(pause=0.1)
+        status, shown = self.watched(keys=((b"1 of 4", b"p"),))
+        self.assertEqual((status, self.logged()["words"][3:]), (0, ["--policy", "filter"]))
+        self.assertIn("running, policy filter", shown)
+        self.assertTrue(shown.endswith("4 planes read, finished\r\n"), shown)
 
 
 if __name__ == "__main__":
