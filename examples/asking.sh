@@ -30,5 +30,5 @@ to_the_end() {
 # draw [OPTION ..]: the picture of the same question.
 draw() {
     printf '\n# As a picture:\n'
-    "$program" query "$planes" "$sql" "$@" | "$folder/picture" --text
+    "$program" query "$planes" "$sql" "$@" | "$folder/../companion/daq-view" picture --text
 }

@@ -96,7 +96,7 @@ def comparisons(program):
             file.write(OWN)
         for page in PAGES:
             yield from page_comparisons(page, work)
-        yield "docs/picture.svg", output("./daq query shop.daq 'SELECT SUM(price) FROM t' | examples/picture --rows 4", work, shell=True), \
+        yield "docs/picture.svg", output("./daq query shop.daq 'SELECT SUM(price) FROM t' | companion/daq-view picture --rows 4", work, shell=True), \
             read("docs", "picture.svg")
         if shutil.which("mlr"):
             yield from recipes(work)
