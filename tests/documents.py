@@ -166,9 +166,10 @@ def lists_of_commands():
     """Where commands are listed: the grammar, the tour, the manual, the completions and the help of the script."""
     grammar, tour, manual = read("docs/proof/words.md"), read("docs/guide.md"), read("docs/daq.1")
     yield "docs/proof/words.md", re.findall(r'^ *(?:words +=|\|) "(\w+)"', grammar, re.M)
-    yield "docs/guide.md", re.findall(r"^\| `([a-z]+) [A-Z]", tour, re.M)
-    yield "docs/daq.1", re.findall(r"^\.It Cm (\w+) Ar", manual, re.M)
-    yield "completions/daq.bash", re.search(r"1-\*\) choices='([^']*)'", read("completions/daq.bash"))[1].split()
+    yield "docs/guide.md", re.findall(r"^\| `([a-z]+)[ `]", tour.split("## All commands")[1].split("\n## ")[0], re.M)
+    yield "docs/daq.1", re.findall(r"^\.It Cm (\w+) (?:Ar|,)", manual, re.M)
+    choices = re.search(r"1-\*\) choices='([^']*)'", read("completions/daq.bash"))[1].split()
+    yield "completions/daq.bash", [word for word in choices if not word.startswith("-")]
 
 
 def lists_of_options():
