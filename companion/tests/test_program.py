@@ -1,15 +1,19 @@
 """Runs of the program: what it is given, its errors, and how it ends."""
+import contextlib
+import io
 import os
 import subprocess
 import sys
 import time
+import types
 import unittest
 from decimal import Decimal
+from unittest import mock
 
 from support import INFO, SUM, TESTS, FakeTest, daq
 
 from daq.program import find_program
-from daq.table import parse_column
+from daq.table import Asked, parse_column
 
 
 def is_running(pid):
@@ -71,6 +75,35 @@ class Runs(FakeTest):
         next(blocks)
         blocks.close()
         self.assertFalse(is_running(self.logged()["pid"]))
+
+    def test_blocks_are_shown_in_one_cell(self):
+        self.play()
+        shown = []
+        handle = types.SimpleNamespace(update=lambda result: shown.append((len(result.blocks), result.rows[0].high)))
+        module = types.ModuleType("IPython")
+        module.get_ipython = lambda: types.SimpleNamespace(kernel=None)
+        module.display = types.ModuleType("IPython.display")
+        module.display.display = lambda display_id: handle
+        with mock.patch.dict(sys.modules, {"IPython": module, "IPython.display": module.display}):
+            answer = self.table().show("SELECT SUM(price) FROM t", within="20%")
+        self.assertEqual((answer.end, shown), ("within", [(1, 48), (2, 42), (3, 34), (4, 32)]))
+
+    def test_blocks_are_printed_elsewhere(self):
+        self.play()
+        with contextlib.redirect_stdout(io.StringIO()) as told, mock.patch.dict(sys.modules, {"IPython": None}):
+            self.table().show("SELECT SUM(price) FROM t", rounds=1)
+        self.assertIn("12 .. 48", told.getvalue())
+
+    def test_a_query_that_is_stopped_ends_without_an_error(self):
+        self.play(pause=0.2)
+        question = Asked(self.table(), "SELECT SUM(price) FROM t", None, [])
+        blocks = []
+        for block in question:
+            blocks.append(block)
+            question.stop()
+        self.assertEqual((len(blocks), question.end), (1, "stopped"))
+        self.assertFalse(is_running(self.logged()["pid"]))
+        self.assertEqual([*question], [])
 
     def test_the_program_that_is_taken(self):
         self.assertEqual(find_program("/given"), "/given")
