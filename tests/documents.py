@@ -159,6 +159,12 @@ def long_readme(page="README.md"):
         yield "%s: its first screen has %d lines, and all are %d" % (page, first, len(lines) - 1)
 
 
+def other_version(page="CHANGELOG.md", source="crates/daq_cli/src/commands/version.rt"):
+    newest, printed = re.match(r"# (\S+)", read(page)), re.search(r'b"daq (\S+)\\n"', read(source))
+    if not newest or not printed or newest[1] != printed[1]:
+        yield "%s: its first version is not that of %s" % (page, source)
+
+
 # ---- commands and options
 
 
@@ -204,6 +210,7 @@ def main():
     readme, manual = read("README.md"), read("docs/daq.1")
     faults += [*wrong_limits(), *other_limits("README.md", re.search(r"^- \*\*Limits.*$", readme, re.M)[0]), *other_limits("docs/csv.md", read("docs/csv.md"))]
     faults += [*other_limits("docs/daq.1", manual[manual.index(".Sh LIMITS") : manual.index(".Sh FILES")]), *long_readme(), *uneven_lists()]
+    faults += other_version()
     print("\n".join(faults) or "ok: links, names, edits, crates, limits, commands and options are there")
     sys.exit(bool(faults))
 
