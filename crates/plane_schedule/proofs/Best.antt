@@ -13,7 +13,7 @@ pub record WidestBelow (unread : ℕ → ℕ) (n c : ℕ) : Type 0 where
 abbrev pub NoneBelow : (ℕ → ℕ) → ℕ → Type 0
 NoneBelow unread n = (d : ℕ) → d < n → unread d ≡ 0
 
-last_or_below : (P : ℕ → Type 0) (n d : ℕ) → d < suc n → P n → ((e : ℕ) → e < n → P e) → P d
+pub last_or_below : (P : ℕ → Type 0) (n d : ℕ) → d < suc n → P n → ((e : ℕ) → e < n → P e) → P d
 last_or_below P n d h here before = by (cases_lt d n)
   where
     by : ((d < n) ⊎ (n ≤ d)) → P d

@@ -1,13 +1,15 @@
 -- Where a plane is unread, each policy but a list chooses a column.
-use Rattle.std.proofs.Common.{◌≡◌, ◌≢◌, ◌⊎◌, ℕ, zero, suc, ◌<◌, ◌≤◌, cond, Bool, true, false, refl, sym, ap, subst, arith, inl, inr, IsTrue}
-use Rattle.std.proofs.lemmas.Bool.{cases_lt, cases_eq}
+use Rattle.std.proofs.Common.{◌≡◌, ◌≢◌, ◌⊎◌, ℕ, zero, suc, ◌<◌, ◌≤◌, ◌*◌, ◌^◌, cond, Bool, true, false, refl, sym, ap, subst, ◌∙◌, arith, inl, inr, IsTrue, IsFalse}
+use Rattle.std.proofs.lemmas.Bool.{cases_Bool, cases_lt, cases_eq, false≢true}
 use Rattle.std.specs.declared.option.Option.{Option}
 use Rattle.std.specs.declared.option.Option.TheVariants.{Some, None}
 use Rattle.plane_schedule.specs.declared.progress.Role.{Role}
 use Rattle.plane_schedule.specs.declared.progress.Role.TheVariants.{Filter, Group, Value}
-use Rattle.plane_schedule.specs.Choices.{HasRole, HasUnread, HasUnreadOf, IsFilterFirst, IsFirst, IsOf, IsUnread, IsWidestOf, Outlook}
+use Rattle.plane_schedule.specs.Choices.{HasLeftFor, HasRole, HasUnread, HasUnreadOf, IsBalanced, IsFilterFirst, IsFirst, IsLeastTakenOf, IsLessParted, IsOf, IsReadFor, IsUnread, IsWidestOf, Outlook, PartsRows}
 use Rattle.plane_schedule.specs.Laws.{PoliciesChoose}
 use Rattle.plane_schedule.proofs.Best.{NoneBelow, WidestBelow, widest_below}
+use Rattle.plane_schedule.proofs.Deciding.{Decides, decides_all, decides_at_most, decides_both, decides_either, decides_if, decides_not}
+use Rattle.plane_schedule.proofs.Least.{LeastBelow, least_below}
 
 -- ---- the widest of the columns that pass a test
 
@@ -54,7 +56,7 @@ widest_moves A B o c there back w = record {
   first = λ d less h. w.first d less (back d h);
 }
 
--- ---- the three policies
+-- ---- widest, in order, filter first
 
 widest_of_all : (o : Outlook) → HasUnread o → (c : ℕ) × IsWidestOf (IsOf o None) o c
 widest_of_all o (e, unread) = by (widest_that_passes o (λ _. true))
@@ -166,5 +168,117 @@ filter_first o some = by (cases_lt 0 o.unknown) (widest_of_role Filter o)
     by (inl unknown) (inr none) = rest (λ its. none its.1) (widest_of_role Group o)
     by (inr known) filter = rest (λ its. let h = its.0 in omega (arith, h, known)) (widest_of_role Group o)
 
+-- ---- balanced
+
+decides_role : (role : Role) (r : Option Role) → Decides (r ≡ Some role)
+decides_role role r = by (cases_Bool (is_role role r))
+  where
+    by : IsTrue (is_role role r) ⊎ IsFalse (is_role role r) → Decides (r ≡ Some role)
+    by (inl h) = inl (has role r h)
+    by (inr h) = inr (λ e. false≢true (sym h ∙ subst (λ (x : Option Role). IsTrue (is_role role x)) (sym e) (is role)))
+
+decides_gives : (g : Option Bool) → Decides (g ≡ Some true)
+decides_gives None = inr not
+  where
+    not : ¬ (None ≡ Some true)
+    not e = cc
+decides_gives (Some true) = inl refl
+decides_gives (Some false) = inr not
+  where
+    not : ¬ (Some false ≡ Some true)
+    not e = cc
+
+module _ (o : Outlook) where
+  decides_read_for : (role : Role) (c : ℕ) → Decides (IsReadFor o role c)
+  decides_read_for Filter c = decides_role Filter (o.role c)
+  decides_read_for Group c = decides_role Group (o.role c)
+  decides_read_for Value c = decides_either ((¬ HasRole o Filter c) × (¬ HasRole o Group c)) (o.gives c ≡ Some true)
+      (decides_both (¬ HasRole o Filter c) (¬ HasRole o Group c) (decides_not (HasRole o Filter c) (decides_role Filter (o.role c))) (decides_not (HasRole o Group c) (decides_role Group (o.role c))))
+      (decides_gives (o.gives c))
+
+  decides_unread : (c : ℕ) → Decides (IsUnread o c)
+  decides_unread c = by (cases_lt c o.columns) (cases_lt 0 (o.unread c))
+    where
+      by : (c < o.columns) ⊎ (o.columns ≤ c) → (0 < o.unread c) ⊎ (o.unread c ≤ 0) → Decides (IsUnread o c)
+      by (inl inside) (inl some) = inl (record { column = inside; unread = some })
+      by (inl inside) (inr none) = inr (λ u. let some = u.unread in omega (arith, some, none))
+      by (inr past) b = inr (λ u. let inside = u.column in omega (arith, inside, past))
+
+  -- of the columns that are read for this and have an unread plane the one of which the fewest are taken, or there is none
+  least_for : (role : Role) → ((c : ℕ) × IsLeastTakenOf (IsReadFor o role) o c) ⊎ (¬ HasLeftFor role o)
+  least_for role = by (least_below (λ c. IsReadFor o role c × IsUnread o c) o.taken (λ c. decides_both (IsReadFor o role c) (IsUnread o c) (decides_read_for role c) (decides_unread c)) o.columns)
+    where
+      by : ((c : ℕ) × LeastBelow (λ c. IsReadFor o role c × IsUnread o c) o.taken o.columns c) ⊎ ((d : ℕ) → d < o.columns → ¬ (IsReadFor o role d × IsUnread o d)) →
+          ((c : ℕ) × IsLeastTakenOf (IsReadFor o role) o c) ⊎ (¬ HasLeftFor role o)
+      by (inl (c, l)) = inl (
+        c,
+        record {
+          of_sort = l.here.0;
+          unread = l.here.1;
+          least = λ d h u. l.least d u.column (h, u);
+          first = λ d less h u. l.first d less (h, u);
+        },
+      )
+      by (inr none) = inr (λ some. none some.0 some.2.column (some.1, some.2))
+
+  decides_share : (role : Role) → Decides ((c : ℕ) → IsReadFor o role c → IsUnread o c → o.possible ≤ o.unknown * 2 ^ o.taken c)
+  decides_share role = by (decides_all (λ c. IsReadFor o role c → IsUnread o c → o.possible ≤ o.unknown * 2 ^ o.taken c) at o.columns)
+    where
+      at : (c : ℕ) → Decides (IsReadFor o role c → IsUnread o c → o.possible ≤ o.unknown * 2 ^ o.taken c)
+      at c = decides_if (IsReadFor o role c) (IsUnread o c → o.possible ≤ o.unknown * 2 ^ o.taken c) (decides_read_for role c)
+          (decides_if (IsUnread o c) (o.possible ≤ o.unknown * 2 ^ o.taken c) (decides_unread c) (decides_at_most o.possible (o.unknown * 2 ^ o.taken c)))
+
+      by : Decides ((c : ℕ) → c < o.columns → IsReadFor o role c → IsUnread o c → o.possible ≤ o.unknown * 2 ^ o.taken c) →
+          Decides ((c : ℕ) → IsReadFor o role c → IsUnread o c → o.possible ≤ o.unknown * 2 ^ o.taken c)
+      by (inl all) = inl (λ c h u. all c u.column h u)
+      by (inr never) = inr (λ all. never (λ c below h u. all c h u))
+
+  decides_less_parted : Decides (IsLessParted o)
+  decides_less_parted = by (cases_lt 0 o.unknown) (decides_share Group) (decides_share Value)
+    where
+      by : (0 < o.unknown) ⊎ (o.unknown ≤ 0) → Decides ((c : ℕ) → IsReadFor o Group c → IsUnread o c → o.possible ≤ o.unknown * 2 ^ o.taken c) →
+          Decides ((c : ℕ) → IsReadFor o Value c → IsUnread o c → o.possible ≤ o.unknown * 2 ^ o.taken c) → Decides (IsLessParted o)
+      by (inl some) (inl keys) (inl values) = inl (record { some = some; keys = keys; values = values })
+      by (inr none) k v = inr (λ is. let some = is.some in omega (arith, some, none))
+      by (inl some) (inr never) v = inr (λ is. never is.keys)
+      by (inl some) (inl keys) (inr never) = inr (λ is. never is.values)
+
+  -- some column is read for the condition, the groups or values
+  some_left : (c : ℕ) → IsUnread o c → ¬ HasLeftFor Filter o → ¬ HasLeftFor Group o → HasLeftFor Value o
+  some_left c u no_filter no_group = (c, inl (λ is. no_filter (c, is, u), λ is. no_group (c, is, u)), u)
+
+  by_filter : PartsRows o → (c : ℕ) × IsLeastTakenOf (IsReadFor o Filter) o c → (c : ℕ) × IsBalanced o c
+  by_filter parts (c, l) = (c, record { unread = l.unread; filter = λ _. l; group = λ never _. absurd (never parts); value = λ never _. absurd (never parts) })
+
+  by_group : ¬ PartsRows o → (c : ℕ) × IsLeastTakenOf (IsReadFor o Group) o c → (c : ℕ) × IsBalanced o c
+  by_group never (c, l) = (c, record { unread = l.unread; filter = λ parts. absurd (never parts); group = λ _ _. l; value = λ _ none. absurd (none (c, l.of_sort, l.unread)) })
+
+  by_value : ¬ PartsRows o → ¬ HasLeftFor Group o → (c : ℕ) × IsLeastTakenOf (IsReadFor o Value) o c → (c : ℕ) × IsBalanced o c
+  by_value never none (c, l) = (c, record { unread = l.unread; filter = λ parts. absurd (never parts); group = λ _ some. absurd (none some); value = λ _ _. l })
+
+  no_parts : ¬ IsLessParted o → HasLeftFor Group o ⊎ HasLeftFor Value o → ¬ PartsRows o
+  no_parts not_less left parts = by left parts.first
+    where
+      by : HasLeftFor Group o ⊎ HasLeftFor Value o → IsLessParted o ⊎ ((¬ HasLeftFor Group o) × (¬ HasLeftFor Value o)) → ⊥
+      by left (inl less) = not_less less
+      by (inl group) (inr none) = none.0 group
+      by (inr value) (inr none) = none.1 value
+
+  balanced : HasUnread o → (c : ℕ) × IsBalanced o c
+  balanced (e, u) = by (least_for Filter) (least_for Group) (least_for Value) decides_less_parted
+    where
+      some_of : (role : Role) → (c : ℕ) × IsLeastTakenOf (IsReadFor o role) o c → HasLeftFor role o
+      some_of role (c, l) = (c, l.of_sort, l.unread)
+
+      by : ((c : ℕ) × IsLeastTakenOf (IsReadFor o Filter) o c) ⊎ (¬ HasLeftFor Filter o) → ((c : ℕ) × IsLeastTakenOf (IsReadFor o Group) o c) ⊎ (¬ HasLeftFor Group o) →
+          ((c : ℕ) × IsLeastTakenOf (IsReadFor o Value) o c) ⊎ (¬ HasLeftFor Value o) → Decides (IsLessParted o) → (c : ℕ) × IsBalanced o c
+      by (inl filter) group value (inl less) = by_filter (record { filter = some_of Filter filter; first = inl less }) filter
+      by (inl filter) (inl group) value (inr not_less) = by_group (no_parts not_less (inl (some_of Group group))) group
+      by (inl filter) (inr no_group) (inl value) (inr not_less) = by_value (no_parts not_less (inr (some_of Value value))) no_group value
+      by (inl filter) (inr no_group) (inr no_value) (inr not_less) = by_filter (record { filter = some_of Filter filter; first = inr (no_group, no_value) }) filter
+      by (inr no_filter) (inl group) value less = by_group (λ parts. no_filter parts.filter) group
+      by (inr no_filter) (inr no_group) (inl value) less = by_value (λ parts. no_filter parts.filter) no_group value
+      by (inr no_filter) (inr no_group) (inr no_value) less = absurd (no_value (some_left e u no_filter no_group))
+
 pub policies_choose : PoliciesChoose
-policies_choose o some = (widest_of_all o some, in_order o some, filter_first o some)
+policies_choose o some = (widest_of_all o some, in_order o some, filter_first o some, balanced o some)

@@ -1,4 +1,6 @@
 pub mod Best
+pub mod Deciding
+pub mod Least
 pub mod One
 pub mod Existing
 pub mod Same

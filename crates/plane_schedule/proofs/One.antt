@@ -3,9 +3,9 @@ use Rattle.std.proofs.Common.{◌≡◌, ◌≢◌, ◌⊎◌, ℕ, ◌<◌, ◌
 use Rattle.std.proofs.lemmas.Bool.{cases_lt, cases_eq}
 use Rattle.std.specs.declared.option.Option.{Option}
 use Rattle.std.specs.declared.option.Option.TheVariants.{Some, None}
-use Rattle.plane_schedule.specs.declared.policy.Policy.TheVariants.{Widest, InOrder, FilterFirst, Listed}
-use Rattle.plane_schedule.specs.declared.progress.Role.TheVariants.{Filter, Group}
-use Rattle.plane_schedule.specs.Choices.{HasRole, HasUnreadOf, IsFilterFirst, IsFirst, IsOf, IsWidestOf, Outlook}
+use Rattle.plane_schedule.specs.declared.policy.Policy.TheVariants.{Widest, InOrder, FilterFirst, Balanced, Listed}
+use Rattle.plane_schedule.specs.declared.progress.Role.TheVariants.{Filter, Group, Value}
+use Rattle.plane_schedule.specs.Choices.{HasLeftFor, HasRole, HasUnreadOf, IsBalanced, IsFilterFirst, IsFirst, IsLeastTakenOf, IsOf, IsReadFor, IsWidestOf, Outlook, PartsRows}
 use Rattle.plane_schedule.specs.Laws.{ChoicesAreOne}
 
 only_widest : (IsOfSort : ℕ → Type 0) (o : Outlook) (c d : ℕ) → IsWidestOf IsOfSort o c → IsWidestOf IsOfSort o d → c ≡ d
@@ -35,6 +35,24 @@ only_filter_first o c d fc fd = by (cases_eq c d)
         let no_group : ¬ HasUnreadOf Group o = λ some. other (only_widest (HasRole o Group) o c d (fc.group no_filter some) (fd.group no_filter some)) in
         absurd (other (only_widest (IsOf o None) o c d (fc.rest no_filter no_group) (fd.rest no_filter no_group)))
 
+only_least : (IsOfSort : ℕ → Type 0) (o : Outlook) (c d : ℕ) → IsLeastTakenOf IsOfSort o c → IsLeastTakenOf IsOfSort o d → c ≡ d
+only_least IsOfSort o c d lc ld = by (cases_lt c d) (cases_lt d c)
+  where
+    by : ((c < d) ⊎ (d ≤ c)) → ((d < c) ⊎ (c ≤ d)) → c ≡ d
+    by (inl less) other = absurd (let first = ld.first c less lc.of_sort lc.unread in let least = lc.least d ld.of_sort ld.unread in omega (arith, first, least))
+    by (inr k) (inl less) = absurd (let first = lc.first d less ld.of_sort ld.unread in let least = ld.least c lc.of_sort lc.unread in omega (arith, first, least))
+    by (inr k) (inr l) = omega (arith, k, l)
+
+only_balanced : (o : Outlook) (c d : ℕ) → IsBalanced o c → IsBalanced o d → c ≡ d
+only_balanced o c d bc bd = by (cases_eq c d)
+  where
+    by : ((c ≡ d) ⊎ (c ≢ d)) → c ≡ d
+    by (inl same) = same
+    by (inr other) =
+        let no_parts : ¬ PartsRows o = λ parts. other (only_least (IsReadFor o Filter) o c d (bc.filter parts) (bd.filter parts)) in
+        let no_group : ¬ HasLeftFor Group o = λ some. other (only_least (IsReadFor o Group) o c d (bc.group no_parts some) (bd.group no_parts some)) in
+        absurd (other (only_least (IsReadFor o Value) o c d (bc.value no_parts no_group) (bd.value no_parts no_group)))
+
 same_some : (c d : ℕ) (r : Option ℕ) → r ≡ Some c → r ≡ Some d → c ≡ d
 same_some c d r a b = by (sym a ∙ b)
   where
@@ -45,4 +63,5 @@ pub choices_are_one : ChoicesAreOne
 choices_are_one Widest o c d a b = only_widest (IsOf o None) o c d a b
 choices_are_one InOrder o c d a b = only_first o c d a b
 choices_are_one FilterFirst o c d a b = only_filter_first o c d a b
+choices_are_one Balanced o c d a b = only_balanced o c d a b
 choices_are_one (Listed list) o c d a b = same_some c d (slice_get list o.read) a.next b.next

@@ -9,7 +9,7 @@ use Rattle.plane_schedule.specs.declared.policy.Ending.TheVariants.{Narrow, Roun
 use Rattle.plane_schedule.specs.declared.policy.Extras.{Extras}
 use Rattle.plane_schedule.specs.declared.policy.Plan.{Plan}
 use Rattle.plane_schedule.specs.declared.policy.Policy.{Policy}
-use Rattle.plane_schedule.specs.declared.policy.Policy.TheVariants.{Widest, InOrder, FilterFirst, Listed}
+use Rattle.plane_schedule.specs.declared.policy.Policy.TheVariants.{Widest, InOrder, FilterFirst, Balanced, Listed}
 
 -- each number of the list is a column, and no column stands in it more often than it has planes
 pub record IsReadableList (list : List ℕ) (frame : Frame) : Type 0 where
@@ -21,6 +21,7 @@ abbrev pub IsReadable : Policy → Frame → Type 0
 IsReadable Widest frame = Unit {0}
 IsReadable InOrder frame = Unit {0}
 IsReadable FilterFirst frame = Unit {0}
+IsReadable Balanced frame = Unit {0}
 IsReadable (Listed list) frame = IsReadableList list frame
 
 -- the round with this number is the last that is wanted
@@ -33,6 +34,7 @@ abbrev pub is_list_end : Policy → ℕ → Bool
 is_list_end Widest round = false
 is_list_end InOrder round = false
 is_list_end FilterFirst round = false
+is_list_end Balanced round = false
 is_list_end (Listed list) round = round == length list
 
 abbrev pub first_ending : Bool → Bool → Bool → Option Ending

@@ -1,9 +1,10 @@
 //! The policies by which the next column is chosen.
 
-ghost use Rattle.std.specs.Prelude.{◌≡◌, ◌<◌, ℕ, slice_index, ◌↔◌, IsTrue, IfSome, IfNone};
-ghost use Rattle.plane_schedule.specs.declared.policy.Policy.TheVariants.{Widest, InOrder, FilterFirst, Listed};
+ghost use Rattle.std.specs.Prelude.{◌≡◌, ◌≤◌, ◌<◌, ◌*◌, ◌^◌, ℕ, slice_index, ◌↔◌, IsTrue, IfSome, IfNone};
+ghost use Rattle.plane_schedule.specs.declared.policy.Policy.TheVariants.{Widest, InOrder, FilterFirst, Balanced, Listed};
 ghost use Rattle.plane_schedule.specs.declared.progress.Role.TheVariants.{Filter};
 ghost use Rattle.plane_schedule.specs.Choices.{Chooses, HasChoice, HasRole, HasUnread, HasUnreadOf, IsOf, IsUnread, IsWidestOf, outlook_of};
+ghost use Rattle.plane_schedule.specs.Choices.{HasLeftFor, IsLeastTakenOf, IsLessParted, IsReadFor, PartsRows};
 
 use crate::progress::{Progress, Role};
 use query_model::Columns;
@@ -99,6 +100,118 @@ fn is_unread(progress: &Progress, column: usize) -> bool
     ensures { IsTrue result ↔ IsUnread (outlook_of progress.now) column }
 {
     column < 16 && column < progress.columns as usize && progress.unread[column] > 0
+}
+
+// Whether a column is read for this; for values, also where the condition or the groups name it and it gives them.
+fn is_read_for(role: Role, progress: &Progress, column: usize) -> bool
+    requires { column < 16 }
+    ensures { IsTrue result ↔ IsReadFor (outlook_of progress.now) role column }
+{
+    let is_role = progress.role[column] == role;
+    match role {
+        Role::Value => is_role || progress.gives_values[column],
+        Role::Filter | Role::Group => is_role,
+    }
+}
+
+// Whether a column is unread and read for this.
+fn is_left_for(role: Role, progress: &Progress, column: usize) -> bool
+    requires { column < 16 }
+    ensures { IsTrue result ↔ IsReadFor (outlook_of progress.now) role column × IsUnread (outlook_of progress.now) column }
+{
+    is_unread(progress, column) && is_read_for(role, progress, column)
+}
+
+// Whether fewer planes of a column are taken than of the best one so far, if there is one.
+fn is_less_taken(best: Option<usize>, progress: &Progress, column: usize) -> bool
+    requires best { IfSome best (λ b. b < 16) }
+    requires column { column < 16 }
+    ensures { IsTrue result ↔ IfSome best (λ b. slice_index progress.now.read column < slice_index progress.now.read b) }
+{
+    match best {
+        Some(best) => progress.read[column] < progress.read[best],
+        None => true,
+    }
+}
+
+// Of the columns that are read for this and have an unread plane, the one of which the fewest planes are taken.
+fn least_taken_for(role: Role, progress: &Progress) -> Option<usize>
+    ensures some { IfSome result (λ column.
+        IsLeastTakenOf (IsReadFor (outlook_of progress.now) role) (outlook_of progress.now) column) }
+    ensures none { IfNone result (¬ HasLeftFor role (outlook_of progress.now)) }
+{
+    let mut best = None;
+    for column in 0..16usize {
+        if is_left_for(role, progress, column) && is_less_taken(best, progress, column) {
+            best = Some(column);
+        }
+    }
+    best
+}
+
+// Whether of the rows that may pass as large a share is unknown as is unread of a value of which so many digits are taken.
+fn is_share_unknown(progress: &Progress, taken: u8) -> bool
+    requires { 0 < progress.now.unknown }
+    ensures { IsTrue result ↔ progress.now.possible ≤ progress.now.unknown * 2 ^ taken }
+{
+    let possible = u128::from(progress.possible);
+    if taken >= 64 {
+        return true;
+    }
+    let parts = 2u128.pow(u32::from(taken));
+    possible <= u128::from(progress.unknown).saturating_mul(parts)
+}
+
+// Whether of the rows that may pass as large a share is unknown as is unread of any key or value.
+fn is_less_parted(progress: &Progress) -> bool
+    ensures { IsTrue result ↔ IsLessParted (outlook_of progress.now) }
+{
+    let is_decided = progress.unknown == 0;
+    if is_decided {
+        return false;
+    }
+    for column in 0..16usize {
+        let is_shown = is_left_for(Role::Group, progress, column)
+            || is_left_for(Role::Value, progress, column);
+        if is_shown && !is_share_unknown(progress, progress.read[column]) {
+            return false;
+        }
+    }
+    true
+}
+
+// The column of the condition that parts the rows, where they are to be parted next.
+fn parting(progress: &Progress) -> Option<usize>
+    ensures some { IfSome result (λ column. PartsRows (outlook_of progress.now)
+        × IsLeastTakenOf (IsReadFor (outlook_of progress.now) Filter) (outlook_of progress.now) column) }
+    ensures none { IfNone result (¬ PartsRows (outlook_of progress.now)) }
+{
+    let column = least_taken_for(Role::Filter, progress)?;
+    let is_all_read = least_taken_for(Role::Group, progress).is_none()
+        && least_taken_for(Role::Value, progress).is_none();
+    if is_all_read || is_less_parted(progress) {
+        Some(column)
+    } else {
+        None
+    }
+}
+
+/// A column of the condition while as large a share of the rows that may pass is unknown as of a value is unread; next one of the groups,
+/// then one of values: of each the one of which the fewest planes are read, of equals the least.
+pub fn balanced(progress: &Progress) -> usize
+    requires { HasUnread (outlook_of progress.now) }
+    ensures { Chooses Balanced (outlook_of progress.now) result }
+{
+    if let Some(column) = parting(progress) {
+        return column;
+    }
+    if let Some(column) = least_taken_for(Role::Group, progress) {
+        return column;
+    }
+    match least_taken_for(Role::Value, progress) {
+        Some(column) => column,
+        None => unreachable!(),
+    }
 }
 
 /// The list's column for the next round, where it has an unread plane; else the widest.

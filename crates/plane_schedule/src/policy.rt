@@ -14,6 +14,9 @@ pub enum Policy {
     InOrder,
     /// The columns of the condition while it is unknown at some row, next those of the groups, then all; of each the widest.
     FilterFirst,
+    /// The columns of the condition while as large a share of the rows that may pass is unknown as of a value is unread; next those of the
+    /// groups, then those that give values; of each the one of which the fewest planes are read.
+    Balanced,
     /// These columns of the query, one for each round.
     Listed(Columns),
 }
@@ -50,7 +53,7 @@ impl Policy {
         ensures { result ≡ is_list_end self.now round }
     {
         match self {
-            Policy::Widest | Policy::InOrder | Policy::FilterFirst => false,
+            Policy::Widest | Policy::InOrder | Policy::FilterFirst | Policy::Balanced => false,
             Policy::Listed(list) => round as usize == list.as_slice().len(),
         }
     }

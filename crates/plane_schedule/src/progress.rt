@@ -11,14 +11,18 @@ pub enum Role {
     Value,
 }
 
-/// The number of the query's columns, for each of them its unread planes (at most 65) and its role, at how many rows the
-/// condition is unknown, and how many rounds are done.
+/// The number of the query's columns; for each of them its unread planes and those that are read (each at most 65), its role, and whether
+/// it gives values: whether an argument of an aggregate names it, or rows are ordered by it. At how many rows the condition is unknown,
+/// and how many may pass it; and how many rounds are done.
 #[derive(Clone, Copy, Debug)]
 pub struct Progress {
     pub columns: u8,
     pub unread: [u8; 16],
+    pub read: [u8; 16],
     pub role: [Role; 16],
+    pub gives_values: [bool; 16],
     pub unknown: u64,
+    pub possible: u64,
     pub done: u32,
 }
 
