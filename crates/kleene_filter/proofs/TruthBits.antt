@@ -61,6 +61,15 @@ possible_mask [] (n ∷ ns) h = absurd h
 possible_mask (m ∷ ms) [] h = absurd h
 possible_mask (m ∷ ms) (n ∷ ns) h = ap (λ b. b ∷ ns) (sym (possible_bit m n h.0)) ∙ ap (λ bs. is_possible (truth_from m n) ∷ bs) (possible_mask ms ns h.1)
 
+-- the rows of the wider mask are those that may pass
+pub possible_count : (ms ns : List Bool) → AreNested ms ns → count_by (λ b. b) ns ≡ count_by is_possible (zip2 truth_from ms ns)
+possible_count [] [] h = refl
+possible_count [] (n ∷ ns) h = absurd h
+possible_count (m ∷ ms) [] h = absurd h
+possible_count (m ∷ ms) (n ∷ ns) h =
+    sum_by-cons (λ b. cond b 1 0) n ns ∙ ap (λ b. cond b 1 0 + count_by (λ b. b) ns) (sym (possible_bit m n h.0)) ∙ ap (λ k. cond (is_possible (truth_from m n)) 1 0 + k) (possible_count ms ns h.1)
+    ∙ sym (sum_by-cons (λ t. cond (is_possible t) 1 0) (truth_from m n) (zip2 truth_from ms ns))
+
 pub unknown_count : (ms ns : List Bool) → AreNested ms ns → count_by (λ b. b) ns ≡ count_by (λ b. b) ms + count_by is_unknown (zip2 truth_from ms ns)
 unknown_count [] [] h = refl
 unknown_count [] (n ∷ ns) h = absurd h

@@ -76,9 +76,10 @@ AreNested [] (n ∷ ns) = ⊥
 AreNested (m ∷ ms) [] = ⊥
 AreNested (m ∷ ms) (n ∷ ns) = (IsTrue m → IsTrue n) × AreNested ms ns
 
--- the masks are nested, and so many rows of the second are not in the first
-pub record AreCounted (must may : List Bool) (unknown : ℕ) : Type 0 where
+-- the masks are nested, so many rows are in the second, and so many of these not in the first
+pub record AreCounted (must may : List Bool) (possible unknown : ℕ) : Type 0 where
   pub nested : AreNested must may
+  pub all : possible ≡ count_by is_possible (zip2 truth_from must may)
   pub count : unknown ≡ count_by is_unknown (zip2 truth_from must may)
 
 -- the bits of a row are those of what is known of the condition there

@@ -33,7 +33,13 @@ pub(crate) struct TruthMasks {
 pub struct Filter {
     truths: TruthMasks,
     masks: Vec<AtomMasks>,
-    // The rows at which it is not known whether the condition holds, counted.
+    counts: Counts,
+}
+
+// How many rows may pass, and at how many of them it is not known whether the condition holds.
+#[derive(Clone, Copy)]
+struct Counts {
+    possible: u64,
     unknown: u64,
 }
 
@@ -43,7 +49,7 @@ impl Drop for Filter {
         let Filter {
             truths: _,
             masks: _,
-            unknown: _,
+            counts: _,
         } = self;
     }
 }
@@ -57,16 +63,20 @@ impl Model for Filter {
 
     ghost view = { λ f. record { truths = zip2 truth_from f.truths.must f.truths.may; masks = f.masks.items } };
 
-    ghost invariant = { λ f. AreCounted f.truths.must f.truths.may f.unknown };
+    ghost invariant = { λ f. AreCounted f.truths.must f.truths.may f.counts.possible f.counts.unknown };
 }
 
 impl TruthMasks {
-    // How many rows may pass and not surely.
-    fn unknown(&self) -> u64
+    // How many rows may pass, and how many of them not surely.
+    fn counts(&self) -> Counts
         requires { AreNested self.now.must self.now.may }
-        ensures { AreCounted self.now.must self.now.may result }
+        ensures { AreCounted self.now.must self.now.may result.possible result.unknown }
     {
-        self.may.count() - self.must.count()
+        let possible = self.may.count();
+        Counts {
+            possible,
+            unknown: possible - self.must.count(),
+        }
     }
 }
 
@@ -318,11 +328,11 @@ impl Filter {
         let mut masks = Vec::new(alloc);
         open_each(alloc, pred, columns, most, &mut masks)?;
         let truths = open_truths(alloc, pred, &masks, columns, block)?;
-        let unknown = truths.unknown();
+        let counts = truths.counts();
         Ok(Filter {
             truths,
             masks,
-            unknown,
+            counts,
         })
     }
 
@@ -348,7 +358,7 @@ impl Filter {
             return;
         }
         judge_all(pred, &self.masks, columns, block, &mut self.truths);
-        self.unknown = self.truths.unknown();
+        self.counts = self.truths.counts();
     }
 
     /// The rows at which the condition holds for certain.
@@ -369,6 +379,13 @@ impl Filter {
     pub fn unknown(&self) -> u64
         ensures { result ≡ count_by is_unknown self.now.truths }
     {
-        self.unknown
+        self.counts.unknown
+    }
+
+    /// The number of rows at which the condition may hold.
+    pub fn possible(&self) -> u64
+        ensures { result ≡ count_by is_possible self.now.truths }
+    {
+        self.counts.possible
     }
 }

@@ -5,8 +5,8 @@ use Rattle.kleene_filter.specs.Masks.{atoms_of, AreMasksOf}
 use Rattle.kleene_filter.proofs.TruthBits.{masks_nest, masks_tell}
 use Rattle.kleene_filter.proofs.filter.Filter.open.Goals as goal
 
-pub unknown-unknown-requires : goal.unknown-unknown-requires
-unknown-unknown-requires c = rw (c.in_ok-truths.ensures.must, c.in_ok-truths.ensures.may) (masks_nest (truths_under (condition_of c.args.pred.now) c.args.columns.now))
+pub counts-counts-requires : goal.counts-counts-requires
+counts-counts-requires c = rw (c.in_ok-truths.ensures.must, c.in_ok-truths.ensures.may) (masks_nest (truths_under (condition_of c.args.pred.now) c.args.columns.now))
 
 pub returns-clause-stands : goal.returns-clause-stands
 returns-clause-stands c =

@@ -46,8 +46,8 @@ judge_all-requires-clause-same c =
     let own = c.self.inside.truths in
     right_before c.args.self.now (condition_of c.args.pred.now) c.args.columns.now c.args.column c.args.plane.now own.must own.may c.requires.stood c.self.invariant.nested (ap (λ (f : Judgement). f.truths) c.self.view_is)
 
-pub unknown-self-inside-requires : goal.unknown-self-inside-requires
-unknown-self-inside-requires c = rw (c.judge_all.ensures.must, c.judge_all.ensures.may) (masks_nest (truths_under (condition_of c.args.pred.now) c.args.columns.now))
+pub counts-self-inside-requires : goal.counts-self-inside-requires
+counts-self-inside-requires c = rw (c.judge_all.ensures.must, c.judge_all.ensures.may) (masks_nest (truths_under (condition_of c.args.pred.now) c.args.columns.now))
 
 pub returns-clause-stands : goal.returns-clause-stands
 returns-clause-stands c =
