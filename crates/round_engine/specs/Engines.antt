@@ -12,7 +12,7 @@ use Rattle.round_engine.specs.declared.answers.Answers.TheVariants.{Totals, Grou
 use Rattle.round_engine.specs.declared.state.State.{State}
 use Rattle.round_engine.specs.CellAnswers.{AreGroups, AreSomeGroups, HoldGroups}
 use Rattle.round_engine.specs.KeptSums.{AreKept}
-use Rattle.round_engine.specs.Progresses.{role_of}
+use Rattle.round_engine.specs.Progresses.{gives_values, role_of}
 use Rattle.round_engine.specs.Rankings.{HoldsOrder, IsRanking}
 use Rattle.round_engine.specs.Selected.{HaveRows}
 use Rattle.round_engine.specs.Stages.{IsOpenStage, Stage, stepped}
@@ -72,12 +72,17 @@ pub record StoodBefore (stage : Stage) (column : ℕ) (bits : List Bool) (answer
 abbrev pub AreRoles : Query → List Role → Type 0
 AreRoles query roles = (c : ℕ) → c < length query.columns → slice_get roles c ≡ Some (role_of query c)
 
+-- the columns that give values are told
+abbrev pub AreGivers : Query → List Bool → Type 0
+AreGivers query gives = (c : ℕ) → c < length query.columns → slice_get gives c ≡ Some (gives_values query c)
+
 -- what is kept of a query is that of these columns: the truth of its condition at each row, its answers, and what it reads its columns for
 pub record IsKept (query : Query) (columns : KnownTable) (state : State) : Type 0 where
   pub open_stage : IsOpenStage (stage_of query columns)
   pub judged : StandsFor state.filter query.pred columns
   pub answered : AreAnswers (stage_of query columns) state.answers
   pub read_for : AreRoles query state.roles
+  pub giving : AreGivers query state.gives_values
   pub lent : state.block.frame.columns ≡ columns.frame.columns
 
 -- it was that of before these bits were read as the next plane of a column

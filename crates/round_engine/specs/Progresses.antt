@@ -1,16 +1,18 @@
 -- How far an engine has come, as a choice of the next column sees it; and lists of steps.
-use Rattle.std.specs.Prelude.{◌≡◌, ℕ, ◌+◌, ◌<◌, ◌==◌, Bool, List, [], ◌∷◌}
+use Rattle.std.specs.Prelude.{◌≡◌, ℕ, ◌+◌, ◌<◌, ◌==◌, ◌||◌, Bool, false, List, [], ◌∷◌}
 use Rattle.std.specs.Prelude.{length, map, slice_get, slice_index, count_by, if◌then◌else◌}
 use Rattle.std.specs.declared.option.Option.TheVariants.{Some}
-use Rattle.std.specs.List.{filter_map, sum}
+use Rattle.std.specs.List.{filter_map, list_any, sum}
 use Rattle.std.specs.declared.option.Option.TheVariants as option
 use Rattle.daq_table.specs.Tables.{ends_at, planes, rows_of}
-use Rattle.kleene_filter.specs.Filters.{is_unknown, stands_in}
+use Rattle.kleene_filter.specs.Filters.{is_possible, is_unknown, stands_in}
 use Rattle.query_model.specs.Queries.{Query}
 use Rattle.query_model.specs.Answers.{groups_of}
 use Rattle.query_model.specs.Knowledge.{Knowledge, known_at, ranges_of, taken}
-use Rattle.query_model.specs.Meaning.{columns_of_pred}
+use Rattle.query_model.specs.Meaning.{columns_of, columns_of_pred}
 use Rattle.query_model.specs.Truths.{truth_of}
+use Rattle.query_model.specs.declared.query.Shape.{Shape}
+use Rattle.query_model.specs.declared.query.Shape.TheVariants.{Plain, Grouped, Top}
 use Rattle.plane_schedule.specs.Choices.{IsSound}
 use Rattle.plane_schedule.specs.declared.progress.Progress.{Progress}
 use Rattle.plane_schedule.specs.declared.progress.Role.{Role}
@@ -22,9 +24,31 @@ abbrev pub role_of : Query → ℕ → Role
 role_of query c =
     if stands_in (columns_of_pred query.pred) c then Filter else (if stands_in (groups_of query.shape) c then Group else Value)
 
+-- the rows are in the order of this column
+abbrev pub orders_by : Shape → ℕ → Bool
+orders_by Plain c = false
+orders_by (Grouped columns) c = false
+orders_by (Top key down limit) c = key == c
+
+-- an argument of an aggregate names the column
+abbrev pub is_argument : Query → ℕ → Bool
+is_argument query c = list_any (λ item. stands_in (columns_of item.arg) c) query.items
+
+-- the column gives values: an argument names it, or the rows are in its order
+abbrev pub gives_values : Query → ℕ → Bool
+gives_values query c = is_argument query c || orders_by query.shape c
+
 -- at how many rows it is not known whether the condition holds
 abbrev pub unknown_rows : Stage → ℕ
 unknown_rows stage = count_by (λ r. is_unknown (truth_of stage.query.pred (ranges_of stage.frame stage.known r))) (rows_of stage.frame)
+
+-- at how many rows it may hold
+abbrev pub possible_rows : Stage → ℕ
+possible_rows stage = count_by (λ r. is_possible (truth_of stage.query.pred (ranges_of stage.frame stage.known r))) (rows_of stage.frame)
+
+-- how many planes of a column were taken
+abbrev pub taken_of : Stage → ℕ → ℕ
+taken_of stage c = (known_at stage.known c).read
 
 -- how many planes were read, of all columns: one in each step
 abbrev pub planes_read : Knowledge → ℕ
@@ -36,8 +60,11 @@ pub record IsProgress (stage : Stage) (p : Progress) : Type 0 where
   pub columns : p.columns ≡ length stage.frame.columns
   pub unread : (c : ℕ) → c < length stage.frame.columns →
       slice_index p.unread c + (known_at stage.known c).read ≡ planes (ends_at stage.frame c)
+  pub taken : (c : ℕ) → c < length stage.frame.columns → slice_index p.read c ≡ taken_of stage c
   pub role : (c : ℕ) → c < length stage.frame.columns → slice_get p.role c ≡ Some (role_of stage.query c)
+  pub gives : (c : ℕ) → c < length stage.frame.columns → slice_get p.gives_values c ≡ Some (gives_values stage.query c)
   pub unknown : p.unknown ≡ unknown_rows stage
+  pub possible : p.possible ≡ possible_rows stage
   pub done : p.done ≡ planes_read stage.known
 
 -- ---- lists of steps

@@ -12,7 +12,7 @@ use kleene_filter::pred_reads;
 use query_model::{Expr, TypedQuery};
 
 // Whether an expression reads the column.
-fn expr_reads(expr: &Expr, wanted: usize) -> bool
+pub(crate) fn expr_reads(expr: &Expr, wanted: usize) -> bool
     ensures { result ≡ stands_in (columns_of (term_of expr.now)) wanted }
 {
     match expr {

@@ -19,23 +19,38 @@ pub(crate) fn plane_count(known: &Known) -> u8
     known.width() + u8::from(known.nullable())
 }
 
-// The unread planes of each column, and how many planes were read of all.
-fn planes_of(columns: &LentColumns<'_>) -> ([u8; 16], u32)
+// The unread planes of each column, those that were read, and how many were read of all.
+struct PlaneCounts {
+    unread: [u8; 16],
+    read: [u8; 16],
+    all_read: u32,
+}
+
+fn planes_of(columns: &LentColumns<'_>) -> PlaneCounts
     requires few { length columns.now.frame.columns ≤ 16 }
     requires known { IsKnowledge columns.now.frame columns.now.known }
     ensures unread { (c : ℕ) → c < length columns.now.frame.columns
-        → slice_index result.0 c + (known_at columns.now.known c).read ≡ planes (ends_at columns.now.frame c) }
-    ensures few { (c : ℕ) → slice_index result.0 c ≤ 65 }
-    ensures read { result.1 ≡ planes_read columns.now.known }
+        → slice_index result.unread c + (known_at columns.now.known c).read ≡ planes (ends_at columns.now.frame c) }
+    ensures few { (c : ℕ) → slice_index result.unread c ≤ 65 }
+    ensures read { (c : ℕ) → c < length columns.now.frame.columns → slice_index result.read c ≡ (known_at columns.now.known c).read }
+    ensures few_read { (c : ℕ) → slice_index result.read c ≤ 65 }
+    ensures all { result.all_read ≡ planes_read columns.now.known }
 {
     let mut unread = [0u8; 16];
-    let mut read = 0u32;
+    let mut read = [0u8; 16];
+    let mut all_read = 0u32;
     for column in 0..columns.len() {
         let left = columns.unread(column);
+        let taken = plane_count(columns.column(column)) - left;
         unread[column] = left;
-        read += u32::from(plane_count(columns.column(column)) - left);
+        read[column] = taken;
+        all_read += u32::from(taken);
     }
-    (unread, read)
+    PlaneCounts {
+        unread,
+        read,
+        all_read,
+    }
 }
 
 impl State {
@@ -43,13 +58,20 @@ impl State {
         requires { IsKept query.now columns.now self.now }
         ensures { IsProgress (stage_of query.now columns.now) result }
     {
-        let (unread, done) = planes_of(columns);
+        let PlaneCounts {
+            unread,
+            read,
+            all_read,
+        } = planes_of(columns);
         Progress {
             columns: columns.len() as u8,
             unread,
+            read,
             role: self.roles,
+            gives_values: self.gives_values,
             unknown: self.filter.unknown(),
-            done,
+            possible: self.filter.possible(),
+            done: all_read,
         }
     }
 }

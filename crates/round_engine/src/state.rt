@@ -5,7 +5,7 @@ ghost use Rattle.round_engine.specs.Engines.{IsKept, WasKept};
 ghost use Rattle.round_engine.specs.Followers.{AreUnreadFor};
 
 use crate::answers::Answers;
-use crate::roles::roles_of;
+use crate::roles::{givers_of, roles_of};
 use kleene_filter::Filter;
 use known_column::{LentColumns, RowBlock};
 use plane_kernels::Plane;
@@ -20,6 +20,7 @@ pub(crate) struct State {
     pub(crate) filter: Filter,
     pub(crate) answers: Answers,
     pub(crate) roles: [Role; 16],
+    pub(crate) gives_values: [bool; 16],
 }
 
 impl State {
@@ -45,6 +46,7 @@ impl State {
             filter,
             answers,
             roles: roles_of(query),
+            gives_values: givers_of(query),
         })
     }
 

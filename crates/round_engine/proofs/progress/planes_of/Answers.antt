@@ -3,8 +3,8 @@ use Rattle.std.proofs.lemmas.List.{take_all}
 use Rattle.round_engine.specs.Progresses.{planes_read}
 use Rattle.round_engine.proofs.progress.planes_of.Goals as goal
 
-pub returns-clause-read : goal.returns-clause-read
-returns-clause-read c =
+pub returns-clause-all : goal.returns-clause-all
+returns-clause-all c =
     let known = c.args.columns.now.known in
     let count = c.requires.known.columns in
     let end = c.len-column-end.ensures in

@@ -22,6 +22,7 @@ returns c = record {
     judged = subst (λ (q : Query). StandsFor c.in_ok-filter.filter q.pred c.args.columns.now) c.query.view_is c.in_ok-filter.ensures.stands;
     answered = c.fill.ensures.answers;
     read_for = c.roles_of.ensures;
+    giving = c.givers_of.ensures;
     lent = c.fill.ensures.same;
   };
 }
