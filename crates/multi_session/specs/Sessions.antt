@@ -1,6 +1,6 @@
 -- A session: several queries over the planes of one table. A plane that is read goes to each query that is not finished and reads its
 -- column. Columns of the session are numbered in the order in which its queries name them first; a place is a column's number in the table.
-use Rattle.std.specs.Prelude.{◌≡◌, ℕ, ◌+◌, ◌-◌, ◌<◌, ◌≤◌, ◌==◌, Bool, true, List, [], ◌∷◌, ◌++◌}
+use Rattle.std.specs.Prelude.{◌≡◌, ℕ, ◌+◌, ◌-◌, ◌<◌, ◌≤◌, ◌==◌, ◌||◌, max, Bool, true, false, List, [], ◌∷◌, ◌++◌}
 use Rattle.std.specs.Prelude.{map, length, fold, replicate, position, slice_get, slice_index, sum_by, is_some, if◌then◌else◌}
 use Rattle.std.specs.declared.option.Option.{Option}
 use Rattle.std.specs.declared.option.Option.TheVariants.{Some, None}
@@ -16,7 +16,7 @@ use Rattle.plane_schedule.specs.declared.progress.Role.TheVariants.{Filter, Grou
 use Rattle.query_model.specs.Knowledge.{known_at}
 use Rattle.query_model.specs.Queries.{Query}
 use Rattle.round_engine.specs.Narrowness.{is_narrow}
-use Rattle.round_engine.specs.Progresses.{role_of, unknown_rows}
+use Rattle.round_engine.specs.Progresses.{gives_values, possible_rows, role_of, taken_of, unknown_rows}
 use Rattle.round_engine.specs.Stages.{Stage, opened, stepped}
 
 -- how far apart the ends of a narrow bound may be, the rows of the table, the places of the session's columns, the stage of each query,
@@ -106,25 +106,56 @@ role_for width place stage = option_map_or (role_of stage.query) (awaited width 
 abbrev pub role_in : ℕ → ℕ → List Stage → Role
 role_in width place stages = fold first_role Value (map (role_for width place) stages)
 
+-- how many of its planes these queries have taken, which is the same for each
+abbrev pub taken_for : ℕ → ℕ → Stage → ℕ
+taken_for width place stage = option_map_or (taken_of stage) (awaited width place stage) 0
+
+abbrev pub taken_in : ℕ → ℕ → List Stage → ℕ
+taken_in width place stages = fold max 0 (map (taken_for width place) stages)
+
+-- whether it gives values to one of them
+abbrev pub gives_for : ℕ → ℕ → Stage → Bool
+gives_for width place stage = option_map_or (gives_values stage.query) (awaited width place stage) false
+
+abbrev pub gives_in : ℕ → ℕ → List Stage → Bool
+gives_in width place stages = fold ◌||◌ false (map (gives_for width place) stages)
+
+-- a number of rows of each query that is not finished, all added
+abbrev pub rows_in : (Stage → ℕ) → ℕ → List Stage → ℕ
+rows_in count width stages = sum_by (λ stage. if is_narrow width stage then 0 else count stage) stages
+
 -- at how many rows the condition of a query is unknown, of those that are not finished
 abbrev pub unknown_in : ℕ → List Stage → ℕ
-unknown_in width stages = sum_by (λ stage. if is_narrow width stage then 0 else unknown_rows stage) stages
+unknown_in width stages = rows_in unknown_rows width stages
 
--- the unread planes and the roles of the columns of the table at these places, of so many of them
-pub record TellsColumns (width : ℕ) (places : List ℕ) (stages : List Stage) (count : ℕ) (unread : List ℕ) (roles : List Role) : Type 0 where
+-- and at how many it may hold
+abbrev pub possible_in : ℕ → List Stage → ℕ
+possible_in width stages = rows_in possible_rows width stages
+
+-- what the queries do with the columns of the table at these places, of so many of them
+pub record TellsColumns (width : ℕ) (places : List ℕ) (stages : List Stage) (count : ℕ) (unread taken : List ℕ) (roles : List Role)
+    (gives : List Bool) : Type 0 where
   pub numbers : length unread ≡ 16
   pub few : (c : ℕ) → slice_index unread c ≤ 65
   pub counts : (c : ℕ) → c < count → slice_index unread c ≡ unread_in width (slice_index places c) stages
+  pub numbers_taken : length taken ≡ 16
+  pub few_taken : (c : ℕ) → slice_index taken c ≤ 65
+  pub counts_taken : (c : ℕ) → c < count → slice_index taken c ≡ taken_in width (slice_index places c) stages
   pub names : length roles ≡ 16
   pub read_for : (c : ℕ) → c < count → slice_get roles c ≡ Some (role_in width (slice_index places c) stages)
+  pub flags : length gives ≡ 16
+  pub gives_some : (c : ℕ) → c < count → slice_get gives c ≡ Some (gives_in width (slice_index places c) stages)
 
 -- what a policy looks at
 abbrev pub session_outlook : Session → Outlook
 session_outlook s = record {
   columns = length s.columns;
   unread = λ c. unread_in s.width (slice_index s.columns c) s.stages;
+  taken = λ c. taken_in s.width (slice_index s.columns c) s.stages;
   role = λ c. Some (role_in s.width (slice_index s.columns c) s.stages);
+  gives = λ c. Some (gives_in s.width (slice_index s.columns c) s.stages);
   unknown = unknown_in s.width s.stages;
+  possible = possible_in s.width s.stages;
   read = s.steps;
 }
 
@@ -133,6 +164,9 @@ pub record IsSessionProgress (s : Session) (p : Progress) : Type 0 where
   pub sound : IsSound p
   pub columns : p.columns ≡ length s.columns
   pub unread : (c : ℕ) → c < length s.columns → slice_index p.unread c ≡ unread_in s.width (slice_index s.columns c) s.stages
+  pub taken : (c : ℕ) → c < length s.columns → slice_index p.read c ≡ taken_in s.width (slice_index s.columns c) s.stages
   pub role : (c : ℕ) → c < length s.columns → slice_get p.role c ≡ Some (role_in s.width (slice_index s.columns c) s.stages)
+  pub gives : (c : ℕ) → c < length s.columns → slice_get p.gives_values c ≡ Some (gives_in s.width (slice_index s.columns c) s.stages)
   pub unknown : p.unknown ≡ unknown_in s.width s.stages
+  pub possible : p.possible ≡ possible_in s.width s.stages
   pub done : p.done ≡ s.steps

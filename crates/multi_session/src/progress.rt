@@ -6,7 +6,7 @@ ghost use Rattle.query_model.specs.Knowledge.{IsKnowledge};
 ghost use Rattle.round_engine.specs.Stages.{Stage};
 ghost use Rattle.multi_session.specs.Members.{AreSomeMembers, stages_of};
 ghost use Rattle.multi_session.specs.Sessions.{Awaits, IsSessionProgress, TellsColumns, first_role};
-ghost use Rattle.multi_session.specs.Sessions.{role_in, session_outlook, unknown_in, unread_in, unread_of};
+ghost use Rattle.multi_session.specs.Sessions.{gives_in, possible_in, role_in, session_outlook, taken_in, unknown_in, unread_in, unread_of};
 
 use crate::columns::Columns;
 use crate::member::Member;
@@ -39,54 +39,101 @@ fn unread_in(members: &[Member], columns: &Columns, column: usize, width: u64) -
     0
 }
 
-// What a column of the table is read for.
-fn role_in(members: &[Member], columns: &Columns, place: usize, width: u64) -> Role
+// What the queries that await a column's next plane do with it: what they read it for, how many of its planes they took, and whether it
+// gives values to one of them.
+#[derive(Clone, Copy)]
+struct ColumnUse {
+    role: Role,
+    read: u8,
+    gives_values: bool,
+}
+
+fn use_in(members: &[Member], columns: &Columns, place: usize, width: u64) -> ColumnUse
     requires { AreSomeMembers width columns.now.places.items columns.now.known members.now }
-    ensures { result ≡ role_in width place (stages_of columns.now.known members.now) }
+    ensures role { result.role ≡ role_in width place (stages_of columns.now.known members.now) }
+    ensures read { result.read ≡ taken_in width place (stages_of columns.now.known members.now) }
+    ensures few { result.read ≤ 65 }
+    ensures gives { result.gives_values ≡ gives_in width place (stages_of columns.now.known members.now) }
 {
     let mut role = Role::Value;
+    let mut read = 0u8;
+    let mut gives_values = false;
     for member in members {
         if let Some(own) = member.awaited(place) {
-            role = first_role(role, member.view(columns).progress().role[own]);
+            let progress = member.view(columns).progress();
+            role = first_role(role, progress.role[own]);
+            read = read.max(progress.read[own]);
+            gives_values = gives_values | progress.gives_values[own];
         }
     }
-    role
+    ColumnUse {
+        role,
+        read,
+        gives_values,
+    }
 }
 
-// At how many rows the condition of a query is unknown, of those that are not finished.
-fn unknown_in(members: &[Member], columns: &Columns, width: u64) -> u64
+// At how many rows the conditions of the queries that are not finished are unknown, and at how many they may hold, all added.
+struct RowCounts {
+    unknown: u64,
+    possible: u64,
+}
+
+fn rows_in(members: &[Member], columns: &Columns, width: u64) -> RowCounts
     requires kept { AreSomeMembers width columns.now.places.items columns.now.known members.now }
     requires few { length members.now ≤ 16 }
-    ensures { result ≡ unknown_in width (stages_of columns.now.known members.now) }
+    ensures unknown { result.unknown ≡ unknown_in width (stages_of columns.now.known members.now) }
+    ensures possible { result.possible ≡ possible_in width (stages_of columns.now.known members.now) }
 {
     let mut unknown = 0;
+    let mut possible = 0;
     for member in members {
         if !member.finished {
-            unknown += member.view(columns).progress().unknown;
+            let progress = member.view(columns).progress();
+            unknown += progress.unknown;
+            possible += progress.possible;
         }
     }
-    unknown
+    RowCounts { unknown, possible }
 }
 
-// The unread planes and the role of each column of the session.
-fn told_of(members: &[Member], columns: &Columns, width: u64) -> ([u8; 16], [Role; 16])
+// What the queries do with each column of the session.
+struct ColumnUses {
+    unread: [u8; 16],
+    read: [u8; 16],
+    role: [Role; 16],
+    gives_values: [bool; 16],
+}
+
+fn told_of(members: &[Member], columns: &Columns, width: u64) -> ColumnUses
     requires kept { AreSomeMembers width columns.now.places.items columns.now.known members.now }
     requires few { length columns.now.places.items ≤ 16 }
     ensures { TellsColumns width columns.now.places.items (stages_of columns.now.known members.now)
-        (length columns.now.places.items) result.0 result.1 }
+        (length columns.now.places.items) result.unread result.read result.role result.gives_values }
 {
     let mut unread = [0u8; 16];
+    let mut read = [0u8; 16];
     let mut role = [Role::Value; 16];
+    let mut gives_values = [false; 16];
     for (column, place) in columns.places.iter().enumerate() {
         unread[column] = unread_in(members, columns, column, width);
-        role[column] = role_in(members, columns, *place, width);
+        let column_use = use_in(members, columns, *place, width);
+        read[column] = column_use.read;
+        role[column] = column_use.role;
+        gives_values[column] = column_use.gives_values;
     }
-    (unread, role)
+    ColumnUses {
+        unread,
+        read,
+        role,
+        gives_values,
+    }
 }
 
 impl Session {
-    /// How far the session has come: of its columns the planes that some query awaits, and what these queries read them for; at how many
-    /// rows the conditions of the queries that are not finished are unknown, all added; and the number of steps.
+    /// How far the session has come: of its columns the planes that some query awaits, those that are read, what these queries read them
+    /// for, and whether they give values; at how many rows the conditions of the queries that are not finished are unknown, and at how many
+    /// they may hold, all added; and the number of steps.
     pub fn progress(&self) -> Progress
         ensures progress { IsSessionProgress self.now result }
         ensures unread { (column : ℕ) → IsUnread (outlook_of result) column → IsUnread (session_outlook self.now) column }
@@ -94,12 +141,21 @@ impl Session {
             → slice_index result.unread column ≡ unread_of stage own }
         ensures known { (query : ℕ) (stage : Stage) → slice_get self.now.stages query ≡ Some stage → IsKnowledge stage.frame stage.known }
     {
-        let (unread, role) = told_of(&self.members, &self.columns, self.width);
+        let ColumnUses {
+            unread,
+            read,
+            role,
+            gives_values,
+        } = told_of(&self.members, &self.columns, self.width);
+        let RowCounts { unknown, possible } = rows_in(&self.members, &self.columns, self.width);
         Progress {
             columns: self.columns.places.len() as u8,
             unread,
+            read,
             role,
-            unknown: unknown_in(&self.members, &self.columns, self.width),
+            gives_values,
+            unknown,
+            possible,
             done: self.steps,
         }
     }
