@@ -12,7 +12,7 @@ use Rattle.plane_schedule.specs.Laws.{PoliciesChoose}
 use Rattle.plane_schedule.specs.Plans.{first_ending, no_extras}
 use Rattle.plane_schedule.specs.declared.policy.Plan.{Plan}
 use Rattle.plane_schedule.specs.declared.policy.Policy.{Policy}
-use Rattle.plane_schedule.specs.declared.policy.Policy.TheVariants.{Widest, InOrder, FilterFirst, Listed}
+use Rattle.plane_schedule.specs.declared.policy.Policy.TheVariants.{Widest, InOrder, FilterFirst, Balanced, Listed}
 use Rattle.plane_schedule.specs.declared.progress.Progress.{Progress}
 use Rattle.query_model.specs.Knowledge.{IsKnowledge}
 use Rattle.query_model.specs.Validity.{no_repeats}
@@ -27,8 +27,11 @@ pub same_outlook : (s : Session) (p : Progress) → IsSessionProgress s p → Ar
 same_outlook s p is = record {
   columns = (let all = is.columns in let few = is.sound.columns in omega (arith, all, few));
   unread = λ c h. is.unread c (let all = is.columns in let few = is.sound.columns in omega (arith, h, all, few));
+  taken = λ c h. is.taken c (let all = is.columns in let few = is.sound.columns in omega (arith, h, all, few));
   role = λ c h. is.role c (let all = is.columns in let few = is.sound.columns in omega (arith, h, all, few));
+  gives = λ c h. is.gives c (let all = is.columns in let few = is.sound.columns in omega (arith, h, all, few));
   unknown = is.unknown;
+  possible = is.possible;
   read = is.done;
 }
 
@@ -46,6 +49,7 @@ pub choice_of : PoliciesChoose → (policy : Policy) (s : Session) → IsUnliste
 choice_of choose Widest s is unread = (choose (session_outlook s) unread).0
 choice_of choose InOrder s is unread = (choose (session_outlook s) unread).1
 choice_of choose FilterFirst s is unread = (choose (session_outlook s) unread).2
+choice_of choose Balanced s is unread = (choose (session_outlook s) unread).3
 choice_of choose (Listed list) s is unread = absurd is
 
 -- ---- a query that is not finished awaits a plane

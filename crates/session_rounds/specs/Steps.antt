@@ -15,7 +15,7 @@ use Rattle.plane_schedule.specs.Plans.{ending_of}
 use Rattle.plane_schedule.specs.declared.policy.Ending.{Ending}
 use Rattle.plane_schedule.specs.declared.policy.Plan.{Plan}
 use Rattle.plane_schedule.specs.declared.policy.Policy.{Policy}
-use Rattle.plane_schedule.specs.declared.policy.Policy.TheVariants.{Widest, InOrder, FilterFirst, Listed}
+use Rattle.plane_schedule.specs.declared.policy.Policy.TheVariants.{Widest, InOrder, FilterFirst, Balanced, Listed}
 use Rattle.query_model.specs.Knowledge.{IsKnowledge}
 use Rattle.query_model.specs.Queries.{Query}
 use Rattle.round_engine.specs.Narrowness.{is_narrow}
@@ -85,6 +85,7 @@ abbrev pub IsUnlisted : Policy → Type 0
 IsUnlisted Widest = Unit {0}
 IsUnlisted InOrder = Unit {0}
 IsUnlisted FilterFirst = Unit {0}
+IsUnlisted Balanced = Unit {0}
 IsUnlisted (Listed list) = ⊥
 
 -- the unread planes of all queries, each of a query counted by itself

@@ -13,7 +13,7 @@ use Rattle.plane_schedule.specs.Laws.{PoliciesChoose}
 use Rattle.plane_schedule.specs.Plans.{IsReadable, IsReadableList, is_list_end, is_most}
 use Rattle.plane_schedule.specs.declared.policy.Plan.{Plan}
 use Rattle.plane_schedule.specs.declared.policy.Policy.{Policy}
-use Rattle.plane_schedule.specs.declared.policy.Policy.TheVariants.{Widest, InOrder, FilterFirst, Listed}
+use Rattle.plane_schedule.specs.declared.policy.Policy.TheVariants.{Widest, InOrder, FilterFirst, Balanced, Listed}
 use Rattle.query_model.specs.Knowledge.{CanTake, IsKnowledge, is_legal, known_at, longer, taken}
 use Rattle.query_model.specs.Laws.{TakenIsKnowledge}
 use Rattle.query_model.specs.Worlds.{NamesColumns}
@@ -212,6 +212,7 @@ module _ (plan : Plan) (query : TypedQuery) (frame : Frame) (bits : Planes) wher
       by Widest e able = (choose (outlook_at (stage_after query frame bits reads (length reads))) stage_unread).0
       by InOrder e able = (choose (outlook_at (stage_after query frame bits reads (length reads))) stage_unread).1
       by FilterFirst e able = (choose (outlook_at (stage_after query frame bits reads (length reads))) stage_unread).2
+      by Balanced e able = (choose (outlook_at (stage_after query frame bits reads (length reads))) stage_unread).3
       by (Listed list) e able =
           let stage = stage_after query frame bits reads (length reads) in
           let round = planes_read stage.known in

@@ -18,8 +18,11 @@ pub same_outlook : (stage : Stage) (p : Progress) → IsProgress stage p → Are
 same_outlook stage p is = record {
   columns = (let all = is.columns in let few = is.sound.columns in omega (arith, all, few));
   unread = λ c h. (let all = is.columns in let few = is.sound.columns in let u = is.unread c (omega (arith, h, all, few)) in omega (arith, u));
+  taken = λ c h. is.taken c (let all = is.columns in let few = is.sound.columns in omega (arith, h, all, few));
   role = λ c h. is.role c (let all = is.columns in let few = is.sound.columns in omega (arith, h, all, few));
+  gives = λ c h. is.gives c (let all = is.columns in let few = is.sound.columns in omega (arith, h, all, few));
   unknown = is.unknown;
+  possible = is.possible;
   read = is.done;
 }
 

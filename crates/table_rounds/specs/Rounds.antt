@@ -15,7 +15,7 @@ use Rattle.query_model.specs.Knowledge.{IsKnowledge, Knowledge, known_at, known_
 use Rattle.query_model.specs.Projection.{projected, projected_frame}
 use Rattle.query_model.specs.declared.query.TypedQuery.{TypedQuery}
 use Rattle.round_engine.specs.Narrowness.{is_narrow}
-use Rattle.round_engine.specs.Progresses.{planes_read, role_of, unknown_rows}
+use Rattle.round_engine.specs.Progresses.{gives_values, planes_read, possible_rows, role_of, taken_of, unknown_rows}
 use Rattle.round_engine.specs.Stages.{IsFirstOver, Stage}
 
 -- the planes of a table, by its columns and the numbers of their planes: a bit for each row
@@ -80,8 +80,11 @@ abbrev pub outlook_at : Stage → Outlook
 outlook_at stage = record {
   columns = length stage.frame.columns;
   unread = unread_of stage;
+  taken = taken_of stage;
   role = λ c. Some (role_of stage.query c);
+  gives = λ c. Some (gives_values stage.query c);
   unknown = unknown_rows stage;
+  possible = possible_rows stage;
   read = planes_read stage.known;
 }
 
