@@ -5,7 +5,7 @@ use Rattle.std.proofs.Common.{◌≡◌, ◌≢◌, ℕ, zero, suc, ◌+◌, ◌
 use Rattle.std.specs.Option.{option_map_or}
 use Rattle.std.specs.Str.{bytes_eq}
 use Rattle.std.proofs.lemmas.Slice.Eq.{bytes_eq-Decides}
-use Rattle.command_line.specs.Commands.{ReadOrder, widest, in_order, filter_first, reads, IsPolicy, IsNumber, Given, Gives, no_more, more_width, more_rounds, more_policy, more_reads, more_list, more_clip, more_exact, Options, Command, ask, query, session, load, info, upgrade, demo, IsCommand, AreOptions, nothing_given, options_given, most_seed, most_rows, most_width, most_rounds}
+use Rattle.command_line.specs.Commands.{ReadOrder, widest, in_order, filter_first, balanced, reads, IsPolicy, IsNumber, Given, Gives, no_more, more_width, more_rounds, more_policy, more_reads, more_list, more_clip, more_exact, Options, Command, ask, query, session, load, info, upgrade, demo, IsCommand, AreOptions, nothing_given, options_given, most_seed, most_rows, most_width, most_rounds}
 use Rattle.command_line.specs.Reading.{Next, name, word, number, policy, option, done, after, after_ask, after_query, after_session, after_load, after_info, after_upgrade, after_demo, after_name, after_flag, behind, is_free, flag_of, flag_text, at_end, answer, number_of, policy_of}
 use Rattle.command_line.proofs.Numbers.{number_is, both}
 use Rattle.command_line.proofs.Steps.{Allowed}
@@ -96,7 +96,8 @@ policy_is w p e =
     if_cases P (bytes_eq w (codes "widest")) _ _ (λ t s. subst (IsPolicy w) (some_same widest p s) (same_bytes w _ t))
     (if_cases P (bytes_eq w (codes "order")) _ _ (λ t s. subst (IsPolicy w) (some_same in_order p s) (same_bytes w _ t))
     (if_cases P (bytes_eq w (codes "filter")) _ _ (λ t s. subst (IsPolicy w) (some_same filter_first p s) (same_bytes w _ t))
-    (λ s. cc))) e
+    (if_cases P (bytes_eq w (codes "balanced")) _ _ (λ t s. subst (IsPolicy w) (some_same balanced p s) (same_bytes w _ t))
+    (λ s. cc)))) e
   where
     some_same : (a b : ReadOrder) → Some a ≡ Some b → a ≡ b
     some_same a b s = cc
@@ -164,6 +165,7 @@ policy_allowed : (by_name : Bool) (g : Given) (w : List ℕ) (p : ReadOrder) →
 policy_allowed by_name g w widest is names e = cc
 policy_allowed by_name g w in_order is names e = cc
 policy_allowed by_name g w filter_first is names e = cc
+policy_allowed by_name g w balanced is names e = cc
 policy_allowed by_name g w (reads listed) is names e = absurd is
 
 read_flag : (by_name : Bool) (n : ℕ) (k : Options → Command) → ReadBelow by_name n k →

@@ -1,7 +1,7 @@
 -- Each command of the grammar is read whole.
 use Rattle.command_line.specs.declared.reader.Flag.TheVariants as f
 use Rattle.std.proofs.Common.{◌≡◌, ◌≢◌, ℕ, ◌+◌, Bool, true, false, ◌&&◌, Option, None, Some, Ok, List, option_map, unwrap_or, refl, sym, ap, ◌∙◌, codes}
-use Rattle.command_line.specs.Commands.{ReadOrder, widest, in_order, filter_first, reads, IsPolicy, Given, Gives, no_more, more_width, more_rounds, more_policy, more_reads, more_list, more_clip, more_exact, Options, Command, ask, query, session, load, info, upgrade, demo, IsCommand, options_given, most_seed, most_rows, most_width, most_rounds}
+use Rattle.command_line.specs.Commands.{ReadOrder, widest, in_order, filter_first, balanced, reads, IsPolicy, Given, Gives, no_more, more_width, more_rounds, more_policy, more_reads, more_list, more_clip, more_exact, Options, Command, ask, query, session, load, info, upgrade, demo, IsCommand, options_given, most_seed, most_rows, most_width, most_rounds}
 use Rattle.command_line.specs.Reading.{name, option, done, after_ask, after_query, after_session, after_load, after_info, after_upgrade, after_demo, after_name, answer, policy_of}
 use Rattle.command_line.proofs.Numbers.{number_some}
 use Rattle.command_line.proofs.Steps.{answer-none, answer-step, after_free, is_none_at, not_at, Allowed}
@@ -11,6 +11,7 @@ unfolding policy_of
 policy_some w widest e = rw e refl
 policy_some w in_order e = rw e refl
 policy_some w filter_first e = rw e refl
+policy_some w balanced e = rw e refl
 policy_some w (reads names) e = absurd e
 
 taken : {A B : Type 0} (o : Option A) (x : A) → o ≡ None → o ≡ Some x → B

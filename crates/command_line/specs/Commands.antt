@@ -10,6 +10,7 @@ pub data ReadOrder : Type 0 where
   widest : ReadOrder
   in_order : ReadOrder
   filter_first : ReadOrder
+  balanced : ReadOrder
   reads : List ℕ → ReadOrder
 
 pub record Options : Type 0 where
@@ -92,11 +93,12 @@ pub record IsNumber (limit : ℕ) (word : List ℕ) (number : ℕ) : Type 0 wher
 
 -- ---- options
 
--- policy = "widest" | "order" | "filter"
+-- policy = "widest" | "order" | "filter" | "balanced"
 abbrev pub IsPolicy : List ℕ → ReadOrder → Type 0
 IsPolicy word widest = word ≡ codes "widest"
 IsPolicy word in_order = word ≡ codes "order"
 IsPolicy word filter_first = word ≡ codes "filter"
+IsPolicy word balanced = word ≡ codes "balanced"
 IsPolicy word (reads names) = ⊥
 
 -- what options say, where each says it once

@@ -8,7 +8,7 @@ use Rattle.std.specs.Str.{bytes_eq}
 use Rattle.std.specs.Str.Parse.{digits_value}
 use Rattle.command_line.specs.declared.reader.Flag.{Flag}
 use Rattle.command_line.specs.declared.reader.Flag.TheVariants as f
-use Rattle.command_line.specs.Commands.{ReadOrder, widest, in_order, filter_first, reads, Given, Options}
+use Rattle.command_line.specs.Commands.{ReadOrder, widest, in_order, filter_first, balanced, reads, Given, Options}
 use Rattle.command_line.specs.Commands.{Command, ask, query, session, load, info, upgrade, demo, nothing_given}
 use Rattle.command_line.specs.Commands.{options_given, most_seed, most_rows, most_width, most_rounds}
 
@@ -30,7 +30,8 @@ unfoldable pub policy_of : List ℕ → Option ReadOrder
 policy_of w =
     if bytes_eq w (codes "widest") then Some widest
     else (if bytes_eq w (codes "order") then Some in_order
-    else (if bytes_eq w (codes "filter") then Some filter_first else None))
+    else (if bytes_eq w (codes "filter") then Some filter_first
+    else (if bytes_eq w (codes "balanced") then Some balanced else None)))
 
 abbrev pub options : (Options → Command) → Next
 options k = option true nothing_given k

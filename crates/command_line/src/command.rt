@@ -17,6 +17,8 @@ pub enum ReadOrder<'a> {
     InOrder,
     /// The columns of the condition first.
     FilterFirst,
+    /// The columns in which most is open first.
+    Balanced,
     /// The names that the word behind `--reads` lists.
     Reads(&'a str),
 }

@@ -104,6 +104,7 @@ fn policy_of<'a>(word: &str) -> Option<ReadOrder<'a>>
         "widest" => Some(ReadOrder::Widest),
         "order" => Some(ReadOrder::InOrder),
         "filter" => Some(ReadOrder::FilterFirst),
+        "balanced" => Some(ReadOrder::Balanced),
         _ => None,
     }
 }
