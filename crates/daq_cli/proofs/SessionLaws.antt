@@ -93,6 +93,7 @@ one_policy : (order : ReadOrder) (a b : Policy) → IsPolicyFor order a → IsPo
 one_policy line.widest a b e f = e ∙ sym f
 one_policy line.in_order a b e f = e ∙ sym f
 one_policy line.filter_first a b e f = e ∙ sym f
+one_policy line.balanced a b e f = e ∙ sym f
 one_policy (line.reads names) a b e f = absurd e
 
 one_plan : (options : Options) (a b : Plan) → IsSessionPlan options a → IsSessionPlan options b → a ≡ b
@@ -108,6 +109,7 @@ pub unlisted_policy : (order : ReadOrder) (policy : Policy) → IsPolicyFor orde
 unlisted_policy line.widest policy is = subst IsUnlisted (sym is) tt
 unlisted_policy line.in_order policy is = subst IsUnlisted (sym is) tt
 unlisted_policy line.filter_first policy is = subst IsUnlisted (sym is) tt
+unlisted_policy line.balanced policy is = subst IsUnlisted (sym is) tt
 unlisted_policy (line.reads names) policy is = absurd is
 
 -- ---- the planes that can be read
@@ -209,6 +211,7 @@ policy_for : (order : ReadOrder) → ((names : List ℕ) → order ≢ line.read
 policy_for line.widest by_policy = (p.Widest, refl)
 policy_for line.in_order by_policy = (p.InOrder, refl)
 policy_for line.filter_first by_policy = (p.FilterFirst, refl)
+policy_for line.balanced by_policy = (p.Balanced, refl)
 policy_for (line.reads names) by_policy = absurd (by_policy names refl)
 
 -- each query is valid as it is typed

@@ -58,6 +58,7 @@ fn policy_of(
         ReadOrder::Widest => Ok(Policy::Widest),
         ReadOrder::InOrder => Ok(Policy::InOrder),
         ReadOrder::FilterFirst => Ok(Policy::FilterFirst),
+        ReadOrder::Balanced => Ok(Policy::Balanced),
         ReadOrder::Reads(names) => {
             let list = check_reads(alloc, names.as_bytes(), typed, head)?;
             Ok(Policy::Listed(list))

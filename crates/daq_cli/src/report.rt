@@ -24,8 +24,8 @@ use daq_table::{Head, Table};
 use outer_world::{Failed, Sink, write_pieces, write_whole};
 use plane_kernels::Plane;
 use plane_schedule::{
-    Chooser, Ending, Plan, Policy, Progress, filter_first, in_order, listed, policies_choose,
-    widest,
+    Chooser, Ending, Plan, Policy, Progress, balanced, filter_first, in_order, listed,
+    policies_choose, widest,
 };
 use query_model::valid_queries_name_columns;
 use round_engine::Engine;
@@ -179,6 +179,14 @@ fn write_planned<S: PlaneSource, K: Sink>(
             engine,
             source,
             &Chooser::new(|p: &Progress| filter_first(p)),
+            plane,
+            out,
+        ),
+        Policy::Balanced => write_rounds(
+            plan,
+            engine,
+            source,
+            &Chooser::new(|p: &Progress| balanced(p)),
             plane,
             out,
         ),

@@ -27,7 +27,7 @@ use multi_session::Session;
 use outer_world::{Failed, Sink, write_pieces};
 use plane_kernels::Plane;
 use plane_schedule::{
-    Chooser, Plan, Policy, Progress, filter_first, in_order, policies_choose, widest,
+    Chooser, Plan, Policy, Progress, balanced, filter_first, in_order, policies_choose, widest,
 };
 use round_engine::EngineView;
 use session_rounds::{ending, queries_stand_alone, read_next, sessions_begin};
@@ -271,6 +271,14 @@ fn write_planned<S: PlaneSource, K: Sink>(
             session,
             source,
             &Chooser::new(|p: &Progress| filter_first(p)),
+            plane,
+            out,
+        ),
+        Policy::Balanced => write_steps(
+            plan,
+            session,
+            source,
+            &Chooser::new(|p: &Progress| balanced(p)),
             plane,
             out,
         ),

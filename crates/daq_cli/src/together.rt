@@ -86,6 +86,7 @@ fn policy_of(order: &ReadOrder) -> Policy
         ReadOrder::Widest => Policy::Widest,
         ReadOrder::InOrder => Policy::InOrder,
         ReadOrder::FilterFirst => Policy::FilterFirst,
+        ReadOrder::Balanced => Policy::Balanced,
         ReadOrder::Reads(_) => unreachable!(),
     }
 }

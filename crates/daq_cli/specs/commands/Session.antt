@@ -89,6 +89,7 @@ abbrev pub IsPolicyFor : ReadOrder → Policy → Type 0
 IsPolicyFor line.widest policy = policy ≡ p.Widest
 IsPolicyFor line.in_order policy = policy ≡ p.InOrder
 IsPolicyFor line.filter_first policy = policy ≡ p.FilterFirst
+IsPolicyFor line.balanced policy = policy ≡ p.Balanced
 IsPolicyFor (line.reads names) policy = ⊥
 
 -- the plan of the options, which is that of all queries
