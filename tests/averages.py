@@ -32,7 +32,7 @@ def differ(words, column, condition, policy):
 
 def main(program):
     chance, wrong, count = random.Random(1), 0, 0
-    policies = ("widest", "order", "filter")
+    policies = ("widest", "order", "filter", "balanced")
     with tempfile.TemporaryDirectory() as folder:
         path = os.path.join(folder, "t.csv")
         for rows in EDGES:

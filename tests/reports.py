@@ -660,6 +660,8 @@ def chosen(policy, columns, unfinished):
     unread = [c for c in columns if c.read < c.planes and any(c in one.query.columns for one in unfinished)]
     if policy == "order":
         return unread[0]
+    if policy == "balanced":
+        return balanced(columns, unread, conditions, unfinished)
     if policy == "filter":
         filters = [c for c in unread if c in conditions]
         groups = [c for c in unread if c not in conditions and any(c in one.query.groups for one in unfinished)]
@@ -668,6 +670,30 @@ def chosen(policy, columns, unfinished):
         elif groups:
             unread = groups
     return max(unread, key=lambda c: (c.planes - c.read, -columns.index(c)))
+
+
+def columns_named(term):
+    """The columns that an expression names."""
+    if term[0] == "column":
+        return [term[1]]
+    return [c for part in term[1:] if isinstance(part, tuple) for c in columns_named(part)]
+
+
+def balanced(columns, unread, conditions, unfinished):
+    """The column of the condition of which the fewest planes are read, while as large a share of the rows that may pass is unknown as of a
+    value is unread; else one of the groups, else one that gives values."""
+    queries = [one.query for one in unfinished]
+    givers = [c for query in queries for _, argument in query.items if argument for c in columns_named(argument)]
+    givers += [query.key for query in queries if query.key]
+    grouped = [c for query in queries for c in query.groups]
+    filters = [c for c in unread if c in conditions]
+    groups = [c for c in unread if c not in conditions and c in grouped]
+    values = [c for c in unread if c in givers or c not in conditions and c not in grouped]
+    truths = [truth for one in unfinished for truth in one.truths()]
+    unknown, possible = truths.count("U"), len(truths) - truths.count("F")
+    shown = groups + values
+    parts_rows = not shown or unknown > 0 and unknown * 2 ** min(c.read for c in shown) >= possible
+    return min((parts_rows and filters) or groups or values, key=lambda c: (c.read, columns.index(c)))
 
 
 class Session:
@@ -849,7 +875,7 @@ def some_options(chance):
     if chance.random() < 0.2:
         words += ["--rounds", str(chance.randint(0, 6))]
     if chance.random() < 0.6:
-        words += ["--policy", chance.choice(["widest", "order", "filter"])]
+        words += ["--policy", chance.choice(["widest", "order", "filter", "balanced"])]
     words += ["--" + word for word in ("list", "clip", "exact-avg") if chance.random() < 0.5]
     return words
 

@@ -5,7 +5,8 @@ ghost use Rattle.plane_schedule.specs.Choices.{HasUnread, IsSound, outlook_of};
 ghost use Rattle.plane_schedule.specs.Keeping.{Follows, Keeps};
 
 use plane_schedule::{
-    Chooser, Ending, Extras, Plan, Policy, Progress, Role, filter_first, in_order, listed, widest,
+    Chooser, Ending, Extras, Plan, Policy, Progress, Role, balanced, filter_first, in_order,
+    listed, widest,
 };
 use query_model::Columns;
 use std::alloc::AllocError;
@@ -19,8 +20,11 @@ fn five_columns(unread: [u8; 16], unknown: u64) -> Progress {
     Progress {
         columns: 5,
         unread,
+        read: [0; 16],
         role,
+        gives_values: [false; 16],
         unknown,
+        possible: unknown,
         done: 0,
     }
 }
@@ -35,6 +39,14 @@ fn has_unread(progress: &Progress) -> bool
         }
     }
     false
+}
+
+// The balanced choice, where a plane is unread.
+fn next_balanced(progress: &Progress) -> Option<usize> {
+    if !has_unread(progress) {
+        return None;
+    }
+    Some(balanced(progress))
 }
 
 // The columns that the three policies choose, in their order: widest, in order, filter first.
@@ -118,6 +130,7 @@ fn rounds_of(policy: &Policy, start: Progress) -> [u8; 16]
         Policy::Widest => rounds(policy, &Chooser::new(|p: &Progress| widest(p)), start),
         Policy::InOrder => rounds(policy, &Chooser::new(|p: &Progress| in_order(p)), start),
         Policy::FilterFirst => rounds(policy, &Chooser::new(|p: &Progress| filter_first(p)), start),
+        Policy::Balanced => rounds(policy, &Chooser::new(|p: &Progress| balanced(p)), start),
         Policy::Listed(list) => rounds(
             policy,
             &Chooser::new(|p: &Progress| listed(list, p)),
@@ -135,8 +148,11 @@ fn two_columns(done: u32) -> Progress
     Progress {
         columns: 2,
         unread,
+        read: [0; 16],
         role: [Role::Value; 16],
+        gives_values: [true; 16],
         unknown: 0,
+        possible: 0,
         done,
     }
 }
@@ -151,11 +167,54 @@ fn all_is_read(rt: HostRuntime) -> Result<(), AllocError> {
         Policy::Widest,
         Policy::InOrder,
         Policy::FilterFirst,
+        Policy::Balanced,
         Policy::Listed(list),
     ] {
         assert_eq!(rt; rounds_of(&policy, two_columns(0)), all);
     }
     Ok(())
+}
+
+// Rows are parted while as large a share of them is unknown as of a value is unread: here while 2^m is at least 4.
+#[test]
+fn rows_are_parted_as_values_are_known(rt: HostRuntime) {
+    let mut start = five_columns([9; 16], 3);
+    start.possible = 12;
+    for (taken, column) in [(0, 3), (1, 3), (2, 1), (64, 1), (65, 1)] {
+        let progress = Progress {
+            read: [taken; 16],
+            ..start
+        };
+        assert_eq!(rt; next_balanced(&progress), Some(column));
+    }
+    start.read = [65; 16];
+    start.unknown = 0;
+    assert_eq!(rt; next_balanced(&start), Some(3));
+    start.unread[3] = 0;
+    assert_eq!(rt; next_balanced(&start), Some(0));
+    start.unread[0] = 0;
+    start.unread[4] = 0;
+    assert_eq!(rt; next_balanced(&start), Some(1));
+}
+
+// The share of the least known column decides, and of each kind the column of which the fewest planes are read is next.
+#[test]
+fn least_read_is_chosen(rt: HostRuntime) {
+    let mut start = five_columns([9; 16], 3);
+    start.possible = 12;
+    start.read[0] = 3;
+    start.read[1] = 5;
+    start.read[2] = 4;
+    start.read[3] = 2;
+    start.read[4] = 2;
+    assert_eq!(rt; next_balanced(&start), Some(2));
+    start.read[4] = 1;
+    assert_eq!(rt; next_balanced(&start), Some(3));
+    start.unread[3] = 0;
+    assert_eq!(rt; next_balanced(&start), Some(4));
+    start.gives_values[1] = true;
+    start.read[1] = 1;
+    assert_eq!(rt; next_balanced(&start), Some(1));
 }
 
 // The list's choice, where a plane is unread.
