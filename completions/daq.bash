@@ -10,7 +10,7 @@ _daq() {
         compopt -o filenames
         mapfile -t COMPREPLY < <(compgen -f -- "$word")
         return ;;
-    *-query---policy* | *-session---policy* | *-ask---policy* | *-demo---policy*) choices='widest order filter' ;;
+    *-query---policy* | *-session---policy* | *-ask---policy* | *-demo---policy*) choices='widest order filter balanced' ;;
     *-query-* | *-ask-* | *-demo-*)
         case $word in -*) choices='--width --rounds --policy --reads --list --clip --exact-avg' ;; esac ;;
     *-session-*)
