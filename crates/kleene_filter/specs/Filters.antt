@@ -1,5 +1,5 @@
 -- What is known of a condition at each row.
-use Rattle.std.specs.Prelude.{◌≡◌, ℕ, ◌+◌, ◌*◌, ◌≤◌, ◌<◌, ◌==◌, Bool}
+use Rattle.std.specs.Prelude.{◌≡◌, ◌≢◌, ℕ, ◌+◌, ◌*◌, ◌≤◌, ◌<◌, ◌==◌, Bool}
 use Rattle.std.specs.Prelude.{true, false, List, [], ◌∷◌, length, map, slice_index_or, IsTrue}
 use Rattle.std.specs.List.{count_by, list_any}
 use Rattle.std.specs.Simd.Lanes.{zip2}
@@ -14,6 +14,7 @@ use Rattle.plane_kernels.specs.Rows.{digit_at}
 use Rattle.known_column.specs.Columns.{count_in_block}
 use Rattle.known_column.specs.KnownTables.{IsKnownTable, KnownTable, read_column}
 use Rattle.kleene_filter.specs.declared.masks.AtomMasks.{AtomMasks}
+use Rattle.kleene_filter.specs.declared.truth_masks.KeptTruths.{KeptTruths}
 use Rattle.kleene_filter.specs.Masks.{atoms_of, AreMasksOf}
 
 abbrev pub is_certain : Truth → Bool
@@ -76,11 +77,30 @@ AreNested [] (n ∷ ns) = ⊥
 AreNested (m ∷ ms) [] = ⊥
 AreNested (m ∷ ms) (n ∷ ns) = (IsTrue m → IsTrue n) × AreNested ms ns
 
--- the masks are nested, so many rows are in the second, and so many of these not in the first
-pub record AreCounted (must may : List Bool) (possible unknown : ℕ) : Type 0 where
-  pub nested : AreNested must may
-  pub all : possible ≡ count_by is_possible (zip2 truth_from must may)
-  pub count : unknown ≡ count_by is_unknown (zip2 truth_from must may)
+-- there is a bit for each block of 512 rows, and where it is 0, of all blocks or of all but one, both masks have the same rows
+pub record AreSettled (must may undecided : List Bool) : Type 0 where
+  pub room : length must ≤ 512 * length undecided
+  pub tight : 512 * length undecided < length must + 512
+  pub same : (block j : ℕ) → j < 512 → slice_index_or undecided block false ≡ false →
+      slice_index_or must (512 * block + j) false ≡ slice_index_or may (512 * block + j) false
+
+pub record AreSettledBeside (one : ℕ) (must may undecided : List Bool) : Type 0 where
+  pub room : length must ≤ 512 * length undecided
+  pub tight : 512 * length undecided < length must + 512
+  pub is : slice_index_or undecided one false ≡ true
+  pub same : (block j : ℕ) → j < 512 → block ≢ one → slice_index_or undecided block false ≡ false →
+      slice_index_or must (512 * block + j) false ≡ slice_index_or may (512 * block + j) false
+
+-- what is kept beside the masks: the blocks that may not be decided, and how many rows each mask has
+pub record AreKept (truths : KeptTruths) : Type 0 where
+  pub settled : AreSettled truths.masks.must truths.masks.may truths.undecided
+  pub certain : truths.certain ≡ count_by (λ b. b) truths.masks.must
+  pub possible : truths.possible ≡ count_by (λ b. b) truths.masks.may
+
+-- and the masks are those of truths
+pub record AreSound (truths : KeptTruths) : Type 0 where
+  pub nested : AreNested truths.masks.must truths.masks.may
+  pub kept : AreKept truths
 
 -- the bits of a row are those of what is known of the condition there
 pub record HasBits (pred : Condition) (table : KnownTable) (row : ℕ) (must may : List Bool) : Type 0 where
@@ -100,6 +120,13 @@ pub record IsJudged (test : Truth → Bool) (pred : Condition) (table : KnownTab
   pub behind : (k : ℕ) → 64 * block + 64 ≤ k → slice_index_or new k false ≡ slice_index_or old k false
   pub here : (r : ℕ) → r < count_in_block block table.frame.rows →
       slice_index_or new (64 * block + r) false ≡ test (truth_at pred table (64 * block + r))
+
+-- the bits of the rows from one to another are what a test says of the condition there, and the others are as they were
+pub record AreJudged (test : Truth → Bool) (pred : Condition) (table : KnownTable) (from to : ℕ) (old new : List Bool) : Type 0 where
+  pub rows : length new ≡ length old
+  pub before : (k : ℕ) → k < from → slice_index_or new k false ≡ slice_index_or old k false
+  pub behind : (k : ℕ) → to ≤ k → slice_index_or new k false ≡ slice_index_or old k false
+  pub here : (k : ℕ) → from ≤ k → k < to → k < table.frame.rows → slice_index_or new k false ≡ test (truth_at pred table k)
 
 -- the bits of a block's rows are those of the word, and the others are as they were
 pub record IsWritten (block word : ℕ) (old new : List Bool) : Type 0 where

@@ -7,7 +7,7 @@ ghost use Rattle.query_model.specs.Meaning.{PredReadsBelow};
 ghost use Rattle.query_model.specs.Queries.{condition_of};
 ghost use Rattle.std.specs.Prelude.{List};
 ghost use Rattle.known_column.specs.KnownTables.{IsKnownTable};
-ghost use Rattle.kleene_filter.specs.Filters.{is_certain, is_possible, is_unknown, truths_under, AreCounted, AreNested};
+ghost use Rattle.kleene_filter.specs.Filters.{is_certain, is_possible, is_unknown, truths_under, AreJudged, AreKept};
 ghost use Rattle.kleene_filter.specs.Filters.{AreRightWhereSame, AreUnread, IsJudged, IsWritten, StandsFor, StoodBefore};
 ghost use Rattle.kleene_filter.specs.Kept.{kept_by_all};
 ghost use Rattle.kleene_filter.specs.Masks.{atoms_of, AddsMasks, AreMasksOf, AreRowsOf, WereMasksOf};
@@ -15,6 +15,7 @@ ghost use Rattle.kleene_filter.specs.Masks.{atoms_of, AddsMasks, AreMasksOf, Are
 use crate::judging::pred_truths;
 use crate::masks::{AtomMasks, is_untouched};
 use crate::reads::pred_reads;
+use crate::truth_masks::{KeptTruths, TruthMasks, settle};
 use crate::words::must_hold;
 use known_column::{KnownRows, LentColumns, RowBlock, blocks_have_their_rows};
 use plane_kernels::{Mask, Plane};
@@ -22,25 +23,10 @@ use query_model::Pred;
 use std::alloc::{AllocError, Global};
 use std::marker::Model;
 
-// The rows at which a condition holds for certain, and those at which it may hold.
-#[derive(Drop)]
-pub(crate) struct TruthMasks {
-    must: Mask,
-    may: Mask,
-}
-
 /// What is known of a condition at each row: a list of truths, with masks of its atoms that follow the columns.
 pub struct Filter {
-    truths: TruthMasks,
+    truths: KeptTruths,
     masks: Vec<AtomMasks>,
-    counts: Counts,
-}
-
-// How many rows may pass, and at how many of them it is not known whether the condition holds.
-#[derive(Clone, Copy)]
-struct Counts {
-    possible: u64,
-    unknown: u64,
 }
 
 // A call of its own: a derived drop is proved anew wherever one is let go.
@@ -49,7 +35,6 @@ impl Drop for Filter {
         let Filter {
             truths: _,
             masks: _,
-            counts: _,
         } = self;
     }
 }
@@ -57,27 +42,13 @@ impl Drop for Filter {
 impl Model for Filter {
     ghost use Rattle.std.specs.Simd.Lanes.{zip2};
     ghost use Rattle.query_model.specs.Truths.{truth_from};
-    ghost use Rattle.kleene_filter.specs.Filters.{AreCounted, Judgement};
+    ghost use Rattle.kleene_filter.specs.Filters.{AreSound, Judgement};
 
     ghost Value = { Judgement };
 
-    ghost view = { λ f. record { truths = zip2 truth_from f.truths.must f.truths.may; masks = f.masks.items } };
+    ghost view = { λ f. record { truths = zip2 truth_from f.truths.masks.must f.truths.masks.may; masks = f.masks.items } };
 
-    ghost invariant = { λ f. AreCounted f.truths.must f.truths.may f.counts.possible f.counts.unknown };
-}
-
-impl TruthMasks {
-    // How many rows may pass, and how many of them not surely.
-    fn counts(&self) -> Counts
-        requires { AreNested self.now.must self.now.may }
-        ensures { AreCounted self.now.must self.now.may result.possible result.unknown }
-    {
-        let possible = self.may.count();
-        Counts {
-            possible,
-            unknown: possible - self.must.count(),
-        }
-    }
+    ghost invariant = { λ f. AreSound f.truths };
 }
 
 // Makes the bits of a block's rows those of the word.
@@ -153,27 +124,96 @@ fn judge_block(
     }
 }
 
-// Sets each row's bits by what is known of the condition there, block by block. Before, bits that are the same are right.
-fn judge_all(
+// Sets the bits of the rows of a block of 512 by what is known of the condition there.
+fn judge_wide(
     pred: &Pred,
     masks: &[AtomMasks],
     columns: &LentColumns<'_>,
+    wide: usize,
     block: &mut RowBlock,
     truths: &mut TruthMasks,
 )
     requires columns { PredReadsBelow (length columns.now.frame.columns) (condition_of pred.now) }
     requires masks { AreMasksOf masks.now 0 (atoms_of (condition_of pred.now)) columns.now }
+    requires wide { 512 * wide < columns.now.frame.rows }
     requires block { block.old.frame.columns ≡ columns.now.frame.columns }
     requires must { length truths.old.must ≡ columns.now.frame.rows }
     requires may { length truths.old.may ≡ columns.now.frame.rows }
-    requires same { AreRightWhereSame (condition_of pred.now) columns.now 0 truths.old.must truths.old.may }
+    requires same { AreRightWhereSame (condition_of pred.now) columns.now (512 * wide) truths.old.must truths.old.may }
     ensures block { block.new.frame.columns ≡ columns.now.frame.columns }
-    ensures must { truths.new.must ≡ map is_certain (truths_under (condition_of pred.now) columns.now) }
-    ensures may { truths.new.may ≡ map is_possible (truths_under (condition_of pred.now) columns.now) }
+    ensures must { AreJudged is_certain (condition_of pred.now) columns.now (512 * wide) (512 * wide + 512) truths.old.must truths.new.must }
+    ensures may { AreJudged is_possible (condition_of pred.now) columns.now (512 * wide) (512 * wide + 512) truths.old.may truths.new.may }
+    ensures same { AreRightWhereSame (condition_of pred.now) columns.now (512 * wide + 512) truths.new.must truths.new.may }
 {
     let by_rows = masks.iter().any(|own| own.is_by_rows());
-    for number in 0..columns.rows().div_ceil(64) {
+    let end = columns.rows().div_ceil(64).min(8 * wide + 8);
+    for number in 8 * wide..end {
         judge_block(pred, masks, by_rows, columns, number, block, truths);
+    }
+}
+
+// The same, with what is kept beside the bits. Nothing is done where the block is decided: what is decided at a row stays so.
+fn decide_block(
+    pred: &Pred,
+    masks: &[AtomMasks],
+    columns: &LentColumns<'_>,
+    wide: usize,
+    block: &mut RowBlock,
+    truths: &mut KeptTruths,
+)
+    requires columns { PredReadsBelow (length columns.now.frame.columns) (condition_of pred.now) }
+    requires masks { AreMasksOf masks.now 0 (atoms_of (condition_of pred.now)) columns.now }
+    requires wide { wide < length truths.old.undecided }
+    requires block { block.old.frame.columns ≡ columns.now.frame.columns }
+    requires must { length truths.old.masks.must ≡ columns.now.frame.rows }
+    requires may { length truths.old.masks.may ≡ columns.now.frame.rows }
+    requires kept { AreKept truths.old }
+    requires same { AreRightWhereSame (condition_of pred.now) columns.now (512 * wide) truths.old.masks.must truths.old.masks.may }
+    ensures block { block.new.frame.columns ≡ columns.now.frame.columns }
+    ensures must { AreJudged is_certain (condition_of pred.now) columns.now (512 * wide) (512 * wide + 512)
+        truths.old.masks.must truths.new.masks.must }
+    ensures may { AreJudged is_possible (condition_of pred.now) columns.now (512 * wide) (512 * wide + 512)
+        truths.old.masks.may truths.new.masks.may }
+    ensures kept { AreKept truths.new }
+    ensures blocks { length truths.new.undecided ≡ length truths.old.undecided }
+    ensures same { AreRightWhereSame (condition_of pred.now) columns.now (512 * wide + 512) truths.new.masks.must truths.new.masks.may }
+{
+    if !truths.undecided.get(wide) {
+        return;
+    }
+    // The counts are at most the rows, which are few.
+    let _rows = columns.rows();
+    let before = truths.masks.counts_in(wide);
+    judge_wide(pred, masks, columns, wide, block, &mut truths.masks);
+    let after = truths.masks.counts_in(wide);
+    truths.certain = truths.certain + after.certain - before.certain;
+    truths.possible = truths.possible + after.possible - before.possible;
+    settle(&mut truths.undecided, &truths.masks, wide);
+}
+
+// Sets each row's bits by what is known of the condition there, block by block. Before, bits that are the same are right: a block that
+// is decided is passed over.
+fn judge_all(
+    pred: &Pred,
+    masks: &[AtomMasks],
+    columns: &LentColumns<'_>,
+    block: &mut RowBlock,
+    truths: &mut KeptTruths,
+)
+    requires columns { PredReadsBelow (length columns.now.frame.columns) (condition_of pred.now) }
+    requires masks { AreMasksOf masks.now 0 (atoms_of (condition_of pred.now)) columns.now }
+    requires block { block.old.frame.columns ≡ columns.now.frame.columns }
+    requires must { length truths.old.masks.must ≡ columns.now.frame.rows }
+    requires may { length truths.old.masks.may ≡ columns.now.frame.rows }
+    requires kept { AreKept truths.old }
+    requires same { AreRightWhereSame (condition_of pred.now) columns.now 0 truths.old.masks.must truths.old.masks.may }
+    ensures block { block.new.frame.columns ≡ columns.now.frame.columns }
+    ensures must { truths.new.masks.must ≡ map is_certain (truths_under (condition_of pred.now) columns.now) }
+    ensures may { truths.new.masks.may ≡ map is_possible (truths_under (condition_of pred.now) columns.now) }
+    ensures kept { AreKept truths.new }
+{
+    for wide in 0..truths.undecided.rows() {
+        decide_block(pred, masks, columns, wide, block, truths);
     }
 }
 
@@ -236,22 +276,24 @@ fn open_truths(
     masks: &[AtomMasks],
     columns: &LentColumns<'_>,
     block: &mut RowBlock,
-) -> Result<TruthMasks, AllocError>
+) -> Result<KeptTruths, AllocError>
     requires columns { PredReadsBelow (length columns.now.frame.columns) (condition_of pred.now) }
     requires masks { AreMasksOf masks.now 0 (atoms_of (condition_of pred.now)) columns.now }
     requires block { block.old.frame.columns ≡ columns.now.frame.columns }
     ensures block { block.new.frame.columns ≡ columns.now.frame.columns }
-    ensures must { IfOk result (λ truths. truths.must ≡ map is_certain (truths_under (condition_of pred.now) columns.now)) }
-    ensures may { IfOk result (λ truths. truths.may ≡ map is_possible (truths_under (condition_of pred.now) columns.now)) }
+    ensures must { IfOk result (λ truths. truths.masks.must ≡ map is_certain (truths_under (condition_of pred.now) columns.now)) }
+    ensures may { IfOk result (λ truths. truths.masks.may ≡ map is_possible (truths_under (condition_of pred.now) columns.now)) }
+    ensures kept { IfOk result AreKept }
 {
     let rows = columns.rows();
     if rows > 0 && is_unread(columns) {
-        return truths_of_unread(alloc, pred, masks, columns);
+        return KeptTruths::of(alloc, truths_of_unread(alloc, pred, masks, columns)?);
     }
-    let mut truths = TruthMasks {
+    let none = TruthMasks {
         must: Mask::none(alloc, rows)?,
         may: Mask::all(alloc, rows)?,
     };
+    let mut truths = KeptTruths::of(alloc, none)?;
     judge_all(pred, masks, columns, block, &mut truths);
     Ok(truths)
 }
@@ -328,12 +370,7 @@ impl Filter {
         let mut masks = Vec::new(alloc);
         open_each(alloc, pred, columns, most, &mut masks)?;
         let truths = open_truths(alloc, pred, &masks, columns, block)?;
-        let counts = truths.counts();
-        Ok(Filter {
-            truths,
-            masks,
-            counts,
-        })
+        Ok(Filter { truths, masks })
     }
 
     /// Follows the columns after a plane of one of them was taken. Before, the filter was that of the condition then. Nothing
@@ -358,34 +395,33 @@ impl Filter {
             return;
         }
         judge_all(pred, &self.masks, columns, block, &mut self.truths);
-        self.counts = self.truths.counts();
     }
 
     /// The rows at which the condition holds for certain.
     pub fn must(&self) -> &Mask
         ensures { result.now ≡ map is_certain self.now.truths }
     {
-        &self.truths.must
+        &self.truths.masks.must
     }
 
     /// The rows at which the condition may hold.
     pub fn may(&self) -> &Mask
         ensures { result.now ≡ map is_possible self.now.truths }
     {
-        &self.truths.may
+        &self.truths.masks.may
     }
 
     /// The number of rows at which it is not known whether the condition holds.
     pub fn unknown(&self) -> u64
         ensures { result ≡ count_by is_unknown self.now.truths }
     {
-        self.counts.unknown
+        self.truths.possible - self.truths.certain
     }
 
     /// The number of rows at which the condition may hold.
     pub fn possible(&self) -> u64
         ensures { result ≡ count_by is_possible self.now.truths }
     {
-        self.counts.possible
+        self.truths.possible
     }
 }

@@ -11,6 +11,7 @@ mod nulls;
 mod parted;
 mod ranges;
 mod reads;
+mod truth_masks;
 mod truths;
 mod words;
 

@@ -4,4 +4,4 @@ use Rattle.kleene_filter.proofs.TruthBits.{certain_mask}
 use Rattle.kleene_filter.proofs.filter.Filter.must.Goals as goal
 
 pub returns : goal.returns
-returns c = certain_mask c.self.inside.truths.must c.self.inside.truths.may c.self.invariant.nested ∙ ap (map is_certain) (ap (λ (f : Judgement). f.truths) c.self.view_is)
+returns c = (let masks = c.self.inside.truths.masks in certain_mask masks.must masks.may c.self.invariant.nested ∙ ap (map is_certain) (ap (λ (f : Judgement). f.truths) c.self.view_is))

@@ -5,8 +5,11 @@ use Rattle.kleene_filter.specs.Masks.{atoms_of, AreMasksOf}
 use Rattle.kleene_filter.proofs.TruthBits.{masks_nest, masks_tell}
 use Rattle.kleene_filter.proofs.filter.Filter.open.Goals as goal
 
-pub counts-counts-requires : goal.counts-counts-requires
-counts-counts-requires c = rw (c.in_ok-truths.ensures.must, c.in_ok-truths.ensures.may) (masks_nest (truths_under (condition_of c.args.pred.now) c.args.columns.now))
+pub invariant_of-result : goal.invariant_of-result
+invariant_of-result c = record {
+  nested = rw (c.in_ok-truths.ensures.must, c.in_ok-truths.ensures.may) (masks_nest (truths_under (condition_of c.args.pred.now) c.args.columns.now));
+  kept = c.in_ok-truths.ensures.kept;
+}
 
 pub returns-clause-stands : goal.returns-clause-stands
 returns-clause-stands c =

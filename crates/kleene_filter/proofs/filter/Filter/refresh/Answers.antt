@@ -34,20 +34,23 @@ judge_all-requires-clause-masks c =
 
 pub judge_all-requires-clause-must : goal.judge_all-requires-clause-must
 judge_all-requires-clause-must c =
-    sym (rows_of_truths c.self.inside.truths.must c.self.inside.truths.may c.self.invariant.nested) ∙ ap (λ (f : Judgement). length f.truths) c.self.view_is ∙ stood_rows c.args.self.now _ _ _ _ c.requires.stood
+    sym (rows_of_truths c.self.inside.truths.masks.must c.self.inside.truths.masks.may c.self.invariant.nested) ∙ ap (λ (f : Judgement). length f.truths) c.self.view_is ∙ stood_rows c.args.self.now _ _ _ _ c.requires.stood
 
 pub judge_all-requires-clause-may : goal.judge_all-requires-clause-may
 judge_all-requires-clause-may c =
-    nested_rows c.self.inside.truths.must c.self.inside.truths.may c.self.invariant.nested ∙ sym (rows_of_truths c.self.inside.truths.must c.self.inside.truths.may c.self.invariant.nested)
+    nested_rows c.self.inside.truths.masks.must c.self.inside.truths.masks.may c.self.invariant.nested ∙ sym (rows_of_truths c.self.inside.truths.masks.must c.self.inside.truths.masks.may c.self.invariant.nested)
     ∙ ap (λ (f : Judgement). length f.truths) c.self.view_is ∙ stood_rows c.args.self.now _ _ _ _ c.requires.stood
 
 pub judge_all-requires-clause-same : goal.judge_all-requires-clause-same
 judge_all-requires-clause-same c =
-    let own = c.self.inside.truths in
+    let own = c.self.inside.truths.masks in
     right_before c.args.self.now (condition_of c.args.pred.now) c.args.columns.now c.args.column c.args.plane.now own.must own.may c.requires.stood c.self.invariant.nested (ap (λ (f : Judgement). f.truths) c.self.view_is)
 
-pub counts-self-inside-requires : goal.counts-self-inside-requires
-counts-self-inside-requires c = rw (c.judge_all.ensures.must, c.judge_all.ensures.may) (masks_nest (truths_under (condition_of c.args.pred.now) c.args.columns.now))
+pub invariant_of-self-2 : goal.invariant_of-self-2
+invariant_of-self-2 c = record {
+  nested = rw (c.judge_all.ensures.must, c.judge_all.ensures.may) (masks_nest (truths_under (condition_of c.args.pred.now) c.args.columns.now));
+  kept = c.judge_all.ensures.kept;
+}
 
 pub returns-clause-stands : goal.returns-clause-stands
 returns-clause-stands c =

@@ -1,0 +1,94 @@
+//! The rows at which a condition holds for certain, and those at which it may, with the blocks of 512 that are not decided.
+
+ghost use Rattle.std.specs.Prelude.{◌≡◌, ◌≤◌, ◌<◌, ◌*◌, true, length, take, drop, count_by, IfOk, IsTrue};
+ghost use Rattle.kleene_filter.specs.Filters.{AreKept, AreSettled, AreSettledBeside};
+
+use plane_kernels::{Block, Mask};
+use std::alloc::{AllocError, Global};
+
+// The rows at which a condition holds for certain, and those at which it may hold.
+#[derive(Drop)]
+pub(crate) struct TruthMasks {
+    pub(crate) must: Mask,
+    pub(crate) may: Mask,
+}
+
+// The same, with the blocks of 512 rows that may have one at which it is not known, and how many rows each mask has.
+#[derive(Drop)]
+pub(crate) struct KeptTruths {
+    pub(crate) masks: TruthMasks,
+    pub(crate) undecided: Mask,
+    pub(crate) certain: u64,
+    pub(crate) possible: u64,
+}
+
+// How many rows of a block are certain, and how many are possible.
+#[derive(Clone, Copy)]
+pub(crate) struct BlockCounts {
+    pub(crate) certain: u64,
+    pub(crate) possible: u64,
+}
+
+// Whether both words have the same rows.
+fn are_same(words: &[u64; 8], others: &[u64; 8]) -> bool
+    ensures { IsTrue result → words.now ≡ others.now }
+{
+    words == others
+}
+
+impl TruthMasks {
+    // How many rows each mask has in a block of 512.
+    pub(crate) fn counts_in(&self, block: usize) -> BlockCounts
+        requires must { 512 * block < length self.now.must }
+        requires may { 512 * block < length self.now.may }
+        ensures certain { result.certain ≡ count_by (λ b. b) (take 512 (drop (512 * block) self.now.must)) }
+        ensures possible { result.possible ≡ count_by (λ b. b) (take 512 (drop (512 * block) self.now.may)) }
+    {
+        BlockCounts {
+            certain: Block::of_mask(&self.must, block).count(),
+            possible: Block::of_mask(&self.may, block).count(),
+        }
+    }
+
+    // Whether both masks have the same rows of a block of 512.
+    fn are_same_in(&self, block: usize) -> bool
+        requires rows { length self.now.may ≡ length self.now.must }
+        requires block { 512 * block < length self.now.must }
+        ensures { result ≡ true → take 512 (drop (512 * block) self.now.must) ≡ take 512 (drop (512 * block) self.now.may) }
+    {
+        let must = self.must.block(block);
+        let may = self.may.block(block);
+        are_same(&must, &may)
+    }
+}
+
+// Notes that a block is decided, if it is.
+pub(crate) fn settle(undecided: &mut Mask, masks: &TruthMasks, block: usize)
+    requires rows { length masks.now.may ≡ length masks.now.must }
+    requires block { 512 * block < length masks.now.must }
+    requires beside { AreSettledBeside block masks.now.must masks.now.may undecided.old }
+    ensures { AreSettled masks.now.must masks.now.may undecided.new }
+{
+    if masks.are_same_in(block) {
+        undecided.set(block, false);
+    }
+}
+
+impl KeptTruths {
+    // What is kept of masks of which nothing is known.
+    pub(crate) fn of(alloc: Global, masks: TruthMasks) -> Result<KeptTruths, AllocError>
+        requires { length masks.may ≡ length masks.must }
+        ensures masks { IfOk result (λ truths. truths.masks ≡ masks) }
+        ensures kept { IfOk result AreKept }
+    {
+        let undecided = Mask::all(alloc, masks.must.rows().div_ceil(512))?;
+        let certain = masks.must.count();
+        let possible = masks.may.count();
+        Ok(KeptTruths {
+            masks,
+            undecided,
+            certain,
+            possible,
+        })
+    }
+}
