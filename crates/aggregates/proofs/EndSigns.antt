@@ -1,5 +1,5 @@
 -- Rows of a mask by how their ranges stand to 0.
-use Rattle.std.proofs.Common.{◌≡◌, ℕ, ◌+◌, ◌-◌, ◌*◌, ◌%◌, ◌^◌, ◌<◌, ◌≤◌, ◌==◌, nat_lt, min, ℤ, pos, negsuc, ◌+ℤ◌, ◌≤ℤ◌, ◌<ℤ◌, int_lt, nat_abs, Bool, true, false, not, ◌&&◌, ◌||◌, cond, List, length, map, get_or, refl, ap, sym, ◌∙◌, arith}
+use Rattle.std.proofs.Common.{◌≡◌, ℕ, ◌+◌, ◌-◌, ◌*◌, ◌%◌, ◌^◌, ◌<◌, ◌≤◌, ◌==◌, nat_lt, min, ℤ, pos, negsuc, ◌+ℤ◌, ◌≤ℤ◌, ◌<ℤ◌, int_lt, nat_abs, Bool, true, false, not, ◌&&◌, ◌||◌, cond, List, length, map, get_or, Some, refl, ap, sym, ◌∙◌, arith}
 use Rattle.std.specs.List.{range_with_len}
 use Rattle.std.specs.Simd.Lanes.{zip2}
 use Rattle.std.proofs.lemmas.Bool.{false≢true}
@@ -228,3 +228,19 @@ no_high_above column within top =
 
 pub all_highs_above : (column : KnownColumn) (within : List Bool) → pos 0 <ℤ column.ends.base → within ≡ those_of within (λ row. int_lt (pos 0) (numbers_at column row).high)
 all_highs_above column within h = all_of_them within (λ row. int_lt (pos 0) (numbers_at column row).high) (λ k below has. positive column.ends.base _ h)
+
+at_or_past : (f p q : ℕ) → f ≤ p → 2 ≤ q → (nat_lt f p || (p == f && nat_lt (0 % q + 1) q)) ≡ true
+at_or_past f p q h two = (let none : 0 % q ≡ 0 = omega arith in rw none (grind (arith, nat_tests)))
+
+from_zero : (b : ℤ) (x : ℕ) → b ≡ pos 0 → nat_lt 0 x ≡ true → int_lt (pos 0) (b +ℤ pos x) ≡ true
+from_zero b x h e = (let some : 0 < x = grind (arith, nat_tests) in grind (arith, ints))
+
+-- where base is 0 and a digit is unread
+pub all_highs_from_zero : (column : KnownColumn) (within : List Bool) → Counts column within → column.ends.base ≡ pos 0 → pos 0 <ℤ column.ends.top → 2 ≤ 2 ^ (planes column.ends - column.known.read) →
+    within ≡ those_of within (λ row. int_lt (pos 0) (numbers_at column row).high)
+all_highs_from_zero column within h base top two =
+    all_of_them within (λ row. int_lt (pos 0) (numbers_at column row).high) (λ k below has.
+    let number = numbers column within h k (omega (arith, below, h.rows)) has in
+    let p = get_or column.known.prefixes k 0 in
+    let some : 0 < spread column.ends = omega (arith, ints, base, top) in
+    from_zero column.ends.base _ base (number.past 0 some ∙ at_or_past (prefix_of column.ends column.known.read (Some 0)) p (2 ^ (planes column.ends - column.known.read)) number.least two))

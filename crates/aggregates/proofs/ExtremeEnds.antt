@@ -2,17 +2,23 @@
 use Rattle.std.proofs.Common.{◌≡◌, ℕ, zero, suc, ◌+◌, ◌-◌, ◌*◌, ◌^◌, ◌<◌, ◌≤◌, cond, count_by, min, ℤ, pos, ◌+ℤ◌, ◌≤ℤ◌, Bool, true, false, List, [], ◌∷◌, length, map, filter, get_or, Some, None, inl, inr, refl, ap, sym, subst, ◌∙◌, arith}
 use Rattle.std.specs.declared.option.Option.{Option}
 use Rattle.std.specs.Prelude.{IsNone}
-use Rattle.std.specs.List.{position, range_with_len}
+use Rattle.std.specs.List.{position, range_with_len, slice_get}
 use Rattle.std.proofs.Math.Nat.{mul-le-mul_right}
-use Rattle.std.proofs.lemmas.Bool.{false≢true}
+use Rattle.std.proofs.lemmas.Bool.{eqb-true, false≢true}
 use Rattle.std.proofs.lemmas.Int.{ints}
+use Rattle.std.proofs.lemmas.List.{get_or-map, length-map}
 use Rattle.std.proofs.lemmas.List.Quantifiers.{position-Some}
 use Rattle.std.proofs.lemmas.List.Sums.{sum_by-cons}
+use Rattle.std.proofs.lemmas.Nat.{le-div, pow_pos}
+use Rattle.std.proofs.lemmas.Option.{get_or_from_slice_get}
 use Rattle.daq_table.specs.Tables.{first_code, planes, spread}
 use Rattle.query_model.specs.declared.query.ItemKind.TheVariants.{Min, Max}
 use Rattle.query_model.specs.Answers.{answer, greatest, least}
 use Rattle.query_model.proofs.Extremes.{Has, greatest_above, greatest_stands, least_below, least_stands}
-use Rattle.known_column.specs.Columns.{KnownColumn}
+use Rattle.query_model.specs.Knowledge.{prefix_of}
+use Rattle.known_column.specs.Columns.{KnownColumn, is_at_top, rows_of_column, rows_where}
+use Rattle.known_column.specs.RowBlocks.{IsKnownColumn}
+use Rattle.known_column.proofs.Nulls.{legal_code}
 use Rattle.aggregates.specs.declared.ends.End.{End}
 use Rattle.aggregates.specs.declared.ends.End.TheVariants.{Low, High}
 use Rattle.aggregates.specs.declared.extreme_rows.Extreme.{Extreme}
@@ -131,3 +137,25 @@ extreme_unread extreme column mask (Some row) h none is empty =
       has = there.1;
       furthest = λ r has. both_zero extreme (number_at column row) (number_at column r) (no_digit column mask row h none there.1) (no_digit column mask r h none has);
     }
+
+-- ---- numbers beyond which none lies
+
+-- no prefix lies beyond that of top
+below_top : (column : KnownColumn) (r : ℕ) → IsKnownColumn column → r < rows_of_column column → get_or column.known.prefixes r 0 ≤ prefix_of column.ends column.known.read (Some (spread column.ends))
+below_top column r known h =
+    let d = planes column.ends - column.known.read in
+    le-div (get_or column.known.prefixes r 0) (first_code column.ends + spread column.ends) (2 ^ d) (pow_pos d) (legal_code column.ends column.known.read (get_or column.known.prefixes r 0) (known.legal r 0 h))
+
+-- so no number lies beyond that of a row at top
+pub none_above : (column : KnownColumn) (mask : List Bool) (row : ℕ) → IsKnownColumn column → mask ≡ rows_where is_at_top column → slice_get mask row ≡ Some true → row < rows_of_column column →
+    (r : ℕ) → r < rows_of_column column → number_at column r ≤ number_at column row
+none_above column mask row known is on within r h =
+    let p = get_or column.known.prefixes row 0 in
+    let bit : is_at_top column.ends column.known.read p ≡ true =
+    sym (get_or-map (is_at_top column.ends column.known.read) column.known.prefixes row 0 false within) ∙ ap (λ l. get_or l row false) (sym is) ∙ get_or_from_slice_get mask row true false on in
+    let top = eqb-true p (prefix_of column.ends column.known.read (Some (spread column.ends))) bit in
+    let low = below_top column r known h in
+    omega (arith, top, low)
+
+pub top_rows : (column : KnownColumn) (mask : List Bool) → mask ≡ rows_where is_at_top column → length mask ≡ rows_of_column column
+top_rows column mask is = ap length is ∙ length-map column.known.prefixes (is_at_top column.ends column.known.read)

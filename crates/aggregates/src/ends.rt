@@ -1,6 +1,6 @@
 //! Sums, extremes and signs of the ends between which the numbers of some rows of a column lie. No row of a mask is surely null.
 
-ghost use Rattle.std.specs.Prelude.{◌≡◌, ◌<◌, ◌↔◌, [], pos, int_lt, length, FitsSigned, IsNone};
+ghost use Rattle.std.specs.Prelude.{◌≡◌, ◌<◌, ◌<ℤ◌, ◌↔◌, [], pos, int_lt, length, FitsSigned, IsNone};
 ghost use Rattle.std.specs.Int.{w64};
 ghost use Rattle.query_model.specs.declared.query.ItemKind.TheVariants.{Min, Max};
 ghost use Rattle.query_model.specs.Answers.{answer, total};
@@ -171,6 +171,23 @@ pub fn negative_lows(known: &Known, within: &Mask, out: &mut Mask)
     }
 }
 
+// Selects the rows of a mask whose high end is above 0, in a column that begins with 0: all of them while a digit is unread.
+fn highs_from_zero(known: &Known, within: &Mask, out: &mut Mask)
+    requires within { length within.now ≡ rows_of_column known.now }
+    requires values { MayHaveValues known.now within.now }
+    requires out { length out.old ≡ rows_of_column known.now }
+    requires base { known.now.ends.base ≡ pos 0 }
+    requires top { pos 0 <ℤ known.now.ends.top }
+    ensures { out.new ≡ those_of within.now (λ row. int_lt (pos 0) (range_at known.now row).numbers.high) }
+{
+    if known.unread() > 0 {
+        let _planes = number_planes(known);
+        out.copy_from(within);
+    } else {
+        highs_above_zero(known, within, out);
+    }
+}
+
 /// Selects the rows of a mask whose high end is above 0.
 pub fn positive_highs(known: &Known, within: &Mask, out: &mut Mask)
     requires within { length within.now ≡ rows_of_column known.now }
@@ -182,6 +199,8 @@ pub fn positive_highs(known: &Known, within: &Mask, out: &mut Mask)
         select_none(known, within, out);
     } else if known.base() > 0 {
         out.copy_from(within);
+    } else if known.base() == 0 {
+        highs_from_zero(known, within, out);
     } else {
         highs_above_zero(known, within, out);
     }

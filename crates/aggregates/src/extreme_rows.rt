@@ -1,9 +1,9 @@
 //! The row of a mask whose number is least or greatest, as far as its digits were read, by blocks of 512 rows.
 
-ghost use Rattle.std.specs.Prelude.{◌≡◌, ◌<◌, ◌+◌, ◌*◌, length};
+ghost use Rattle.std.specs.Prelude.{◌≡◌, ◌<◌, ◌+◌, ◌*◌, ℕ, true, length, IfSome};
 ghost use Rattle.known_column.specs.Columns.{rows_of_column};
-ghost use Rattle.aggregates.specs.ExtremeRows.{is_ahead, is_further, AreZero};
-ghost use Rattle.aggregates.specs.ExtremeRows.{IsBestAmong, IsExtremeDigit, IsExtremeRow, IsNarrowed};
+ghost use Rattle.aggregates.specs.ExtremeRows.{is_ahead, is_further, number_at, AreZero, IsAsFar};
+ghost use Rattle.aggregates.specs.ExtremeRows.{IsBestAmong, IsExtreme, IsExtremeDigit, IsExtremeRow, IsNarrowed};
 ghost use Rattle.aggregates.specs.Selections.{IsPartOf, IsSound, MayHaveValues};
 
 use crate::block_words::{first_place, is_empty};
@@ -105,7 +105,38 @@ fn extreme_so_far(
     })
 }
 
-// The row of a mask whose number is least or greatest, or none where it has no row.
+// Whether no number lies further out: none is less than 0, and none lies beyond that of top.
+fn is_outermost(extreme: Extreme, known: &Known, found: Candidate) -> bool
+    requires row { found.row < rows_of_column known.now }
+    requires number { found.number ≡ number_at known.now found.row }
+    ensures { result ≡ true → (r : ℕ) → r < rows_of_column known.now → IsAsFar extreme found.number (number_at known.now r) }
+{
+    let _rows = known.rows();
+    match extreme {
+        Extreme::Least => found.number == 0,
+        Extreme::Greatest => known.at_top().get(found.row),
+    }
+}
+
+// The row of the best so far, where none of the mask can lie further out.
+fn settled_row(
+    extreme: Extreme,
+    known: &Known,
+    mask: &Mask,
+    best: Option<Candidate>,
+) -> Option<usize>
+    requires rows { length mask.now ≡ rows_of_column known.now }
+    requires best { (to : ℕ) × IsBestAmong extreme known.now mask.now 0 to best }
+    ensures { IfSome result (IsExtreme extreme known.now mask.now) }
+{
+    match best {
+        Some(found) if is_outermost(extreme, known, found) => Some(found.row),
+        _ => None,
+    }
+}
+
+// The row of a mask whose number is least or greatest, or none where it has no row. No block is searched behind a row than which none
+// can lie further out.
 pub(crate) fn extreme_row(extreme: Extreme, known: &Known, mask: &Mask) -> Option<usize>
     requires rows { length mask.now ≡ rows_of_column known.now }
     requires values { MayHaveValues known.now mask.now }
@@ -119,6 +150,9 @@ pub(crate) fn extreme_row(extreme: Extreme, known: &Known, mask: &Mask) -> Optio
     let mut best = None;
     for block in 0..mask.rows().div_ceil(512) {
         best = extreme_so_far(extreme, known, mask, block, best);
+        if let Some(row) = settled_row(extreme, known, mask, best) {
+            return Some(row);
+        }
     }
     match best {
         Some(candidate) => Some(candidate.row),
