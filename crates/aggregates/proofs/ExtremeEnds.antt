@@ -32,24 +32,24 @@ use Rattle.aggregates.proofs.NumberRows.{IsNumber, first_plane}
 
 -- ---- lists
 
-least_is : (xs : List ℤ) (v : ℤ) → Has v xs → ((x : ℤ) → Has x xs → v ≤ℤ x) → answer Min xs ≡ Some v
+pub least_is : (xs : List ℤ) (v : ℤ) → Has v xs → ((x : ℤ) → Has x xs → v ≤ℤ x) → answer Min xs ≡ Some v
 least_is [] v h each = absurd h
 least_is (x ∷ xs) v h each = (let below = least_below v (x ∷ xs) h in let above = each (least (x ∷ xs)) (least_stands x xs) in ap Some (omega (arith, ints, below, above)))
 
-greatest_is : (xs : List ℤ) (v : ℤ) → Has v xs → ((x : ℤ) → Has x xs → x ≤ℤ v) → answer Max xs ≡ Some v
+pub greatest_is : (xs : List ℤ) (v : ℤ) → Has v xs → ((x : ℤ) → Has x xs → x ≤ℤ v) → answer Max xs ≡ Some v
 greatest_is [] v h each = absurd h
 greatest_is (x ∷ xs) v h each = (let above = greatest_above v (x ∷ xs) h in let below = each (greatest (x ∷ xs)) (greatest_stands x xs) in ap Some (omega (arith, ints, below, above)))
 
 -- ---- a function's values at the rows of a mask
 
-stands_in : (f : ℕ → ℤ) (mask : List Bool) (r : ℕ) → has_row mask r ≡ true → Has (f r) (map f (filter (has_row mask) (range_with_len 0 (length mask))))
+pub stands_in : (f : ℕ → ℤ) (mask : List Bool) (r : ℕ) → has_row mask r ≡ true → Has (f r) (map f (filter (has_row mask) (range_with_len 0 (length mask))))
 stands_in f [] r e = absurd (false≢true e)
 stands_in f (true ∷ mask) zero e = subst (Has (f 0)) (sym (first_row f true mask)) (inl refl)
 stands_in f (true ∷ mask) (suc r) e = subst (Has (f (suc r))) (sym (first_row f true mask)) (inr (stands_in (λ k. f (suc k)) mask r e))
 stands_in f (false ∷ mask) zero e = absurd (false≢true e)
 stands_in f (false ∷ mask) (suc r) e = subst (Has (f (suc r))) (sym (first_row f false mask)) (stands_in (λ k. f (suc k)) mask r e)
 
-each_in : (f : ℕ → ℤ) (mask : List Bool) (P : ℤ → Type 0) → ((r : ℕ) → has_row mask r ≡ true → P (f r)) → (x : ℤ) → Has x (map f (filter (has_row mask) (range_with_len 0 (length mask)))) → P x
+pub each_in : (f : ℕ → ℤ) (mask : List Bool) (P : ℤ → Type 0) → ((r : ℕ) → has_row mask r ≡ true → P (f r)) → (x : ℤ) → Has x (map f (filter (has_row mask) (range_with_len 0 (length mask)))) → P x
 each_in f [] P each x h = absurd h
 each_in f (true ∷ mask) P each x h =
     elim (subst (Has x) (first_row f true mask) h) [

@@ -20,6 +20,6 @@ pub use ends::{
 };
 pub use kept_sum::KeptSum;
 pub use running::Running;
-pub use spans::{lows_of_rows, spans_of_rows};
+pub use spans::{block_span, lows_of_rows, spans_of_rows, top_span};
 pub use sums::SumSpan;
 pub use tally::{Tally, has_bit, quotient};

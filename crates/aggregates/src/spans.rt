@@ -25,8 +25,8 @@ pub fn lows_of_rows(base: i64, rows: u64, numbers: u128, unread: u8) -> i128
     times(base, rows) + (numbers << unread) as i128
 }
 
-// How far a range's high end lies above its low end where it does not end at top.
-fn block_span(unread: u8) -> u128
+/// How far a range's high end lies above its low end where it does not end at top.
+pub fn block_span(unread: u8) -> u128
     requires { unread ≤ 65 }
     ensures span { result ≡ 2 ^ unread - 1 }
     ensures few { result ≤ 36893488147419103232 }
@@ -34,8 +34,8 @@ fn block_span(unread: u8) -> u128
     (1u128 << unread) - 1
 }
 
-// The same at top's prefix.
-fn top_span(base: i64, top: i64, unread: u8) -> u128
+/// The same at top's prefix.
+pub fn top_span(base: i64, top: i64, unread: u8) -> u128
     requires { unread ≤ 65 }
     ensures span { result ≡ nat_abs (top -ℤ base) % 2 ^ unread }
     ensures few { result ≤ 36893488147419103232 }

@@ -1,0 +1,11 @@
+pub mod RowSums
+pub mod Residues
+pub mod Sizes
+pub mod Multiplying
+pub mod TermEnds
+pub mod DigitSums
+pub mod Tallies
+pub mod MaskSums
+pub mod Hulls
+pub mod Distributing
+pub mod Firsts

@@ -1,0 +1,14 @@
+use Rattle.std.proofs.Common.{◌≡◌, to_z, of_z, arith, ◌∙◌}
+use Rattle.std.specs.Int.{w128}
+use Rattle.std.proofs.lemmas.Int.{ints}
+use Rattle.query_model.specs.Queries.{term_of}
+use Rattle.product_sums.proofs.Tallies.{tally_is}
+use Rattle.product_sums.proofs.tally.sum_tally.Goals as goal
+
+pub returns : goal.returns
+returns c =
+    let low : to_z w128 (of_z w128 c.sum_ends.result) ≡ c.sum_ends.result = omega (arith, ints) in
+    let high : to_z w128 (of_z w128 c.sum_ends-2.result) ≡ c.sum_ends-2.result = omega (arith, ints) in
+    tally_is c.args.columns.now c.rows-rows.ensures.known (term_of c.args.arg.now) c.requires.never c.args.may.now c.args.must.now c.requires.rows c.requires.must
+    c.count-certain.result c.count.result c.in_ok-ends.ends.low c.in_ok-ends.ends.high _ _ c.count-certain.ensures c.count.ensures c.in_ok-ends.ensures.low c.in_ok-ends.ensures.high
+    (low ∙ c.sum_ends.ensures) (high ∙ c.sum_ends-2.ensures) c.args.kind c.requires.kind

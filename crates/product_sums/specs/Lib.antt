@@ -1,0 +1,2 @@
+pub mod ColumnEnds
+pub mod Products

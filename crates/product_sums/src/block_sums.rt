@@ -1,0 +1,165 @@
+//! Products of ends, added up over rows of a block of 512 by counts of rows. An end of a column is a sum over the digits that were read, so
+//! the sum of a product with it is one of products without it, each over the rows that have the digit; that of no factor is how many rows
+//! there are. All of it is done in 128 bits that wrap around: only what the sum comes to has to fit.
+
+ghost use Rattle.std.specs.Prelude.{◌≡◌, ◌<◌, ◌+◌, ◌*◌, ◌∷◌, ℕ, pos, ◌*ℤ◌, length, IsTrue};
+ghost use Rattle.std.specs.Int.{int_wrap, w128};
+ghost use Rattle.aggregates.specs.ExtremeRows.{number_at};
+ghost use Rattle.aggregates.specs.Selections.{has_row};
+ghost use Rattle.known_column.specs.KnownTables.{column_at};
+ghost use Rattle.query_model.specs.Queries.{Column, Mul, term_of};
+ghost use Rattle.query_model.specs.Truths.{span_of};
+ghost use Rattle.product_sums.specs.Products.{sum_of_products, sum_over, product_at, term_end, CanMultiply, HasValue};
+
+use crate::column_ends::{weight_of_all, weight_of_digits, weight_of_top};
+use crate::factors::{Factor, is_longer, joined, other};
+use crate::wrapping::{minus, plus, times};
+use aggregates::{End, number_planes};
+use known_column::LentColumns;
+use plane_kernels::Block;
+use query_model::Expr;
+
+// The product of some factors, added up over rows of a block.
+#[cycle(sum)]
+pub(crate) fn sum_products<'a>(
+    columns: &LentColumns<'_>,
+    block: usize,
+    rows: &Block,
+    factors: &[Factor<'a>],
+) -> i128
+    requires { CanMultiply columns.now block rows.now factors.now }
+    ensures { result ≡ int_wrap w128 (sum_of_products columns.now block rows.now factors.now) }
+{
+    match factors {
+        [] => i128::from(rows.count()),
+        [first, rest @ ..] => sum_first(columns, block, rows, *first, rest),
+    }
+}
+
+// The same times a number.
+#[cycle(sum)]
+fn sum_times<'a>(
+    columns: &LentColumns<'_>,
+    block: usize,
+    rows: &Block,
+    factors: &[Factor<'a>],
+    number: i128,
+) -> i128
+    requires { CanMultiply columns.now block rows.now factors.now }
+    ensures { result ≡ int_wrap w128 (number *ℤ sum_of_products columns.now block rows.now factors.now) }
+{
+    if number == 0 {
+        return 0;
+    }
+    times(number, sum_products(columns, block, rows, factors))
+}
+
+// The product of the number that a column's digits make and of some factors, added up.
+#[cycle(sum)]
+fn sum_digits<'a>(
+    columns: &LentColumns<'_>,
+    block: usize,
+    rows: &Block,
+    column: u8,
+    rest: &[Factor<'a>],
+) -> i128
+    requires column { column < length columns.now.frame.columns }
+    requires rest { CanMultiply columns.now block rows.now rest.now }
+    ensures { result ≡ int_wrap w128 (sum_over rows.now (λ i. pos (number_at (column_at columns.now column) (512 * block + i))
+        *ℤ product_at columns.now rest.now (512 * block + i))) }
+{
+    let known = columns.column(usize::from(column));
+    let (from, to) = number_planes(known);
+    let mut sum: i128 = 0;
+    for j in from..to {
+        let ones = rows.and(&Block::of_plane(known.plane(j), block));
+        sum = plus(times(sum, 2), sum_products(columns, block, &ones, rest));
+    }
+    sum
+}
+
+// The product of an end of a column and of some factors, added up.
+#[cycle(sum)]
+fn sum_column<'a>(
+    columns: &LentColumns<'_>,
+    block: usize,
+    rows: &Block,
+    column: u8,
+    end: End,
+    rest: &[Factor<'a>],
+) -> i128
+    requires column { column < length columns.now.frame.columns }
+    requires rest { CanMultiply columns.now block rows.now rest.now }
+    requires values { (i : ℕ) → IsTrue (has_row rows.now i) → HasValue columns.now (Column column) (512 * block + i) }
+    ensures { result ≡ int_wrap w128 (sum_over rows.now (λ i. term_end columns.now end (Column column) (512 * block + i)
+        *ℤ product_at columns.now rest.now (512 * block + i))) }
+{
+    let known = columns.column(usize::from(column));
+    let digits = times(
+        weight_of_digits(known),
+        sum_digits(columns, block, rows, column, rest),
+    );
+    let all = sum_times(columns, block, rows, rest, weight_of_all(end, known));
+    let tops = rows.and(&Block::of_mask(known.at_top(), block));
+    let less = sum_times(columns, block, &tops, rest, weight_of_top(end, known));
+    minus(plus(digits, all), less)
+}
+
+// The product of two parts and of some factors, added up. Which of the two comes first only decides how fast that is.
+#[cycle(sum)]
+fn sum_both<'a>(
+    columns: &LentColumns<'_>,
+    block: usize,
+    rows: &Block,
+    first: Factor<'a>,
+    second: Factor<'a>,
+    rest: &[Factor<'a>],
+) -> i128
+    requires { CanMultiply columns.now block rows.now (first ∷ second ∷ rest.now) }
+    ensures { result ≡ int_wrap w128 (sum_of_products columns.now block rows.now (first.entry ∷ second.entry ∷ rest.now)) }
+{
+    let factors = joined(second, rest);
+    sum_first(columns, block, rows, first, &factors[..rest.len() + 1])
+}
+
+// The product of a factor and others, added up.
+#[cycle(sum)]
+fn sum_first<'a>(
+    columns: &LentColumns<'_>,
+    block: usize,
+    rows: &Block,
+    first: Factor<'a>,
+    rest: &[Factor<'a>],
+) -> i128
+    requires { CanMultiply columns.now block rows.now (first ∷ rest.now) }
+    ensures { result ≡ int_wrap w128 (sum_of_products columns.now block rows.now (first.entry ∷ rest.now)) }
+{
+    let end = first.end;
+    match first.term {
+        Expr::Column(column) => sum_column(columns, block, rows, *column, end, rest),
+        Expr::Literal(number) => sum_times(columns, block, rows, rest, *number),
+        Expr::Add(a, b) => plus(
+            sum_first(columns, block, rows, Factor { term: a, end }, rest),
+            sum_first(columns, block, rows, Factor { term: b, end }, rest),
+        ),
+        Expr::Sub(a, b) => {
+            let less = Factor {
+                term: b,
+                end: other(end),
+            };
+            minus(
+                sum_first(columns, block, rows, Factor { term: a, end }, rest),
+                sum_first(columns, block, rows, less, rest),
+            )
+        }
+        Expr::Mul(a, b) => {
+            let left = Factor { term: a, end };
+            let right = Factor { term: b, end };
+            if is_longer(a, b, columns) {
+                sum_both(columns, block, rows, right, left, rest)
+            } else {
+                sum_both(columns, block, rows, left, right, rest)
+            }
+        }
+    }
+}

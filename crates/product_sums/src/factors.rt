@@ -1,0 +1,60 @@
+//! Factors of a product: ends of expressions.
+
+ghost use Rattle.std.specs.Prelude.{◌≡◌, ◌≤◌, ◌+◌, ◌∷◌, length, take};
+ghost use Rattle.product_sums.specs.Products.{other_end};
+
+use aggregates::End;
+use known_column::LentColumns;
+use query_model::Expr;
+
+// An end of an expression, as a factor.
+#[derive(Clone, Copy)]
+pub(crate) struct Factor<'a> {
+    pub(crate) term: &'a Expr,
+    pub(crate) end: End,
+}
+
+// The other end.
+pub(crate) fn other(end: End) -> End
+    ensures { result ≡ other_end end }
+{
+    match end {
+        End::Low => End::High,
+        End::High => End::Low,
+    }
+}
+
+// A factor before others, of which there are few.
+pub(crate) fn joined<'a>(first: Factor<'a>, rest: &[Factor<'a>]) -> [Factor<'a>; 4]
+    requires { length rest.now ≤ 3 }
+    ensures { take (length rest.now + 1) result ≡ first.entry ∷ rest.now }
+{
+    let mut factors = [first; 4];
+    for i in 0..rest.len() {
+        factors[i + 1] = rest[i];
+    }
+    factors
+}
+
+// How many planes were read of that column of an expression of which most were. Only how fast a sum is found hangs on it.
+fn most_read(expr: &Expr, columns: &LentColumns<'_>) -> u8 {
+    match expr {
+        Expr::Column(column) => {
+            let column = usize::from(*column);
+            if column < columns.len() {
+                255 - columns.unread(column)
+            } else {
+                0
+            }
+        }
+        Expr::Literal(_) => 0,
+        Expr::Add(a, b) | Expr::Sub(a, b) | Expr::Mul(a, b) => {
+            most_read(a, columns).max(most_read(b, columns))
+        }
+    }
+}
+
+// Whether the first of two expressions is the one whose planes are better gone through inmost.
+pub(crate) fn is_longer(a: &Expr, b: &Expr, columns: &LentColumns<'_>) -> bool {
+    most_read(a, columns) > most_read(b, columns)
+}

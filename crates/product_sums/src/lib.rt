@@ -1,0 +1,15 @@
+//! Sums of expressions by counts of rows: each end of a sum of products is added up over a mask's rows without a look at one of them.
+#![tactic(auto)]
+
+mod block_sums;
+mod column_ends;
+mod extremes;
+mod factors;
+mod signs;
+mod sums;
+mod tally;
+mod wrapping;
+
+pub use signs::{count_of_counts, is_never_negative, is_product_sum};
+pub use sums::sum_ends;
+pub use tally::sum_tally;

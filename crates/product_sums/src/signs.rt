@@ -1,0 +1,124 @@
+//! Which expressions are sums of products whose ends are sums of products of ends.
+
+ghost use Rattle.std.specs.Prelude.{◌≡◌, ◌<◌, ◌^◌, ◌-◌, ◌↔◌, min, length, IsTrue};
+ghost use Rattle.interval_calc.specs.Intervals.{difference_of, interval_of, product_of, sum_of, FitsInterval};
+ghost use Rattle.query_model.specs.Meaning.{ReadsBelow};
+ghost use Rattle.query_model.specs.Queries.{term_of};
+ghost use Rattle.query_model.specs.Truths.{span_of};
+ghost use Rattle.query_model.specs.Validity.{declared_ranges, FitsWide};
+ghost use Rattle.product_sums.specs.Products.{degree, has_signs, is_never_negative, IsProductSum};
+
+use interval_calc::{Interval, add, exactly, mul, sub};
+use known_column::LentColumns;
+use query_model::Expr;
+
+// The sum of two spans, which is known to fit.
+fn sum(a: Interval, b: Interval) -> Interval
+    requires { FitsInterval (sum_of (interval_of a) (interval_of b)) }
+    ensures { interval_of result ≡ sum_of (interval_of a) (interval_of b) }
+{
+    add(a, b).unwrap()
+}
+
+// The difference of two spans, which is known to fit.
+fn difference(a: Interval, b: Interval) -> Interval
+    requires { FitsInterval (difference_of (interval_of a) (interval_of b)) }
+    ensures { interval_of result ≡ difference_of (interval_of a) (interval_of b) }
+{
+    sub(a, b).unwrap()
+}
+
+// The product of two spans, which is known to fit.
+fn product(a: Interval, b: Interval) -> Interval
+    requires { FitsInterval (product_of (interval_of a) (interval_of b)) }
+    ensures { interval_of result ≡ product_of (interval_of a) (interval_of b) }
+{
+    mul(a, b).unwrap()
+}
+
+// Where the expression lies by what is declared of its columns.
+fn declared_span(expr: &Expr, columns: &LentColumns<'_>) -> Interval
+    requires columns { ReadsBelow (length columns.now.frame.columns) (term_of expr.now) }
+    requires fits { FitsWide (term_of expr.now) (declared_ranges columns.now.frame) }
+    ensures { interval_of result ≡ span_of (term_of expr.now) (declared_ranges columns.now.frame) }
+{
+    match expr {
+        Expr::Column(column) => {
+            let ends = columns.column(*column as usize).declared();
+            Interval {
+                lo: i128::from(ends.base),
+                hi: i128::from(ends.top),
+            }
+        }
+        Expr::Literal(value) => exactly(*value),
+        Expr::Add(a, b) => sum(declared_span(a, columns), declared_span(b, columns)),
+        Expr::Sub(a, b) => difference(declared_span(a, columns), declared_span(b, columns)),
+        Expr::Mul(a, b) => product(declared_span(a, columns), declared_span(b, columns)),
+    }
+}
+
+/// Whether the expression is never below 0, by what is declared of its columns.
+pub fn is_never_negative(expr: &Expr, columns: &LentColumns<'_>) -> bool
+    requires columns { ReadsBelow (length columns.now.frame.columns) (term_of expr.now) }
+    requires fits { FitsWide (term_of expr.now) (declared_ranges columns.now.frame) }
+    ensures { result ≡ is_never_negative columns.now.frame (term_of expr.now) }
+{
+    declared_span(expr, columns).lo >= 0
+}
+
+// Whether each product is one of two parts that are never below 0.
+fn has_signs(expr: &Expr, columns: &LentColumns<'_>) -> bool
+    requires columns { ReadsBelow (length columns.now.frame.columns) (term_of expr.now) }
+    requires fits { FitsWide (term_of expr.now) (declared_ranges columns.now.frame) }
+    ensures { result ≡ has_signs columns.now.frame (term_of expr.now) }
+{
+    match expr {
+        Expr::Column(_) | Expr::Literal(_) => true,
+        Expr::Add(a, b) | Expr::Sub(a, b) => has_signs(a, columns) && has_signs(b, columns),
+        Expr::Mul(a, b) => {
+            (has_signs(a, columns) && has_signs(b, columns))
+                && (is_never_negative(a, columns) && is_never_negative(b, columns))
+        }
+    }
+}
+
+// Of how many factors the longest product is, multiplied out, or the greatest number of 64 bits.
+fn degree(expr: &Expr) -> u64
+    ensures { result ≡ min (degree (term_of expr.now)) (2 ^ 64 - 1) }
+{
+    match expr {
+        Expr::Column(_) | Expr::Literal(_) => 1,
+        Expr::Add(a, b) | Expr::Sub(a, b) => degree(a).max(degree(b)),
+        Expr::Mul(a, b) => degree(a).saturating_add(degree(b)),
+    }
+}
+
+/// Whether the expression is a sum of products of at most four factors, in each of which all parts are never below 0.
+pub fn is_product_sum(expr: &Expr, columns: &LentColumns<'_>) -> bool
+    requires columns { ReadsBelow (length columns.now.frame.columns) (term_of expr.now) }
+    requires fits { FitsWide (term_of expr.now) (declared_ranges columns.now.frame) }
+    ensures { IsTrue result ↔ IsProductSum columns.now.frame (term_of expr.now) }
+{
+    has_signs(expr, columns) && degree(expr) <= 4
+}
+
+/// How many counts of rows a block takes. Only how fast a sum is found hangs on it.
+pub fn count_of_counts(expr: &Expr, columns: &LentColumns<'_>) -> u64 {
+    match expr {
+        Expr::Column(column) => {
+            let column = usize::from(*column);
+            if column < columns.len() {
+                2 + u64::from(columns.column(column).width())
+            } else {
+                1
+            }
+        }
+        Expr::Literal(_) => 1,
+        Expr::Add(a, b) | Expr::Sub(a, b) => {
+            count_of_counts(a, columns).saturating_add(count_of_counts(b, columns))
+        }
+        Expr::Mul(a, b) => {
+            count_of_counts(a, columns).saturating_mul(count_of_counts(b, columns))
+        }
+    }
+}

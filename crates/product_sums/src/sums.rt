@@ -1,0 +1,52 @@
+//! Sums of the ends of an expression over the rows of a mask.
+
+ghost use Rattle.std.specs.Prelude.{◌≡◌, ◌<◌, ◌+◌, ◌*◌, [], ◌∷◌, length, map};
+ghost use Rattle.std.specs.Int.{int_wrap, w128};
+ghost use Rattle.aggregates.specs.Selections.{block_of, rows_in};
+ghost use Rattle.query_model.specs.Answers.{total};
+ghost use Rattle.query_model.specs.Queries.{term_of};
+ghost use Rattle.query_model.specs.Truths.{span_of};
+ghost use Rattle.query_model.specs.Validity.{declared_ranges, FitsSum};
+ghost use Rattle.product_sums.specs.Products.{sum_over, term_end, HasValues, IsProductSum};
+
+use crate::block_sums::sum_products;
+use crate::factors::Factor;
+use crate::wrapping::plus;
+use aggregates::End;
+use known_column::LentColumns;
+use plane_kernels::{Block, Mask};
+use query_model::Expr;
+
+// The ends at the mask's rows of a block, added up.
+fn sum_block(end: End, arg: &Expr, columns: &LentColumns<'_>, mask: &Mask, block: usize) -> i128
+    requires sums { IsProductSum columns.now.frame (term_of arg.now) }
+    requires rows { length mask.now ≡ columns.now.frame.rows }
+    requires values { HasValues columns.now (term_of arg.now) mask.now }
+    requires block { 512 * block < columns.now.frame.rows }
+    ensures { result ≡ int_wrap w128 (sum_over (block_of block mask.now)
+        (λ i. term_end columns.now end (term_of arg.now) (512 * block + i))) }
+{
+    let _rows = columns.rows();
+    let rows = Block::of_mask(mask, block);
+    if rows.count() == 0 {
+        return 0;
+    }
+    sum_products(columns, block, &rows, &[Factor { term: arg, end }])
+}
+
+/// The low or the high ends of an expression at the mask's rows, added up. It costs counts of rows alone: one for each combination of the
+/// digits that were read of the columns in a product.
+pub fn sum_ends(end: End, arg: &Expr, columns: &LentColumns<'_>, mask: &Mask) -> i128
+    requires sums { IsProductSum columns.now.frame (term_of arg.now) }
+    requires rows { length mask.now ≡ columns.now.frame.rows }
+    requires values { HasValues columns.now (term_of arg.now) mask.now }
+    requires fits { FitsSum columns.now.frame.rows (span_of (term_of arg.now) (declared_ranges columns.now.frame)) }
+    ensures { result ≡ total (map (term_end columns.now end (term_of arg.now)) (rows_in mask.now)) }
+{
+    let _rows = columns.rows();
+    let mut sum: i128 = 0;
+    for block in 0..mask.rows().div_ceil(512) {
+        sum = plus(sum, sum_block(end, arg, columns, mask, block));
+    }
+    sum
+}

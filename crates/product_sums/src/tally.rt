@@ -1,0 +1,83 @@
+//! What a sum of an expression keeps of its rows, by counts.
+
+ghost use Rattle.std.specs.Prelude.{◌≡◌, ◌==◌, if◌then◌else◌, None, true, length, map, IfSome};
+ghost use Rattle.aggregates.specs.declared.ends.End.TheVariants.{Low, High};
+ghost use Rattle.aggregates.specs.Selections.{rows_in, IsPartOf};
+ghost use Rattle.aggregates.specs.Tallies.{tally_of};
+ghost use Rattle.query_model.specs.declared.query.ItemKind.TheVariants.{Max, Min};
+ghost use Rattle.query_model.specs.Answers.{answer};
+ghost use Rattle.query_model.specs.Meaning.{ReadsBelow};
+ghost use Rattle.query_model.specs.Queries.{term_of};
+ghost use Rattle.query_model.specs.Truths.{span_of};
+ghost use Rattle.query_model.specs.Validity.{declared_ranges, FitsSum, FitsWide, IsSumKind};
+ghost use Rattle.product_sums.specs.Products.{is_never_negative, pairs_of, term_end, HasValues, IsProductSum};
+
+use crate::extremes::outer_ends;
+use crate::sums::sum_ends;
+use aggregates::{End, ExtremeSpan, Tally};
+use known_column::LentColumns;
+use plane_kernels::Mask;
+use query_model::{Expr, ItemKind};
+
+// The outermost ends, which a sum keeps while no row surely counts, if they are quickly found.
+fn ends_if_none(
+    certain: u64,
+    arg: &Expr,
+    columns: &LentColumns<'_>,
+    mask: &Mask,
+) -> Option<ExtremeSpan>
+    requires columns { ReadsBelow (length columns.now.frame.columns) (term_of arg.now) }
+    requires wide { FitsWide (term_of arg.now) (declared_ranges columns.now.frame) }
+    requires rows { length mask.now ≡ columns.now.frame.rows }
+    requires values { HasValues columns.now (term_of arg.now) mask.now }
+    ensures low { IfSome result (λ ends. ends.low
+        ≡ (if certain == 0 then answer Min (map (term_end columns.now Low (term_of arg.now)) (rows_in mask.now)) else None)) }
+    ensures high { IfSome result (λ ends. ends.high
+        ≡ (if certain == 0 then answer Max (map (term_end columns.now High (term_of arg.now)) (rows_in mask.now)) else None)) }
+{
+    if certain > 0 {
+        return Some(ExtremeSpan {
+            low: None,
+            high: None,
+        });
+    }
+    let ends = outer_ends(arg, columns, mask)?;
+    Some(ExtremeSpan {
+        low: Some(ends.lo),
+        high: Some(ends.hi),
+    })
+}
+
+/// What a sum or an average of an expression that is never below 0 keeps of the rows of a mask, of which another has those that surely
+/// count. There is none where no row surely counts and the outermost ends are not quickly found.
+pub fn sum_tally(
+    kind: ItemKind,
+    arg: &Expr,
+    columns: &LentColumns<'_>,
+    may: &Mask,
+    must: &Mask,
+) -> Option<Tally>
+    requires kind { IsSumKind kind }
+    requires sums { IsProductSum columns.now.frame (term_of arg.now) }
+    requires never { is_never_negative columns.now.frame (term_of arg.now) ≡ true }
+    requires wide { FitsWide (term_of arg.now) (declared_ranges columns.now.frame) }
+    requires fits { FitsSum columns.now.frame.rows (span_of (term_of arg.now) (declared_ranges columns.now.frame)) }
+    requires rows { length may.now ≡ columns.now.frame.rows }
+    requires must { IsPartOf must.now may.now }
+    requires values { HasValues columns.now (term_of arg.now) may.now }
+    ensures { IfSome result (λ tally. tally ≡ tally_of kind (pairs_of columns.now (term_of arg.now) may.now must.now)) }
+{
+    let _rows = columns.rows();
+    let certain = must.count();
+    let ends = ends_if_none(certain, arg, columns, may)?;
+    Some(Tally {
+        certain,
+        all: may.count(),
+        least_low: ends.low,
+        greatest_high: ends.high,
+        least_certain_high: None,
+        greatest_certain_low: None,
+        low_sum: sum_ends(End::Low, arg, columns, must),
+        high_sum: sum_ends(End::High, arg, columns, may),
+    })
+}
