@@ -1,12 +1,12 @@
 -- What is read whole is a command of the grammar.
 use Rattle.command_line.specs.declared.reader.Flag.{Flag}
 use Rattle.command_line.specs.declared.reader.Flag.TheVariants as f
-use Rattle.std.proofs.Common.{◌≡◌, ◌≢◌, ℕ, zero, suc, ◌+◌, ◌≤◌, Bool, true, false, not, if◌then◌else◌, Option, Some, None, is_none, Ok, Err, List, [], ◌∷◌, length, option_map, unwrap_or, refl, sym, ap, subst, ◌∙◌, codes, arith}
+use Rattle.std.proofs.Common.{◌≡◌, ◌≢◌, ℕ, zero, suc, ◌+◌, ◌≤◌, Bool, true, false, not, if◌then◌else◌, Option, Some, None, is_none, Ok, Err, List, [], ◌∷◌, length, option_map, unwrap_or, refl, sym, ap, subst, inl, inr, ◌∙◌, codes, arith}
 use Rattle.std.specs.Option.{option_map_or}
 use Rattle.std.specs.Str.{bytes_eq}
 use Rattle.std.proofs.lemmas.Slice.Eq.{bytes_eq-Decides}
-use Rattle.command_line.specs.Commands.{ReadOrder, widest, in_order, filter_first, balanced, reads, IsPolicy, IsNumber, Given, Gives, no_more, more_width, more_rounds, more_policy, more_reads, more_list, more_clip, more_exact, Options, Command, ask, query, session, load, info, upgrade, demo, IsCommand, AreOptions, nothing_given, options_given, most_seed, most_rows, most_width, most_rounds}
-use Rattle.command_line.specs.Reading.{Next, name, word, number, policy, option, done, after, after_ask, after_query, after_session, after_load, after_info, after_upgrade, after_demo, after_name, after_flag, behind, is_free, flag_of, flag_text, at_end, answer, number_of, policy_of}
+use Rattle.command_line.specs.Commands.{ReadOrder, widest, in_order, filter_first, balanced, reads, IsPolicy, IsNumber, Given, Gives, no_more, more_width, more_rounds, more_policy, more_reads, more_list, more_clip, more_exact, Options, Command, ask, query, session, load, info, upgrade, demo, help, version, IsCommand, IsHelp, IsVersion, AreOptions, nothing_given, options_given, most_seed, most_rows, most_width, most_rounds}
+use Rattle.command_line.specs.Reading.{Next, name, word, number, policy, option, done, after, after_ask, after_query, after_session, after_load, after_info, after_upgrade, after_demo, after_name, after_flag, behind, is_free, flag_of, flag_text, at_end, answer, lone_command, number_of, policy_of}
 use Rattle.command_line.proofs.Numbers.{number_is, both}
 use Rattle.command_line.proofs.Steps.{Allowed}
 
@@ -243,7 +243,12 @@ data IsName (w : List ℕ) : Option Next → Type 0 where
   is_info : w ≡ codes "info" → IsName w (Some after_info)
   is_upgrade : w ≡ codes "upgrade" → IsName w (Some after_upgrade)
   is_demo : w ≡ codes "demo" → IsName w (Some after_demo)
-  is_no_name : IsName w None
+  is_lone : (c : Command) → lone_command w ≡ Some c → IsName w (Some (done c))
+  is_no_name : lone_command w ≡ None → IsName w None
+
+lone_name : (w : List ℕ) (o : Option Command) → lone_command w ≡ o → IsName w (option_map done o)
+lone_name w None e = is_no_name e
+lone_name w (Some c) e = is_lone c e
 
 name_is : (w : List ℕ) → IsName w (after_name w)
 unfolding after_name
@@ -254,7 +259,7 @@ name_is w =
     (if_cases (IsName w) (bytes_eq w (codes "load")) _ _ (λ t. is_load (same_bytes w _ t))
     (if_cases (IsName w) (bytes_eq w (codes "info")) _ _ (λ t. is_info (same_bytes w _ t))
     (if_cases (IsName w) (bytes_eq w (codes "upgrade")) _ _ (λ t. is_upgrade (same_bytes w _ t))
-    (if_cases (IsName w) (bytes_eq w (codes "demo")) _ _ (λ t. is_demo (same_bytes w _ t)) is_no_name))))))
+    (if_cases (IsName w) (bytes_eq w (codes "demo")) _ _ (λ t. is_demo (same_bytes w _ t)) (lone_name w (lone_command w) refl)))))))
 
 said : (words : List (List ℕ)) (given : Given) → Gives nothing_given words given → AreOptions words (options_given given)
 said words given gives = record { given = given; gives = gives; say = refl }
@@ -383,6 +388,35 @@ demo_is ws c e =
     } in
     subst (IsCommand (codes "demo" ∷ ws)) (sym o.same) is
 
+-- a command of one word is that word
+lone_is : (w : List ℕ) (c : Command) → lone_command w ≡ Some c → IsCommand (w ∷ []) c
+unfolding lone_command
+lone_is w c e =
+    let P : Option Command → Type 0 = λ o. o ≡ Some c → IsCommand (w ∷ []) c in
+    if_cases P (bytes_eq w (codes "help")) _ _ (λ t s. is_help c s (inl (alone (same_bytes w _ t))))
+    (if_cases P (bytes_eq w (codes "--help")) _ _ (λ t s. is_help c s (inr (inl (alone (same_bytes w _ t)))))
+    (if_cases P (bytes_eq w (codes "-h")) _ _ (λ t s. is_help c s (inr (inr (alone (same_bytes w _ t)))))
+    (if_cases P (bytes_eq w (codes "--version")) _ _ (λ t s. is_version c s (inl (alone (same_bytes w _ t))))
+    (if_cases P (bytes_eq w (codes "-V")) _ _ (λ t s. is_version c s (inr (alone (same_bytes w _ t))))
+    (λ s. cc))))) e
+  where
+    some_same : (a b : Command) → Some a ≡ Some b → a ≡ b
+    some_same a b s = cc
+
+    alone : {v : List ℕ} → w ≡ v → w ∷ [] ≡ v ∷ []
+    alone e = ap (λ v. v ∷ []) e
+
+    is_help : (c : Command) → Some help ≡ Some c → IsHelp (w ∷ []) → IsCommand (w ∷ []) c
+    is_help c s is = subst (IsCommand (w ∷ [])) (some_same help c s) is
+
+    is_version : (c : Command) → Some version ≡ Some c → IsVersion (w ∷ []) → IsCommand (w ∷ []) c
+    is_version c s is = subst (IsCommand (w ∷ [])) (some_same version c s) is
+
+lone_ends : (w : List ℕ) (ws : List (List ℕ)) (k c : Command) → lone_command w ≡ Some k → answer (done k) 1 ws ≡ Ok c → IsCommand (w ∷ ws) c
+lone_ends w ws k c named e =
+    let end = read_done k 1 ws c e in
+    subst (λ v. IsCommand (w ∷ v) c) (sym end.0) (subst (IsCommand (w ∷ [])) end.1 (lone_is w k named))
+
 named_is : (w : List ℕ) (ws : List (List ℕ)) (c : Command) (o : Option Next) → IsName w o →
     option_map_or (λ next. answer next 1 ws) o (Err 1) ≡ Ok c → IsCommand (w ∷ ws) c
 named_is w ws c (Some _) (is_ask same) e = subst (λ v. IsCommand (v ∷ ws) c) (sym same) (ask_is ws c e)
@@ -392,7 +426,8 @@ named_is w ws c (Some _) (is_load same) e = subst (λ v. IsCommand (v ∷ ws) c)
 named_is w ws c (Some _) (is_info same) e = subst (λ v. IsCommand (v ∷ ws) c) (sym same) (info_is ws c e)
 named_is w ws c (Some _) (is_upgrade same) e = subst (λ v. IsCommand (v ∷ ws) c) (sym same) (upgrade_is ws c e)
 named_is w ws c (Some _) (is_demo same) e = subst (λ v. IsCommand (v ∷ ws) c) (sym same) (demo_is ws c e)
-named_is w ws c None is_no_name e = cc
+named_is w ws c (Some _) (is_lone k named) e = lone_ends w ws k c named e
+named_is w ws c None (is_no_name unnamed) e = cc
 
 -- the command that words are read as is theirs
 pub command_is : (words : List (List ℕ)) (c : Command) → answer name 0 words ≡ Ok c → IsCommand words c
@@ -400,7 +435,7 @@ unfolding answer
 command_is [] c e = cc
 command_is (w ∷ ws) c e = named_is w ws c (after_name w) (name_is w) e
 
--- a word that names no command
+-- a word that names no command of several words
 pub record IsNoName (w : List ℕ) : Type 0 where
   pub ask : w ≢ codes "ask"
   pub query : w ≢ codes "query"
@@ -410,15 +445,17 @@ pub record IsNoName (w : List ℕ) : Type 0 where
   pub upgrade : w ≢ codes "upgrade"
   pub demo : w ≢ codes "demo"
 
-no_next : (w : List ℕ) (o : Option Next) → IsName w o → IsNoName w → o ≡ None
-no_next w (Some _) (is_ask same) none = absurd (none.ask same)
-no_next w (Some _) (is_query same) none = absurd (none.query same)
-no_next w (Some _) (is_session same) none = absurd (none.session same)
-no_next w (Some _) (is_load same) none = absurd (none.load same)
-no_next w (Some _) (is_info same) none = absurd (none.info same)
-no_next w (Some _) (is_upgrade same) none = absurd (none.upgrade same)
-no_next w (Some _) (is_demo same) none = absurd (none.demo same)
-no_next w None is_no_name none = refl
+next_lone : (w : List ℕ) (o : Option Next) → IsName w o → IsNoName w → o ≡ option_map done (lone_command w)
+next_lone w (Some _) (is_ask same) none = absurd (none.ask same)
+next_lone w (Some _) (is_query same) none = absurd (none.query same)
+next_lone w (Some _) (is_session same) none = absurd (none.session same)
+next_lone w (Some _) (is_load same) none = absurd (none.load same)
+next_lone w (Some _) (is_info same) none = absurd (none.info same)
+next_lone w (Some _) (is_upgrade same) none = absurd (none.upgrade same)
+next_lone w (Some _) (is_demo same) none = absurd (none.demo same)
+next_lone w (Some _) (is_lone c named) none = ap (option_map done) (sym named)
+next_lone w None (is_no_name unnamed) none = ap (option_map done) (sym unnamed)
 
-pub no_name : (w : List ℕ) → IsNoName w → after_name w ≡ None
-no_name w none = no_next w (after_name w) (name_is w) none
+-- behind such a word nothing comes, where it is a command by itself
+pub after_lone : (w : List ℕ) → IsNoName w → after_name w ≡ option_map done (lone_command w)
+after_lone w none = next_lone w (after_name w) (name_is w) none

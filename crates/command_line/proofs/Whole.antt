@@ -1,8 +1,8 @@
 -- Each command of the grammar is read whole.
 use Rattle.command_line.specs.declared.reader.Flag.TheVariants as f
-use Rattle.std.proofs.Common.{◌≡◌, ◌≢◌, ℕ, ◌+◌, Bool, true, false, ◌&&◌, Option, None, Some, Ok, List, option_map, unwrap_or, refl, sym, ap, ◌∙◌, codes}
-use Rattle.command_line.specs.Commands.{ReadOrder, widest, in_order, filter_first, balanced, reads, IsPolicy, Given, Gives, no_more, more_width, more_rounds, more_policy, more_reads, more_list, more_clip, more_exact, Options, Command, ask, query, session, load, info, upgrade, demo, IsCommand, options_given, most_seed, most_rows, most_width, most_rounds}
-use Rattle.command_line.specs.Reading.{name, option, done, after_ask, after_query, after_session, after_load, after_info, after_upgrade, after_demo, after_name, answer, policy_of}
+use Rattle.std.proofs.Common.{◌≡◌, ◌≢◌, ℕ, ◌+◌, Bool, true, false, ◌&&◌, Option, None, Some, Ok, List, [], ◌∷◌, option_map, unwrap_or, refl, sym, ap, inl, inr, ◌∙◌, codes}
+use Rattle.command_line.specs.Commands.{ReadOrder, widest, in_order, filter_first, balanced, reads, IsPolicy, Given, Gives, no_more, more_width, more_rounds, more_policy, more_reads, more_list, more_clip, more_exact, Options, Command, ask, query, session, load, info, upgrade, demo, help, version, IsCommand, options_given, most_seed, most_rows, most_width, most_rounds}
+use Rattle.command_line.specs.Reading.{name, option, done, after_ask, after_query, after_session, after_load, after_info, after_upgrade, after_demo, after_name, answer, lone_command, policy_of}
 use Rattle.command_line.proofs.Numbers.{number_some}
 use Rattle.command_line.proofs.Steps.{answer-none, answer-step, after_free, is_none_at, not_at, Allowed}
 
@@ -86,6 +86,31 @@ pub after_name_demo : after_name (codes "demo") ≡ Some after_demo
 unfolding after_name
 after_name_demo = refl
 
+-- the words of commands of one word
+after_name_help : after_name (codes "help") ≡ Some (done help)
+unfolding after_name lone_command
+after_name_help = refl
+
+after_name_long_help : after_name (codes "--help") ≡ Some (done help)
+unfolding after_name lone_command
+after_name_long_help = refl
+
+after_name_short_help : after_name (codes "-h") ≡ Some (done help)
+unfolding after_name lone_command
+after_name_short_help = refl
+
+after_name_version : after_name (codes "--version") ≡ Some (done version)
+unfolding after_name lone_command
+after_name_version = refl
+
+after_name_short_version : after_name (codes "-V") ≡ Some (done version)
+unfolding after_name lone_command
+after_name_short_version = refl
+
+lone_whole : (words : List (List ℕ)) (w : List ℕ) (c : Command) → words ≡ w ∷ [] → after_name w ≡ Some (done c) → answer name 0 words ≡ Ok c
+lone_whole words w c spelled named =
+    ap (answer name 0) spelled ∙ answer-step name (done c) 0 w [] named ∙ answer-none (done c) 1
+
 -- options whose order is no list of names
 no_names : (g : Given) (o : Options) → o ≡ options_given g → ((names : List ℕ) → o.order ≢ reads names) → Allowed false g
 no_names g o say by_policy names e = absurd (by_policy names (ap (λ o. o.order) say ∙ ap (λ order. unwrap_or order widest) e))
@@ -138,3 +163,8 @@ command_whole words (demo d) is =
     ∙ answer-step _ _ 3 _ _ refl
     ∙ options_whole is.options.gives true (λ names e. refl) (λ o. demo (record { seed = d.seed; rows = d.rows; sql = d.sql; options = o })) 4
     ∙ ap (λ o. Ok (demo (record { seed = d.seed; rows = d.rows; sql = d.sql; options = o }))) (sym is.options.say)
+command_whole words help (inl is) = lone_whole words _ help is after_name_help
+command_whole words help (inr (inl is)) = lone_whole words _ help is after_name_long_help
+command_whole words help (inr (inr is)) = lone_whole words _ help is after_name_short_help
+command_whole words version (inl is) = lone_whole words _ version is after_name_version
+command_whole words version (inr is) = lone_whole words _ version is after_name_short_version

@@ -1,5 +1,5 @@
 -- The commands of a command line, rule by rule; which words are no command, and where they go wrong.
-use Rattle.std.specs.Prelude.{◌≡◌, ◌≢◌, ℕ, ◌+◌, ◌-◌, ◌^◌, ◌≤◌, Bool, true, false}
+use Rattle.std.specs.Prelude.{◌≡◌, ◌≢◌, ◌⊎◌, ℕ, ◌+◌, ◌-◌, ◌^◌, ◌≤◌, Bool, true, false}
 use Rattle.std.specs.Prelude.{Option, Some, None, unwrap_or, List, [], ◌∷◌, ◌++◌, length, take, codes}
 use Rattle.std.specs.Str.Parse.{IsNumeral, digits_value}
 
@@ -70,6 +70,8 @@ pub data Command : Type 0 where
   info : Info → Command
   upgrade : Upgrade → Command
   demo : Demo → Command
+  help : Command
+  version : Command
 
 -- ---- numbers
 
@@ -191,6 +193,14 @@ pub record IsDemo (words : List (List ℕ)) (d : Demo) : Type 0 where
   pub is_rows : IsNumber most_rows rows d.rows
   pub options : AreOptions tail d.options
 
+-- "help" | "--help" | "-h"
+abbrev pub IsHelp : List (List ℕ) → Type 0
+IsHelp words = (words ≡ codes "help" ∷ []) ⊎ (words ≡ codes "--help" ∷ []) ⊎ (words ≡ codes "-h" ∷ [])
+
+-- "--version" | "-V"
+abbrev pub IsVersion : List (List ℕ) → Type 0
+IsVersion words = (words ≡ codes "--version" ∷ []) ⊎ (words ≡ codes "-V" ∷ [])
+
 -- the words ask for the command
 abbrev pub IsCommand : List (List ℕ) → Command → Type 0
 IsCommand words (ask a) = IsAsk words a
@@ -200,6 +210,8 @@ IsCommand words (load l) = IsLoad words l
 IsCommand words (info i) = IsInfo words i
 IsCommand words (upgrade u) = IsUpgrade words u
 IsCommand words (demo d) = IsDemo words d
+IsCommand words help = IsHelp words
+IsCommand words version = IsVersion words
 
 -- ---- where words go wrong
 

@@ -9,7 +9,7 @@ use Rattle.std.specs.Str.Parse.{digits_value}
 use Rattle.command_line.specs.declared.reader.Flag.{Flag}
 use Rattle.command_line.specs.declared.reader.Flag.TheVariants as f
 use Rattle.command_line.specs.Commands.{ReadOrder, widest, in_order, filter_first, balanced, reads, Given, Options}
-use Rattle.command_line.specs.Commands.{Command, ask, query, session, load, info, upgrade, demo, nothing_given}
+use Rattle.command_line.specs.Commands.{Command, ask, query, session, load, info, upgrade, demo, help, version, nothing_given}
 use Rattle.command_line.specs.Commands.{options_given, most_seed, most_rows, most_width, most_rounds}
 
 -- what comes next, and for each such word what comes behind it; options come by name where a list of names may be one of them
@@ -61,6 +61,15 @@ after_demo =
     number most_seed (λ seed. number most_rows (λ rows.
     word (λ sql. options (λ o. demo (record { seed = seed; rows = rows; sql = sql; options = o })))))
 
+-- a command of one word
+unfoldable pub lone_command : List ℕ → Option Command
+lone_command w =
+    if bytes_eq w (codes "help") then Some help
+    else (if bytes_eq w (codes "--help") then Some help
+    else (if bytes_eq w (codes "-h") then Some help
+    else (if bytes_eq w (codes "--version") then Some version
+    else (if bytes_eq w (codes "-V") then Some version else None))))
+
 unfoldable pub after_name : List ℕ → Option Next
 after_name w =
     if bytes_eq w (codes "ask") then Some after_ask
@@ -69,7 +78,7 @@ after_name w =
     else (if bytes_eq w (codes "load") then Some after_load
     else (if bytes_eq w (codes "info") then Some after_info
     else (if bytes_eq w (codes "upgrade") then Some after_upgrade
-    else (if bytes_eq w (codes "demo") then Some after_demo else None))))))
+    else (if bytes_eq w (codes "demo") then Some after_demo else option_map done (lone_command w)))))))
 
 -- ---- options
 

@@ -55,6 +55,8 @@ command_of (c.Load l) = spec.load (load_of l)
 command_of (c.Info i) = spec.info (info_of i)
 command_of (c.Upgrade u) = spec.upgrade (upgrade_of u)
 command_of (c.Demo d) = spec.demo (demo_of d)
+command_of c.Help = spec.help
+command_of c.Version = spec.version
 
 abbrev pub given_of : Given → spec.Given
 given_of g =

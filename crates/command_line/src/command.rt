@@ -5,7 +5,7 @@ ghost use Rattle.command_line.specs.Commands as spec;
 ghost use Rattle.command_line.specs.Commands.{GoesWrong, IsCommand};
 ghost use Rattle.command_line.specs.Values.{command_of};
 
-use crate::reader::Reader;
+use crate::reader::{Reader, lone_command};
 use crate::words::Words;
 
 /// How the columns of a query are read: by a policy, or as a list of names says.
@@ -132,6 +132,10 @@ pub enum Command<'a> {
     Upgrade(Upgrade<'a>),
     /// A query over a generated table.
     Demo(Demo<'a>),
+    /// What the commands and their options are.
+    Help,
+    /// Which version of the program this is.
+    Version,
 }
 
 /// Words are no command.
@@ -156,7 +160,13 @@ impl<'a> Command<'a> {
             "info" => Ok(Command::Info(reader.info()?)),
             "upgrade" => Ok(Command::Upgrade(reader.upgrade()?)),
             "demo" => Ok(Command::Demo(reader.demo()?)),
-            _ => Err(Usage { place: 1 }),
+            other => match lone_command(other) {
+                Some(command) => {
+                    reader.end()?;
+                    Ok(command)
+                }
+                None => Err(Usage { place: 1 }),
+            },
         }
     }
 }

@@ -9,11 +9,13 @@ ghost use Rattle.std.specs.Str.Parse.{IsNumeral, digits_value};
 ghost use Rattle.command_line.specs.Commands.{ask, demo, info, load, nothing_given, options_given, query, session, upgrade};
 ghost use Rattle.command_line.specs.Reading.{Adds, Fails, HasMore, Lacks, LeadsTo, Names, Says, StopsAt, Takes};
 ghost use Rattle.command_line.specs.Reading.{after_ask, after_demo, after_info, after_load, after_query, after_session};
-ghost use Rattle.command_line.specs.Reading.{after_upgrade, answers, flag_of, is_free, number, policy, policy_of};
-ghost use Rattle.command_line.specs.Values.{ask_of, demo_of, given_of, info_of, load_of};
+ghost use Rattle.command_line.specs.Reading.{after_upgrade, answers, flag_of, is_free, lone_command, number, policy, policy_of};
+ghost use Rattle.command_line.specs.Values.{ask_of, command_of, demo_of, given_of, info_of, load_of};
 ghost use Rattle.command_line.specs.Values.{options_of, order_of, query_of, session_of, upgrade_of};
 
-use crate::command::{Ask, Demo, Info, Load, Options, Query, ReadOrder, Session, Upgrade, Usage};
+use crate::command::{
+    Ask, Command, Demo, Info, Load, Options, Query, ReadOrder, Session, Upgrade, Usage,
+};
 use crate::words::Words;
 use std::marker::Model;
 
@@ -109,6 +111,18 @@ fn policy_of<'a>(word: &str) -> Option<ReadOrder<'a>>
     }
 }
 
+// The command that the word is by itself.
+#[tactic(auto, unfolding(crate::specs::Reading::lone_command))]
+pub(crate) fn lone_command<'a>(word: &str) -> Option<Command<'a>>
+    ensures { option_map command_of result ≡ lone_command word.now }
+{
+    match word {
+        "help" | "--help" | "-h" => Some(Command::Help),
+        "--version" | "-V" => Some(Command::Version),
+        _ => None,
+    }
+}
+
 impl<'a> Given<'a> {
     fn nothing() -> Given<'a>
         ensures { given_of result ≡ nothing_given }
@@ -189,7 +203,7 @@ impl<'a> Reader<'a> {
     }
 
     // No word.
-    fn end(&self) -> Result<(), Usage>
+    pub(crate) fn end(&self) -> Result<(), Usage>
         ensures ok { OnOk result (self.now.words ≡ []) }
         ensures err { IfErr result (λ usage. HasMore self.now usage.place) }
     {

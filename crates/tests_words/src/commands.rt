@@ -16,7 +16,7 @@ fn words_of(alloc: Global, line: &str) -> Result<Words, AllocError> {
 }
 
 // Words that are no command, and the place where they go wrong.
-const WRONG: [(&str, usize); 42] = [
+const WRONG: [(&str, usize); 47] = [
     ("", 1),
     ("sum p.csv s q", 1),
     ("Ask p.csv s q", 1),
@@ -59,6 +59,11 @@ const WRONG: [(&str, usize); 42] = [
     ("upgrade p.daq q.daq --clip", 4),
     ("upgrade p.daq", 3),
     ("upgrade p.daq q.daq r.daq", 4),
+    ("help query", 2),
+    ("--help --help", 2),
+    ("-V 1", 2),
+    ("-H", 1),
+    ("--list --help", 1),
 ];
 
 #[test]
@@ -174,6 +179,21 @@ fn commands_over_whole_plane_files(rt: HostRuntime) -> Result<(), Fail> {
         ),
     ];
     for (line, command) in commands {
+        let words = words_of(rt.alloc(), line)?;
+        assert_eq!(rt; Command::parse(&words), Ok(command));
+    }
+    Ok(())
+}
+
+#[test]
+fn the_help_and_the_version(rt: HostRuntime) -> Result<(), Fail> {
+    for (line, command) in [
+        ("help", Command::Help),
+        ("--help", Command::Help),
+        ("-h", Command::Help),
+        ("--version", Command::Version),
+        ("-V", Command::Version),
+    ] {
         let words = words_of(rt.alloc(), line)?;
         assert_eq!(rt; Command::parse(&words), Ok(command));
     }
