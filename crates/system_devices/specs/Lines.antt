@@ -1,23 +1,18 @@
--- When a piece ends a line, and when a file is made.
-use Rattle.std.specs.Prelude.{◌≡◌, ℕ, ◌-◌, List, length, slice_get, Some, ⊤}
-use Rattle.system_devices.specs.declared.files.Target.{Target}
-use Rattle.system_devices.specs.declared.files.Target.TheVariants.{File, Named}
+-- When a piece ends a line, and when a new file is made.
+use Rattle.std.specs.Prelude.{◌≡◌, ℕ, ◌-◌, List, length, slice_get, Some, IsSome, ⊤}
+use Rattle.system_devices.specs.declared.new_file.NewFile.{NewFile}
+use Rattle.system_devices.specs.declared.sinks.Target.{Target}
+use Rattle.system_devices.specs.declared.sinks.Target.TheVariants.{New}
 
 -- the last byte is a line break
 abbrev pub EndsLine : List ℕ → Type 0
 EndsLine piece = slice_get piece (length piece - 1) ≡ Some 10
 
--- a file that is made
-abbrev pub IsFile : Target → Type 0
-IsFile (File file) = ⊤
-IsFile target = ⊥
+-- bytes go to a new file
+abbrev pub IsNew : Target → Type 0
+IsNew (New file) = ⊤
+IsNew target = ⊥
 
--- a file that was still to be made is made, and else nothing changes
-abbrev pub IsOpened : Target → Target → Type 0
-IsOpened (Named rt path) after = IsFile after
-IsOpened before after = after ≡ before
-
--- a file is still to be made
-abbrev pub IsNamed : Target → Type 0
-IsNamed (Named rt path) = ⊤
-IsNamed target = ⊥
+-- a file is open for them
+abbrev pub IsMade : NewFile → Type 0
+IsMade file = IsSome file.file

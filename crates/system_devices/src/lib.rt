@@ -3,5 +3,9 @@
 
 mod faults;
 mod files;
+mod new_file;
+mod sinks;
 
-pub use files::{FileSink, FileSource, FileStore, hold_standard_places};
+pub use faults::{Action, Trouble};
+pub use files::{FileSource, FileStore, hold_standard_places};
+pub use sinks::FileSink;

@@ -49,8 +49,10 @@ fn a_stream_takes_a_piece(rt: HostRuntime) -> Result<(), Fail> {
 fn what_a_named_file_takes_is_read_back(rt: HostRuntime) -> Result<(), Fail> {
     let name = format!(in rt.alloc(); "daq-test-{}", process::id(rt.process()))?;
     let path = env::temp_dir(&rt)?.join(rt.alloc(), name.as_str())?;
-    let mut sink = FileSink::named(&rt, path.as_str())?;
+    let mut sink = FileSink::named(&rt, path.as_str(), "")?;
     let taken = [sink.write(b"three "), sink.write(b""), sink.write(b"words")];
+    let before = FileStore::open(&rt, path.as_str()).size();
+    assert_eq!(rt; [before.is_err(), sink.finish().is_ok()], [true, true]);
     let mut store = FileStore::open(&rt, path.as_str());
     let mut source = FileSource::open(&rt, path.as_str());
     fs::remove_file(&rt, path.as_path())?;
@@ -73,8 +75,69 @@ fn what_a_named_file_takes_is_read_back(rt: HostRuntime) -> Result<(), Fail> {
 
 #[test]
 fn a_piece_without_a_byte_makes_no_file(rt: HostRuntime) -> Result<(), Fail> {
-    let mut sink = FileSink::named(&rt, "no such folder/made")?;
+    let mut sink = FileSink::named(&rt, "no such folder/made", "")?;
     assert_eq!(rt; sink.write(b""), Ok(0));
     assert_eq!(rt; sink.write(b"one"), Err(Failed));
+    Ok(())
+}
+
+// The path of a file of this test, which holds these bytes.
+fn old_file(rt: &HostRuntime, test: &str, bytes: &[u8]) -> Result<String, Fail> {
+    let name = format!(in rt.alloc(); "daq-{test}-{}", process::id(rt.process()))?;
+    let path = env::temp_dir(rt)?.join(rt.alloc(), name.as_str())?;
+    fs::write(rt, path.as_path(), bytes)?;
+    Ok(String::from_str(rt.alloc(), path.as_str())?)
+}
+
+#[test]
+fn an_old_file_stands_until_the_new_one_is_whole(rt: HostRuntime) -> Result<(), Fail> {
+    let path = old_file(&rt, "stands", b"the old")?;
+    let mut sink = FileSink::named(&rt, path.as_str(), "")?;
+    let taken = sink.write(b"new");
+    let before = fs::read(&rt, path.as_str())?;
+    let kept = sink.finish();
+    let after = fs::read(&rt, path.as_str())?;
+    fs::remove_file(&rt, path.as_str())?;
+    assert_eq!(rt; (taken, kept), (Ok(3), Ok(())));
+    assert_eq!(rt;
+        (before.as_slice(), after.as_slice()),
+        (&b"the old"[..], &b"new"[..])
+    );
+    assert_eq!(rt; sink.write(b"more"), Err(Failed));
+    Ok(())
+}
+
+#[test]
+fn a_new_file_that_is_given_up_leaves_the_old_one(rt: HostRuntime) -> Result<(), Fail> {
+    let path = old_file(&rt, "given-up", b"the old")?;
+    let mut sink = FileSink::named(&rt, path.as_str(), "")?;
+    let taken = sink.write(b"new");
+    sink.give_up();
+    let after = fs::read(&rt, path.as_str())?;
+    fs::remove_file(&rt, path.as_str())?;
+    assert_eq!(rt; taken, Ok(3));
+    assert_eq!(rt; after.as_slice(), &b"the old"[..]);
+    Ok(())
+}
+
+#[test]
+fn the_file_that_is_read_is_not_made_anew(rt: HostRuntime) -> Result<(), Fail> {
+    let path = old_file(&rt, "read", b"the old")?;
+    let mut sink = FileSink::named(&rt, path.as_str(), path.as_str())?;
+    let taken = sink.write(b"new");
+    fs::remove_file(&rt, path.as_str())?;
+    assert_eq!(rt; taken, Err(Failed));
+    assert_eq!(rt; sink.trouble().is_some(), true);
+    Ok(())
+}
+
+#[test]
+fn a_held_line_is_handed_out(rt: HostRuntime) -> Result<(), Fail> {
+    let mut sink = FileSink::held(rt.alloc())?;
+    assert_eq!(rt;
+        [sink.write(b"one "), sink.write(b"line\n")],
+        [Ok(4), Ok(5)]
+    );
+    assert_eq!(rt; sink.held_bytes(), &b"one line\n"[..]);
     Ok(())
 }
