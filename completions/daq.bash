@@ -5,7 +5,7 @@ _daq() {
     COMPREPLY=()
     # Bash takes the colons of a schema for ends of words, so the words before an option are not counted.
     case ${COMP_CWORD}-${COMP_WORDS[1]}-$before$word in
-    1-*) choices='load query session info upgrade ask demo' ;;
+    1-*) choices='load query session info upgrade ask demo help --help --version' ;;
     [23]-load-* | 2-query-* | [23]-session-* | 2-info-* | [23]-upgrade-* | 2-ask-*)
         compopt -o filenames
         mapfile -t COMPREPLY < <(compgen -f -- "$word")

@@ -24,6 +24,7 @@ pub mod Info
 pub mod Upgrade
 pub mod Query
 pub mod Session
+pub mod Notices
 pub mod Runs
 pub mod Widths
 pub mod Blocks

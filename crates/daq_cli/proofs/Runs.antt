@@ -1,19 +1,22 @@
 -- What the words and a told input show or accept is what the run comes to.
 use Rattle.std.proofs.Common.{◌≡◌, ◌≢◌, ℕ, Bool, List, IsFalse, IsTrue, refl, sym, ap, ◌∙◌, subst, inl, inr, ◌⊎◌}
-use Rattle.command_line.specs.Commands.{Ask, Command, Demo, GoesWrong, IsCommand, Load, Session, ask, demo, info, load, query, session, upgrade}
+use Rattle.command_line.specs.Commands.{Ask, Command, Demo, GoesWrong, IsCommand, Load, Session, ask, demo, help, info, load, query, session, upgrade, version}
 use Rattle.command_line.specs.Commands as line
 use Rattle.outer_world.specs.Device.{Rose, SinkState, SourceState, StoreState}
+use Rattle.daq_cli.specs.Notices.{NoticeCause}
 use Rattle.daq_cli.specs.Refusals.{IsTold, status_of}
-use Rattle.daq_cli.specs.Runs.{Accepts, BeginsRounds, CommandAccepts, CommandShows, Completes, Does, EndsSo, IsCause, IsDone, IsFulfilled, IsRefused, IsUnwritten, ReadFails, Shows, StopsFor, Task, Uses, of_ask, of_demo, of_info, of_load, of_query, of_session, of_upgrade, in_query, in_session, uses}
+use Rattle.daq_cli.specs.Runs.{Accepts, BeginsRounds, CommandAccepts, CommandShows, Completes, Does, EndsSo, IsCause, IsDone, IsFulfilled, IsRefused, IsUnwritten, ReadFails, Shows, StopsFor, Task, Uses, of_ask, of_demo, of_help, of_info, of_load, of_query, of_session, of_upgrade, of_version, in_query, in_session, uses}
 use Rattle.daq_cli.specs.Worlds.{Device, IsSame, WorldState}
 use Rattle.daq_cli.specs.Worlds as device
 use Rattle.daq_cli.specs.commands.Ask.{AskCause}
 use Rattle.daq_cli.specs.commands.Demo.{DemoCause}
+use Rattle.daq_cli.specs.commands.Help.{help_text}
 use Rattle.daq_cli.specs.commands.Info.{InfoCause}
 use Rattle.daq_cli.specs.commands.Load.{LoadCause}
 use Rattle.daq_cli.specs.commands.Query.{Begins, QueryCause}
 use Rattle.daq_cli.specs.commands.Session.{BeginsSteps, SessionCause}
 use Rattle.daq_cli.specs.commands.Upgrade.{UpgradeCause}
+use Rattle.daq_cli.specs.commands.Version.{version_text}
 use Rattle.daq_cli.specs.declared.refusal.Refusal.{Refusal}
 use Rattle.daq_cli.specs.declared.refusal.Refusal.TheVariants.{NoMemory, Usage, WriteFault}
 use Rattle.daq_cli.specs.declared.status.Status.{Status}
@@ -22,6 +25,7 @@ use Rattle.daq_cli.proofs.Ask.{ask_accepted, ask_shown, ask_unwritten, asks_apar
 use Rattle.daq_cli.proofs.Demo.{demo_accepted, demo_apart, demo_question, demo_shown, demo_unwritten}
 use Rattle.daq_cli.proofs.Info.{info_accepted, info_shown, info_unwritten, informs_apart, informs_file}
 use Rattle.daq_cli.proofs.Load.{load_accepted, load_shown, load_unwritten, loads_apart, loads_table}
+use Rattle.daq_cli.proofs.Notices.{notice_accepted, notice_unwritten}
 use Rattle.daq_cli.proofs.Query.{queries_apart, queries_text, query_accepted, query_shown, query_unwritten}
 use Rattle.daq_cli.proofs.Session.{session_accepted, session_shown, session_unwritten, sessions_apart, sessions_text}
 use Rattle.daq_cli.proofs.Upgrade.{upgrade_accepted, upgrade_shown, upgrade_unwritten, upgrades_apart, upgrades_table}
@@ -79,6 +83,8 @@ module _ (law : StepsAreExact) (before after : WorldState) where
   command_apart (session s) other does shows = sessions_apart law s before.side after.side before.planes after.planes before.out after.out other does shows
   command_apart (info i) other does shows = informs_apart law before.planes after.planes before.out after.out _ other does shows
   command_apart (upgrade u) other does shows = upgrades_apart law before.planes after.planes before.made after.made before.out after.out other does shows
+  command_apart help other does shows = absurd shows
+  command_apart version other does shows = absurd shows
 
   -- what is shown is why the command stops, but for this
   abbrev Shown : Command → Refusal → Refusal → Type 0
@@ -113,6 +119,8 @@ module _ (law : StepsAreExact) (before after : WorldState) where
   command_shown (info i) why other cause shows = by_store before after (info i) refl (info_shown law before.planes after.planes before.out after.out why other cause shows)
   command_shown (upgrade u) why other cause shows =
       by_store before after (upgrade u) refl (upgrade_shown law before.planes after.planes before.made after.made before.out after.out why other cause shows)
+  command_shown help why other cause shows = absurd shows
+  command_shown version why other cause shows = absurd shows
 
   command_fulfils : {command : Command} {task : Task} → CommandAccepts before command task → Does command before after → IsFulfilled task before after
   command_fulfils (of_ask a question accepted) does = asks_question law a before.input after.input before.out after.out _ question does accepted
@@ -122,6 +130,8 @@ module _ (law : StepsAreExact) (before after : WorldState) where
   command_fulfils (of_session s text accepted) does = sessions_text law s before.side after.side before.planes after.planes before.out after.out text does accepted
   command_fulfils (of_info i file accepted) does = informs_file law before.planes after.planes before.out after.out _ file does accepted
   command_fulfils (of_upgrade u table accepted) does = upgrades_table law before.planes after.planes before.made after.made before.out after.out table does accepted
+  command_fulfils of_help does = does
+  command_fulfils of_version does = does
 
   command_accepted : {command : Command} {task : Task} (why : Refusal) → CommandAccepts before command task → StopsFor command before after why → Excused before after command why
   command_accepted why (of_ask a question accepted) cause = more (ask_accepted law a before.input after.input before.out after.out why question cause accepted)
@@ -172,6 +182,8 @@ module _ (law : StepsAreExact) (before after : WorldState) where
       more (inr (inl rose)) = inr (inl (inr (inl (refl, rose))))
       more (inr (inr (inl rose))) = inr (inr (inl (refl, rose)))
       more (inr (inr (inr rose))) = inr (inr (inr (refl, rose)))
+  command_accepted why of_help cause = inr (inr (inr (refl, notice_accepted help_text before.out after.out why cause)))
+  command_accepted why of_version cause = inr (inr (inr (refl, notice_accepted version_text before.out after.out why cause)))
 
 -- but for a failed write, and for rounds that were begun, nothing was written; a device that the command does not use tells what it told
 abbrev pub IsEarly : WorldState → WorldState → Command → Refusal → Type 0
@@ -192,6 +204,8 @@ module _ (before after : WorldState) (why : Refusal) where
   command_unwritten (info i) stays cause = unmade (info i) (stays device.made refl) (info_unwritten _ _ _ _ why cause)
   command_unwritten (load l) stays cause = unstored (load l) (load_unwritten l _ _ _ _ _ _ why cause)
   command_unwritten (upgrade u) stays cause = unstored (upgrade u) (upgrade_unwritten _ _ _ _ _ _ why cause)
+  command_unwritten help stays cause = inr (inr (notice_unwritten help_text _ _ why cause))
+  command_unwritten version stays cause = inr (inr (notice_unwritten version_text _ _ why cause))
   command_unwritten (query q) stays cause = by (query_unwritten q _ _ _ _ why cause)
     where
       by : (after.out ≡ before.out) ⊎ ((opened : StoreState) × Begins q before.planes opened) ⊎ (why ≡ WriteFault) → IsEarly before after (query q) why
@@ -317,6 +331,8 @@ same_cause words before mid after why i s p m o (IsCause.of_command command is c
         (subst (λ x. UpgradeCause before.planes mid.planes before.made x before.out after.out why) (sym m)
         (subst (λ x. UpgradeCause before.planes mid.planes before.made mid.made before.out x why) (sym o) cause))
     by (info i) cause = subst (λ x. InfoCause before.planes x before.out after.out why) (sym p) (subst (λ x. InfoCause before.planes mid.planes before.out x why) (sym o) cause)
+    by help cause = subst (λ x. NoticeCause help_text before.out x why) (sym o) cause
+    by version cause = subst (λ x. NoticeCause version_text before.out x why) (sym o) cause
 
 -- devices that tell the same afterwards are the same
 pub same_after : (before mid after : WorldState) → after.input ≡ mid.input → after.side ≡ mid.side → after.planes ≡ mid.planes → after.made ≡ mid.made → after.out ≡ mid.out
@@ -351,3 +367,15 @@ session_stops q i i' j s s' t o o' p why e f g cause =
 pub upgrade_stops : (s s' t : StoreState) (m m' n o o' p : SinkState) (why : Refusal) → s ≡ s' → m ≡ m' → o ≡ o' → UpgradeCause s t m n o p why → UpgradeCause s' t m' n o' p why
 upgrade_stops s s' t m m' n o o' p why e f g cause =
     subst (λ x. UpgradeCause x t m' n o' p why) e (subst (λ x. UpgradeCause s t x n o' p why) f (subst (λ x. UpgradeCause s t m n x p why) g cause))
+
+pub notice_stops : (text : List ℕ) (o o' p : SinkState) (why : Refusal) → o ≡ o' → NoticeCause text o p why → NoticeCause text o' p why
+notice_stops text o o' p why e cause = subst (λ x. NoticeCause text x p why) e cause
+
+-- a session of which the script alone was read leaves each other device as it was
+pub apart_same : (before after : WorldState) → after.input ≡ before.input → after.planes ≡ before.planes → after.made ≡ before.made → after.out ≡ before.out →
+    (one : Device) → one ≢ device.side → IsSame one before after
+apart_same before after i p m o device.input apart = i
+apart_same before after i p m o device.side apart = absurd (apart refl)
+apart_same before after i p m o device.planes apart = p
+apart_same before after i p m o device.made apart = m
+apart_same before after i p m o device.out apart = o

@@ -7,6 +7,7 @@ pub mod Scripts
 pub mod ScriptValues
 pub mod Files
 pub mod Stores
+pub mod Notices
 pub mod Report
 pub mod SessionReport
 pub mod OfTables

@@ -1,7 +1,7 @@
 -- What a run comes to, by the words of the command line and what the devices tell before and after.
 use Rattle.std.specs.Prelude.{◌≡◌, ◌⊎◌, ℕ, Bool, true, false, ⊤, IsTrue, List}
 use Rattle.command_line.specs.Commands.{Ask, Command, Demo, GoesWrong, Info, IsCommand, Load, Session}
-use Rattle.command_line.specs.Commands.{Upgrade, ask, demo, info, load, query, session, upgrade}
+use Rattle.command_line.specs.Commands.{Upgrade, ask, demo, help, info, load, query, session, upgrade, version}
 use Rattle.command_line.specs.Commands as line
 use Rattle.daq_table.specs.Tables.{Contents}
 use Rattle.outer_world.specs.Device.{Rose, SourceState, StoreState}
@@ -10,6 +10,7 @@ use Rattle.plane_file.specs.Opening.{Opened}
 use Rattle.sql_text.specs.Answer.{IsText}
 use Rattle.sql_text.specs.Tree.{Query}
 use Rattle.daq_cli.specs.Inputs.{IsSchema}
+use Rattle.daq_cli.specs.Notices.{NoticeCause}
 use Rattle.daq_cli.specs.Questions.{Question, Reports}
 use Rattle.daq_cli.specs.Refusals.{IsTold}
 use Rattle.daq_cli.specs.Scripts.{AcceptsScript}
@@ -18,11 +19,13 @@ use Rattle.daq_cli.specs.Worlds.{Device, WorldState, whole}
 use Rattle.daq_cli.specs.Worlds as device
 use Rattle.daq_cli.specs.commands.Ask.{AcceptsWords, AskAccepts, AskCause, AskShows, Asks}
 use Rattle.daq_cli.specs.commands.Demo.{DemoCause, Demonstrates, demo_step}
+use Rattle.daq_cli.specs.commands.Help.{help_text}
 use Rattle.daq_cli.specs.commands.Info.{InfoAccepts, InfoCause, InfoShows, Informs, info_text}
 use Rattle.daq_cli.specs.commands.Load.{LoadAccepts, LoadCause, LoadShows, Loads, loaded}
 use Rattle.daq_cli.specs.commands.Query.{Begins, Queries, QueryAccepts, QueryCause, QueryShows}
 use Rattle.daq_cli.specs.commands.Session.{BeginsSteps, SessionAccepts, SessionCause, SessionShows, Sessions}
 use Rattle.daq_cli.specs.commands.Upgrade.{UpgradeAccepts, UpgradeCause, UpgradeShows, Upgrades, upgraded}
+use Rattle.daq_cli.specs.commands.Version.{version_text}
 use Rattle.daq_cli.specs.declared.refusal.Refusal.{Refusal}
 use Rattle.daq_cli.specs.declared.refusal.Refusal.TheVariants.{NoMemory, Usage, WriteFault}
 use Rattle.daq_cli.specs.declared.status.Status.{Status}
@@ -39,6 +42,8 @@ Does (query q) before after = Queries q before.planes after.planes before.out af
 Does (session s) before after = Sessions s before.side after.side before.planes after.planes before.out after.out
 Does (info i) before after = Informs whole before.planes after.planes before.out after.out
 Does (upgrade u) before after = Upgrades before.planes after.planes before.made after.made before.out after.out
+Does help before after = Writes whole before.out after.out help_text
+Does version before after = Writes whole before.out after.out version_text
 
 -- why it stops
 abbrev pub StopsFor : Command → WorldState → WorldState → Refusal → Type 0
@@ -49,6 +54,8 @@ StopsFor (query q) before after why = QueryCause q before.planes after.planes be
 StopsFor (session s) before after why = SessionCause s before.side after.side before.planes after.planes before.out after.out why
 StopsFor (info i) before after why = InfoCause before.planes after.planes before.out after.out why
 StopsFor (upgrade u) before after why = UpgradeCause before.planes after.planes before.made after.made before.out after.out why
+StopsFor help before after why = NoticeCause help_text before.out after.out why
+StopsFor version before after why = NoticeCause version_text before.out after.out why
 
 -- the refusal that it shows, by itself or with what its input, its script or its store tells
 abbrev pub CommandShows : Command → WorldState → Refusal → Type 0
@@ -59,14 +66,17 @@ CommandShows (query q) before why = QueryShows q before.planes.held why
 CommandShows (session s) before why = SessionShows s before.side.left before.planes.held why
 CommandShows (info i) before why = InfoShows before.planes.held why
 CommandShows (upgrade u) before why = UpgradeShows before.planes.held why
+CommandShows help before why = ⊥
+CommandShows version before why = ⊥
 
--- what is asked for: the report of a question, a report of a file's table by its text, the file of a table with a line of that word, or the
--- lines of a file
+-- what is asked for: the report of a question, a report of a file's table by its text, the file of a table with a line of that word, the
+-- lines of a file, or a text of the program's own
 pub data Task : Type 0 where
   report : Question → Task
   inquire : List ℕ → Task
   store : List ℕ → Contents → Task
   describe : Opened → Task
+  tell : List ℕ → Task
 
 -- a command is accepted, and asks for this
 pub data CommandAccepts (before : WorldState) : Command → Task → Type 0 where
@@ -79,6 +89,8 @@ pub data CommandAccepts (before : WorldState) : Command → Task → Type 0 wher
   of_info : (i : Info) (file : Opened) → InfoAccepts before.planes.held file → CommandAccepts before (info i) (describe file)
   of_upgrade : (u : Upgrade) (table : Contents) → UpgradeAccepts before.planes.held table →
       CommandAccepts before (upgrade u) (store upgraded table)
+  of_help : CommandAccepts before help (tell help_text)
+  of_version : CommandAccepts before version (tell version_text)
 
 -- it was done to its end
 abbrev pub IsFulfilled : Task → WorldState → WorldState → Type 0
@@ -86,6 +98,7 @@ IsFulfilled (report question) before after = Reports question whole before.out a
 IsFulfilled (inquire text) before after = Writes whole before.out after.out text
 IsFulfilled (store word table) before after = WritesTable word table whole before.made after.made before.out after.out
 IsFulfilled (describe file) before after = Writes whole before.out after.out (info_text file)
+IsFulfilled (tell text) before after = Writes whole before.out after.out text
 
 -- its words alone are not refused
 abbrev pub IsReadable : Command → Type 0
@@ -96,6 +109,8 @@ IsReadable (query q) = (query : Query) × IsText q.sql query
 IsReadable (session s) = ⊤
 IsReadable (info i) = ⊤
 IsReadable (upgrade u) = ⊤
+IsReadable help = ⊤
+IsReadable version = ⊤
 
 -- nor are they with its script, where it has one that is told
 abbrev pub IsReadableAside : Command → WorldState → Type 0
@@ -120,6 +135,8 @@ uses (info i) device.out = true
 uses (upgrade u) device.planes = true
 uses (upgrade u) device.made = true
 uses (upgrade u) device.out = true
+uses help device.out = true
+uses version device.out = true
 uses command other = false
 
 -- ---- for the words

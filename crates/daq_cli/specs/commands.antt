@@ -1,7 +1,9 @@
 pub mod Ask
 pub mod Demo
+pub mod Help
 pub mod Info
 pub mod Load
 pub mod Query
 pub mod Session
 pub mod Upgrade
+pub mod Version

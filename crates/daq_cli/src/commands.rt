@@ -2,8 +2,10 @@
 
 pub(crate) mod ask;
 pub(crate) mod demo;
+pub(crate) mod help;
 pub(crate) mod info;
 pub(crate) mod load;
 pub(crate) mod query;
 pub(crate) mod session;
 pub(crate) mod upgrade;
+pub(crate) mod version;

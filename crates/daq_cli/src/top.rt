@@ -8,7 +8,7 @@ ghost use Rattle.daq_cli.specs.Runs.{IsRefused, IsRefusedAside, IsUnwritten, Sho
 ghost use Rattle.daq_cli.specs.Worlds.{Device, IsSame, side};
 ghost use Rattle.daq_cli.specs.declared.refusal.Refusal.{Refusal};
 
-use crate::commands::{ask, demo, info, load, query, session, upgrade};
+use crate::commands::{ask, demo, help, info, load, query, session, upgrade, version};
 use crate::laws::steps_are_exact;
 use crate::lines::refuse;
 use crate::refusal::Refusal;
@@ -57,12 +57,14 @@ fn perform<S: Source, P: Store, K: Sink>(
         Ok(Command::Upgrade(_)) => {
             upgrade::carry_out(alloc, &mut world.planes, &mut world.made, &mut world.out)
         }
+        Ok(Command::Help) => help::carry_out(&mut world.out),
+        Ok(Command::Version) => version::carry_out(&mut world.out),
         Err(usage) => Err(Refusal::from(usage)),
     }
 }
 
 /// Does what the words ask for, and says how it ended: the report on `out`, each of whose intervals is certain, or the file
-/// of a table on `made`, or the lines of a file on `out`, or the line of a refusal on `err`.
+/// of a table on `made`, or the lines of a file on `out`, or the help or the version there, or the line of a refusal on `err`.
 pub fn run<S: Source, P: Store, K: Sink>(
     alloc: Global,
     words: &Words,

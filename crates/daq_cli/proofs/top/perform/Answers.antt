@@ -1,10 +1,13 @@
 -- Each command does what it says, or stops with its cause.
-use Rattle.std.proofs.Common.{sym, ap, subst, arith}
-use Rattle.command_line.specs.Commands.{IsCommand, ask, demo, info, load, query, session, upgrade}
+use Rattle.std.proofs.Common.{sym, ap, ◌∙◌, subst, arith}
+use Rattle.command_line.specs.Commands.{IsCommand, ask, demo, help, info, load, query, session, upgrade, version}
 use Rattle.command_line.specs.Values.{ask_of, command_of, demo_of, info_of, load_of, query_of, session_of, upgrade_of}
 use Rattle.daq_cli.specs.Runs.{IsCause}
+use Rattle.daq_cli.specs.Scripts.{AcceptsScript}
+use Rattle.daq_cli.specs.commands.Help.{help_text}
+use Rattle.daq_cli.specs.commands.Version.{version_text}
 use Rattle.daq_cli.proofs.Results.{if_err}
-use Rattle.daq_cli.proofs.Runs.{ask_stops, demo_stops, info_stops, load_stops, query_stops, session_stops, upgrade_stops}
+use Rattle.daq_cli.proofs.Runs.{apart_same, ask_stops, demo_stops, info_stops, load_stops, notice_stops, query_stops, session_stops, upgrade_stops}
 use Rattle.daq_cli.proofs.Widths.{ask_width, demo_width, query_width, session_width}
 use Rattle.daq_cli.proofs.top.perform.Goals as goal
 
@@ -38,6 +41,14 @@ returns-in-Ok-Session-clause-refused g c =
     (g.P.Store.state c.world.inside.planes) c.args.world.now.planes (g.P.Store.state c.carry_out-in-Ok-Session.new.planes)
     (g.K.Sink.state c.world.inside.out) c.args.world.now.out (g.K.Sink.state c.carry_out-in-Ok-Session.new.out) why
     (ap (λ w. w.side) c.world.view_is) (ap (λ w. w.planes) c.world.view_is) (ap (λ w. w.out) c.world.view_is) cause)) c.carry_out-in-Ok-Session.ensures.refused
+
+pub returns-in-Ok-Session-clause-aside : goal.returns-in-Ok-Session-clause-aside
+returns-in-Ok-Session-clause-aside g c refused =
+    let is : IsCommand c.args.words.now (session (session_of c.in-Ok-Session.asked)) = subst (λ f. IsCommand c.args.words.now (command_of f)) c.in-Ok-Session.field-0-is c.in-Ok-Session.ensures.ok in
+    let view = c.world.view_is in
+    let same = c.carry_out-in-Ok-Session.ensures.aside (λ accepted. refused (session (session_of c.in-Ok-Session.asked)) is
+    (subst (λ w. AcceptsScript w.side.left) view accepted)) in
+    apart_same c.args.world.now _ (ap (λ w. w.input) view) (same.0 ∙ ap (λ w. w.planes) view) (ap (λ w. w.made) view) (same.1 ∙ ap (λ w. w.out) view)
 
 pub returns-in-Ok-Query-clause-refused : goal.returns-in-Ok-Query-clause-refused
 returns-in-Ok-Query-clause-refused g c =
@@ -91,6 +102,20 @@ returns-in-Ok-Upgrade-clause-refused g c =
     (g.K.Sink.state c.world.inside.made) c.args.world.now.made (g.K.Sink.state c.carry_out-in-Ok-Upgrade.new.made)
     (g.K.Sink.state c.world.inside.out) c.args.world.now.out (g.K.Sink.state c.carry_out-in-Ok-Upgrade.new.out) why
     (ap (λ w. w.planes) c.world.view_is) (ap (λ w. w.made) c.world.view_is) (ap (λ w. w.out) c.world.view_is) cause)) c.carry_out-in-Ok-Upgrade.ensures.refused
+
+pub returns-in-Ok-Help-clause-refused : goal.returns-in-Ok-Help-clause-refused
+returns-in-Ok-Help-clause-refused g c =
+    let is : IsCommand c.args.words.now help = subst (λ f. IsCommand c.args.words.now (command_of f)) c.in-Ok-Help.field-0-is c.in-Ok-Help.ensures.ok in
+    if_err _ _ c.carry_out-in-Ok-Help.result _ _
+    (λ why cause. IsCause.of_command help is
+    (notice_stops help_text (g.K.Sink.state c.world.inside.out) c.args.world.now.out (g.K.Sink.state c.carry_out-in-Ok-Help.new.out) why (ap (λ w. w.out) c.world.view_is) cause)) c.carry_out-in-Ok-Help.ensures.refused
+
+pub returns-in-Ok-Version-clause-refused : goal.returns-in-Ok-Version-clause-refused
+returns-in-Ok-Version-clause-refused g c =
+    let is : IsCommand c.args.words.now version = subst (λ f. IsCommand c.args.words.now (command_of f)) c.in-Ok-Version.field-0-is c.in-Ok-Version.ensures.ok in
+    if_err _ _ c.carry_out-in-Ok-Version.result _ _
+    (λ why cause. IsCause.of_command version is
+    (notice_stops version_text (g.K.Sink.state c.world.inside.out) c.args.world.now.out (g.K.Sink.state c.carry_out-in-Ok-Version.new.out) why (ap (λ w. w.out) c.world.view_is) cause)) c.carry_out-in-Ok-Version.ensures.refused
 
 pub returns-in-Err-clause-refused : goal.returns-in-Err-clause-refused
 returns-in-Err-clause-refused g c = subst (IsCause c.args.words.now c.args.world.now c.args.world.now) (sym c.from.ensures) (IsCause.usage c.in-Err.usage.place c.in-Err.ensures.usage)
