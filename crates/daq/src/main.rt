@@ -1,13 +1,20 @@
 //! The program `daq`: hands the words of the command line, files and streams to `run`, and ends with its status.
 #![tactic(auto)]
 
+mod person;
+
+use crate::person::tell;
 use command_line::{Command, Words};
 use daq_cli::{Status, World, code, run};
+use outer_world::{Failed, write_whole};
 use std::alloc::{AllocError, Global};
 use std::env;
-use std::io::ErrorKind;
+use std::io::{ErrorKind, IsTerminal};
 use std::process::ExitCode;
 use system_devices::{FileSink, FileSource, FileStore, hold_standard_places};
+
+/// The devices of a run of this program.
+pub type Devices = World<FileSource, FileStore, FileSink>;
 
 // The words of the command line, without the program's name; none where one of them is no text.
 fn read_words(rt: &HostRuntime, alloc: Global) -> Result<Option<Words>, AllocError> {
@@ -23,24 +30,30 @@ fn read_words(rt: &HostRuntime, alloc: Global) -> Result<Option<Words>, AllocErr
     Ok(Some(words))
 }
 
+// Where the line of a refusal goes: at a terminal it is held, until it is known whether a person is to see it.
+fn lines_for(rt: &HostRuntime) -> Result<FileSink, AllocError> {
+    if rt.stderr().is_terminal() {
+        FileSink::held(rt.alloc())
+    } else {
+        Ok(FileSink::err(rt))
+    }
+}
+
 // The devices that the words name, and the standard streams.
-fn world_of(
-    rt: &HostRuntime,
-    words: &Words,
-) -> Result<World<FileSource, FileStore, FileSink>, AllocError> {
+fn world_of(rt: &HostRuntime, words: &Words) -> Result<Devices, AllocError> {
     let mut world = World {
         input: FileSource::closed(),
         side: FileSource::closed(),
         planes: FileStore::closed(),
         made: FileSink::closed(),
         out: FileSink::out(rt).map_err(|_| AllocError)?,
-        err: FileSink::err(rt),
+        err: lines_for(rt)?,
     };
     match Command::parse(words) {
         Ok(Command::Ask(ask)) => world.input = FileSource::open(rt, ask.csv),
         Ok(Command::Load(load)) => {
             world.input = FileSource::open(rt, load.csv);
-            world.made = FileSink::named(rt, load.file)?;
+            world.made = FileSink::named(rt, load.file, load.csv)?;
         }
         Ok(Command::Query(query)) => world.planes = FileStore::open(rt, query.file),
         Ok(Command::Session(session)) => {
@@ -50,9 +63,9 @@ fn world_of(
         Ok(Command::Info(info)) => world.planes = FileStore::open(rt, info.file),
         Ok(Command::Upgrade(upgrade)) => {
             world.planes = FileStore::open(rt, upgrade.older);
-            world.made = FileSink::named(rt, upgrade.newer)?;
+            world.made = FileSink::named(rt, upgrade.newer, upgrade.older)?;
         }
-        Ok(Command::Demo(_)) | Err(_) => {}
+        Ok(Command::Demo(_)) | Ok(Command::Help) | Ok(Command::Version) | Err(_) => {}
     }
     Ok(world)
 }
@@ -65,6 +78,21 @@ fn give_up(rt: &HostRuntime, line: &str, status: Status) -> ExitCode {
     }
 }
 
+// Where the run is done its new file takes its name, else what is written of it is removed.
+fn settle(world: &mut Devices, status: Status) -> Status {
+    if status != Status::Done {
+        world.made.give_up();
+        return status;
+    }
+    match world.made.finish() {
+        Ok(()) => Status::Done,
+        Err(Failed) => {
+            let _told = write_whole(&mut world.err, b"daq: write fault\n");
+            Status::WriteFault
+        }
+    }
+}
+
 fn main(rt: HostRuntime) -> ExitCode {
     let words = match read_words(&rt, rt.alloc()) {
         Ok(Some(words)) => words,
@@ -73,7 +101,11 @@ fn main(rt: HostRuntime) -> ExitCode {
     };
     let _held = hold_standard_places(&rt);
     match world_of(&rt, &words) {
-        Ok(mut world) => ExitCode::from(code(run(rt.alloc(), &words, &mut world))),
+        Ok(mut world) => {
+            let ended = run(rt.alloc(), &words, &mut world);
+            let status = settle(&mut world, ended);
+            ExitCode::from(code(tell(&rt, &words, &world, status)))
+        }
         Err(_) => give_up(&rt, "daq: no memory", Status::NoMemory),
     }
 }
