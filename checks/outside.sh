@@ -63,6 +63,31 @@ refused 'too few words' 2 'daq: usage: word 4' ask "$prices" price:int
 refused 'too many words' 2 'daq: usage: word 5' ask "$prices" price:int "$sum" more
 refused 'a word that is no text' 2 'daq: usage: word 1' ask "$(printf '\377')" price:int "$sum"
 
+# ---- the program itself
+
+run --version
+version="$(head -n 1 "$here/CHANGELOG.md")"
+holds 'the version' 0 "daq ${version#\# }
+" ''
+cp "$work/out" "$work/version"
+run -V
+holds 'the version by its letter' 0 "$(cat "$work/version")
+" ''
+run help
+if [ "$ended" -eq 0 ] && [ ! -s "$work/err" ] && grep -q '^  daq load CSV FILE SCHEMA ' "$work/out"; then
+    echo 'ok: the help'
+else
+    echo 'FAILED: the help'
+    failed=1
+fi
+cp "$work/out" "$work/help"
+for word in --help -h; do
+    run "$word"
+    if [ "$ended" -eq 0 ] && cmp -s "$work/help" "$work/out"; then echo "ok: $word"; else echo "FAILED: $word"; failed=1; fi
+done
+refused 'help with a word' 2 'daq: usage: word 2' help query
+refused 'an option before a command' 2 'daq: usage: word 1' --list --help
+
 # ---- query
 
 refused 'no query' 3 'daq: query refused: syntax at 17' ask "$prices" price:int 'SELECT SUM(price FROM t'
@@ -188,6 +213,9 @@ round 1 price 1/4
 cp "$planes" "$work/kept.daq"
 refused 'a table that is not written' 4 'daq: table refused: record 3 column 1 is no value of its kind' load "$work/bad.csv" "$work/kept.daq" price:int
 cmp -s "$planes" "$work/kept.daq" || { echo 'FAILED: a refused table wrote a file'; failed=1; }
+cp "$shop" "$work/shop.csv"
+refused 'the file that is read' 7 'daq: write fault' load "$work/shop.csv" "$work/shop.csv" "$schema"
+cmp -s "$shop" "$work/shop.csv" || { echo 'FAILED: the file that is read was written'; failed=1; }
 refused 'a file in no folder' 7 'daq: write fault' load "$shop" "$work/missing/shop.daq" "$schema"
 
 # With standard output closed the file that is opened must not take its place.
@@ -195,7 +223,7 @@ refused 'a file in no folder' 7 'daq: write fault' load "$shop" "$work/missing/s
 ended=$?
 : >"$work/out"
 holds 'a file with standard output closed' 7 '' 'daq: write fault'
-cmp -s "$planes" "$work/closed.daq" || { echo 'FAILED: the file made with standard output closed differs'; failed=1; }
+[ ! -e "$work/closed.daq" ] || { echo 'FAILED: a file was made with standard output closed'; failed=1; }
 
 # ---- devices
 

@@ -81,14 +81,13 @@ def reads(trials, scene, source):
 
 
 def writes(trials, scene, name):
-    """A write that fails: a part of the file and no line, or the whole file and a part of the line; less than the whole report."""
+    """A write that fails: no new file; no line, a part of it, or all of it where the file did not get its name; less than the whole report."""
     left = scene.left
     for what, call, told in each_call(trials, scene, name, "ENOSPC"):
         if name == "made":
-            made = told.made is None if call.startswith("open") else told.made is not None and left.made.startswith(told.made) and told.made != left.made
-            good = (told.status, told.out, told.err) == (7, b"", WRITE_FAULT) and made
+            good = told in (Left(7, b"", WRITE_FAULT), Left(7, left.out, WRITE_FAULT))
         elif name == "out":
-            good = told == Left(7, told.out, WRITE_FAULT, left.made) and left.out.startswith(told.out) and told.out != left.out
+            good = told == Left(7, told.out, WRITE_FAULT) and left.out.startswith(told.out) and told.out != left.out
         else:
             good = told == Left(7, b"", told.err) and left.err.startswith(told.err) and told.err != left.err
         trials.check(what, told, good)

@@ -75,14 +75,14 @@ def full(trials):
         with open("/dev/full", "wb") as out:
             ended = subprocess.run([trials.daq] + words, stdout=out, stderr=subprocess.PIPE)
         told = Left(ended.returncode, b"", ended.stderr, trials.get("made"))
-        trials.same("%s, out full" % command, told, Left(7, b"", WRITE_FAULT, file if command in ("load", "upgrade") else None))
+        trials.same("%s, out full" % command, told, Left(7, b"", WRITE_FAULT))
     with open("/dev/full", "wb") as err:
         ended = subprocess.run([trials.daq, "ask"], stdout=subprocess.PIPE, stderr=err)
     trials.check("usage, err full", ended, ended.returncode == 7 and ended.stdout == b"")
 
 
 def filling(trials):
-    """A disk of 64 KB that fills up in the midst of a file, and of a report: a part of it stands, and that of a file is refused."""
+    """A disk of 64 KB that fills up in the midst of a file, and of a report: the old file stands, and a part of the report."""
     disk, text = trials.path("disk"), "n\n" + "".join("%d\n" % (n * 7919 % 1000003) for n in range(50000))
     os.mkdir(disk)
     if os.geteuid() != 0 or subprocess.run(["mount", "-t", "tmpfs", "-o", "size=64k", "tmpfs", disk]).returncode != 0:
@@ -90,12 +90,12 @@ def filling(trials):
         return
     try:
         csv, (file, _) = trials.put("n.csv", text), plane_file(text, "n:int")
-        told = trials.run(["load", csv, disk + "/made", "n:int"])
-        part = trials.get("disk/made")
-        trials.check("load, disk full", told, told == Left(7, b"", WRITE_FAULT) and file.startswith(part) and len(part) < len(file))
-        told = trials.run(["info", disk + "/made"])
-        line = b"daq: file refused: size %d, not %d\n" % (len(part), len(file))
-        trials.same("info of the part", told, Left(5, b"", line))
+        for old in (None, b"an old file"):
+            if old:
+                trials.put("disk/made", old)
+            told = trials.run(["load", csv, disk + "/made", "n:int"])
+            good = told == Left(7, b"", WRITE_FAULT) and trials.get("disk/made") == old and os.listdir(disk) == (["made"] if old else [])
+            trials.check("load, disk full", told, good)
         os.remove(disk + "/made")
         words, path = ["query", trials.put("n.daq", file), "SELECT * FROM t ORDER BY n LIMIT 1000", "--list"], disk + "/report"
         whole = trials.run(words).out
@@ -127,14 +127,42 @@ def closing(trials):
 
 
 def same_path(trials):
-    """The new file at the path of the old: it is read whole before it is made anew."""
+    """The new file at the path of the one that is read, or at another name of it: a write fault, and it stands."""
+    file = plane_file(TEXT, SCHEMA)[0]
+    for command, data in (("load", TEXT.encode()), ("upgrade", file)):
+        path = trials.put("self", data)
+        os.link(path, trials.path("hard"))
+        os.symlink(path, trials.path("soft"))
+        for other in ("self", "hard", "soft"):
+            told = trials.run(commands(path, path, trials.path(other), "")[command])
+            trials.check("%s onto %s" % (command, other), told, told == Left(7, b"", WRITE_FAULT) and trials.get("self") == data)
+        trials.forget("hard")
+        trials.forget("soft")
+
+
+def replaced(trials):
+    """A new file in the place of an old one: with its rights, and where the path is a link, at its end. What is open before stays as it was."""
     file, line = plane_file(TEXT, SCHEMA)
-    path = trials.put("self", file)
-    told = trials.run(["upgrade", path, path])
-    trials.check("upgrade onto itself", told, told.status == 0 and trials.get("self") == file)
-    path = trials.put("self", TEXT)
-    told = trials.run(["load", path, path, SCHEMA])
-    trials.check("load onto itself", told, told.status == 0 and told.out == line and trials.get("self") == file)
+    csv, old = trials.put("t.csv", TEXT), trials.put("old", b"an old file")
+    os.chmod(old, 0o640)
+    os.symlink("old", trials.path("link"))
+    with open(old, "rb") as before:
+        told = trials.run(["load", csv, trials.path("link"), SCHEMA])
+        good = told == Left(0, line) and trials.get("old") == file and os.path.islink(trials.path("link"))
+        trials.check("load onto a link", told, good and os.stat(old).st_mode & 0o777 == 0o640 and before.read() == b"an old file")
+    os.symlink("nothing", trials.path("loose"))
+    told = trials.run(["load", csv, trials.path("loose"), SCHEMA])
+    trials.check("load onto a link to nothing", told, told == Left(0, line) and trials.get("nothing") == file)
+
+
+def at_once(trials):
+    """Loads of two tables onto one name, at once: one of the two stands, whole."""
+    texts = ["n\n" + "".join("%d\n" % (n * step % 1000003) for n in range(20000)) for step in (7919, 104729)]
+    csvs, files = [trials.put("n%d.csv" % k, text) for k, text in enumerate(texts)], [plane_file(text, "n:int")[0] for text in texts]
+    for _ in range(20):
+        runs = [subprocess.Popen([trials.daq, "load", csv, trials.path("both"), "n:int"], stdout=subprocess.DEVNULL) for csv in csvs]
+        told = [run.wait() for run in runs]
+        trials.check("two loads at once", told, told == [0, 0] and trials.get("both") in files and not trials.drafts())
 
 
 def slow(trials):
@@ -191,7 +219,7 @@ def main(words):
     os.chmod(trials.path("daq"), 0o755)
     os.chmod(trials.folder.name, 0o755)
     trials.daq = trials.path("daq")
-    for part in (unreadable, unwritable, kept, full, filling, closing, same_path, slow, growing):
+    for part in (unreadable, unwritable, kept, full, filling, closing, same_path, replaced, at_once, slow, growing):
         part(trials)
     trials.end("edges tried")
 

@@ -15,6 +15,7 @@ try() {
 try files.py
 try edges.py
 try kills.py
+try terminal.py
 if command -v cc >/dev/null; then try turns.py; else echo '== turns.py is left out: it needs a C compiler'; fi
 if command -v strace >/dev/null; then try calls.py; else echo '== calls.py is left out: it needs strace'; fi
 exit "$failed"

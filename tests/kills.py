@@ -3,7 +3,6 @@
 
 kills.py DAQ [TIMES]
 """
-import os
 import random
 import subprocess
 import sys
@@ -30,11 +29,10 @@ def answer(data):
         return 5, b"", (refused.line + "\n").encode()
 
 
-def killed(trials, words, delay, path=None):
-    """Kills the command after a time, which begins where the file at the path is emptied, if one is given. Whether it was still running."""
+def killed(trials, words, delay, while_written):
+    """Kills the command after a time, which begins where the new file is begun, if so is asked. Whether it was still running."""
     ended = subprocess.Popen([trials.daq] + words, stdout=subprocess.DEVNULL, stderr=subprocess.DEVNULL)
-    old = path and os.path.getsize(path)
-    while path and os.path.getsize(path) == old and ended.poll() is None:
+    while while_written and not trials.drafts() and ended.poll() is None:
         pass
     time.sleep(delay)
     ended.kill()
@@ -42,8 +40,8 @@ def killed(trials, words, delay, path=None):
 
 
 def main(words):
-    times = int(words[1]) if len(words) > 1 else 200
-    trials, chance, found = Trials(words[0]), random.Random(1), {"the old file": 0, "a part of the new": 0, "the new file": 0}
+    times = int(words[1]) if len(words) > 1 else 500
+    trials, chance, found, left = Trials(words[0]), random.Random(1), {"the old file": 0, "the new file": 0, "something else": 0}, 0
     source = some_csv(chance, 100000)
     csv, (new, _) = trials.put("t.csv", source), plane_file(source, SCHEMA)
     old, _ = plane_file(source[:source.index("\n", 5000) + 1], SCHEMA)
@@ -56,17 +54,19 @@ def main(words):
         trials.put("t.daq", old)
         # Each other time while the file is written, which is the lesser part of a run.
         if turn % 2:
-            alive += killed(trials, load, chance.uniform(0, usual / 50), path)
+            alive += killed(trials, load, chance.uniform(0, usual / 20), True)
         else:
-            alive += killed(trials, load, chance.uniform(0, usual * 1.1))
+            alive += killed(trials, load, chance.uniform(0, usual * 1.1), False)
+        for name in trials.drafts():
+            left += 1
+            trials.forget(name)
         data = trials.get("t.daq")
-        kind = "the old file" if data == old else "the new file" if data == new else "a part of the new"
+        kind = "the old file" if data == old else "the new file" if data == new else "something else"
         found[kind] += 1
         told = trials.run(["info", path])
-        trials.check("info of " + kind, told, new.startswith(data) or data == old)
-        trials.check("info of " + kind, told, (told.status, told.out, told.err) == answer(data))
-        trials.check("info of " + kind, told, (told.status == 0) == (kind != "a part of the new"))
-    print("killed %d of %d while it ran: %s" % (alive, times, ", ".join("%s %d times" % (kind, n) for kind, n in found.items())))
+        trials.check("info of " + kind, told, kind != "something else" and (told.status, told.out, told.err) == answer(data))
+    counts = ", ".join("%s %d times" % (kind, n) for kind, n in found.items())
+    print("killed %d of %d while it ran: %s; beside it a part stood %d times" % (alive, times, counts, left))
     trials.end("checks of killed loads")
 
 

@@ -83,7 +83,14 @@ class Trials:
         self.forget("made")
         with open(self.path("out"), "wb") as out, open(self.path("err"), "wb") as err:
             ended = subprocess.run(list(front) + [self.daq] + words, stdin=subprocess.DEVNULL, stdout=out, stderr=err, **more)
+        if self.drafts():
+            self.wrong += 1
+            print("differs: %r: a part of the new file stands: %s" % (words, self.drafts()))
         return Left(ended.returncode, self.get("out"), self.get("err"), self.get("made"))
+
+    def drafts(self, folder=""):
+        """The names of new files in the folder that have not their own name yet."""
+        return [name for name in os.listdir(self.path(folder)) if name.startswith(".daq-")]
 
     def check(self, what, told, holds, wanted=""):
         self.count += 1

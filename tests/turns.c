@@ -46,6 +46,9 @@ int statx(int folder, const char *path, int flags, unsigned mask, struct statx *
     return turn(FILES, EIO) ? -1 : syscall(SYS_statx, folder, path, flags, mask, to);
 }
 
+int fsync(int fd) { return turn(FILES, EIO) ? -1 : syscall(SYS_fsync, fd); }
+int rename(const char *from, const char *to) { return turn(FILES, EIO) ? -1 : syscall(SYS_rename, from, to); }
+
 int open(const char *path, int flags, ...) {
     va_list more;
     va_start(more, flags);

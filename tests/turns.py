@@ -75,17 +75,17 @@ class Turns:
 
 
 def is_part(told, whole):
-    return told is None or whole is not None and told != whole and whole.startswith(told)
+    return told != whole and whole.startswith(told)
 
 
 def is_stopped(scene, told, alone):
-    """A read fault, behind whole blocks of a query; or a write fault, with a part of the file, of the output or of the line on the errors. Where all later calls
-    fail too, so does the line."""
+    """A read fault, behind whole blocks of a query; or a write fault, with a part of the output or of the line on the errors, or the whole line of a file
+    that did not get its name. A new file stands only where the run is done. Where all later calls fail too, so does the line."""
     left, blocks = scene.left, [b""]
     if scene.name == "query":
         blocks += [left.out[:at] for at in [m.start() for m in re.finditer(b"round |end ", left.out)]][1:-1]
     read = told.out in blocks and told.made is None
-    wrote = told.out == b"" and is_part(told.made, left.made) or is_part(told.out, left.out) and told.made == left.made
+    wrote = told.made is None and (is_part(told.out, left.out) or left.made is not None and told.out == left.out)
     ended = (told.status, told.err)
     if left.err:
         return ended == (7, told.err) and is_part(told.err, left.err) and read
