@@ -9,9 +9,9 @@ man = $(DESTDIR)$(PREFIX)/share/man/man1
 completions = $(DESTDIR)$(PREFIX)/share/bash-completion/completions
 share = $(DESTDIR)$(PREFIX)/share/daq
 
-# The script proves and builds what is missing or older than its sources, and is then asked something small.
+# The script proves and builds what is missing or older than its sources.
 build:
-	./daq demo 1 1 "SELECT COUNT(*) FROM t" >/dev/null
+	./daq build
 
 install: build
 	install -D -m 755 crates/daq/out/daq $(bin)/daq
