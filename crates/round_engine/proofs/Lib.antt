@@ -3,6 +3,7 @@ pub mod FilledBlocks
 pub mod Openings
 pub mod Kept
 pub mod Certain
+pub mod CountedSums
 pub mod Shown
 pub mod Ratios
 pub mod Interleaved

@@ -234,7 +234,7 @@ module _ (query : Query) (item : Aggregate) (columns : KnownTable) (k : IsKnowle
 
 -- ---- the answers
 
-ordered_pair : (t : Truth) (span : Interval) (ps : List Pair) → span.low ≤ℤ span.high → AreOrdered ps → AreOrdered (cons_option (pair_unless_false t span) ps)
+pub ordered_pair : (t : Truth) (span : Interval) (ps : List Pair) → span.low ≤ℤ span.high → AreOrdered ps → AreOrdered (cons_option (pair_unless_false t span) ps)
 ordered_pair False span ps o h = h
 ordered_pair Unknown span ps o h = (o, h)
 ordered_pair True span ps o h = (o, h)

@@ -7,6 +7,7 @@ pub mod Moves
 pub mod Counts
 pub mod Selected
 pub mod SumEnds
+pub mod CountedSums
 pub mod Totals
 pub mod KeptSums
 pub mod OneCell

@@ -2,6 +2,7 @@
 use Rattle.std.specs.Prelude.{◌≡◌, ◌≢◌, ℕ, Bool, true, false, not, ◌&&◌, List, [], length, slice_get}
 use Rattle.std.specs.declared.option.Option.{Option}
 use Rattle.std.specs.declared.option.Option.TheVariants.{Some}
+use Rattle.aggregates.specs.declared.tally.Tally.{Tally}
 use Rattle.aggregates.specs.Runnings.{IsBlank, StandsFor, Tallies}
 use Rattle.query_model.specs.declared.bounds.AverageBound.{AverageBound}
 use Rattle.query_model.specs.declared.bounds.Bound.{Bound}
@@ -13,6 +14,7 @@ use Rattle.query_model.specs.Knowledge.{ranges_of}
 use Rattle.round_engine.specs.declared.item_bound.ItemBound.{ItemBound}
 use Rattle.round_engine.specs.declared.item_bound.ItemBound.TheVariants.{Numbers, Fractions}
 use Rattle.daq_table.specs.Tables.{Frame}
+use Rattle.round_engine.specs.CountedSums.{is_untold, told_at}
 use Rattle.round_engine.specs.Moves.{is_marked}
 use Rattle.round_engine.specs.Selected.{is_by_masks}
 use Rattle.round_engine.specs.Stages.{IsOpenStage, Stage}
@@ -74,10 +76,11 @@ abbrev pub AreFilledBelow : Stage → List Bool → ℕ → List Tallies → Typ
 AreFilledBelow stage marks rows runnings =
     AreEach (λ i item running. IsFilledIf (is_marked marks i) stage item rows running) stage.query.items runnings
 
--- of the marked items those are marked besides whose rows are added one by one
-abbrev pub AreAdded : Frame → List Aggregate → List Bool → List Bool → Type 0
-AreAdded frame items marks added =
-    (i : ℕ) (item : Aggregate) → slice_get items i ≡ Some item → is_marked added i ≡ (is_marked marks i && not (is_by_masks frame item))
+-- of the marked items those are marked besides whose rows are added one by one: no masks tell their bound, and no tally is told
+abbrev pub AreAdded : Frame → List Aggregate → List Bool → List (Option Tally) → List Bool → Type 0
+AreAdded frame items marks told added =
+    (i : ℕ) (item : Aggregate) → slice_get items i ≡ Some item →
+    is_marked added i ≡ (is_marked marks i && (not (is_by_masks frame item) && is_untold (told_at told i)))
 
 -- all rows of each marked item are added, but for the items that masks tell
 abbrev pub AreFilled : Stage → List Bool → List Tallies → Type 0

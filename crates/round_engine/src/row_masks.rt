@@ -23,7 +23,7 @@ use std::alloc::{AllocError, Global};
 // Room for the rows that give a value, and for those of them that may move a sum.
 #[derive(Drop)]
 pub(crate) struct RowMasks {
-    selection: Selection,
+    pub(crate) selection: Selection,
     others: Mask,
 }
 

@@ -7,6 +7,7 @@ ghost use Rattle.query_model.specs.declared.query.Shape.TheVariants.{Plain};
 ghost use Rattle.query_model.specs.Bounds.{Pair};
 ghost use Rattle.query_model.specs.Queries.{term_of};
 ghost use Rattle.round_engine.specs.declared.item_bound.ItemBound.TheVariants.{Fractions, Numbers};
+ghost use Rattle.round_engine.specs.CountedSums.{AreTold};
 ghost use Rattle.round_engine.specs.Engines.{stage_of};
 ghost use Rattle.round_engine.specs.KeptSums.{AreKept, HoldSums, IsKeptOf};
 ghost use Rattle.round_engine.specs.Narrowness.{is_narrow};
@@ -16,12 +17,13 @@ ghost use Rattle.round_engine.specs.Stages.{IsOpenItem, IsOpenStage, Stage};
 ghost use Rattle.round_engine.specs.Totals.{AreBlank, AreFilled, AreFilledBelow, AreSomeTotals, AreTotals, AreTotalsBeside};
 ghost use Rattle.round_engine.specs.Totals.{HasFractions, HasNumbers, HaveRoom, IsBoundOf, IsFilledBelow, IsTotal, AreAdded};
 
+use crate::counted_sums::{is_untold, set_told, told_sums};
 use crate::counts::{bound_of_counts, is_counted};
 use crate::filling::fill_block;
 use crate::item_bound::ItemBound;
 use crate::kept_sums::open_sums;
 use crate::row_masks::RowMasks;
-use aggregates::{KeptSum, Running};
+use aggregates::{KeptSum, Running, Tally};
 use kleene_filter::Filter;
 use known_column::{LentColumns, RowBlock};
 use query_model::{AverageBound, Bound, Expr, Item, ItemKind, Nullity, TypedQuery, pairs_are_few};
@@ -65,16 +67,21 @@ pub(crate) fn is_by_masks(item: &Item, columns: &LentColumns<'_>) -> bool
     is_column(&item.arg) || is_counted(item, columns)
 }
 
-// The marked items whose rows are added one by one: those whose bound no masks tell.
-fn added_items(query: &TypedQuery, columns: &LentColumns<'_>, marks: &[bool; 16]) -> [bool; 16]
+// The marked items whose rows are added one by one: those whose bound no masks tell, and of which no tally is told.
+fn added_items(
+    query: &TypedQuery,
+    columns: &LentColumns<'_>,
+    marks: &[bool; 16],
+    told: &[Option<Tally>; 16],
+) -> [bool; 16]
     requires { IsOpenStage (stage_of query.now columns.now) }
-    ensures { AreAdded columns.now.frame query.now.items marks.now result }
+    ensures { AreAdded columns.now.frame query.now.items marks.now told.now result }
 {
     let items = query.items.as_slice();
     let mut added = [false; 16];
     for i in 0..items.len() {
         let item = &items[i];
-        added[i] = marks[i] & !is_by_masks(item, columns);
+        added[i] = marks[i] & (!is_by_masks(item, columns) & is_untold(&told[i]));
     }
     added
 }
@@ -164,6 +171,53 @@ fn fill_each(
             );
         }
     }
+}
+
+// Makes the one cell of each item that is told stand for all rows.
+fn set_each(
+    query: &TypedQuery,
+    columns: &LentColumns<'_>,
+    marks: &[bool; 16],
+    told: &[Option<Tally>; 16],
+    added: &[bool; 16],
+    runnings: &mut [Running],
+)
+    requires open_stage { IsOpenStage (stage_of query.now columns.now) }
+    requires told { AreTold (stage_of query.now columns.now) told.now }
+    requires added { AreAdded columns.now.frame query.now.items marks.now told.now added.now }
+    requires filled { AreFilledBelow (stage_of query.now columns.now) added.now columns.now.frame.rows runnings.old }
+    ensures filled { AreFilled (stage_of query.now columns.now) marks.now runnings.new }
+    ensures room { HaveRoom query.now.items runnings.new }
+{
+    let items = query.items.as_slice();
+    for i in 0..items.len() {
+        set_told(told[i], &mut runnings[i]);
+    }
+}
+
+// Adds all rows to each marked item that no masks tell: by the tally that is told of it, or one by one.
+fn add_each(
+    query: &TypedQuery,
+    columns: &LentColumns<'_>,
+    filter: &Filter,
+    block: &mut RowBlock,
+    marks: &[bool; 16],
+    told: &[Option<Tally>; 16],
+    runnings: &mut [Running],
+)
+    requires open_stage { IsOpenStage (stage_of query.now columns.now) }
+    requires plain { query.now.shape ≡ Plain }
+    requires judged { filter.now.truths ≡ truths_under query.now.pred columns.now }
+    requires told { AreTold (stage_of query.now columns.now) told.now }
+    requires blank { AreBlank query.now.items runnings.old }
+    requires same { block.old.frame.columns ≡ columns.now.frame.columns }
+    ensures same { block.new.frame.columns ≡ columns.now.frame.columns }
+    ensures filled { AreFilled (stage_of query.now columns.now) marks.now runnings.new }
+    ensures room { HaveRoom query.now.items runnings.new }
+{
+    let added = added_items(query, columns, marks, told);
+    fill_each(query, columns, filter, block, &added, runnings);
+    set_each(query, columns, marks, told, &added, runnings);
 }
 
 // The bound of an item all of whose rows are added.
@@ -297,8 +351,16 @@ impl Totals {
         ensures kept { AreKept (stage_of query.now columns.now) self.new.kept.items }
     {
         begin_each(query, &mut self.runnings);
-        let added = added_items(query, columns, marks);
-        fill_each(query, columns, filter, block, &added, &mut self.runnings);
+        let told = told_sums(query, columns, filter, marks, &mut self.masks.selection);
+        add_each(
+            query,
+            columns,
+            filter,
+            block,
+            marks,
+            &told,
+            &mut self.runnings,
+        );
         tell_each(
             query,
             columns,

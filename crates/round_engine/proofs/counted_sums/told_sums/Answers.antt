@@ -1,0 +1,30 @@
+use Rattle.std.proofs.Common.{◌≡◌, ◌<◌, length, length-set, slice_get, Some, ap, ◌∙◌, arith}
+use Rattle.query_model.specs.Queries.{Query}
+use Rattle.round_engine.specs.Engines.{stage_of}
+use Rattle.round_engine.proofs.CountedSums.{none_told, told_more}
+use Rattle.round_engine.proofs.Places.{read_there}
+use Rattle.round_engine.proofs.counted_sums.told_sums.Goals as goal
+use Rattle.round_engine.proofs.counted_sums.told_sums.Goals.{then-marks-i, else-marks-i}
+
+pub loop-i-init : goal.loop-i-init
+loop-i-init c = record { room = c.requires.room; count = omega arith; told = none_told (stage_of c.args.query.now c.args.columns.now) 16 }
+
+pub loop-i-preserved : goal.loop-i-preserved
+loop-i-preserved c =
+    let i = c.loop-i.i in
+    let items = c.args.query.now.items in
+    let before = c.loop-i.invariant in
+    let few = c.requires.open_stage.open_query.few_items in
+    let read : c.as_slice-items.result.now ≡ items = c.as_slice-items.ensures ∙ ap (λ (q : Query). q.items) c.query.view_is in
+    let inside : i < length items = omega (arith, c.loop-i-test.true, ap length read) in
+    elim c.if-marks-i.branch [
+      | then-marks-i w ↦
+          (let item = w.index-items-i.result in
+          let there : slice_get items i ≡ Some item = read_there items c.as_slice-items.result.now i item inside read w.index-items-i.is in
+          rw (w.told-is, w.selection-is) (record {
+            room = w.counted.ensures.room;
+            count = length-set c.loop-i.told i w.counted.result ∙ before.count;
+            told = told_more (stage_of c.args.query.now c.args.columns.now) c.loop-i.told i item w.counted.result (omega (arith, before.count, few, inside)) there w.counted.ensures.told before.told;
+          }))
+      | else-marks-i w ↦ rw (w.told-is, w.selection-is) before
+    ]
