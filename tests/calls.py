@@ -81,10 +81,14 @@ def reads(trials, scene, source):
 
 
 def writes(trials, scene, name):
-    """A write that fails: no new file; no line, a part of it, or all of it where the file did not get its name; less than the whole report."""
+    """A write that fails: no new file; no line, a part of it, or all of it where the file did not get its name; less than the whole report.
+
+    Where the system does not say whether standard error is a terminal, it counts as none."""
     left = scene.left
     for what, call, told in each_call(trials, scene, name, "ENOSPC"):
-        if name == "made":
+        if call == "ioctl" and name == "err":
+            good = told == left
+        elif name == "made":
             good = told in (Left(7, b"", WRITE_FAULT), Left(7, left.out, WRITE_FAULT))
         elif name == "out":
             good = told == Left(7, told.out, WRITE_FAULT) and left.out.startswith(told.out) and told.out != left.out
