@@ -121,7 +121,9 @@ class Commands(FakeTest):
 
     def test_control_c_stops(self):
         self.play(pause=0.5)
-        running = subprocess.Popen([sys.executable, VIEW, "watch", "shop.daq", ASK], stdout=subprocess.PIPE, stderr=subprocess.PIPE)
+        # Behind a shell's & the signal is ignored, and whoever is started there ignores it too.
+        running = subprocess.Popen([sys.executable, VIEW, "watch", "shop.daq", ASK], stdout=subprocess.PIPE, stderr=subprocess.PIPE,
+                                   preexec_fn=lambda: signal.signal(signal.SIGINT, signal.SIG_DFL))
         running.stdout.readline()
         running.send_signal(signal.SIGINT)
         out, err = running.communicate()
