@@ -5,8 +5,8 @@ ghost use Rattle.aggregates.specs.ExtremeRows.{has_place, AreZero};
 
 use std::simd::prelude::*;
 
-// Whether the words have no row.
-pub(crate) fn is_empty(words: &[u64; 8]) -> bool
+/// Whether the words have no row.
+pub fn is_empty(words: &[u64; 8]) -> bool
     ensures { IsTrue result ↔ AreZero words.now }
 {
     u64x8::from_array(*words).reduce_or() == 0
@@ -19,8 +19,8 @@ pub(crate) fn are_same(words: &[u64; 8], others: &[u64; 8]) -> bool
     words == others
 }
 
-// The place of a row that the words have.
-pub(crate) fn first_place(words: &[u64; 8]) -> usize
+/// The place of a row that the words have.
+pub fn first_place(words: &[u64; 8]) -> usize
     requires { ¬ AreZero words.now }
     ensures within { result < 512 }
     ensures set { IsTrue (has_place words.now result) }

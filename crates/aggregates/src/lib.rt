@@ -13,6 +13,7 @@ mod spans;
 mod sums;
 mod tally;
 
+pub use block_words::{first_place, is_empty};
 pub use digits::number_planes;
 pub use ends::{
     End, ExtremeSpan, greatest_ends, greatest_high, least_ends, least_low, negative_lows,

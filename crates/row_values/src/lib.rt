@@ -13,4 +13,4 @@ mod spans;
 
 pub use block_values::BlockValues;
 pub use nulls::null_of;
-pub use spans::span_of;
+pub use spans::{difference, product, span_of, sum};

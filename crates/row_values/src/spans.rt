@@ -12,24 +12,24 @@ use interval_calc::{Interval, add, exactly, mul, sub};
 use known_column::KnownRows;
 use query_model::Expr;
 
-// The sum of two spans, which is known to fit.
-fn sum(a: Interval, b: Interval) -> Interval
+/// The sum of two spans, which is known to fit.
+pub fn sum(a: Interval, b: Interval) -> Interval
     requires { FitsInterval (sum_of (interval_of a) (interval_of b)) }
     ensures { interval_of result ≡ sum_of (interval_of a) (interval_of b) }
 {
     add(a, b).unwrap()
 }
 
-// The difference of two spans, which is known to fit.
-fn difference(a: Interval, b: Interval) -> Interval
+/// The difference of two spans, which is known to fit.
+pub fn difference(a: Interval, b: Interval) -> Interval
     requires { FitsInterval (difference_of (interval_of a) (interval_of b)) }
     ensures { interval_of result ≡ difference_of (interval_of a) (interval_of b) }
 {
     sub(a, b).unwrap()
 }
 
-// The product of two spans, which is known to fit.
-fn product(a: Interval, b: Interval) -> Interval
+/// The product of two spans, which is known to fit.
+pub fn product(a: Interval, b: Interval) -> Interval
     requires { FitsInterval (product_of (interval_of a) (interval_of b)) }
     ensures { interval_of result ≡ product_of (interval_of a) (interval_of b) }
 {
