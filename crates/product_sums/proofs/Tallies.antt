@@ -55,6 +55,23 @@ same_tally c a c' a' l h l' h' s t s' t' e f g i j k = cc
 positive : (n m : ℕ) → pos n ≡ pos m → n ≡ m
 positive n m e = omega (arith, ints, e)
 
+rows_counted : (mask : List Bool) → count_by (λ b. b) mask ≡ length (rows_in mask)
+rows_counted mask = positive _ _ (sym (over_ones mask) ∙ sym (over_rows (λ r. pos 1) mask) ∙ sym (all_total (rows_in mask)))
+
+-- of no row there are no ends
+pub no_end : (kind : ItemKind) (certain : ℕ) (f : ℕ → ℤ) (mask : List Bool) → count_by (λ b. b) mask ≡ 0 → answer kind [] ≡ None → None ≡ (if certain == 0 then answer kind (map f (rows_in mask)) else None)
+no_end kind certain f mask none without =
+    either (certain == 0)
+    ∙ ap (λ (o : Option ℤ). if certain == 0 then o else None) (sym without ∙ ap (λ rs. answer kind (map f rs)) (sym (empty (rows_in mask) (sym (rows_counted mask) ∙ none))))
+  where
+    either : (b : Bool) → ◌≡◌ {A = Option ℤ} None (if b then None else None)
+    either true = refl
+    either false = refl
+
+    empty : (rs : List ℕ) → length rs ≡ 0 → rs ≡ []
+    empty [] e = refl
+    empty (r ∷ rs) e = absurd (omega (arith, e))
+
 module _ (table : KnownTable) (known : IsKnownTable table) (term : Term) (never : is_never_negative table.frame term ≡ true) (may must : List Bool) (rows : length may ≡ table.frame.rows) (part : IsPartOf must may) where
   abbrev low : ℕ → ℤ
   low = term_end table Low term
@@ -78,8 +95,7 @@ module _ (table : KnownTable) (known : IsKnownTable table) (term : Term) (never 
       (sym (over_ones must) ∙ sym (over_certain (λ r. pos 1)) ∙ sym (over_rows (λ r. cond (has_row must r) (pos 1) (pos 0)) may) ∙ sym (certain_total (pair_at table term must) (rows_in may)))
 
   all_is : count_by (λ b. b) may ≡ length pairs
-  all_is =
-      positive _ _ (sym (over_ones may) ∙ sym (over_rows (λ r. pos 1) may) ∙ sym (all_total (rows_in may))) ∙ sym (length-map (rows_in may) (pair_at table term must))
+  all_is = rows_counted may ∙ sym (length-map (rows_in may) (pair_at table term must))
 
   lows_are : map low (rows_in may) ≡ lows pairs
   lows_are = sym (map-map (λ p. p.low) (pair_at table term must) (rows_in may))

@@ -16,7 +16,7 @@ ghost use Rattle.query_model.specs.Validity.{declared_ranges, FitsWide};
 ghost use Rattle.product_sums.specs.Products.{term_end, HasValues};
 
 use crate::factors::other;
-use aggregates::{End, greatest_high, least_low, number_planes};
+use aggregates::{End, first_place, greatest_high, is_empty, least_low, number_planes};
 use interval_calc::{Interval, add, exactly, mul, sub};
 use known_column::{Known, LentColumns};
 use plane_kernels::Mask;
@@ -148,7 +148,8 @@ impl OuterNumbers {
         for block in 0..mask.rows().div_ceil(512) {
             let mut rows = mask.block(block);
             self.keep(end, arg, columns, block, &mut rows);
-            if let Some(place) = first_place(&rows) {
+            if !is_empty(&rows) {
+                let place = first_place(&rows);
                 if place < mask.rows() - 512 * block && mask.get(512 * block + place) {
                     return Some(512 * block + place);
                 }
@@ -170,18 +171,6 @@ fn keep_number(known: &Known, number: u128, block: usize, rows: &mut [u64; 8])
             rows[k] &= if one { digits[k] } else { !digits[k] };
         }
     }
-}
-
-// The place of the first row that the words have, if they have one.
-fn first_place(words: &[u64; 8]) -> Option<usize>
-    ensures { IfSome result (λ place. place < 512) }
-{
-    for k in 0..8 {
-        if words[k] != 0 {
-            return Some(64 * k + words[k].trailing_zeros() as usize);
-        }
-    }
-    None
 }
 
 /// The least low end and the greatest high end of an expression at the mask's rows, where rows that have them are quickly found.

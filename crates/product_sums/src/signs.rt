@@ -1,40 +1,18 @@
 //! Which expressions are sums of products whose ends are sums of products of ends.
 
 ghost use Rattle.std.specs.Prelude.{◌≡◌, ◌<◌, ◌^◌, ◌-◌, ◌↔◌, min, length, IsTrue};
-ghost use Rattle.interval_calc.specs.Intervals.{difference_of, interval_of, product_of, sum_of, FitsInterval};
+ghost use Rattle.interval_calc.specs.Intervals.{interval_of};
 ghost use Rattle.query_model.specs.Meaning.{ReadsBelow};
 ghost use Rattle.query_model.specs.Queries.{term_of};
 ghost use Rattle.query_model.specs.Truths.{span_of};
 ghost use Rattle.query_model.specs.Validity.{declared_ranges, FitsWide};
 ghost use Rattle.product_sums.specs.Products.{degree, has_signs, is_never_negative, IsProductSum};
 
-use interval_calc::{Interval, add, exactly, mul, sub};
-use known_column::LentColumns;
+use aggregates::number_planes;
+use interval_calc::{Interval, exactly};
+use known_column::{Known, LentColumns};
 use query_model::Expr;
-
-// The sum of two spans, which is known to fit.
-fn sum(a: Interval, b: Interval) -> Interval
-    requires { FitsInterval (sum_of (interval_of a) (interval_of b)) }
-    ensures { interval_of result ≡ sum_of (interval_of a) (interval_of b) }
-{
-    add(a, b).unwrap()
-}
-
-// The difference of two spans, which is known to fit.
-fn difference(a: Interval, b: Interval) -> Interval
-    requires { FitsInterval (difference_of (interval_of a) (interval_of b)) }
-    ensures { interval_of result ≡ difference_of (interval_of a) (interval_of b) }
-{
-    sub(a, b).unwrap()
-}
-
-// The product of two spans, which is known to fit.
-fn product(a: Interval, b: Interval) -> Interval
-    requires { FitsInterval (product_of (interval_of a) (interval_of b)) }
-    ensures { interval_of result ≡ product_of (interval_of a) (interval_of b) }
-{
-    mul(a, b).unwrap()
-}
+use row_values::{difference, product, sum};
 
 // Where the expression lies by what is declared of its columns.
 fn declared_span(expr: &Expr, columns: &LentColumns<'_>) -> Interval
@@ -102,13 +80,19 @@ pub fn is_product_sum(expr: &Expr, columns: &LentColumns<'_>) -> bool
     has_signs(expr, columns) && degree(expr) <= 4
 }
 
+// One for all rows, one for each plane that was read, and while some are unread one for the rows at top's prefix.
+fn counts_of_column(known: &Known) -> u64 {
+    let (from, to) = number_planes(known);
+    1 + u64::from(to - from) + u64::from(known.unread().min(1))
+}
+
 /// How many counts of rows a block takes. Only how fast a sum is found hangs on it.
 pub fn count_of_counts(expr: &Expr, columns: &LentColumns<'_>) -> u64 {
     match expr {
         Expr::Column(column) => {
             let column = usize::from(*column);
             if column < columns.len() {
-                2 + u64::from(columns.column(column).width())
+                counts_of_column(columns.column(column))
             } else {
                 1
             }

@@ -19,7 +19,18 @@ use known_column::LentColumns;
 use plane_kernels::Mask;
 use query_model::{Expr, ItemKind};
 
-// The outermost ends, which a sum keeps while no row surely counts, if they are quickly found.
+// The ends of no row.
+fn no_ends() -> ExtremeSpan
+    ensures low { result.low ≡ None }
+    ensures high { result.high ≡ None }
+{
+    ExtremeSpan {
+        low: None,
+        high: None,
+    }
+}
+
+// The outermost ends, which a sum keeps while no row surely counts, if there is no row or they are quickly found.
 fn ends_if_none(
     certain: u64,
     arg: &Expr,
@@ -36,10 +47,10 @@ fn ends_if_none(
         ≡ (if certain == 0 then answer Max (map (term_end columns.now High (term_of arg.now)) (rows_in mask.now)) else None)) }
 {
     if certain > 0 {
-        return Some(ExtremeSpan {
-            low: None,
-            high: None,
-        });
+        return Some(no_ends());
+    }
+    if mask.count() == 0 {
+        return Some(no_ends());
     }
     let ends = outer_ends(arg, columns, mask)?;
     Some(ExtremeSpan {
