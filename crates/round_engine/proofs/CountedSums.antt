@@ -18,11 +18,11 @@ use Rattle.daq_table.specs.declared.head.Ends.{Ends}
 use Rattle.daq_table.specs.Tables.{ends_at}
 use Rattle.known_column.specs.Columns.{KnownColumn, rows_of_column, rows_where}
 use Rattle.known_column.specs.KnownTables.{KnownTable, column_at}
-use Rattle.product_sums.specs.Products.{HasValues, pair_at, pairs_of}
+use Rattle.product_sums.specs.Products.{HasValue, HasValues, pair_at, pairs_of}
 use Rattle.product_sums.proofs.Multiplying.{both_true}
 use Rattle.query_model.specs.declared.bounds.Truth.{Truth}
 use Rattle.query_model.specs.declared.query.Shape.TheVariants.{Plain}
-use Rattle.query_model.specs.Bounds.{pair_of, pairs, pairs_below, truth_of_row}
+use Rattle.query_model.specs.Bounds.{Pair, pair_of, pairs, truth_of_row}
 use Rattle.query_model.specs.Knowledge.{IsKnowledge, known_at, prefix_at, ranges_of}
 use Rattle.query_model.specs.Queries.{Aggregate, Condition, Query, Term}
 use Rattle.query_model.specs.Truths.{and_of, may_be_null, may_be_number, null_of, span_of, truth_of, truth_of_number}
@@ -47,31 +47,29 @@ filter_row f mask truths pred columns is judged r below =
     ap (λ m. get_or m r false) (is ∙ ap (map f) judged ∙ map-map f (truth_at pred columns) (range_with_len 0 columns.frame.rows))
     ∙ get_or-map-range_with_len (λ row. f (truth_at pred columns row)) 0 columns.frame.rows r r false below (omega arith)
 
-module _ (query : Query) (item : Aggregate) (columns : KnownTable) (plain : query.shape ≡ Plain) (may must : List Bool) (long : length may ≡ columns.frame.rows) (long_must : length must ≡ columns.frame.rows)
-    (may_at : (r : ℕ) → r < columns.frame.rows → has_row may r ≡ (is_possible (truth_at query.pred columns r) && may_be_number (null_of item.arg (ranges_of columns.frame columns.known r))))
-    (must_at : (r : ℕ) → r < columns.frame.rows → has_row must r ≡ (is_certain (truth_at query.pred columns r) && not (may_be_null (null_of item.arg (ranges_of columns.frame columns.known r))))) where
-  pub counted_part : IsPartOf must may
-  counted_part = record {
+-- ---- two masks whose rows tests tell
+
+module _ (columns : KnownTable) (arg : Term) (surely perhaps : ℕ → Bool) (may must : List Bool) (long : length may ≡ columns.frame.rows) (long_must : length must ≡ columns.frame.rows)
+    (may_at : (r : ℕ) → r < columns.frame.rows → has_row may r ≡ perhaps r) (must_at : (r : ℕ) → r < columns.frame.rows → has_row must r ≡ surely r) where
+  pub masks_nested : ((r : ℕ) → surely r ≡ true → perhaps r ≡ true) → IsPartOf must may
+  masks_nested nested = record {
     rows = long_must ∙ sym long;
-    nested = λ r has.
-        (let below : r < columns.frame.rows = omega (arith, row_within must r has, long_must) in
-        let ranges = ranges_of columns.frame columns.known r in
-        may_at r below ∙ sure_may (truth_of query.pred ranges) (null_of item.arg ranges) (sym (must_at r below) ∙ has));
+    nested = λ r has. (let below : r < columns.frame.rows = omega (arith, row_within must r has, long_must) in may_at r below ∙ nested r (sym (must_at r below) ∙ has));
   }
 
-  pub counted_values : HasValues columns item.arg may
-  counted_values r has = (let below : r < columns.frame.rows = omega (arith, row_within may r has, long) in (both_true _ _ (sym (may_at r below) ∙ has)).1)
+  pub masks_valued : ((r : ℕ) → perhaps r ≡ true → HasValue columns arg r) → HasValues columns arg may
+  masks_valued valued r has = (let below : r < columns.frame.rows = omega (arith, row_within may r has, long) in valued r (sym (may_at r below) ∙ has))
 
-  -- they are those of the rows of two masks
-  pub counted_pairs : pairs query item [] columns.frame columns.known ≡ pairs_of columns item.arg may must
-  counted_pairs =
-      let n = columns.frame.rows in
-      pairs_told (λ r. pair_of query item [] (ranges_of columns.frame columns.known r)) (has_row must) (has_row may) (λ r. span_of item.arg (ranges_of columns.frame columns.known r)) 0 n (λ r above below.
-      let ranges = ranges_of columns.frame columns.known r in
-      plain_pair query item ranges plain ∙ pair_by_masks (truth_of query.pred ranges) (null_of item.arg ranges) (span_of item.arg ranges)
-      ∙ ap (λ b. told_pair b (is_possible (truth_of query.pred ranges) && may_be_number (null_of item.arg ranges)) (span_of item.arg ranges)) (sym (must_at r (omega arith)))
-      ∙ ap (λ b. told_pair (has_row must r) b (span_of item.arg ranges)) (sym (may_at r (omega arith))))
-      ∙ ap (λ k. map (pair_at columns item.arg must) (filter (has_row may) (range_with_len 0 k))) (sym long)
+  -- the pairs of their rows
+  pub masks_pairs : (give : ℕ → Option Pair) → ((r : ℕ) → r < columns.frame.rows → give r ≡ told_pair (surely r) (perhaps r) (span_of arg (ranges_of columns.frame columns.known r))) →
+      filter_map give (range_with_len 0 columns.frame.rows) ≡ pairs_of columns arg may must
+  masks_pairs give told =
+      let span : ℕ → Interval = λ r. span_of arg (ranges_of columns.frame columns.known r) in
+      pairs_told give (has_row must) (has_row may) span 0 columns.frame.rows (λ r above below.
+      told r (omega arith)
+      ∙ ap (λ b. told_pair b (perhaps r) (span r)) (sym (must_at r (omega arith)))
+      ∙ ap (λ b. told_pair (has_row must r) b (span r)) (sym (may_at r (omega arith))))
+      ∙ ap (λ k. map (pair_at columns arg must) (filter (has_row may) (range_with_len 0 k))) (sym long)
 
 -- ---- a cell that keeps what is told of all rows
 
@@ -149,28 +147,45 @@ fits_sum Avg rows span sum fits = fits.0
 
 -- ---- rows of the filter that have a value, by masks
 
+-- a tally by the item's kind and argument
+pub tally_by_pairs : (columns : KnownTable) (item : Aggregate) (kind : ItemKind) (arg : Term) → kind ≡ item.kind → arg ≡ item.arg → (may must : List Bool) (ps : List Pair) → ps ≡ pairs_of columns item.arg may must → (told : Option Tally) →
+    IfSome told (λ tally. tally ≡ tally_of kind (pairs_of columns arg may must)) → IfSome told (λ tally. tally ≡ tally_of item.kind ps)
+tally_by_pairs columns item kind arg kind_is arg_is may must ps same told is =
+    subst (λ qs. IfSome told (λ tally. tally ≡ tally_of item.kind qs)) (sym same)
+    (subst (λ t. IfSome told (λ tally. tally ≡ tally_of item.kind (pairs_of columns t may must))) arg_is
+    (subst (λ k. IfSome told (λ tally. tally ≡ tally_of k (pairs_of columns arg may must))) kind_is is))
+
 module _ (query : Query) (item : Aggregate) (columns : KnownTable) (plain : query.shape ≡ Plain) (truths : List Truth) (judged : truths ≡ truths_under query.pred columns) (kind : ItemKind) (arg : Term) (kind_is : kind ≡ item.kind) (arg_is : arg ≡ item.arg)
     (passing kept : Selection) (room : HasRows columns.frame.rows kept) (may_passes : passing.may ≡ map is_possible truths) (must_passes : passing.must ≡ map is_certain truths)
     (may_kept : (r : ℕ) → r < columns.frame.rows → has_row kept.may r ≡ (has_row passing.may r && may_be_number (null_of arg (ranges_of columns.frame columns.known r))))
     (must_kept : (r : ℕ) → r < columns.frame.rows → has_row kept.must r ≡ (has_row passing.must r && not (may_be_null (null_of arg (ranges_of columns.frame columns.known r))))) where
-  may_there : (r : ℕ) → r < columns.frame.rows → has_row kept.may r ≡ (is_possible (truth_at query.pred columns r) && may_be_number (null_of item.arg (ranges_of columns.frame columns.known r)))
+  abbrev surely : ℕ → Bool
+  surely r = is_certain (truth_at query.pred columns r) && not (may_be_null (null_of item.arg (ranges_of columns.frame columns.known r)))
+
+  abbrev perhaps : ℕ → Bool
+  perhaps r = is_possible (truth_at query.pred columns r) && may_be_number (null_of item.arg (ranges_of columns.frame columns.known r))
+
+  may_there : (r : ℕ) → r < columns.frame.rows → has_row kept.may r ≡ perhaps r
   may_there r below =
       may_kept r below ∙ ap (λ b. b && may_be_number (null_of arg (ranges_of columns.frame columns.known r))) (filter_row is_possible passing.may truths query.pred columns may_passes judged r below)
       ∙ ap (λ t. is_possible (truth_at query.pred columns r) && may_be_number (null_of t (ranges_of columns.frame columns.known r))) arg_is
 
-  must_there : (r : ℕ) → r < columns.frame.rows → has_row kept.must r ≡ (is_certain (truth_at query.pred columns r) && not (may_be_null (null_of item.arg (ranges_of columns.frame columns.known r))))
+  must_there : (r : ℕ) → r < columns.frame.rows → has_row kept.must r ≡ surely r
   must_there r below =
       must_kept r below ∙ ap (λ b. b && not (may_be_null (null_of arg (ranges_of columns.frame columns.known r)))) (filter_row is_certain passing.must truths query.pred columns must_passes judged r below)
       ∙ ap (λ t. is_certain (truth_at query.pred columns r) && not (may_be_null (null_of t (ranges_of columns.frame columns.known r)))) arg_is
 
   pub kept_part : IsPartOf kept.must kept.may
-  kept_part = counted_part query item columns plain kept.may kept.must room.may room.must may_there must_there
+  kept_part = masks_nested columns item.arg surely perhaps kept.may kept.must room.may room.must may_there must_there (λ r. sure_may (truth_at query.pred columns r) (null_of item.arg (ranges_of columns.frame columns.known r)))
 
   pub kept_values : HasValues columns arg kept.may
-  kept_values = subst (λ t. HasValues columns t kept.may) (sym arg_is) (counted_values query item columns plain kept.may kept.must room.may room.must may_there must_there)
+  kept_values = subst (λ t. HasValues columns t kept.may) (sym arg_is) (masks_valued columns item.arg surely perhaps kept.may kept.must room.may room.must may_there must_there (λ r has. (both_true _ _ has).1))
+
+  kept_pairs : pairs query item [] columns.frame columns.known ≡ pairs_of columns item.arg kept.may kept.must
+  kept_pairs =
+      masks_pairs columns item.arg surely perhaps kept.may kept.must room.may room.must may_there must_there (λ r. pair_of query item [] (ranges_of columns.frame columns.known r)) (λ r below.
+      let ranges = ranges_of columns.frame columns.known r in
+      plain_pair query item ranges plain ∙ pair_by_masks (truth_of query.pred ranges) (null_of item.arg ranges) (span_of item.arg ranges))
 
   pub kept_told : (told : Option Tally) → IfSome told (λ tally. tally ≡ tally_of kind (pairs_of columns arg kept.may kept.must)) → IsTold (stage_of query columns) item told
-  kept_told told is =
-      subst (λ ps. IfSome told (λ tally. tally ≡ tally_of item.kind ps)) (sym (counted_pairs query item columns plain kept.may kept.must room.may room.must may_there must_there))
-      (subst (λ t. IfSome told (λ tally. tally ≡ tally_of item.kind (pairs_of columns t kept.may kept.must))) arg_is
-      (subst (λ k. IfSome told (λ tally. tally ≡ tally_of k (pairs_of columns arg kept.may kept.must))) kind_is is))
+  kept_told told is = tally_by_pairs columns item kind arg kind_is arg_is kept.may kept.must (pairs query item [] columns.frame columns.known) kept_pairs told is

@@ -57,7 +57,7 @@ is_part stage cells single cell within parted k tell is = record {
 
 -- ---- a row's pair
 
-by_part : (t : Truth) (here one : Bool) (n : Nullity) (span : Interval) → pair_unless_false (and_of (and_of t (if here then (if one then True else Unknown) else False)) (truth_of_number n)) span
+pub by_part : (t : Truth) (here one : Bool) (n : Nullity) (span : Interval) → pair_unless_false (and_of (and_of t (if here then (if one then True else Unknown) else False)) (truth_of_number n)) span
     ≡ told_pair (cond one ((here && is_certain t) && not (may_be_null n)) false) ((here && is_possible t) && may_be_number n) span
 by_part t true one n span = by_key t one n span
 by_part False false one n span = refl
@@ -75,7 +75,7 @@ and_keeps : (here sure may : Bool) → (sure ≡ true → may ≡ true) → (her
 and_keeps true sure may h is = h is
 and_keeps false sure may h is = is
 
-sure_keeps : (t : Truth) (here : Bool) (n : Nullity) → ((here && is_certain t) && not (may_be_null n)) ≡ true → ((here && is_possible t) && may_be_number n) ≡ true
+pub sure_keeps : (t : Truth) (here : Bool) (n : Nullity) → ((here && is_certain t) && not (may_be_null n)) ≡ true → ((here && is_possible t) && may_be_number n) ≡ true
 sure_keeps t true n is = sure_may t n is
 sure_keeps t false n is = is
 
@@ -91,7 +91,7 @@ module _ (query : Query) (item : Aggregate) (columns : KnownTable) (cell : ℕ) 
   abbrev pub pairs_part : List Pair
   pairs_part = pairs_in_cell query item cell columns.frame columns.known
 
-  keyed_part : (r : ℕ) → r < columns.frame.rows → pair_in_cell query item cell columns.frame columns.known r
+  pub keyed_part : (r : ℕ) → r < columns.frame.rows → pair_in_cell query item cell columns.frame columns.known r
       ≡ pair_by (and_of (truth_at query.pred columns r) (if inside r then (if certain then True else Unknown) else False)) item (ranges_of columns.frame columns.known r)
   keyed_part r below =
       let ranges = ranges_of columns.frame columns.known r in
@@ -102,7 +102,7 @@ module _ (query : Query) (item : Aggregate) (columns : KnownTable) (cell : ℕ) 
       ]
 
   -- a mask of the filter, within the cell
-  filtered : (f : Truth → Bool) (truths : List Truth) → truths ≡ truths_under query.pred columns →
+  pub filtered : (f : Truth → Bool) (truths : List Truth) → truths ≡ truths_under query.pred columns →
       zip2 (λ a b. a && b) within (map f truths) ≡ map (λ r. inside r && f (truth_at query.pred columns r)) (range_with_len 0 columns.frame.rows)
   filtered f truths judged =
       let n = columns.frame.rows in

@@ -27,4 +27,5 @@ pub mod CellPairs
 pub mod CellKept
 pub mod OneCell
 pub mod FewCells
+pub mod CountedCells
 pub mod CellNarrow

@@ -21,16 +21,16 @@ use product_sums::{count_of_counts, is_never_negative, is_product_sum, sum_tally
 use query_model::{Expr, Item, ItemKind, TypedQuery};
 
 // So many counts of rows a block of 512 cost about what its rows cost one by one. Only how fast a sum is found hangs on it.
-const MOST_COUNTS: u64 = 1200;
+const MOST_COUNTS: u64 = 800;
 
-// Whether counts of rows may tell the item: a sum or an average of a sum of products that is never below 0.
-pub(crate) fn is_by_counts(item: &Item, columns: &LentColumns<'_>) -> bool
+// Whether counts of rows may tell the item in so many cells: a sum or an average of a sum of products that is never below 0.
+pub(crate) fn is_by_counts(item: &Item, columns: &LentColumns<'_>, cells: u32) -> bool
     requires { IsOpenItem columns.now.frame item.now }
     ensures { IsTrue result → IsByCounts columns.now.frame item.now }
 {
     match item.kind {
         ItemKind::Sum | ItemKind::Avg => {
-            count_of_counts(&item.arg, columns) <= MOST_COUNTS
+            count_of_counts(&item.arg, columns).saturating_mul(u64::from(cells)) <= MOST_COUNTS
                 && is_product_sum(&item.arg, columns)
                 && is_never_negative(&item.arg, columns)
         }
@@ -90,7 +90,7 @@ impl Selection {
         ensures room { HasRows columns.now.frame.rows self.new }
         ensures told { IsTold (stage_of query.now columns.now) item.now result }
     {
-        if !is_by_counts(item, columns) {
+        if !is_by_counts(item, columns, 1) {
             return None;
         }
         self.select_passing(filter);

@@ -15,6 +15,7 @@ ghost use Rattle.round_engine.specs.Stages.{IsGrouped, IsOpenItem, IsOpenStage, 
 
 use crate::cell_filling::fill_cells;
 use crate::cell_room::{every_row, most_cells, open_cells, open_each};
+use crate::few_cells::FEW_CELLS;
 use crate::group_columns::is_group;
 use crate::moved::{moved_items, moves_rows};
 use crate::one_cell::CellMasks;
@@ -40,11 +41,8 @@ pub(crate) struct Groups {
     masks: CellMasks,
 }
 
-// So many cells are told one after the other by masks. Only how fast they are told hangs on it.
-const FEW_CELLS: u32 = 16;
-
-// Adds all rows to an item: by masks where these tell it of one cell that has all rows, or of each of few, else each row to the cell
-// that it is in.
+// Adds all rows to an item: by masks where these tell it of one cell that has all rows, or of each of few, by counts of rows where these
+// tell each cell, else each row to the cell that it is in.
 fn fill_item(
     query: &TypedQuery,
     item: &Item,
@@ -72,7 +70,7 @@ fn fill_item(
         masks.fill(query, item, columns, filter, single[0], running);
     } else if cells.count() <= FEW_CELLS && is_by_masks(item, columns) {
         masks.fill_parts(query, item, columns, filter, cells, single, running);
-    } else {
+    } else if !masks.fill_counted(query, item, columns, filter, cells, single, running) {
         fill_cells(query, item, columns, filter, block, cells, single, running);
     }
 }

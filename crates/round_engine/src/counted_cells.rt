@@ -1,0 +1,121 @@
+//! Sums and averages of groups of few cells, told cell by cell by counts of rows.
+
+ghost use Rattle.std.specs.Prelude.{◌≡◌, ◌&&◌, if◌then◌else◌, length, map, IfSome, IsTrue};
+ghost use Rattle.std.specs.Simd.Lanes.{zip2};
+ghost use Rattle.aggregates.specs.Tallies.{tally_of};
+ghost use Rattle.kleene_filter.specs.Filters.{is_certain, is_possible, truths_under};
+ghost use Rattle.query_model.specs.Groups.{pairs_in_cell};
+ghost use Rattle.round_engine.specs.CellAnswers.{HasRoom, IsParted, StandForCells};
+ghost use Rattle.round_engine.specs.CountedSums.{IsByCounts};
+ghost use Rattle.round_engine.specs.Engines.{stage_of};
+ghost use Rattle.round_engine.specs.OneCell.{HoldMasks, IsPart};
+ghost use Rattle.round_engine.specs.Selected.{HasRows};
+ghost use Rattle.round_engine.specs.Stages.{IsOpenItem, IsOpenStage};
+
+use crate::counted_sums::is_by_counts;
+use crate::few_cells::FEW_CELLS;
+use crate::one_cell::CellMasks;
+use crate::selection::Selection;
+use aggregates::{Running, Tally};
+use kleene_filter::Filter;
+use known_column::LentColumns;
+use plane_kernels::Mask;
+use product_sums::sum_tally;
+use query_model::{Item, TypedQuery};
+use row_groups::{Cells, cells_tell_keys};
+
+impl Selection {
+    // Selects those of some rows at which a condition holds. Unless so told, the other mask is that of the rows that surely count.
+    fn select_passing_within(&mut self, within: &Mask, filter: &Filter, certain: bool, none: &Mask)
+        requires within { length within.now ≡ length filter.now.truths }
+        requires none { length none.now ≡ length filter.now.truths }
+        requires room { HasRows (length filter.now.truths) self.old }
+        ensures may { self.new.may ≡ zip2 (λ a b. a && b) within.now (map is_possible filter.now.truths) }
+        ensures must { self.new.must
+            ≡ (if certain then zip2 (λ a b. a && b) within.now (map is_certain filter.now.truths) else none.now) }
+    {
+        self.may.copy_from(within);
+        self.may.and_into(filter.may());
+        if certain {
+            self.must.copy_from(within);
+            self.must.and_into(filter.must());
+        } else {
+            self.must.copy_from(none);
+        }
+    }
+}
+
+impl CellMasks {
+    // What an item keeps of the cell's rows, where counts tell it.
+    fn counted_part(
+        &mut self,
+        query: &TypedQuery,
+        item: &Item,
+        columns: &LentColumns<'_>,
+        filter: &Filter,
+        cell: u32,
+        certain: bool,
+    ) -> Option<Tally>
+        requires open_stage { IsOpenStage (stage_of query.now columns.now) }
+        requires open_item { IsOpenItem columns.now.frame item.now }
+        requires judged { filter.now.truths ≡ truths_under query.now.pred columns.now }
+        requires by_counts { IsByCounts columns.now.frame item.now }
+        requires part { IsPart (stage_of query.now columns.now) cell certain self.old.within }
+        requires masks { HoldMasks columns.now.frame.rows self.old }
+        ensures masks { HoldMasks columns.now.frame.rows self.new }
+        ensures tally { IfSome result (λ tally.
+            tally ≡ tally_of item.now.kind (pairs_in_cell query.now item.now cell columns.now.frame columns.now.known)) }
+    {
+        self.selection
+            .select_passing_within(&self.within, filter, certain, &self.none);
+        self.selection.keep_valued(&item.arg, columns);
+        sum_tally(
+            item.kind,
+            &item.arg,
+            columns,
+            &self.selection.may,
+            &self.selection.must,
+        )
+    }
+
+    // Makes each cell stand for its rows, where there are few cells and counts tell each.
+    pub(crate) fn fill_counted(
+        &mut self,
+        query: &TypedQuery,
+        item: &Item,
+        columns: &LentColumns<'_>,
+        filter: &Filter,
+        cells: &Cells,
+        single: &[bool],
+        running: &mut Running,
+    ) -> bool
+        requires open_stage { IsOpenStage (stage_of query.now columns.now) }
+        requires open_item { IsOpenItem columns.now.frame item.now }
+        requires judged { filter.now.truths ≡ truths_under query.now.pred columns.now }
+        requires parted { IsParted (stage_of query.now columns.now) cells.now single.now }
+        requires masks { HoldMasks columns.now.frame.rows self.old }
+        requires room { HasRoom (stage_of query.now columns.now) item.now running.old }
+        ensures masks { HoldMasks columns.now.frame.rows self.new }
+        ensures room { HasRoom (stage_of query.now columns.now) item.now running.new }
+        ensures stand { IsTrue result → StandForCells (stage_of query.now columns.now) item.now running.new }
+    {
+        let total = cells.count();
+        if total > FEW_CELLS {
+            return false;
+        }
+        if !is_by_counts(item, columns, total) {
+            return false;
+        }
+        cells_tell_keys();
+        running.begin(total as usize);
+        for cell in 0..total {
+            cells.select(cell, &mut self.within);
+            let certain = single[cell as usize];
+            match self.counted_part(query, item, columns, filter, cell, certain) {
+                Some(tally) => running.set(cell, tally),
+                None => return false,
+            }
+        }
+        true
+    }
+}
