@@ -67,6 +67,18 @@ pub(crate) fn is_by_masks(item: &Item, columns: &LentColumns<'_>) -> bool
     is_column(&item.arg) || is_counted(item, columns)
 }
 
+// The marked items whose bound no masks tell: of these alone a tally is asked for.
+fn asked_items(query: &TypedQuery, columns: &LentColumns<'_>, marks: &[bool; 16]) -> [bool; 16]
+    requires { IsOpenStage (stage_of query.now columns.now) }
+{
+    let items = query.items.as_slice();
+    let mut asked = [false; 16];
+    for i in 0..items.len() {
+        asked[i] = marks[i] & !is_by_masks(&items[i], columns);
+    }
+    asked
+}
+
 // The marked items whose rows are added one by one: those whose bound no masks tell, and of which no tally is told.
 fn added_items(
     query: &TypedQuery,
@@ -351,7 +363,8 @@ impl Totals {
         ensures kept { AreKept (stage_of query.now columns.now) self.new.kept.items }
     {
         begin_each(query, &mut self.runnings);
-        let told = told_sums(query, columns, filter, marks, &mut self.masks.selection);
+        let asked = asked_items(query, columns, marks);
+        let told = told_sums(query, columns, filter, &asked, &mut self.masks.selection);
         add_each(
             query,
             columns,
