@@ -5,7 +5,7 @@ use Rattle.std.specs.List.{cons_option, range_with_len}
 use Rattle.std.specs.Simd.Lanes.{zip2}
 use Rattle.std.proofs.lemmas.Bool.{false≢true}
 use Rattle.std.proofs.lemmas.List.{get_or-map, length-map}
-use Rattle.std.proofs.lemmas.List.Sums.{length-filter}
+use Rattle.std.proofs.lemmas.List.Sums.{length-filter, sum_by-cons}
 use Rattle.std.proofs.lemmas.List.FromFn.{fill_by_all, get_or-map-range_with_len, length-map-range_with_len}
 use Rattle.std.proofs.lemmas.Simd.{get_or-zip2, length-zip2, map-map}
 use Rattle.interval_calc.specs.Intervals.{Interval}
@@ -26,7 +26,7 @@ use Rattle.daq_table.specs.Tables.{ends_at}
 use Rattle.known_column.specs.Columns as column
 use Rattle.known_column.specs.Columns.{KnownColumn, is_sure, rows_of_column, rows_where}
 use Rattle.known_column.specs.KnownTables.{KnownTable, column_at}
-use Rattle.kleene_filter.specs.Filters.{is_certain, is_possible, truth_at, truths_under}
+use Rattle.kleene_filter.specs.Filters.{is_certain, is_possible, is_unknown, truth_at, truths_under}
 use Rattle.round_engine.specs.Counts.{is_count}
 use Rattle.round_engine.proofs.RowPairs.{plain_pair}
 
@@ -87,6 +87,30 @@ counted give certain all span a (suc n) told =
     subst (λ o. (certain_count (cons_option o (filter_map give (range_with_len (a + 1) n))) ≡ length (filter certain (a ∷ range_with_len (a + 1) n)))
     × (length (cons_option o (filter_map give (range_with_len (a + 1) n))) ≡ length (filter all (a ∷ range_with_len (a + 1) n)))) (sym here.0)
     (one_more (certain a) (all a) (span a) a _ _ _ here.1 rest.0 rest.1)
+
+-- rows are counted by their truths or by the bits of these
+pub count_tested : (test : Truth → Bool) (truths : List Truth) → count_by test truths ≡ count_by (λ b. b) (map test truths)
+count_tested test [] = refl
+count_tested test (t ∷ truths) =
+    sum_by-cons (λ u. cond {A = ℕ} (test u) 1 0) t truths ∙ ap (λ n. cond (test t) 1 0 + n) (count_tested test truths) ∙ sym (sum_by-cons (λ b. cond {A = ℕ} b 1 0) (test t) (map test truths))
+
+-- those that may pass surely do, or it is unknown
+pub count_parted : (truths : List Truth) → count_by is_possible truths ≡ count_by is_certain truths + count_by is_unknown truths
+count_parted [] = refl
+count_parted (t ∷ truths) =
+    omega (
+      arith,
+      count_parted truths,
+      one t,
+      sum_by-cons (λ u. cond {A = ℕ} (is_possible u) 1 0) t truths,
+      sum_by-cons (λ u. cond {A = ℕ} (is_certain u) 1 0) t truths,
+      sum_by-cons (λ u. cond {A = ℕ} (is_unknown u) 1 0) t truths,
+    )
+  where
+    one : (t : Truth) → cond {A = ℕ} (is_possible t) 1 0 ≡ cond {A = ℕ} (is_certain t) 1 0 + cond {A = ℕ} (is_unknown t) 1 0
+    one False = refl
+    one Unknown = refl
+    one True = refl
 
 -- what a mask counts of rows that a test tells
 tested_length : (test : ℕ → Bool) (a n : ℕ) → length (filter (λ b. b) (map test (range_with_len a n))) ≡ length (filter test (range_with_len a n))

@@ -1,4 +1,4 @@
-//! Counts of the rows that pass, by the filter's masks.
+//! Counts of the rows that pass, which the filter keeps.
 
 ghost use Rattle.std.specs.Prelude.{◌≡◌, true};
 ghost use Rattle.query_model.specs.declared.query.Shape.TheVariants.{Plain};
@@ -38,11 +38,10 @@ pub(crate) fn bound_of_counts(
     requires counted { is_counted columns.now.frame item.now ≡ true }
     ensures { IsTotal (stage_of query.now columns.now) item.now result }
 {
-    let certain = filter.must().count();
-    let all = filter.may().count();
+    let all = filter.possible();
     ItemBound::Numbers(Bound {
         null: Nullity::Never,
-        lo: i128::from(certain),
+        lo: i128::from(all - filter.unknown()),
         hi: i128::from(all),
     })
 }
