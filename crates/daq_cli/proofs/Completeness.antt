@@ -21,7 +21,6 @@ use Rattle.plane_reads.specs.declared.fault.ReadsFault.TheVariants as r
 use Rattle.plane_schedule.specs.declared.policy.Policy.{Policy}
 use Rattle.plane_schedule.specs.declared.policy.Policy.TheVariants as p
 use Rattle.query_model.specs.declared.query.TypedQuery.{TypedQuery}
-use Rattle.session_rounds.specs.Laws.{SessionsHaveAnEnd}
 use Rattle.session_script.specs.Answers as script_laws
 use Rattle.session_script.specs.Lines.{Line}
 use Rattle.sql_text.specs.Answer.{IsFault, IsText}
@@ -64,7 +63,6 @@ pub record Laws : Type 0 where
   pub files : file_laws.HaveTables
   pub rounds : GoOn
   pub scripts : script_laws.ScriptsHaveAnswers
-  pub sessions : SessionsHaveAnEnd
 
 module _ (law : Laws) where
   sql_complete : (text : List ℕ) → IsComplete (sql_step text)
@@ -176,7 +174,7 @@ module _ (law : Laws) where
       by (inr (fault, shown, faulty)) = inr (LineQuery line.number fault, record { fault = fault; shown = shown; is = refl; faulty = faulty })
 
   sessions_law : session.GoOn
-  sessions_law = record { scripts = law.scripts; lines = line_complete; typings = law.typings; valid = law.valid; heads = law.heads; end = law.sessions }
+  sessions_law = record { scripts = law.scripts; lines = line_complete; typings = law.typings; valid = law.valid; heads = law.heads; begin = law.rounds.begin; have = law.rounds.have; choose = law.rounds.choose; taken = law.rounds.taken }
 
   pub steps_complete : StepsAreComplete
   steps_complete = record {

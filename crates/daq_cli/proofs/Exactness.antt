@@ -15,7 +15,6 @@ use Rattle.plane_reads.specs.declared.fault.ReadsFault.TheVariants as r
 use Rattle.plane_schedule.specs.Laws.{ChoicesAreOne}
 use Rattle.plane_schedule.specs.declared.policy.Policy.{Policy}
 use Rattle.query_model.specs.declared.query.TypedQuery.{TypedQuery}
-use Rattle.session_rounds.specs.Laws.{SessionsAreOne}
 use Rattle.session_script.specs.Answers as script_laws
 use Rattle.sql_text.specs.Answer.{Breaks, IsFault, IsText, fault_of}
 use Rattle.sql_text.specs.Tree as sql
@@ -66,7 +65,6 @@ pub record Laws : Type 0 where
   pub good_files : file_laws.FilesShowNoFault
   pub choices : ChoicesAreOne
   pub scripts : script_laws.AnswersAreOne
-  pub sessions : SessionsAreOne
 
 -- ---- the SQL
 
@@ -119,7 +117,7 @@ sessions_law law = record {
   good_typings = law.good_typings;
   faultless = law.faultless;
   heads = law.heads;
-  steps = law.sessions;
+  choices = law.choices;
 }
 
 -- ---- the schema

@@ -14,6 +14,7 @@ pub mod StoreCauses
 pub mod AskCauses
 pub mod DemoCauses
 pub mod OfTables
+pub mod FileReports
 pub mod QueryCauses
 pub mod SessionCauses
 pub mod Ask
@@ -27,9 +28,9 @@ pub mod Session
 pub mod Notices
 pub mod Runs
 pub mod Widths
+pub mod Reached
+pub mod ReachedSome
 pub mod Blocks
-pub mod Rounds
-pub mod SomePlanes
 pub mod Loops
 pub mod StopCauses
 pub mod Tables
@@ -40,6 +41,4 @@ pub mod ColumnLines
 pub mod Numbered
 pub mod SessionQueries
 pub mod StepBlocks
-pub mod SessionSteps
-pub mod SomeSteps
 pub mod ShownAlone

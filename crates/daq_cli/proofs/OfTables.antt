@@ -1,11 +1,11 @@
 -- The text of rounds over the planes of a file is that of each table that has the planes read.
-use Rattle.std.proofs.Common.{◌≡◌, ℕ, zero, suc, List, ◌++◌, length, refl, sym, ap, ◌∙◌, subst, IsSome}
+use Rattle.std.proofs.Common.{◌≡◌, ℕ, suc, List, ◌++◌, length, sym, ap, ◌∙◌, subst, IsSome}
 use Rattle.daq_report.specs.Blocks.{block_text}
 use Rattle.daq_table.specs.Tables.{Cells, Contents, frame_of}
 use Rattle.daq_table.specs.declared.table_head.Head.{Head}
-use Rattle.file_rounds.proofs.Files.{files_have_their_planes}
-use Rattle.file_rounds.proofs.RowsBack.{length-rows_in}
-use Rattle.file_rounds.specs.Told.{bits_at}
+use Rattle.plane_course.proofs.Files.{files_have_their_planes}
+use Rattle.plane_course.proofs.RowsBack.{length-rows_in}
+use Rattle.plane_course.specs.Told.{bits_at}
 use Rattle.plane_file.proofs.OneHead.{file_head, one_head}
 use Rattle.plane_file.specs.Format.{IsFileOf}
 use Rattle.plane_file.specs.Opening.{IsFileHead}
@@ -18,7 +18,8 @@ use Rattle.table_rounds.proofs.OfTables.{same_rounds, same_stages}
 use Rattle.table_rounds.specs.Headline.{AreCertain, RoundsHaveTables}
 use Rattle.table_rounds.specs.Rounds.{AreAllRounds, AreRounds, HaveRows, Planes, column_read, ending_at, stage_after}
 use Rattle.daq_cli.specs.OfTables.{AreOfTables, HasPlanesRead, IsOfTable}
-use Rattle.daq_cli.specs.Report.{block_of, blocks_below, end_line, last_text, rounds_text}
+use Rattle.daq_cli.specs.Report.{block_of, blocks_below, end_line, last_text, rounds_text, shown_rounds}
+use Rattle.daq_cli.proofs.Reached.{same_below}
 
 -- ---- what planes show depends on what is known after each round alone
 
@@ -27,18 +28,16 @@ module _ (head : Head) (plan : Plan) (query : TypedQuery) (reads : List ℕ) (a 
   same_block : (round : ℕ) → block_of head plan query a reads round ≡ block_of head plan query b reads round
   same_block round = ap (λ s. block_text head plan.list plan.extras s round (column_read reads round)) (same round)
 
-  pub same_blocks : (n : ℕ) → blocks_below head plan query a reads n ≡ blocks_below head plan query b reads n
-  unfolding blocks_below
-  same_blocks zero = refl
-  same_blocks (suc n) = ap (λ l. l ++ block_of head plan query a reads n) (same_blocks n) ∙ ap (λ l. blocks_below head plan query b reads n ++ l) (same_block n)
+  pub same_blocks : (n : ℕ) → blocks_below (block_of head plan query a) reads n ≡ blocks_below (block_of head plan query b) reads n
+  same_blocks n = same_below (block_of head plan query a) (block_of head plan query b) reads reads n (λ round h. same_block round)
 
-  same_last : last_text head plan query a reads ≡ last_text head plan query b reads
+  same_last : last_text (shown_rounds head plan query a) reads ≡ last_text (shown_rounds head plan query b) reads
   same_last = ap (λ s. block_text head plan.list plan.extras s (length reads) (column_read reads (length reads)) ++ end_line (ending_at plan s)) (same (length reads))
 
-  pub same_text : rounds_text head plan query a reads ≡ rounds_text head plan query b reads
+  pub same_text : rounds_text (shown_rounds head plan query a) reads ≡ rounds_text (shown_rounds head plan query b) reads
   same_text =
-      ap (λ l. l ++ last_text head plan query a reads) (same_blocks (length reads))
-      ∙ ap (λ l. blocks_below head plan query b reads (length reads) ++ l) same_last
+      ap (λ l. l ++ last_text (shown_rounds head plan query a) reads) (same_blocks (length reads))
+      ∙ ap (λ l. blocks_below (block_of head plan query b) reads (length reads) ++ l) same_last
 
 -- ---- the planes of a file
 

@@ -1,90 +1,49 @@
 -- What a `query` shows and accepts, where its store tells its bytes, is what becomes of it.
-use Rattle.std.proofs.Common.{◌≡◌, ℕ, List, length, get_or, refl, sym, ap, ◌∙◌, subst, arith, inl, inr, ◌⊎◌, Some, IfSome}
+use Rattle.std.proofs.Common.{◌≡◌, ℕ, List, refl, subst, inl, inr, ◌⊎◌, Some}
 use Rattle.command_line.specs.Commands as line
 use Rattle.daq_table.specs.Tables.{frame_of}
-use Rattle.file_rounds.specs.Told.{IsUnpadded, bits_at}
+use Rattle.plane_course.specs.Told.{IsUnpadded, bits_at}
 use Rattle.outer_world.specs.Device.{Rose, SinkState, StoreState}
-use Rattle.outer_world.specs.Whole.{HoldsSame, Writes}
-use Rattle.plane_file.specs.Places.{plane_in}
+use Rattle.outer_world.specs.Whole.{Writes}
 use Rattle.plane_file.specs.declared.plane_fault.PlaneFault.{PlaneFault}
-use Rattle.plane_file.specs.declared.plane_fault.PlaneFault.TheVariants as d
-use Rattle.plane_kernels.specs.Bytes.{HasPadBits}
 use Rattle.sql_print.specs.Printed.{printed}
-use Rattle.table_rounds.specs.Outcomes.{EndIn, Outcome, ended, refused, unreadable}
-use Rattle.table_rounds.specs.Rounds.{counts_after}
-use Rattle.table_rounds.specs.declared.reading.StepFault.{StepFault}
-use Rattle.table_rounds.specs.declared.reading.StepFault.TheVariants.{Source, OverTop}
-use Rattle.daq_cli.specs.Faults as of
+use Rattle.table_rounds.specs.Outcomes.{EndIn, Outcome, ended}
+use Rattle.table_rounds.specs.Rounds.{rounds_of}
+use Rattle.plane_course.specs.declared.reading.StepFault.{StepFault}
+use Rattle.daq_cli.specs.FileReports.{Completed, IsStopped}
 use Rattle.daq_cli.specs.Files.{file_step}
 use Rattle.daq_cli.specs.Laws.{StepsAreExact}
 use Rattle.daq_cli.specs.Questions.{Asked, asked_with}
 use Rattle.daq_cli.specs.Report.{report}
 use Rattle.daq_cli.specs.Worlds.{whole}
-use Rattle.daq_cli.specs.commands.Query.{Begins, Completed, EndsIn, Queries, QueryAccepts, QueryCause, QueryShows, Stopped, query_step, report_step, rounds_step, at_words, at_file, at_question, at_write, at_plane, no_memory}
+use Rattle.daq_cli.specs.commands.Query.{Begins, EndsIn, Queries, QueryAccepts, QueryCause, QueryShows, query_step, report_of, report_step, at_words, at_file, at_question, at_write, at_plane, no_memory}
 use Rattle.daq_cli.specs.declared.refusal.Refusal.{Refusal}
 use Rattle.daq_cli.specs.declared.refusal.Refusal.TheVariants.{NoMemory, WriteFault}
+use Rattle.daq_cli.proofs.FileReports.{StopsCourse, stop_shown}
 use Rattle.daq_cli.proofs.Files.{if_told, opened_told, stop_told}
-use Rattle.daq_cli.proofs.Loops.{rose_later}
 
 -- ---- the rounds that were begun
 
-module _ (q : line.Query) (planes opened planes' : StoreState) (out out' : SinkState) (begun : Begins q planes opened) (bytes : List ℕ) (told : planes.held ≡ Some bytes) where
+module _ (q : line.Query) (planes opened : StoreState) (begun : Begins q planes opened) (bytes : List ℕ) (told : planes.held ≡ Some bytes) where
   -- what was asked
-  abbrev pub asked : Asked
+  abbrev asked : Asked
   asked = asked_with begun.query q.options begun.file.head
 
   -- it is accepted
-  pub accepted : (query_step q bytes).accepts asked
+  accepted : (query_step q bytes).accepts asked
   accepted = (begun.query, begun.is_text, (begun.file, opened_told planes opened bytes told begun.file begun.opens, (refl, record { typed = begun.typed; plan = begun.plan; planned = begun.planned })))
 
   -- what its rounds come to
   abbrev ends_in : (outcome : Outcome) (reads : List ℕ) →
-      EndIn begun.plan begun.typed (frame_of begun.file.head) (bits_at begun.file.head bytes) (IsUnpadded begun.file.head bytes) reads outcome → EndsIn asked bytes outcome
+      EndIn (rounds_of begun.plan begun.typed (frame_of begun.file.head) (bits_at begun.file.head bytes)) (IsUnpadded begun.file.head bytes) reads outcome → EndsIn asked bytes outcome
   ends_in outcome reads ends = record { typed = begun.typed; plan = begun.plan; planned = begun.planned; reads = reads; ends = ends }
 
   -- the report that was written is the one
-  pub report_written : Completed q planes opened planes' out out' begun bytes → (text : List ℕ) × (report_step q bytes).accepts text × Writes whole out out' text
-  report_written completed =
+  report_written : (planes' : StoreState) (out out' : SinkState) → Completed (report_of q planes opened begun) opened planes' out out' bytes → (text : List ℕ) × (report_step q bytes).accepts text × Writes whole out out' text
+  report_written planes' out out' completed =
       let rounds = completed.rounds in
       let text = report (printed begun.query) begun.file.head begun.plan begun.typed (bits_at begun.file.head bytes) rounds.reads in
-      (text, (asked, accepted, record { rounds = ends_in ended rounds.reads (record { each = rounds.shown; come = rounds.rounds }); is = refl }), rounds.written)
-
-  -- what the store told in the rounds it told before
-  held_then : (mid : StoreState) → HoldsSame opened mid → mid.held ≡ Some bytes
-  held_then mid same = same.held ∙ begun.same.held ∙ told
-
-  -- a plane that stopped them is shown, unless a read failed
-  pub plane_shown : (stop : StepFault PlaneFault) (why : Refusal) → why ≡ of.step stop → Stopped q planes opened planes' out out' begun bytes stop →
-      (rounds_step asked bytes).shows why ⊎ Rose planes.faults planes'.faults
-  plane_shown (Source d.Fault) why is stopped =
-      let (next, followed, (mid, same, handed, broken), rest) = stopped.rounds.stop in
-      let first = begun.same.faults in
-      let second = same.faults in
-      inr (rose_later planes.faults mid.faults planes'.faults (omega (arith, first, second)) broken.rose)
-  plane_shown (Source (d.PadBits column plane)) why is stopped =
-      let (next, followed, (mid, same, handed, padded), rest) = stopped.rounds.stop in
-      let head = begun.file.head in
-      let c = get_or begun.typed.columns next 0 in
-      let j = get_or (counts_after begun.typed stopped.rounds.reads (length stopped.rounds.reads)) next 0 in
-      let (word, pad) = if_told (λ b. (word : ℕ) × HasPadBits head.rows 0 (plane_in head c j b) word) mid.held bytes (held_then mid same) padded.bits in
-      let there = subst (λ i. HasPadBits head.rows 0 (plane_in head i j bytes) word) (sym padded.is_column) pad in
-      let here : HasPadBits head.rows 0 (plane_in head column plane bytes) word = subst (λ i. HasPadBits head.rows 0 (plane_in head column i bytes) word) (sym padded.is_plane) there in
-      inl (record {
-        outcome = unreadable column plane;
-        rounds = ends_in (unreadable column plane) stopped.rounds.reads (record {
-          each = stopped.rounds.shown;
-          come = (record { next = next; followed = followed; column_is = padded.is_column; plane_is = padded.is_plane }, λ clean. clean word here);
-        });
-        is = ap Some (sym is);
-      })
-  plane_shown (Source d.WentShort) why is stopped =
-      let (next, followed, (mid, same, handed, short), rest) = stopped.rounds.stop in
-      absurd (if_told (λ b. ⊥) mid.held bytes (held_then mid same) short.untold)
-  plane_shown (OverTop column plane row) why is stopped = inl (record {
-    outcome = refused column plane row;
-    rounds = ends_in (refused column plane row) stopped.rounds.reads (record { each = stopped.rounds.shown; come = (stopped.rounds.stop.0, stopped.rounds.refused) });
-    is = ap Some (sym is);
-  })
+      (text, (asked, accepted, record { rounds = ends_in ended rounds.reads (record { each = rounds.each; come = rounds.rounds }); is = refl }), rounds.written)
 
 -- ---- what is shown, and what is accepted
 
@@ -92,8 +51,8 @@ module _ (law : StepsAreExact) (q : line.Query) (planes planes' : StoreState) (o
   -- the report that was written
   queried : (bytes : List ℕ) → planes.held ≡ Some bytes → Queries q planes planes' out out' → (text : List ℕ) × (report_step q bytes).accepts text × Writes whole out out' text
   queried bytes told does =
-      report_written q planes does.opened planes' out out' does.begun bytes told
-      (if_told (λ b. Completed q planes does.opened planes' out out' does.begun b) planes.held bytes told does.completed)
+      report_written q planes does.opened does.begun bytes told planes' out out'
+      (if_told (λ b. Completed (report_of q planes does.opened does.begun) does.opened planes' out out' b) planes.held bytes told does.reported.completed)
 
   -- it was written only where nothing is shown
   pub queries_apart : (other : Refusal) → Queries q planes planes' out out' → QueryShows q planes.held other → ⊥
@@ -107,13 +66,17 @@ module _ (law : StepsAreExact) (q : line.Query) (planes planes' : StoreState) (o
       subst (Writes whole out out') ((law.report q bytes).once other text is accepts) written
 
   -- rounds that stopped at a plane
-  plane_told : (opened : StoreState) (begun : Begins q planes opened) (stop : StepFault PlaneFault) (why : Refusal) (bytes : List ℕ) → planes.held ≡ Some bytes → why ≡ of.step stop →
-      IfSome planes.held (λ b. Stopped q planes opened planes' out out' begun b stop) → (report_step q bytes).shows why ⊎ Rose planes.faults planes'.faults
-  plane_told opened begun stop why bytes told is stopped =
-      by (plane_shown q planes opened planes' out out' begun bytes told stop why is (if_told (λ b. Stopped q planes opened planes' out out' begun b stop) planes.held bytes told stopped))
+  plane_told : (opened : StoreState) (begun : Begins q planes opened) (fault : StepFault PlaneFault) (why : Refusal) (bytes : List ℕ) → planes.held ≡ Some bytes →
+      IsStopped (report_of q planes opened begun) planes opened planes' out out' fault why → (report_step q bytes).shows why ⊎ Rose planes.faults planes'.faults
+  plane_told opened begun fault why bytes told stop = by (stop_shown (report_of q planes opened begun) planes opened planes' out out' begun.same bytes told fault why stop)
     where
-      by : (rounds_step (asked q planes opened planes' out out' begun bytes told) bytes).shows why ⊎ Rose planes.faults planes'.faults → (report_step q bytes).shows why ⊎ Rose planes.faults planes'.faults
-      by (inl shown) = inl (inr (asked q planes opened planes' out out' begun bytes told, accepted q planes opened planes' out out' begun bytes told, shown))
+      by : StopsCourse (rounds_of begun.plan begun.typed (frame_of begun.file.head) (bits_at begun.file.head bytes)) begun.file.head bytes why ⊎ Rose planes.faults planes'.faults →
+          (report_step q bytes).shows why ⊎ Rose planes.faults planes'.faults
+      by (inl shown) = inl (inr (
+        asked q planes opened begun bytes told,
+        accepted q planes opened begun bytes told,
+        record { outcome = shown.outcome; rounds = ends_in q planes opened begun bytes told shown.outcome shown.reads shown.ends; is = shown.is },
+      ))
       by (inr rose) = inr rose
 
   -- rounds were begun, and their report was not written to its end
@@ -135,9 +98,9 @@ module _ (law : StepsAreExact) (q : line.Query) (planes planes' : StoreState) (o
   query_shown why other (at_question query file is_text opens p o) (inl r) = absurd ((law.sql q.sql).apart query other is_text r)
   query_shown why other (at_question query file is_text opens p o) (inr (bytes, told, r)) =
       inl ((law.report q bytes).same why other (inl (inr (query, is_text, inr (file, opened_told planes planes' bytes told file opens, p)))) r)
-  query_shown why other (at_write opened begun rose written cut) shows = inr (inr (inr ((opened, begun), rose, refl)))
-  query_shown why other (at_plane opened begun stop is cause written stopped) (inl r) = absurd ((law.sql q.sql).apart begun.query other begun.is_text r)
-  query_shown why other (at_plane opened begun stop is cause written stopped) (inr (bytes, told, r)) = by (plane_told opened begun stop why bytes told is stopped)
+  query_shown why other (at_write opened begun cut) shows = inr (inr (inr ((opened, begun), cut.rose, refl)))
+  query_shown why other (at_plane opened begun fault stop) (inl r) = absurd ((law.sql q.sql).apart begun.query other begun.is_text r)
+  query_shown why other (at_plane opened begun fault stop) (inr (bytes, told, r)) = by (plane_told opened begun fault why bytes told stop)
     where
       by : (report_step q bytes).shows why ⊎ Rose planes.faults planes'.faults → (why ≡ other) ⊎ (why ≡ NoMemory) ⊎ Rose planes.faults planes'.faults ⊎ Fails why
       by (inl shown) = inl ((law.report q bytes).same why other shown r)
@@ -156,8 +119,8 @@ module _ (law : StepsAreExact) (q : line.Query) (planes planes' : StoreState) (o
       by (inr (inr rose)) = inr (inl rose)
   query_accepted why text (at_question query file is_text opens p o) (bytes, told, accepts) =
       absurd ((law.report q bytes).apart text why accepts (inl (inr (query, is_text, inr (file, opened_told planes planes' bytes told file opens, p)))))
-  query_accepted why text (at_write opened begun rose written cut) accepts = inr (inr rose)
-  query_accepted why text (at_plane opened begun stop is cause written stopped) (bytes, told, accepts) = by (plane_told opened begun stop why bytes told is stopped)
+  query_accepted why text (at_write opened begun cut) accepts = inr (inr cut.rose)
+  query_accepted why text (at_plane opened begun fault stop) (bytes, told, accepts) = by (plane_told opened begun fault why bytes told stop)
     where
       by : (report_step q bytes).shows why ⊎ Rose planes.faults planes'.faults → (why ≡ NoMemory) ⊎ Rose planes.faults planes'.faults ⊎ Rose out.faults out'.faults
       by (inl shown) = absurd ((law.report q bytes).apart text why accepts shown)
@@ -170,6 +133,6 @@ pub query_unwritten : (q : line.Query) (planes planes' : StoreState) (out out' :
 query_unwritten q planes planes' out out' why (at_words p s o) = inl o
 query_unwritten q planes planes' out out' why (at_file query is_text stop o) = inl o
 query_unwritten q planes planes' out out' why (at_question query file is_text opens p o) = inl o
-query_unwritten q planes planes' out out' why (at_write opened begun rose written cut) = inr (inr refl)
-query_unwritten q planes planes' out out' why (at_plane opened begun fault is cause written stopped) = inr (inl (opened, begun))
+query_unwritten q planes planes' out out' why (at_write opened begun cut) = inr (inr refl)
+query_unwritten q planes planes' out out' why (at_plane opened begun fault stop) = inr (inl (opened, begun))
 query_unwritten q planes planes' out out' why (no_memory few read o) = inl o

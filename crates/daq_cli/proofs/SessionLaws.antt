@@ -1,11 +1,11 @@
 -- Each step of a `session` is exact, and accepts something or shows a refusal.
-use Rattle.std.proofs.Common.{◌≡◌, ◌≢◌, ◌∙◌, ◌⊎◌, ℕ, Bool, List, [], ◌∷◌, Option, Some, None, Ok, Err, Result, ap, inl, inr, refl, subst, sym}
+use Rattle.std.proofs.Common.{◌≡◌, ◌≢◌, ◌∙◌, ◌⊎◌, ℕ, List, [], ◌∷◌, Option, Some, None, Ok, Err, Result, ap, inl, inr, refl, subst, sym}
 use Rattle.command_line.specs.Commands.{Options, ReadOrder}
 use Rattle.command_line.specs.Commands as line
 use Rattle.daq_table.specs.declared.table_head.Head.{Head}
-use Rattle.file_rounds.proofs.Pads.{padded_or_not}
-use Rattle.file_rounds.proofs.RowsBack.{length-rows_in}
-use Rattle.file_rounds.specs.Told.{IsUnpadded, bits_at}
+use Rattle.plane_course.proofs.Pads.{padded_or_not}
+use Rattle.plane_course.proofs.RowsBack.{length-rows_in}
+use Rattle.plane_course.specs.Told.{IsUnpadded, bits_at}
 use Rattle.multi_session.specs.Limits.{limit_passed}
 use Rattle.multi_session.specs.declared.limits.SessionFault.{SessionFault}
 use Rattle.plane_file.specs.Bytes.{AreBytes}
@@ -15,10 +15,18 @@ use Rattle.plane_schedule.specs.declared.policy.Plan.{Plan}
 use Rattle.plane_schedule.specs.declared.policy.Policy.{Policy}
 use Rattle.plane_schedule.specs.declared.policy.Policy.TheVariants as p
 use Rattle.query_model.specs.declared.query.TypedQuery.{TypedQuery}
-use Rattle.session_rounds.proofs.Judging.{ends_by_test, ends_without, test_of}
-use Rattle.session_rounds.specs.Laws.{AreValid, SessionsAreOne, SessionsHaveAnEnd}
-use Rattle.session_rounds.specs.Outcomes.{EndIn, Passes}
-use Rattle.session_rounds.specs.Steps.{IsUnlisted}
+use Rattle.plane_schedule.specs.Laws.{ChoicesAreOne, PoliciesChoose}
+use Rattle.query_model.specs.Laws.{TakenIsKnowledge}
+use Rattle.table_rounds.proofs.Courses.{each_of_none, has_outcome, outcomes_are_one}
+use Rattle.table_rounds.proofs.End.{steps_go_on}
+use Rattle.table_rounds.proofs.SessionsBegin.{sessions_begin}
+use Rattle.table_rounds.proofs.StepsAreOne.{steps_lawful}
+use Rattle.table_rounds.specs.Courses.{Course}
+use Rattle.table_rounds.specs.Headline.{RoundsBegin, RoundsHavePlanes}
+use Rattle.table_rounds.specs.Outcomes.{EndIn}
+use Rattle.table_rounds.specs.SessionLaws.{AreValid}
+use Rattle.table_rounds.specs.Steps.{steps_of}
+use Rattle.table_rounds.specs.Steps.{IsUnlisted}
 use Rattle.session_script.specs.Answers.{AnswersAreOne, IsAnswer, ScriptsHaveAnswers}
 use Rattle.session_script.specs.Answers as scripts
 use Rattle.session_script.specs.Lines.{Line}
@@ -37,7 +45,7 @@ use Rattle.daq_cli.specs.Scripts.{Scripted, ShowsLine, line_step, queries_step, 
 use Rattle.daq_cli.specs.SessionReport.{session_report}
 use Rattle.daq_cli.specs.Steps.{IsComplete, IsExact, each}
 use Rattle.daq_cli.specs.commands.Session.{AskedTogether, IsPolicyFor, IsSessionPlan, IsSessionReport, ShowsPlane, StepsEndIn, asked_together, limits_step, planes_step, printed_forms, report_step, session_step, together_step, typing_step}
-use Rattle.daq_cli.specs.commands.Query.{refusal_at}
+use Rattle.daq_cli.specs.FileReports.{refusal_at}
 use Rattle.daq_cli.specs.declared.refusal.Refusal.{Refusal}
 use Rattle.daq_cli.specs.declared.refusal.Refusal.TheVariants.{LineTyping, OverTop, PadBits, Script, Session}
 use Rattle.daq_cli.proofs.Files.{file_complete, file_exact}
@@ -56,7 +64,7 @@ pub record Laws : Type 0 where
   pub good_typings : typing_laws.IsFaultless
   pub faultless : file_laws.AreFaultless
   pub heads : file_laws.HaveOneHead
-  pub steps : SessionsAreOne
+  pub choices : ChoicesAreOne
 
 one_scripted : (a b : Scripted) → a.line ≡ b.line → a.query ≡ b.query → a ≡ b
 one_scripted a b lines queries = ap (λ n. record { line = n; query = a.query }) lines ∙ ap (λ t. record { line = b.line; query = t }) queries
@@ -118,17 +126,6 @@ module _ (asked : AskedTogether) (bytes : List ℕ) where
   judged : (column number : ℕ) → IsUnpadded asked.head bytes column number ⊎ (IsUnpadded asked.head bytes column number → ⊥)
   judged column number = padded_or_not asked.head.rows (plane_in asked.head column number bytes)
 
-  abbrev test : ℕ → ℕ → Bool
-  test = test_of (IsUnpadded asked.head bytes) judged
-
-  by_test : (plan : Plan) (reads : List ℕ) (outcome : Outcome) → EndIn plan asked.typed asked.head (bits_at asked.head bytes) (IsUnpadded asked.head bytes) reads outcome →
-      EndIn plan asked.typed asked.head (bits_at asked.head bytes) (Passes test) reads outcome
-  by_test plan = ends_by_test (IsUnpadded asked.head bytes) judged plan asked.typed asked.head (bits_at asked.head bytes)
-
-  without_test : (plan : Plan) (reads : List ℕ) (outcome : Outcome) → EndIn plan asked.typed asked.head (bits_at asked.head bytes) (Passes test) reads outcome →
-      EndIn plan asked.typed asked.head (bits_at asked.head bytes) (IsUnpadded asked.head bytes) reads outcome
-  without_test plan = ends_without (IsUnpadded asked.head bytes) judged plan asked.typed asked.head (bits_at asked.head bytes)
-
 module _ (law : Laws) where
   script_exact : (bytes : List ℕ) → IsExact (script_step bytes)
   script_exact bytes = record {
@@ -166,10 +163,9 @@ module _ (law : Laws) where
     one_end : (x y : Outcome) (p : StepsEndIn options asked bytes x) (r : StepsEndIn options asked bytes y) → (r.plan ≡ p.plan) × (p.reads ≡ r.reads) × (x ≡ y)
     one_end x y p r =
         let plan : r.plan ≡ p.plan = one_plan options r.plan p.plan r.planned p.planned in
-        let ends : EndIn p.plan asked.typed asked.head (bits_at asked.head bytes) (IsUnpadded asked.head bytes) r.reads y =
-        subst (λ (n : Plan). EndIn n asked.typed asked.head (bits_at asked.head bytes) (IsUnpadded asked.head bytes) r.reads y) plan r.ends in
-        let (reads, outcomes) = law.steps p.plan asked.typed asked.head (bits_at asked.head bytes) (test asked bytes) p.reads r.reads x y
-        (by_test asked bytes p.plan p.reads x p.ends) (by_test asked bytes p.plan r.reads y ends) in
+        let course : Plan → Course = λ plan. steps_of plan asked.typed asked.head (bits_at asked.head bytes) in
+        let ends : EndIn (course p.plan) (IsUnpadded asked.head bytes) r.reads y = subst (λ (n : Plan). EndIn (course n) (IsUnpadded asked.head bytes) r.reads y) plan r.ends in
+        let (reads, outcomes) = outcomes_are_one law.choices (course p.plan) (steps_lawful p.plan asked.typed asked.head (bits_at asked.head bytes)) (IsUnpadded asked.head bytes) p.reads r.reads x y p.ends ends in
         (plan, reads, outcomes)
 
     abbrev text_of : Plan → List ℕ → List ℕ
@@ -205,7 +201,10 @@ pub record GoOn : Type 0 where
   pub typings : typing_laws.HasTyping
   pub valid : typing_laws.IsTypedValid
   pub heads : file_laws.HasHead
-  pub end : SessionsHaveAnEnd
+  pub begin : RoundsBegin
+  pub have : RoundsHavePlanes
+  pub choose : PoliciesChoose
+  pub taken : TakenIsKnowledge
 
 policy_for : (order : ReadOrder) → ((names : List ℕ) → order ≢ line.reads names) → (policy : Policy) × IsPolicyFor order policy
 policy_for line.widest by_policy = (p.Widest, refl)
@@ -280,13 +279,15 @@ module _ (law : GoOn) where
     planes_complete =
         let (policy, is) = policy_for options.order by_policy in
         let head = asked.head in
-        let (reads, outcome, ends) = law.end (plan_so policy) asked.typed head (bits_at head bytes) (test asked bytes) valid (λ c j h lt. length-rows_in head.rows (plane_in head c j bytes))
-        (unlisted_policy options.order policy is) in
+        let course = steps_of (plan_so policy) asked.typed head (bits_at head bytes) in
+        let (reads, outcome, ends) = has_outcome course
+        (steps_go_on law.have law.choose law.taken (plan_so policy) asked.typed head (bits_at head bytes) valid (λ c j h lt. length-rows_in head.rows (plane_in head c j bytes)) (unlisted_policy options.order policy is))
+        (IsUnpadded head bytes) (judged asked bytes) [] (sessions_begin law.begin (plan_so policy) asked.typed head (bits_at head bytes)).rounds (each_of_none (IsUnpadded head bytes) course) in
         to_end outcome (record {
           plan = plan_so policy;
           planned = record { policy = is; width = refl; most = refl; list = refl; extras = refl };
           reads = reads;
-          ends = without_test asked bytes (plan_so policy) reads outcome ends;
+          ends = ends;
         })
 
   pub report_complete : (words : line.Session) (script bytes : List ℕ) → ((names : List ℕ) → words.options.order ≢ line.reads names) → AreBytes bytes → IsComplete (report_step words script bytes)

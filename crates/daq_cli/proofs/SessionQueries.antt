@@ -7,9 +7,9 @@ use Rattle.multi_session.specs.Sessions.{Session, own_column, session_opened}
 use Rattle.query_model.specs.Queries.{Query}
 use Rattle.query_model.specs.Validity.{FitsHead}
 use Rattle.round_engine.specs.Stages.{Stage}
-use Rattle.session_rounds.proofs.Lists.{all_there}
-use Rattle.session_rounds.specs.Reading.{FitsSession}
-use Rattle.daq_cli.specs.SessionReport.{own_of, queries_of}
+use Rattle.table_rounds.proofs.Lists.{all_there}
+use Rattle.table_rounds.specs.Steps.{FitsSession, queries_of}
+use Rattle.daq_cli.specs.SessionReport.{own_of}
 
 -- those of a session that was opened
 pub queries_of_opened : (queries : List Query) (head : Head) (width : ℕ) → queries_of (session_opened queries head width) ≡ queries

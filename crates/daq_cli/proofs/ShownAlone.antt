@@ -6,37 +6,38 @@ use Rattle.daq_table.specs.declared.table_head.Head.{Head}
 use Rattle.multi_session.specs.Sessions.{awaited}
 use Rattle.plane_schedule.specs.declared.policy.Plan.{Plan}
 use Rattle.query_model.specs.Queries.{Query}
-use Rattle.session_rounds.specs.Steps.{own_reads, plan_alone, stage_in}
+use Rattle.table_rounds.specs.Steps.{own_reads, plan_alone, stage_in}
 use Rattle.std.specs.Prelude.{slice_index}
 use Rattle.table_rounds.specs.Rounds.{Planes}
 use Rattle.daq_cli.specs.Report.{block_of, blocks_below}
-use Rattle.daq_cli.specs.SessionReport.{shown_below}
-use Rattle.daq_cli.proofs.Blocks.{blocks_before}
+use Rattle.daq_cli.specs.SessionReport.{shown_of}
+use Rattle.daq_cli.proofs.Blocks.{query_blocks_stay}
+use Rattle.daq_cli.proofs.Reached.{same_below}
 
 module _ (head : Head) (plan : Plan) (query : Query) (bits : Planes) where
   -- the policy of a plan shows in no block
-  pub listed_alike : (list reads : List ℕ) (n : ℕ) → blocks_below head plan query bits reads n ≡ blocks_below head (plan_alone plan list) query bits reads n
+  pub listed_alike : (list reads : List ℕ) (n : ℕ) → blocks_below (block_of head plan query bits) reads n ≡ blocks_below (block_of head (plan_alone plan list) query bits) reads n
   unfolding blocks_below
   listed_alike list reads zero = refl
   listed_alike list reads (suc n) = ap (λ l. l ++ block_of head plan query bits reads n) (listed_alike list reads n)
 
   -- one more read, or none: its block comes behind those before
   next_shown : (own : List ℕ) (o : Option ℕ) →
-      blocks_below head plan query bits own (suc (length own)) ++ (if is_some o then block_of head plan query bits (own ++ option_map_or (λ c. c ∷ []) o []) (length (own ++ option_map_or (λ c. c ∷ []) o [])) else [])
-      ≡ blocks_below head plan query bits (own ++ option_map_or (λ c. c ∷ []) o []) (suc (length (own ++ option_map_or (λ c. c ∷ []) o [])))
+      blocks_below (block_of head plan query bits) own (suc (length own)) ++ (if is_some o then block_of head plan query bits (own ++ option_map_or (λ c. c ∷ []) o []) (length (own ++ option_map_or (λ c. c ∷ []) o [])) else [])
+      ≡ blocks_below (block_of head plan query bits) (own ++ option_map_or (λ c. c ∷ []) o []) (suc (length (own ++ option_map_or (λ c. c ∷ []) o [])))
   unfolding blocks_below
   next_shown own None =
-      append-nil (blocks_below head plan query bits own (suc (length own)))
-      ∙ ap (λ (l : List ℕ). blocks_below head plan query bits l (suc (length l))) (sym (append-nil own))
+      append-nil (blocks_below (block_of head plan query bits) own (suc (length own)))
+      ∙ ap (λ (l : List ℕ). blocks_below (block_of head plan query bits) l (suc (length l))) (sym (append-nil own))
   next_shown own (Some c) =
       let all = own ++ c ∷ [] in
       let long : length all ≡ suc (length own) = omega (arith, length-append own (c ∷ [])) in
-      ap (λ l. l ++ block_of head plan query bits all (length all)) (sym (blocks_before head plan query bits own (c ∷ []) (suc (length own)) (omega arith)) ∙ ap (blocks_below head plan query bits all) (sym long))
+      ap (λ l. l ++ block_of head plan query bits all (length all)) (sym (same_below (block_of head plan query bits) (block_of head plan query bits) all own (suc (length own)) (λ round h. query_blocks_stay head plan query bits own (c ∷ []) round (omega (arith, h)))) ∙ ap (blocks_below (block_of head plan query bits) all) (sym long))
 
   pub shown_alone : (places : List ℕ) (step : ℕ) →
-      shown_below head plan bits places query (suc step)
-      ≡ blocks_below head plan query bits (own_reads plan.width (frame_of head) bits places query step) (suc (length (own_reads plan.width (frame_of head) bits places query step)))
-  unfolding blocks_below shown_below
+      blocks_below (shown_of head plan bits query) places (suc step)
+      ≡ blocks_below (block_of head plan query bits) (own_reads plan.width (frame_of head) bits places query step) (suc (length (own_reads plan.width (frame_of head) bits places query step)))
+  unfolding blocks_below
   shown_alone places zero = refl
   shown_alone places (suc step) =
       let own = own_reads plan.width (frame_of head) bits places query step in

@@ -14,15 +14,18 @@ use Rattle.query_model.specs.Queries.{Query}
 use Rattle.round_engine.specs.Narrowness.{is_narrow}
 use Rattle.round_engine.specs.Progresses.{planes_read}
 use Rattle.round_engine.specs.Stages.{Stage}
-use Rattle.session_rounds.specs.Laws.{QueriesStandAlone}
-use Rattle.session_rounds.specs.Steps.{IsAfter, is_moved, own_read, own_reads, places_read, plan_alone, stage_in}
-use Rattle.table_rounds.proofs.Going.{get_before}
+use Rattle.table_rounds.specs.SessionLaws.{QueriesStandAlone}
+use Rattle.table_rounds.proofs.SessionsAgree.{same_is_moved, same_own_reads, same_told}
+use Rattle.table_rounds.proofs.Standing.{AreColumns}
+use Rattle.table_rounds.specs.Steps.{IsAfter, is_moved, own_read, own_reads, places_read, plan_alone, stage_in, steps_of}
+use Rattle.table_rounds.proofs.Courses.{get_before}
+use Rattle.table_rounds.specs.Courses.{HaveSameRead}
 use Rattle.table_rounds.specs.Headline.{RoundsAreCounted}
 use Rattle.table_rounds.specs.Rounds.{Planes, column_read, stage_after}
 use Rattle.daq_cli.specs.Report.{block_of}
-use Rattle.daq_cli.specs.SessionReport.{at_line, block_at, blocks_at, numbered, own_of, steps_below}
-use Rattle.daq_cli.proofs.Blocks.{column_last}
+use Rattle.daq_cli.specs.SessionReport.{at_line, block_at, blocks_at, numbered, own_of}
 use Rattle.daq_cli.proofs.Numbered.{numbered_same}
+use Rattle.daq_cli.proofs.Reached.{Stay, column_last}
 
 -- ---- a query of a session
 
@@ -53,28 +56,13 @@ module _ (head : Head) (plan : Plan) (bits : Planes) where
       ∙ ap (λ (o : List ℕ). if is_moved width frame bits places query step then at_line step number ++ block_of head plan query bits o (length o) else []) (own_before width frame bits query places more step h)
 
 module _ (head : Head) (plan : Plan) (queries : List Query) (bits : Planes) where
-  pub blocks_before : (reads more : List ℕ) (step : ℕ) → step ≤ length reads → blocks_at head plan queries bits (reads ++ more) step ≡ blocks_at head plan queries bits reads step
-  blocks_before reads more step h =
+  pub session_blocks_stay : Stay (blocks_at head plan queries bits)
+  session_blocks_stay reads more step h =
       let places = places_read queries reads in
       let long : length places ≡ length reads = length-map reads (λ c. get_or (columns_named queries) c 0) in
       ap (λ (ps : List ℕ). numbered (block_at head plan bits ps step) 1 queries) (map-append (λ c. get_or (columns_named queries) c 0) reads more)
       ∙ numbered_same (block_at head plan bits (places ++ places_read queries more) step) (block_at head plan bits places step) queries
       (λ place query there number. block_before head plan bits places (places_read queries more) step (omega (arith, h, long)) number query) 1
-
-  pub no_steps : (reads : List ℕ) → steps_below head plan queries bits reads 0 ≡ []
-  unfolding steps_below
-  no_steps reads = refl
-
-  pub next_step : (reads : List ℕ) (step : ℕ) → steps_below head plan queries bits reads (step + 1) ≡ steps_below head plan queries bits reads step ++ blocks_at head plan queries bits reads step
-  unfolding steps_below
-  next_step reads step = let same : step + 1 ≡ suc step = omega arith in ap (steps_below head plan queries bits reads) same
-
-  pub steps_before : (reads more : List ℕ) (n : ℕ) → n ≤ length reads + 1 → steps_below head plan queries bits (reads ++ more) n ≡ steps_below head plan queries bits reads n
-  unfolding steps_below
-  steps_before reads more zero h = refl
-  steps_before reads more (suc n) h =
-      ap (λ l. l ++ blocks_at head plan queries bits (reads ++ more) n) (steps_before reads more n (omega (arith, h)))
-      ∙ ap (λ l. steps_below head plan queries bits reads n ++ l) (blocks_before reads more n (omega (arith, h)))
 
 -- ---- a query alone
 
@@ -109,7 +97,7 @@ module _ (head : Head) (plan : Plan) (queries : List Query) (bits : Planes) wher
       ap (own_of (columns_named queries) q) there
       ∙ ap (own_column q) (sym place_is)
       ∙ where_open (is_narrow plan.width stage) (own_column q place) c is
-      ∙ sym (column_last head plan q bits own c)
+      ∙ sym (column_last own c)
       ∙ sym (ap (column_read (own ++ c ∷ [])) long)
       ∙ sym (ap (λ (l : List ℕ). column_read l (length l)) read)
 
@@ -141,7 +129,7 @@ module _ (head : Head) (plan : Plan) (queries : List Query) (bits : Planes) wher
         let here = stage_in plan.width (frame_of head) bits places q step in
         let true_here : is_moved plan.width (frame_of head) bits places q step ≡ true = moved_is true moved in
         let stage_is : here ≡ stage = at_query (λ q. stage_in plan.width (frame_of head) bits places q step) s.stages stage (ap (λ s. s.stages) after.is) stands in
-        let as_alone = stand_alone plan queries head bits reads place q after.steps there in
+        let as_alone = stand_alone plan queries head bits reads place q after.rounds there in
         let count : planes_read here.known ≡ length alone = counted (plan_alone plan alone) q (frame_of head) bits alone here (record { rounds = as_alone.rounds.rounds; known = refl }) in
         let own_here : own ≡ column_read alone (length alone) =
         own_is ∙ ap (λ (s : Session). own_of s.columns stage.query last) after.is ∙ ap (λ (t : Stage). own_of (columns_named queries) t.query last) (sym stage_is)
@@ -152,3 +140,19 @@ module _ (head : Head) (plan : Plan) (queries : List Query) (bits : Planes) wher
         ∙ ap (λ (n : ℕ). at_line step number ++ block_text head plan.list plan.extras here n own) count
         ∙ ap (λ (o : Option ℕ). at_line step number ++ block_text head plan.list plan.extras here (length alone) o) own_here
         ∙ ap (λ (m : Bool). if m then block else []) (sym true_here)
+
+-- ---- the blocks of steps show the planes that were read alone
+
+module _ (head : Head) (plan : Plan) (queries : List Query) (a b : Planes) (reads : List ℕ) (are : AreColumns queries reads) (same : HaveSameRead (steps_of plan queries head a) reads a b) where
+  same_block : (step : ℕ) → step ≤ length reads → (place : ℕ) (query : Query) → slice_get queries place ≡ Some query → (number : ℕ) →
+      block_at head plan a (places_read queries reads) step number query ≡ block_at head plan b (places_read queries reads) step number query
+  same_block step h place query there number =
+      let own : Planes → List ℕ = λ bits. own_reads plan.width (frame_of head) bits (places_read queries reads) query step in
+      let moved : Planes → Bool = λ bits. is_moved plan.width (frame_of head) bits (places_read queries reads) query step in
+      ap (λ s. if moved a then at_line step number ++ block_text head plan.list plan.extras s (length (own a)) (column_read (own a) (length (own a))) else []) (same_told plan queries head a b reads are same place query there step h)
+      ∙ ap (λ (o : List ℕ). if moved a then at_line step number ++ block_of head plan query b o (length o) else []) (same_own_reads plan queries head a b reads are same place query there step h)
+      ∙ ap (λ (m : Bool). if m then at_line step number ++ block_of head plan query b (own b) (length (own b)) else []) (same_is_moved plan queries head a b reads are same place query there step h)
+
+  pub same_blocks_at : (step : ℕ) → step ≤ length reads → blocks_at head plan queries a reads step ≡ blocks_at head plan queries b reads step
+  same_blocks_at step h =
+      numbered_same (block_at head plan a (places_read queries reads) step) (block_at head plan b (places_read queries reads) step) queries (λ place query there number. same_block step h place query there number) 1

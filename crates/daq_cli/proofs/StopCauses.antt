@@ -2,9 +2,9 @@
 use Rattle.std.proofs.Common.{◌≡◌, ℕ, ◌≤◌, List, refl, Option, Result, IsErrAnd}
 use Rattle.std.proofs.lemmas.Result.{err_from_is_err_and}
 use Rattle.outer_world.specs.Device.{Rose, SinkState}
-use Rattle.table_rounds.specs.Sources.{Causes, OnFailed}
-use Rattle.table_rounds.specs.declared.reading.StepFault.{StepFault}
-use Rattle.table_rounds.specs.declared.reading.StepFault.TheVariants.{Source, OverTop}
+use Rattle.plane_course.specs.Sources.{Causes, OnFailed}
+use Rattle.plane_course.specs.declared.reading.StepFault.{StepFault}
+use Rattle.plane_course.specs.declared.reading.StepFault.TheVariants.{Source, OverTop}
 use Rattle.daq_cli.specs.Report.{CausesAfter, FailsSince, HasStopCause}
 use Rattle.daq_cli.specs.declared.stop.Stop.TheVariants.{Failed, Step}
 use Rattle.daq_cli.specs.declared.stop.Stop.{Stop}

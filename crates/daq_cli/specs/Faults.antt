@@ -25,9 +25,9 @@ use Rattle.sql_text.specs.declared.fault.SqlFault.TheVariants as q
 use Rattle.sql_typing.specs.declared.fault.TypeFault.{TypeFault}
 use Rattle.sql_typing.specs.declared.fault.TypeFault.TheVariants as y
 use Rattle.table_gen.specs.declared.fault.GenFault.{GenFault}
-use Rattle.table_rounds.specs.declared.reading.StepFault.{StepFault}
-use Rattle.table_rounds.specs.declared.reading.StepFault.TheVariants as steps
-use Rattle.table_rounds.specs.declared.reading.StepFault.TheVariants.{Source}
+use Rattle.plane_course.specs.declared.reading.StepFault.{StepFault}
+use Rattle.plane_course.specs.declared.reading.StepFault.TheVariants as steps
+use Rattle.plane_course.specs.declared.reading.StepFault.TheVariants.{Source}
 use Rattle.daq_cli.specs.declared.stop.Stop.{Stop}
 use Rattle.daq_cli.specs.declared.stop.Stop.TheVariants.{Failed, Step}
 use Rattle.table_gen.specs.declared.fault.GenFault.TheVariants as g

@@ -9,6 +9,7 @@ pub mod Files
 pub mod Stores
 pub mod Notices
 pub mod Report
+pub mod FileReports
 pub mod SessionReport
 pub mod OfTables
 pub mod Questions

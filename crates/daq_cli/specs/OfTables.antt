@@ -2,15 +2,15 @@
 use Rattle.std.specs.Prelude.{◌≡◌, ℕ, ◌≤◌, suc, List, length, slice_get, Some}
 use Rattle.daq_table.specs.Tables.{Cells, Contents, Frame, frame_of}
 use Rattle.daq_table.specs.declared.table_head.Head.{Head}
-use Rattle.file_rounds.specs.Told.{bits_at}
+use Rattle.plane_course.specs.Told.{bits_at}
 use Rattle.plane_file.specs.Format.{IsFileOf}
 use Rattle.plane_schedule.specs.declared.policy.Plan.{Plan}
 use Rattle.query_model.specs.Knowledge.{plane_of}
 use Rattle.query_model.specs.declared.query.TypedQuery.{TypedQuery}
-use Rattle.session_rounds.specs.Steps.{own_reads, places_read, plan_alone}
+use Rattle.table_rounds.specs.Steps.{own_reads, places_read, plan_alone}
 use Rattle.table_rounds.specs.Headline.{AreCertain, stage_of}
 use Rattle.table_rounds.specs.Rounds.{AreAllRounds, HasPlanes, Planes, counts_after, stage_after}
-use Rattle.daq_cli.specs.Report.{blocks_below, rounds_text}
+use Rattle.daq_cli.specs.Report.{block_of, blocks_below, rounds_text, shown_rounds}
 use Rattle.daq_cli.specs.SessionReport.{IsShownAlone}
 
 -- a table with that frame has the planes of these reads
@@ -26,9 +26,10 @@ AreCertainOf query frame bits reads =
 -- the rounds by these reads are all those of this table, by its own planes, and their text is the same. Each interval in it is certain
 pub record IsOfTable (head : Head) (plan : Plan) (query : TypedQuery) (bits : Planes) (reads : List ℕ) (cells : Cells) : Type 0 where
   pub rounds : AreAllRounds plan query (frame_of head) (plane_of (frame_of head) cells) reads
-  pub blocks : blocks_below head plan query bits reads (suc (length reads))
-      ≡ blocks_below head plan query (plane_of (frame_of head) cells) reads (suc (length reads))
-  pub text : rounds_text head plan query bits reads ≡ rounds_text head plan query (plane_of (frame_of head) cells) reads
+  pub blocks : blocks_below (block_of head plan query bits) reads (suc (length reads))
+      ≡ blocks_below (block_of head plan query (plane_of (frame_of head) cells)) reads (suc (length reads))
+  pub text : rounds_text (shown_rounds head plan query bits) reads
+      ≡ rounds_text (shown_rounds head plan query (plane_of (frame_of head) cells)) reads
   pub headline : AreCertain query (frame_of head) cells reads
 
 -- so it is with each table that has the planes read from a file with that head and these bytes. There is one, and where the bytes are

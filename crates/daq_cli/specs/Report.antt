@@ -13,27 +13,28 @@ use Rattle.plane_schedule.specs.declared.policy.Ending.{Ending}
 use Rattle.plane_schedule.specs.declared.policy.Ending.TheVariants.{Narrow, Rounds, Reads}
 use Rattle.plane_schedule.specs.declared.policy.Plan.{Plan}
 use Rattle.query_model.specs.declared.query.TypedQuery.{TypedQuery}
-use Rattle.table_rounds.specs.Rounds.{AreAllRounds, AreRounds, Planes, column_read, ending_at, stage_after}
-use Rattle.table_rounds.specs.Sources.{Causes, OfEach, OfPlanes, OnFailed, OnRefused, Places, StopsAt, ToldPlanes, places_of}
-use Rattle.table_rounds.specs.declared.reading.StepFault.{StepFault}
+use Rattle.plane_course.specs.Sources.{Causes, OnFailed, OnRefused, StopsAt}
+use Rattle.table_rounds.specs.Courses.{AreAllReads, AreReads, Course, OfEach, OfPlanes, Places, places_of}
+use Rattle.table_rounds.specs.Rounds.{AreAllRounds, Planes, column_read, rounds_of, stage_after}
+use Rattle.plane_course.specs.declared.reading.StepFault.{StepFault}
 use Rattle.daq_cli.specs.Worlds.{Extent, partly, whole}
 use Rattle.daq_cli.specs.declared.stop.Stop.{Stop}
 use Rattle.daq_cli.specs.declared.stop.Stop.TheVariants.{Failed, Step}
 
--- the block of a round by the plan, where the rounds read these columns
-abbrev pub block_of : Head → Plan → TypedQuery → Planes → List ℕ → ℕ → List ℕ
-block_of head plan query bits reads round =
-    block_text head plan.list plan.extras (stage_after query (frame_of head) bits reads round) round (column_read reads round)
+-- a course of reads, and the text that is shown after so many of them
+pub record Shown : Type 1 where
+  pub course : Course
+  pub block : List ℕ → ℕ → List ℕ
+
+abbrev pub shown_by : (Planes → Course) → (Planes → List ℕ → ℕ → List ℕ) → Planes → Shown
+shown_by course block bits = record { course = course bits; block = block bits }
+
+-- ---- a text
 
 -- the blocks of the rounds below a number
-unfoldable pub blocks_below : Head → Plan → TypedQuery → Planes → List ℕ → ℕ → List ℕ
-blocks_below head plan query bits reads zero = []
-blocks_below head plan query bits reads (suc round) =
-    blocks_below head plan query bits reads round ++ block_of head plan query bits reads round
-
--- the first line of a report shows the printed form of the query
-abbrev pub query_line : List ℕ → List ℕ
-query_line sql = codes "query " ++ (sql ++ codes "\n")
+unfoldable pub blocks_below : (List ℕ → ℕ → List ℕ) → List ℕ → ℕ → List ℕ
+blocks_below block reads zero = []
+blocks_below block reads (suc round) = blocks_below block reads round ++ block reads round
 
 -- the last line of a report says why its rounds ended
 abbrev pub ending_line : Ending → List ℕ
@@ -46,18 +47,31 @@ end_line None = []
 end_line (Some ending) = ending_line ending
 
 -- the block of the last of these rounds, and the end line where the rounds end with it
-abbrev pub last_text : Head → Plan → TypedQuery → Planes → List ℕ → List ℕ
-last_text head plan query bits reads =
-    block_of head plan query bits reads (length reads)
-    ++ end_line (ending_at plan (stage_after query (frame_of head) bits reads (length reads)))
+abbrev pub last_text : Shown → List ℕ → List ℕ
+last_text shown reads = shown.block reads (length reads) ++ end_line (shown.course.ending reads (length reads))
 
 -- the blocks of these rounds, and the end line where they end
-abbrev pub rounds_text : Head → Plan → TypedQuery → Planes → List ℕ → List ℕ
-rounds_text head plan query bits reads = blocks_below head plan query bits reads (length reads) ++ last_text head plan query bits reads
+abbrev pub rounds_text : Shown → List ℕ → List ℕ
+rounds_text shown reads = blocks_below shown.block reads (length reads) ++ last_text shown reads
+
+-- ---- the text of a query
+
+-- the block of a round by the plan, where the rounds read these columns
+abbrev pub block_of : Head → Plan → TypedQuery → Planes → List ℕ → ℕ → List ℕ
+block_of head plan query bits reads round =
+    block_text head plan.list plan.extras (stage_after query (frame_of head) bits reads round) round (column_read reads round)
+
+-- the rounds of a query, shown by their blocks
+abbrev pub shown_rounds : Head → Plan → TypedQuery → Planes → Shown
+shown_rounds head plan query = shown_by (rounds_of plan query (frame_of head)) (block_of head plan query)
+
+-- the first line of a report shows the printed form of the query
+abbrev pub query_line : List ℕ → List ℕ
+query_line sql = codes "query " ++ (sql ++ codes "\n")
 
 -- the whole report of the query with that printed form, all of whose rounds by the plan read these columns
 abbrev pub report : List ℕ → Head → Plan → TypedQuery → Planes → List ℕ → List ℕ
-report sql head plan query bits reads = query_line sql ++ rounds_text head plan query bits reads
+report sql head plan query bits reads = query_line sql ++ rounds_text (shown_rounds head plan query bits) reads
 
 -- such a text of all rounds of the plan was written, whole or in part
 pub record WritesRounds (text : List ℕ → List ℕ) (head : Head) (plan : Plan) (query : TypedQuery) (bits : Planes) (extent : Extent)
@@ -66,33 +80,39 @@ pub record WritesRounds (text : List ℕ → List ℕ) (head : Head) (plan : Pla
   pub rounds : AreAllRounds plan query (frame_of head) bits reads
   pub written : Writes extent old new (text reads)
 
--- ---- the rounds over the planes that a source tells, behind a line
+-- ---- a course over the planes that a source tells, behind a line
 
 -- a write failed in the last of these rounds: what comes before its block was written, and of its block and the end line a part; in the
 -- first round the line may be written in part
-abbrev pub FailsInLast : List ℕ → Head → Plan → TypedQuery → Planes → List ℕ → SinkState → SinkState → Type 0
-FailsInLast line head plan query bits [] old new = Writes partly old new (line ++ rounds_text head plan query bits [])
-FailsInLast line head plan query bits (c ∷ reads) old new =
-    (mid : SinkState) × Writes whole old mid (line ++ blocks_below head plan query bits (c ∷ reads) (length (c ∷ reads)))
-    × Writes partly mid new (last_text head plan query bits (c ∷ reads))
+abbrev pub FailsInLast : List ℕ → Shown → List ℕ → SinkState → SinkState → Type 0
+FailsInLast line shown [] old new = Writes partly old new (line ++ rounds_text shown [])
+FailsInLast line shown (c ∷ reads) old new =
+    (mid : SinkState) × Writes whole old mid (line ++ blocks_below shown.block (c ∷ reads) (length (c ∷ reads)))
+    × Writes partly mid new (last_text shown (c ∷ reads))
+
+-- what a source says of the planes of a table: the places where they lie, and what a plane shows that was read
+pub record Seen : Type 1 where
+  pub places : Places
+  pub shows : OfPlanes
+
+abbrev pub seen_by : Places → OfPlanes → Seen
+seen_by places shows = record { places = places; shows = shows }
 
 -- all rounds were written, and the places of their planes handed over, each of which shows what is said of a plane that was read
-pub record Finishes (line : List ℕ) (head : Head) (plan : Plan) (query : TypedQuery) (bits : Planes) (places : Places) (shows : OfPlanes)
-    (old new : SinkState) (from to : Option (List ℕ)) : Type 0 where
+pub record Finishes (line : List ℕ) (shown : Shown) (seen : Seen) (old new : SinkState) (from to : Option (List ℕ)) : Type 0 where
   pub reads : List ℕ
-  pub rounds : AreAllRounds plan query (frame_of head) bits reads
-  pub shown : OfEach shows query reads
-  pub written : Writes whole old new (line ++ rounds_text head plan query bits reads)
-  pub handed : Appends from to (places_of places query reads (length reads))
+  pub rounds : AreAllReads shown.course reads
+  pub each : OfEach seen.shows shown.course reads
+  pub written : Writes whole old new (line ++ rounds_text shown reads)
+  pub handed : Appends from to (places_of seen.places shown.course reads (length reads))
 
 -- a write failed in the last of the rounds so far, and the places of their planes were handed over
-pub record Fails (line : List ℕ) (head : Head) (plan : Plan) (query : TypedQuery) (bits : Planes) (places : Places) (shows : OfPlanes)
-    (old new : SinkState) (from to : Option (List ℕ)) : Type 0 where
+pub record Fails (line : List ℕ) (shown : Shown) (seen : Seen) (old new : SinkState) (from to : Option (List ℕ)) : Type 0 where
   pub reads : List ℕ
-  pub rounds : AreRounds plan query (frame_of head) bits reads
-  pub shown : OfEach shows query reads
-  pub written : FailsInLast line head plan query bits reads old new
-  pub handed : Appends from to (places_of places query reads (length reads))
+  pub rounds : AreReads shown.course reads
+  pub each : OfEach seen.shows shown.course reads
+  pub written : FailsInLast line shown reads old new
+  pub handed : Appends from to (places_of seen.places shown.course reads (length reads))
 
 -- why a source does not give a plane, with these places handed over before
 abbrev pub CausesAfter : Type 0 → Type 1
@@ -100,33 +120,30 @@ CausesAfter E = Option (List ℕ) → Causes E
 
 -- the source failed at the plane after the rounds so far, or this plane was refused: they were written, and the places of their planes
 -- handed over, and then of this plane's what the stop says
-pub record Stops {E : Type 0} (line : List ℕ) (head : Head) (plan : Plan) (query : TypedQuery) (bits : Planes) (places : Places)
-    (shows : OfPlanes) (causes : CausesAfter E) (fault : StepFault E) (old new : SinkState) (from to : Option (List ℕ)) : Type 0 where
+pub record Stops {E : Type 0} (line : List ℕ) (shown : Shown) (seen : Seen) (causes : CausesAfter E) (fault : StepFault E)
+    (old new : SinkState) (from to : Option (List ℕ)) : Type 0 where
   pub reads : List ℕ
   pub at : Option (List ℕ)
   pub more : List ℕ
-  pub stop : StopsAt plan query (frame_of head) bits places (causes at) reads fault more
-  pub shown : OfEach shows query reads
-  pub refused : OnRefused fault shows
-  pub written : Writes whole old new (line ++ rounds_text head plan query bits reads)
-  pub before : Appends from at (places_of places query reads (length reads))
+  pub stop : StopsAt shown.course seen.places (causes at) reads fault more
+  pub each : OfEach seen.shows shown.course reads
+  pub refused : OnRefused fault seen.shows
+  pub written : Writes whole old new (line ++ rounds_text shown reads)
+  pub before : Appends from at (places_of seen.places shown.course reads (length reads))
   pub handed : Appends at to more
 
 -- what becomes of the rounds
-abbrev pub EndsRounds : {E : Type 0} → List ℕ → Head → Plan → TypedQuery → Planes → Places → OfPlanes → CausesAfter E
+abbrev pub EndsRounds : {E : Type 0} → List ℕ → Shown → Seen → CausesAfter E
     → Result (Unit {0}) (Stop E) → SinkState → SinkState → Option (List ℕ) → Option (List ℕ) → Type 0
-EndsRounds line head plan query bits places shows causes (Ok done) old new from to =
-    Finishes line head plan query bits places shows old new from to
-EndsRounds line head plan query bits places shows causes (Err Failed) old new from to =
-    Fails line head plan query bits places shows old new from to
-EndsRounds line head plan query bits places shows causes (Err (Step fault)) old new from to =
-    Stops line head plan query bits places shows causes fault old new from to
+EndsRounds line shown seen causes (Ok done) old new from to = Finishes line shown seen old new from to
+EndsRounds line shown seen causes (Err Failed) old new from to = Fails line shown seen old new from to
+EndsRounds line shown seen causes (Err (Step fault)) old new from to = Stops line shown seen causes fault old new from to
 
--- the same of a source that may tell its planes, where it does
-abbrev pub EndsTold : {E : Type 0} → List ℕ → Plan → TypedQuery → ToldPlanes → Places → OfPlanes → CausesAfter E
+-- the same of planes that may be told, where they are
+abbrev pub EndsTold : {E : Type 0} → List ℕ → (Planes → Shown) → Option Planes → Seen → CausesAfter E
     → Result (Unit {0}) (Stop E) → SinkState → SinkState → Option (List ℕ) → Option (List ℕ) → Type 0
-EndsTold line plan query told places shows causes result old new from to =
-    IfSome told.bits (λ bits. EndsRounds line told.head plan query bits places shows causes result old new from to)
+EndsTold line shown told seen causes result old new from to =
+    IfSome told (λ bits. EndsRounds line (shown bits) seen causes result old new from to)
 
 -- ---- what holds of each source, told or not
 
@@ -143,24 +160,22 @@ HasStopCause causes (Err (Step fault)) old new =
     OnFailed fault (λ error. (at : Option (List ℕ)) × (column : ℕ) × (number : ℕ) × causes at column number error)
 
 -- rounds over some planes, which come to this, were written behind a line
-pub record WritesOverSome (line : List ℕ) (head : Head) (plan : Plan) (query : TypedQuery) (come : Option Ending → Type 0)
-    (old new : SinkState) : Type 0 where
+pub record WritesOverSome (line : List ℕ) (shown : Planes → Shown) (come : Option Ending → Type 0) (old new : SinkState) : Type 0 where
   pub bits : Planes
   pub reads : List ℕ
-  pub rounds : AreRounds plan query (frame_of head) bits reads
-  pub come_to : come (ending_at plan (stage_after query (frame_of head) bits reads (length reads)))
-  pub written : Writes whole old new (line ++ rounds_text head plan query bits reads)
+  pub rounds : AreReads (shown bits).course reads
+  pub come_to : come ((shown bits).course.ending reads (length reads))
+  pub written : Writes whole old new (line ++ rounds_text (shown bits) reads)
 
 -- a write failed in the last of rounds over some planes
-pub record FailsOverSome (line : List ℕ) (head : Head) (plan : Plan) (query : TypedQuery) (old new : SinkState) : Type 0 where
+pub record FailsOverSome (line : List ℕ) (shown : Planes → Shown) (old new : SinkState) : Type 0 where
   pub bits : Planes
   pub reads : List ℕ
-  pub rounds : AreRounds plan query (frame_of head) bits reads
-  pub written : FailsInLast line head plan query bits reads old new
+  pub rounds : AreReads (shown bits).course reads
+  pub written : FailsInLast line (shown bits) reads old new
 
 -- what was written is of rounds over some planes: of all; or a write failed in the last; or they go on, but the next plane is not taken
-abbrev pub EndsOverSome : {E : Type 0} → List ℕ → Head → Plan → TypedQuery → Result (Unit {0}) (Stop E)
-    → SinkState → SinkState → Type 0
-EndsOverSome line head plan query (Ok done) old new = WritesOverSome line head plan query IsSome old new
-EndsOverSome line head plan query (Err Failed) old new = FailsOverSome line head plan query old new
-EndsOverSome line head plan query (Err (Step fault)) old new = WritesOverSome line head plan query IsNone old new
+abbrev pub EndsOverSome : {E : Type 0} → List ℕ → (Planes → Shown) → Result (Unit {0}) (Stop E) → SinkState → SinkState → Type 0
+EndsOverSome line shown (Ok done) old new = WritesOverSome line shown IsSome old new
+EndsOverSome line shown (Err Failed) old new = FailsOverSome line shown old new
+EndsOverSome line shown (Err (Step fault)) old new = WritesOverSome line shown IsNone old new

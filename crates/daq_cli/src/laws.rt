@@ -11,7 +11,6 @@ use plane_file::{
 use plane_reads::{answers_are_one, words_have_answers};
 use plane_schedule::{choices_are_one, policies_choose};
 use query_model::{taken_is_knowledge, valid_queries_name_columns};
-use session_rounds::{sessions_are_one, sessions_have_an_end};
 use session_script::scripts_have_answers;
 use sql_text::{one_answer, some_answer};
 use sql_typing::{trees_have_typings, typed_queries_are_valid, typing_is_exact};
@@ -36,7 +35,6 @@ pub fn steps_are_exact()
     file_faults_are_exact();
     choices_are_one();
     session_script::answers_are_one();
-    sessions_are_one();
 }
 
 /// Words alone, words with an input, with a store, or with a script and a store, the bytes of a script and those of a store are
@@ -54,11 +52,9 @@ pub fn steps_are_complete()
     faultless_files_have_heads();
     files_have_tables();
     valid_queries_name_columns();
-    choices_are_one();
     policies_choose();
     rounds_have_planes();
     taken_is_knowledge();
     rounds_begin();
     scripts_have_answers();
-    sessions_have_an_end();
 }

@@ -2,7 +2,9 @@
 #![tactic(auto)]
 
 mod commands;
+mod course_report;
 mod fault_lines;
+mod file_report;
 mod inputs;
 mod laws;
 mod lines;

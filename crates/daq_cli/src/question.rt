@@ -14,6 +14,7 @@ ghost use Rattle.sql_print.specs.Printed.{printed};
 ghost use Rattle.sql_text.specs.Tree.{query_of};
 ghost use Rattle.sql_text.specs.declared.fault.SqlFault.{SqlFault};
 
+use crate::course_report::Begun;
 use crate::refusal::Refusal;
 use crate::report::report_table;
 use command_line::{Options, ReadOrder};
@@ -93,20 +94,13 @@ fn plan_of(
 // A question that may be answered: the printed form of its query, its plan, the query in progress, and room for a plane.
 pub(crate) struct Prepared {
     pub(crate) sql: String,
-    pub(crate) plan: Plan,
-    pub(crate) engine: Engine,
-    pub(crate) plane: Plane,
+    pub(crate) begun: Begun<Engine>,
 }
 
 // A call of its own: a derived drop is proved anew wherever a question is let go.
 impl Drop for Prepared {
     fn drop(self) {
-        let Prepared {
-            sql: _,
-            plan: _,
-            engine: _,
-            plane: _,
-        } = self;
+        let Prepared { sql: _, begun: _ } = self;
     }
 }
 
@@ -120,13 +114,13 @@ pub(crate) fn prepare(
     requires printable { IsUtf8 (printed (query_of query.now)) }
     requires width { options.now.width < 2 ^ 63 }
     ensures planned { IfOk result (λ p.
-        IsPlanned (asked_with (query_of query.now) (options_of options.now) head.now) p.engine.query p.plan) }
-    ensures valid { IfOk result (λ p. IsValid head.now p.engine.query) }
-    ensures opened { IfOk result (λ p. p.engine ≡ opened p.engine.query head.now) }
+        IsPlanned (asked_with (query_of query.now) (options_of options.now) head.now) p.begun.running.query p.begun.plan) }
+    ensures valid { IfOk result (λ p. IsValid head.now p.begun.running.query) }
+    ensures opened { IfOk result (λ p. p.begun.running ≡ opened p.begun.running.query head.now) }
     ensures text { IfOk result (λ p. string_bytes p.sql ≡ printed (query_of query.now)) }
-    ensures rows { IfOk result (λ p. length p.plane ≡ head.now.rows) }
-    ensures width { IfOk result (λ p. p.plan.width < 2 ^ 63) }
-    ensures readable { IfOk result (λ p. IsReadable p.plan.policy p.engine.frame) }
+    ensures rows { IfOk result (λ p. length p.begun.plane ≡ head.now.rows) }
+    ensures width { IfOk result (λ p. p.begun.plan.width < 2 ^ 63) }
+    ensures readable { IfOk result (λ p. IsReadable p.begun.plan.policy p.begun.running.frame) }
     ensures refused { IfErr result (StopsPlanning (asked_with (query_of query.now) (options_of options.now) head.now)) }
 {
     typed_queries_are_valid();
@@ -135,12 +129,12 @@ pub(crate) fn prepare(
     let sql = print(alloc, query)?;
     let plane = Plane::blank(alloc, head.rows as usize)?;
     let engine = Engine::open(alloc, typed, head)?;
-    Ok(Prepared {
-        sql,
+    let begun = Begun {
         plan,
-        engine,
+        running: engine,
         plane,
-    })
+    };
+    Ok(Prepared { sql, begun })
 }
 
 // Writes the report of the query over the table, by the plan of the options.
@@ -164,13 +158,6 @@ pub(crate) fn answer<K: Sink>(
     answers_are_one();
     rounds_are_one();
     let mut prepared = prepare(alloc, query, options, table.head())?;
-    report_table(
-        prepared.sql.as_bytes(),
-        &prepared.plan,
-        &mut prepared.engine,
-        table,
-        &mut prepared.plane,
-        out,
-    )?;
+    report_table(prepared.sql.as_bytes(), &mut prepared.begun, table, out)?;
     Ok(())
 }

@@ -12,6 +12,7 @@ use csv_load::TableFault;
 use daq_table::SchemaFault;
 use multi_session::SessionFault;
 use outer_world::{Failed, ReadAllFault};
+use plane_course::StepFault;
 use plane_file::{FileFault, FileWriteFault, PlaneFault, TableReadFault};
 use plane_reads::ReadsFault;
 use session_script::ScriptFault;
@@ -19,7 +20,6 @@ use sql_text::SqlFault;
 use sql_typing::TypeFault;
 use std::alloc::{AllocError, AllocFailed};
 use table_gen::GenFault;
-use table_rounds::StepFault;
 
 /// Why a run stops. Want of memory in a step is `NoMemory`, and never that step's own fault.
 #[derive(Debug, PartialEq, Eq, Drop)]

@@ -4,7 +4,7 @@ ghost use Rattle.std.specs.Prelude.{◌≡◌};
 ghost use Rattle.daq_cli.specs.declared.stop.Stop.TheVariants as stops;
 
 use outer_world::Failed;
-use table_rounds::StepFault;
+use plane_course::StepFault;
 
 /// Why a report stops.
 #[derive(Drop)]

@@ -6,17 +6,17 @@ ghost use Rattle.command_line.specs.Commands.{reads};
 ghost use Rattle.command_line.specs.Values.{options_of, order_of};
 ghost use Rattle.multi_session.specs.Sessions.{session_opened};
 ghost use Rattle.query_model.specs.Validity.{IsValid};
-ghost use Rattle.session_rounds.specs.Laws.{AreValid};
-ghost use Rattle.session_rounds.specs.Steps.{IsUnlisted};
+ghost use Rattle.table_rounds.specs.SessionLaws.{AreValid};
+ghost use Rattle.table_rounds.specs.Steps.{IsUnlisted, queries_of};
 ghost use Rattle.sql_print.specs.Printed.{printed};
 ghost use Rattle.sql_text.specs.Tree.{query_of};
 ghost use Rattle.sql_typing.specs.Refusals.{IsTyped};
 ghost use Rattle.daq_cli.specs.Faults as of;
 ghost use Rattle.daq_cli.specs.ScriptValues.{scripted_of};
-ghost use Rattle.daq_cli.specs.SessionReport.{queries_of};
 ghost use Rattle.daq_cli.specs.Steps.{StopsStep, each};
 ghost use Rattle.daq_cli.specs.commands.Session.{IsPolicyFor, IsSessionPlan, asked_together, printed_forms, together_step, typing_step};
 
+use crate::course_report::Begun;
 use crate::refusal::Refusal;
 use crate::scripts::Scripted;
 use command_line::{Options, ReadOrder};
@@ -112,20 +112,13 @@ fn plan_of(options: &Options) -> Plan
 // Queries that may be answered together: their printed forms, their plan, the session, and room for a plane.
 pub(crate) struct Together {
     pub(crate) sqls: Vec<String>,
-    pub(crate) plan: Plan,
-    pub(crate) session: Session,
-    pub(crate) plane: Plane,
+    pub(crate) begun: Begun<Session>,
 }
 
 // A call of its own: a derived drop is proved anew wherever queries are let go.
 impl Drop for Together {
     fn drop(self) {
-        let Together {
-            sqls: _,
-            plan: _,
-            session: _,
-            plane: _,
-        } = self;
+        let Together { sqls: _, begun: _ } = self;
     }
 }
 
@@ -141,23 +134,23 @@ pub(crate) fn prepare_all(
     requires width { options.now.width < 2 ^ 63 }
     requires by_policy { (names : List ℕ) → order_of options.now.order ≢ reads names }
     ensures accepted { IfOk result (λ p. (together_step (map scripted_of queries.now) head.now).accepts
-        (asked_together (map scripted_of queries.now) (queries_of p.session) head.now)) }
-    ensures planned { IfOk result (λ p. IsSessionPlan (options_of options.now) p.plan) }
-    ensures valid { IfOk result (λ p. AreValid head.now (queries_of p.session)) }
-    ensures opened { IfOk result (λ p. p.session ≡ session_opened (queries_of p.session) head.now p.plan.width) }
+        (asked_together (map scripted_of queries.now) (queries_of p.begun.running) head.now)) }
+    ensures planned { IfOk result (λ p. IsSessionPlan (options_of options.now) p.begun.plan) }
+    ensures valid { IfOk result (λ p. AreValid head.now (queries_of p.begun.running)) }
+    ensures opened { IfOk result (λ p. p.begun.running ≡ session_opened (queries_of p.begun.running) head.now p.begun.plan.width) }
     ensures texts { IfOk result (λ p. map string_bytes p.sqls.items ≡ printed_forms (map scripted_of queries.now)) }
-    ensures rows { IfOk result (λ p. length p.plane ≡ p.session.rows) }
-    ensures unlisted { IfOk result (λ p. IsUnlisted p.plan.policy) }
+    ensures rows { IfOk result (λ p. length p.begun.plane ≡ p.begun.running.rows) }
+    ensures unlisted { IfOk result (λ p. IsUnlisted p.begun.plan.policy) }
     ensures refused { IfErr result (StopsStep (together_step (map scripted_of queries.now) head.now)) }
 {
     let typed = type_each(alloc, queries, head)?;
     let session = Session::open(alloc, typed, head, options.width)?;
     let sqls = print_each(alloc, queries)?;
     let plane = Plane::blank(alloc, head.rows as usize)?;
-    Ok(Together {
-        sqls,
+    let begun = Begun {
         plan: plan_of(options),
-        session,
+        running: session,
         plane,
-    })
+    };
+    Ok(Together { sqls, begun })
 }

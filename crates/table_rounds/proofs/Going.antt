@@ -1,28 +1,32 @@
 -- Rounds go on: where one is not the last the policy chooses a column, and its next plane is legal or refused, so there is a last round or such a plane.
-use Rattle.std.proofs.Common.{◌≡◌, ◌⊎◌, ℕ, zero, suc, ◌+◌, ◌<◌, ◌≤◌, ◌==◌, Bool, List, map, count_by, [], ◌∷◌, ◌++◌, length, get_or, set, take, refl, sym, ap, ◌∙◌, subst, arith, inl, inr, IsNone, IsSome, IsTrue, IsFalse, append_assoc, append-nil, length-append, slice_get}
+use Rattle.std.proofs.Common.{◌≡◌, ◌⊎◌, ℕ, zero, suc, ◌+◌, ◌<◌, ◌≤◌, ◌==◌, Bool, List, map, count_by, [], ◌∷◌, ◌++◌, length, get_or, set, take, refl, sym, ap, ◌∙◌, subst, arith, inl, inr, IsNone, IsTrue, IsFalse, length-append, slice_get}
 use Rattle.std.proofs.lemmas.Bool.{cases_Bool, cases_lt, false≢true}
 use Rattle.std.proofs.lemmas.Bool.Decides.{nat_tests}
+use Rattle.std.proofs.lemmas.List.{get_or-set_same, take-append-le}
 use Rattle.std.proofs.lemmas.Option.{slice_get-get_or}
-use Rattle.std.specs.Option.{is_some}
 use Rattle.std.specs.declared.option.Option.TheVariants.{Some}
 use Rattle.std.specs.List.{range_with_len}
 use Rattle.daq_table.specs.Tables.{Frame, ends_at, planes}
+use Rattle.multi_session.proofs.Named.{get_last}
 use Rattle.plane_schedule.proofs.Same.{choice_is_unread}
 use Rattle.plane_schedule.specs.Choices.{Chooses, HasChoice, HasUnread, IsNextListed, IsUnread}
-use Rattle.plane_schedule.specs.Laws.{PoliciesChoose}
+use Rattle.plane_schedule.specs.Laws.{ChoicesAreOne, PoliciesChoose}
 use Rattle.plane_schedule.specs.Plans.{IsReadable, IsReadableList, is_list_end, is_most}
 use Rattle.plane_schedule.specs.declared.policy.Plan.{Plan}
 use Rattle.plane_schedule.specs.declared.policy.Policy.{Policy}
 use Rattle.plane_schedule.specs.declared.policy.Policy.TheVariants.{Widest, InOrder, FilterFirst, Balanced, Listed}
-use Rattle.query_model.specs.Knowledge.{CanTake, IsKnowledge, is_legal, known_at, longer, taken}
+use Rattle.query_model.specs.Knowledge.{CanTake, ColumnKnowledge, IsKnowledge, IsLegal, is_legal, known_at, longer, longer_column, taken}
 use Rattle.query_model.specs.Laws.{TakenIsKnowledge}
 use Rattle.query_model.specs.Worlds.{NamesColumns}
 use Rattle.query_model.specs.declared.query.TypedQuery.{TypedQuery}
 use Rattle.round_engine.specs.Narrowness.{is_narrow}
 use Rattle.round_engine.specs.Progresses.{planes_read}
-use Rattle.round_engine.specs.Stages.{Stage}
-use Rattle.table_rounds.specs.Headline.{ListsAreRead, RoundsHaveAnEnd, RoundsHavePlanes, all_planes}
-use Rattle.table_rounds.specs.Rounds.{AreAllRounds, AreFollowed, AreRefused, AreRounds, HaveRows, Planes, counts_after, ending_at, outlook_at, stage_after, stage_by}
+use Rattle.round_engine.specs.Stages.{IsFirstOver, Stage}
+use Rattle.table_rounds.specs.Headline.{ListsAreRead, RoundsAreOne, RoundsHaveAnEnd, RoundsHavePlanes, all_planes}
+use Rattle.table_rounds.specs.Courses.{IsFollowed, IsRefused, number_after}
+use Rattle.table_rounds.specs.Outcomes.{ended, refused, unreadable}
+use Rattle.table_rounds.specs.Rounds.{AreAllRounds, AreRounds, HaveRows, Planes, counts_after, ending_at, outlook_at, rounds_of, stage_after, stage_by}
+use Rattle.table_rounds.proofs.Courses.{GoesOn, HasOutcome, IsLawful, has_outcome, one_list, one_more, same_take}
 use Rattle.table_rounds.proofs.Counts.{count_there, length_of_counts, next_counts}
 use Rattle.table_rounds.proofs.Listing.{all_at, longer_list, one_more_there, same_first}
 use Rattle.table_rounds.proofs.Outlooks.{not_most}
@@ -30,29 +34,13 @@ use Rattle.table_rounds.proofs.Reached.{columns_of_part, counted_after, ends_the
 
 -- ---- one read more
 
-take_before : (xs ys : List ℕ) (n : ℕ) → n ≤ length xs → take n (xs ++ ys) ≡ take n xs
-take_before xs ys zero h = refl
-take_before [] ys (suc n) h = absurd (omega arith)
-take_before (x ∷ xs) ys (suc n) h = ap (λ l. x ∷ l) (take_before xs ys n (omega arith))
-
-pub get_before : (xs ys : List ℕ) (n : ℕ) → n < length xs → get_or (xs ++ ys) n 0 ≡ get_or xs n 0
-get_before [] ys n h = absurd (omega arith)
-get_before (x ∷ xs) ys zero h = refl
-get_before (x ∷ xs) ys (suc n) h = get_before xs ys n (omega arith)
-
 pub take_all : (xs : List ℕ) → take (length xs) xs ≡ xs
 take_all [] = refl
 take_all (x ∷ xs) = ap (λ l. x ∷ l) (take_all xs)
 
-pub get_last : (xs : List ℕ) (c n : ℕ) → n ≡ length xs → get_or (xs ++ c ∷ []) n 0 ≡ c
-get_last [] c zero h = refl
-get_last [] c (suc n) h = absurd (omega arith)
-get_last (x ∷ xs) c zero h = absurd (omega arith)
-get_last (x ∷ xs) c (suc n) h = get_last xs c n (omega arith)
-
 -- what is known up to a round does not depend on later reads
 pub same_counts : (query : TypedQuery) (reads more : List ℕ) (round : ℕ) → round ≤ length reads → counts_after query (reads ++ more) round ≡ counts_after query reads round
-same_counts query reads more round h = ap (λ first. map (λ c. count_by (λ d. d == c) first) (range_with_len 0 (length query.columns))) (take_before reads more round h)
+same_counts query reads more round h = ap (λ first. map (λ c. count_by (λ d. d == c) first) (range_with_len 0 (length query.columns))) (take-append-le round reads more h)
 
 pub same_before : (query : TypedQuery) (frame : Frame) (bits : Planes) (reads more : List ℕ) (round : ℕ) → round ≤ length reads →
     stage_after query frame bits (reads ++ more) round ≡ stage_after query frame bits reads round
@@ -78,50 +66,66 @@ last_known query frame bits reads c inside =
     next_known query frame bits (counts_after query reads (length reads)) c (length_of_counts query reads (length reads)) inside
     ∙ ap (λ counts. (stage_by query frame bits counts).known) (sym (last_counts query reads c inside))
 
+-- the same, by the number of the plane
+pub last_taken : (query : TypedQuery) (frame : Frame) (bits : Planes) (reads : List ℕ) (c : ℕ) → c < length query.columns →
+    taken (stage_after query frame bits reads (length reads)).known c (bits (get_or query.columns c 0) (number_after reads (length reads) c)) ≡ (stage_after query frame bits (reads ++ c ∷ []) (length reads + 1)).known
+last_taken query frame bits reads c inside =
+    ap (λ n. taken (stage_after query frame bits reads (length reads)).known c (bits (get_or query.columns c 0) n)) (sym (count_there query reads (length reads) c 0 inside))
+    ∙ last_known query frame bits reads c inside
+
+-- ---- the course of the rounds
+
+-- what is known after a round depends on the reads up to it alone
+pub same_stage : (query : TypedQuery) (frame : Frame) (bits : Planes) (a b : List ℕ) (n : ℕ) → take n a ≡ take n b → stage_after query frame bits a n ≡ stage_after query frame bits b n
+same_stage query frame bits a b n same = ap (λ first. stage_by query frame bits (map (λ c. count_by (λ d. d == c) first) (range_with_len 0 (length query.columns)))) same
+
+-- a row is the first over its top, and no other
+pub one_row : (stage : Stage) (c : ℕ) (bits : List Bool) (a b : ℕ) → IsFirstOver stage c bits a → IsFirstOver stage c bits b → a ≡ b
+one_row stage c bits a b p r = by (cases_lt a b) (cases_lt b a)
+  where
+    by : ((a < b) ⊎ (b ≤ a)) → ((b < a) ⊎ (a ≤ b)) → a ≡ b
+    by (inl less) other = absurd (p.over (r.first a less))
+    by (inr k) (inl less) = absurd (r.over (p.first b less))
+    by (inr k) (inr l) = omega (arith, k, l)
+
+-- a plane with which each prefix is legal is over no row
+pub taken_over : (stage : Stage) (c : ℕ) (bits : List Bool) (row : ℕ) → IsKnowledge stage.frame stage.known → IsKnowledge stage.frame (taken stage.known c bits) →
+    c < length stage.frame.columns → IsFirstOver stage c bits row → ⊥
+taken_over stage c bits row old new inside over =
+    let nothing : ColumnKnowledge = record { read = 0; prefixes = [] } in
+    let here : known_at (taken stage.known c bits) c ≡ longer_column (known_at stage.known c) bits =
+    get_or-set_same stage.known c (longer_column (known_at stage.known c) bits) nothing (subst (λ n. c < n) (sym old.columns) inside) in
+    over.over (subst (λ (k : ColumnKnowledge). IsLegal (ends_at stage.frame c) k.read (get_or k.prefixes row 0)) here (new.legal c row inside over.in_range))
+
+module _ (plan : Plan) (query : TypedQuery) (frame : Frame) (bits : Planes) where
+  -- the next column is one of the query
+  next_unread : (reads : List ℕ) (c : ℕ) → IsFollowed (rounds_of plan query frame bits) reads c → IsUnread (outlook_at (stage_after query frame bits reads (length reads))) c
+  next_unread reads c followed = choice_is_unread plan.policy (outlook_at (stage_after query frame bits reads (length reads))) c followed.chosen
+
+  next_inside : (reads : List ℕ) (c : ℕ) → IsFollowed (rounds_of plan query frame bits) reads c → c < length query.columns
+  next_inside reads c followed = subst (λ n. c < n) (columns_of_part query frame) (next_unread reads c followed).column
+
+  pub rounds_lawful : IsLawful (rounds_of plan query frame bits)
+  rounds_lawful = record {
+    ending = λ a b n alike. ap (ending_at plan) (same_stage query frame bits a b n (same_take a b n alike));
+    outlook = λ a b n alike. ap outlook_at (same_stage query frame bits a b n (same_take a b n alike));
+    legal = λ a b n alike. subst (λ s. IsKnowledge (part_of query frame) s.known) (same_stage query frame bits a b n (same_take a b n alike));
+    illegal = λ reads c row followed over legal.
+        taken_over (stage_after query frame bits reads (length reads)) c (bits (get_or query.columns c 0) (number_after reads (length reads) c)) row (followed.rounds.legal (length reads) (omega arith))
+        (subst (IsKnowledge (part_of query frame)) (sym (last_taken query frame bits reads c (next_inside reads c followed))) legal) (next_unread reads c followed).column over;
+    one_row = λ reads c a b followed p r. one_row (stage_after query frame bits reads (length reads)) c (bits (get_or query.columns c 0) (number_after reads (length reads) c)) a b p r;
+  }
+
 -- a round that is not the last, the column that the policy chooses, and legal prefixes with its next plane
-pub one_round_more : (plan : Plan) (query : TypedQuery) (frame : Frame) (bits : Planes) (reads : List ℕ) (c : ℕ) → AreFollowed plan query frame bits reads c →
+pub one_round_more : (plan : Plan) (query : TypedQuery) (frame : Frame) (bits : Planes) (reads : List ℕ) (c : ℕ) → IsFollowed (rounds_of plan query frame bits) reads c →
     IsKnowledge (part_of query frame) (taken (stage_after query frame bits reads (length reads)).known c (bits (get_or query.columns c 0) (get_or (counts_after query reads (length reads)) c 0))) →
     AreRounds plan query frame bits (reads ++ c ∷ [])
-one_round_more plan query frame bits reads c followed legal = record {
-  going = λ round h. at_going round h (cases_lt round (length reads));
-  chosen = λ round h. at_chosen round h (cases_lt round (length reads));
-  legal = λ round h. at_legal round h (cases_lt (length reads) round);
-}
-  where
-    long : length (reads ++ c ∷ []) ≡ length reads + 1
-    long = length-append reads (c ∷ [])
+one_round_more plan query frame bits reads c followed legal =
+    one_more (rounds_of plan query frame bits) (rounds_lawful plan query frame bits) reads c followed
+    (subst (IsKnowledge (part_of query frame)) (last_known query frame bits reads c (next_inside plan query frame bits reads c followed)) legal)
 
-    last : (round : ℕ) → round < length (reads ++ c ∷ []) → length reads ≤ round → length reads ≡ round
-    last round h k = omega (arith, long, h, k)
-
-    at_going : (round : ℕ) → round < length (reads ++ c ∷ []) → ((round < length reads) ⊎ (length reads ≤ round)) → IsNone (ending_at plan (stage_after query frame bits (reads ++ c ∷ []) round))
-    at_going round h (inl before) = subst (λ s. IsNone (ending_at plan s)) (sym (same_before query frame bits reads (c ∷ []) round (omega arith))) (followed.rounds.going round before)
-    at_going round h (inr k) =
-        let e = last round h k in
-        subst (λ n. IsNone (ending_at plan (stage_after query frame bits (reads ++ c ∷ []) n))) e
-        (subst (λ s. IsNone (ending_at plan s)) (sym (same_before query frame bits reads (c ∷ []) (length reads) (omega arith))) followed.going)
-
-    at_chosen : (round : ℕ) → round < length (reads ++ c ∷ []) → ((round < length reads) ⊎ (length reads ≤ round)) →
-        Chooses plan.policy (outlook_at (stage_after query frame bits (reads ++ c ∷ []) round)) (get_or (reads ++ c ∷ []) round 0)
-    at_chosen round h (inl before) =
-        subst (λ s. Chooses plan.policy (outlook_at s) (get_or (reads ++ c ∷ []) round 0)) (sym (same_before query frame bits reads (c ∷ []) round (omega arith)))
-        (subst (Chooses plan.policy (outlook_at (stage_after query frame bits reads round))) (sym (get_before reads (c ∷ []) round before)) (followed.rounds.chosen round before))
-    at_chosen round h (inr k) =
-        let e = last round h k in
-        subst (λ n. Chooses plan.policy (outlook_at (stage_after query frame bits (reads ++ c ∷ []) n)) (get_or (reads ++ c ∷ []) n 0)) e
-        (subst (λ s. Chooses plan.policy (outlook_at s) (get_or (reads ++ c ∷ []) (length reads) 0)) (sym (same_before query frame bits reads (c ∷ []) (length reads) (omega arith)))
-        (subst (Chooses plan.policy (outlook_at (stage_after query frame bits reads (length reads)))) (sym (get_last reads c (length reads) refl)) followed.chosen))
-
-    inside : c < length query.columns
-    inside = subst (λ n. c < n) (columns_of_part query frame) (choice_is_unread plan.policy (outlook_at (stage_after query frame bits reads (length reads))) c followed.chosen).column
-
-    at_legal : (round : ℕ) → round ≤ length (reads ++ c ∷ []) → ((length reads < round) ⊎ (round ≤ length reads)) → IsKnowledge (part_of query frame) (stage_after query frame bits (reads ++ c ∷ []) round).known
-    at_legal round h (inl k) =
-        let e : length reads + 1 ≡ round = omega (arith, long, h, k) in
-        subst (λ n. IsKnowledge (part_of query frame) (stage_after query frame bits (reads ++ c ∷ []) n).known) e
-        (subst (IsKnowledge (part_of query frame)) (last_known query frame bits reads c inside) legal)
-    at_legal round h (inr before) =
-        subst (λ s. IsKnowledge (part_of query frame) s.known) (sym (same_before query frame bits reads (c ∷ []) round before)) (followed.rounds.legal round before)
+pub rounds_are_one : ChoicesAreOne → RoundsAreOne
+rounds_are_one one plan query frame bits = one_list one (rounds_of plan query frame bits) (rounds_lawful plan query frame bits)
 
 -- the first number below a limit at which a test fails, if there is one
 pub first_failure : (test : ℕ → Bool) (n : ℕ) → ((r : ℕ) × (r < n) × IsFalse (test r) × ((s : ℕ) → s < r → IsTrue (test s))) ⊎ ((r : ℕ) → r < n → IsTrue (test r))
@@ -220,28 +224,30 @@ module _ (plan : Plan) (query : TypedQuery) (frame : Frame) (bits : Planes) wher
           next_listed list reads e rounds able (subst (λ p. IsFalse (is_list_end p round)) e end)
 
   -- so the next plane is refused, or there is one round more
-  pub refused_or_further : TakenIsKnowledge → NamesColumns query frame → HaveRows frame bits → (reads : List ℕ) (c : ℕ) → AreFollowed plan query frame bits reads c →
-      ((column plane row : ℕ) × AreRefused plan query frame bits reads column plane row) ⊎ AreRounds plan query frame bits (reads ++ c ∷ [])
-  refused_or_further taken_is named long reads c followed =
-      by (first_failure (λ r. is_legal (ends_at (part_of query frame) c) ((known_at stage.known c).read + 1) (get_or (longer (known_at stage.known c).prefixes plane) r 0)) frame.rows)
+  refused_or_further : TakenIsKnowledge → NamesColumns query frame → HaveRows frame bits → (reads : List ℕ) (c : ℕ) → IsFollowed (rounds_of plan query frame bits) reads c →
+      ((column plane row : ℕ) × IsRefused (rounds_of plan query frame bits) reads column plane row) ⊎ AreRounds plan query frame bits (reads ++ c ∷ [])
+  refused_or_further taken_is named long reads c followed = by (first_failure stays_legal frame.rows)
     where
       stage : Stage
       stage = stage_after query frame bits reads (length reads)
 
       k : ℕ
-      k = get_or (counts_after query reads (length reads)) c 0
+      k = number_after reads (length reads) c
 
       plane : List Bool
       plane = bits (get_or query.columns c 0) k
 
+      stays_legal : ℕ → Bool
+      stays_legal r = is_legal (ends_at (part_of query frame) c) ((known_at stage.known c).read + 1) (get_or (longer (known_at stage.known c).prefixes plane) r 0)
+
       unread : IsUnread (outlook_at stage) c
-      unread = choice_is_unread plan.policy (outlook_at stage) c followed.chosen
+      unread = next_unread plan query frame bits reads c followed
 
       inside : c < length query.columns
-      inside = subst (λ n. c < n) (columns_of_part query frame) unread.column
+      inside = next_inside plan query frame bits reads c followed
 
       read : (known_at stage.known c).read ≡ k
-      read = read_there query frame bits (counts_after query reads (length reads)) c unread.column
+      read = read_there query frame bits (counts_after query reads (length reads)) c unread.column ∙ count_there query reads (length reads) c 0 inside
 
       some : (known_at stage.known c).read < planes (ends_at (part_of query frame) c)
       some = let u = unread.unread in omega (arith, u)
@@ -250,61 +256,39 @@ module _ (plan : Plan) (query : TypedQuery) (frame : Frame) (bits : Planes) wher
       rows = long (get_or query.columns c 0) k (all_at (λ i. i < length frame.columns) query.columns c named.in_range inside)
           (subst (λ e. k < planes e) (sym (ends_there query frame c inside)) (subst (λ n. n < planes (ends_at (part_of query frame) c)) read some))
 
-      by : (((r : ℕ) × (r < frame.rows) × IsFalse (is_legal (ends_at (part_of query frame) c) ((known_at stage.known c).read + 1) (get_or (longer (known_at stage.known c).prefixes plane) r 0))
-          × ((s : ℕ) → s < r → IsTrue (is_legal (ends_at (part_of query frame) c) ((known_at stage.known c).read + 1) (get_or (longer (known_at stage.known c).prefixes plane) s 0))))
-          ⊎ ((r : ℕ) → r < frame.rows → IsTrue (is_legal (ends_at (part_of query frame) c) ((known_at stage.known c).read + 1) (get_or (longer (known_at stage.known c).prefixes plane) r 0)))) →
-          ((column plane row : ℕ) × AreRefused plan query frame bits reads column plane row) ⊎ AreRounds plan query frame bits (reads ++ c ∷ [])
+      by : (((r : ℕ) × (r < frame.rows) × IsFalse (stays_legal r) × ((s : ℕ) → s < r → IsTrue (stays_legal s))) ⊎ ((r : ℕ) → r < frame.rows → IsTrue (stays_legal r))) →
+          ((column plane row : ℕ) × IsRefused (rounds_of plan query frame bits) reads column plane row) ⊎ AreRounds plan query frame bits (reads ++ c ∷ [])
       by (inl (r, in_range, over, first)) = inl (
         get_or query.columns c 0,
         k,
         r,
         record {
-          next = c;
-          followed = followed;
-          column_is = refl;
-          plane_is = refl;
+          before = record { next = c; followed = followed; column_is = refl; plane_is = refl };
           over = record { in_range = in_range; over = λ legal. false≢true (sym over ∙ legal); first = first };
         },
       )
       by (inr legal) =
           let can : CanTake (part_of query frame) stage.known c plane = record { column = unread.column; unread = some; rows = rows; legal = legal } in
-          inr (one_round_more plan query frame bits reads c followed (taken_is (part_of query frame) stage.known c plane (followed.rounds.legal (length reads) (omega arith)) can))
+          inr (one_more (rounds_of plan query frame bits) (rounds_lawful plan query frame bits) reads c followed
+          (subst (IsKnowledge (part_of query frame)) (last_taken query frame bits reads c inside) (taken_is (part_of query frame) stage.known c plane (followed.rounds.legal (length reads) (omega arith)) can)))
 
-  -- how the rounds end that begin with these
-  abbrev HaveEnd : List ℕ → Type 0
-  HaveEnd reads = (rest : List ℕ) × (AreAllRounds plan query frame bits (reads ++ rest) ⊎ ((column plane row : ℕ) × AreRefused plan query frame bits (reads ++ rest) column plane row))
-
-  -- the number is a limit that is not reached
-  go_on : RoundsHavePlanes → PoliciesChoose → TakenIsKnowledge → NamesColumns query frame → HaveRows frame bits → IsReadable plan.policy (part_of query frame) → (left : ℕ) (reads : List ℕ) →
-      AreRounds plan query frame bits reads → all_planes query frame < length reads + left → HaveEnd reads
-  go_on have choose taken_is named long readable zero reads rounds h = absurd (let few = few_rounds plan query frame bits reads rounds in omega (arith, few))
-  go_on have choose taken_is named long readable (suc left) reads rounds h =
-      by (λ c more k. go_on have choose taken_is named long readable left (reads ++ c ∷ []) more k) (cases_Bool (is_some (ending_at plan (stage_after query frame bits reads (length reads)))))
-    where
-      further : (c : ℕ) → HaveEnd (reads ++ c ∷ []) → HaveEnd reads
-      further c (rest, end) =
-          (c ∷ rest, subst (λ all. AreAllRounds plan query frame bits all ⊎ ((column plane row : ℕ) × AreRefused plan query frame bits all column plane row)) (append_assoc reads (c ∷ []) rest) end)
-
-      here : (AreAllRounds plan query frame bits reads ⊎ ((column plane row : ℕ) × AreRefused plan query frame bits reads column plane row)) → HaveEnd reads
-      here end = ([], subst (λ all. AreAllRounds plan query frame bits all ⊎ ((column plane row : ℕ) × AreRefused plan query frame bits all column plane row)) (sym (append-nil reads)) end)
-
-      to : ((c : ℕ) → AreRounds plan query frame bits (reads ++ c ∷ []) → all_planes query frame < length (reads ++ c ∷ []) + left → HaveEnd (reads ++ c ∷ [])) →
-          (c : ℕ) → (((column plane row : ℕ) × AreRefused plan query frame bits reads column plane row) ⊎ AreRounds plan query frame bits (reads ++ c ∷ [])) → HaveEnd reads
-      to later c (inl refused) = here (inr refused)
-      to later c (inr more) =
-          let one : length (reads ++ c ∷ []) ≡ length reads + 1 = length-append reads (c ∷ []) in
-          further c (later c more (omega (arith, h, one)))
-
-      by : ((c : ℕ) → AreRounds plan query frame bits (reads ++ c ∷ []) → all_planes query frame < length (reads ++ c ∷ []) + left → HaveEnd (reads ++ c ∷ [])) →
-          (IsSome (ending_at plan (stage_after query frame bits reads (length reads))) ⊎ IsNone (ending_at plan (stage_after query frame bits reads (length reads)))) → HaveEnd reads
-      by later (inl ended) = here (inl (record { rounds = rounds; ended = ended }))
-      by later (inr going) =
-          let (c, chosen) = choice_of have choose plan.policy refl readable reads rounds going in
-          to later c (refused_or_further taken_is named long reads c (record { rounds = rounds; going = going; chosen = chosen }))
+  pub rounds_go_on : RoundsHavePlanes → PoliciesChoose → TakenIsKnowledge → NamesColumns query frame → HaveRows frame bits → IsReadable plan.policy (part_of query frame) → GoesOn (rounds_of plan query frame bits)
+  rounds_go_on have choose taken_is named long readable = record {
+    most = all_planes query frame;
+    few = few_rounds plan query frame bits;
+    chooses = λ reads rounds going. choice_of have choose plan.policy refl readable reads rounds going;
+    further = refused_or_further taken_is named long;
+  }
 
 pub rounds_have_an_end : RoundsHavePlanes → PoliciesChoose → TakenIsKnowledge → RoundsHaveAnEnd
 rounds_have_an_end have choose taken_is plan query frame bits reads named long readable rounds =
-    go_on plan query frame bits have choose taken_is named long readable (suc (all_planes query frame)) reads rounds (omega arith)
+    by (has_outcome (rounds_of plan query frame bits) (rounds_go_on plan query frame bits have choose taken_is named long readable) (λ column plane. Unit {0}) (λ column plane. inl tt) reads rounds (λ round h. tt))
+  where
+    by : HasOutcome (rounds_of plan query frame bits) (rounds_go_on plan query frame bits have choose taken_is named long readable) (λ column plane. Unit {0}) (λ column plane. inl tt) reads →
+        (rest : List ℕ) × (AreAllRounds plan query frame bits (reads ++ rest) ⊎ ((column plane row : ℕ) × IsRefused (rounds_of plan query frame bits) (reads ++ rest) column plane row))
+    by (rest, ended, ends) = (rest, inl ends.come)
+    by (rest, unreadable column plane, ends) = absurd (ends.come.1 tt)
+    by (rest, refused column plane row, ends) = (rest, inr (column, plane, row, ends.come.0))
 
 pub lists_are_read : ListsAreRead
 lists_are_read plan list query frame bits reads is rounds = same_first reads list (listed_at plan query frame bits list reads is rounds)

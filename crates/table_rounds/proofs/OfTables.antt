@@ -11,8 +11,9 @@ use Rattle.query_model.specs.Laws.{PlanesAreTaken, TablesExist, TablesHaveParts}
 use Rattle.query_model.specs.Projection.{projected}
 use Rattle.query_model.specs.declared.query.TypedQuery.{TypedQuery}
 use Rattle.round_engine.specs.Stages.{IsFirstOver, Stage}
+use Rattle.table_rounds.specs.Courses.{number_after}
 use Rattle.table_rounds.specs.Headline.{RoundsAreOfTables, RoundsHaveTables, TablesAreTaken}
-use Rattle.table_rounds.specs.Rounds.{AreRounds, HasPlanes, Planes, counts_after, ending_at, outlook_at, stage_after, stage_by, stage_with}
+use Rattle.table_rounds.specs.Rounds.{AreRounds, HasPlanes, HaveSame, Planes, counts_after, ending_at, outlook_at, stage_after, stage_by, stage_with}
 use Rattle.table_rounds.proofs.Agreeing.{legal_planes_have_tables, planes_tell_stages, table_tells}
 use Rattle.table_rounds.proofs.Counts.{count_there}
 use Rattle.table_rounds.proofs.Going.{take_all}
@@ -27,18 +28,28 @@ counts_grow query reads round c h =
     let few = sum_by-take-le (λ d. cond (d == c) 1 0) reads round in
     omega (arith, here, all, whole, few)
 
+-- over planes of which the same were read the rounds are the same
+module _ (query : TypedQuery) (frame : Frame) (a b : Planes) (reads : List ℕ) (same : HaveSame query (counts_after query reads (length reads)) a b) where
+  pub alike_stages : (round : ℕ) → stage_after query frame a reads round ≡ stage_after query frame b reads round
+  alike_stages round =
+      planes_tell_stages query frame a b (counts_after query reads round) (λ c j h lt. same c j h (let grow = counts_grow query reads round c h in omega (arith, lt, grow)))
+
+  pub alike_rounds : (plan : Plan) → AreRounds plan query frame a reads → AreRounds plan query frame b reads
+  alike_rounds plan rounds = record {
+    going = λ round h. subst (λ s. IsNone (ending_at plan s)) (alike_stages round) (rounds.going round h);
+    chosen = λ round h. subst (λ s. Chooses plan.policy (outlook_at s) (get_or reads round 0)) (alike_stages round) (rounds.chosen round h);
+    legal = λ round h. subst (λ s. IsKnowledge (part_of query frame) s.known) (alike_stages round) (rounds.legal round h);
+  }
+
 module _ (query : TypedQuery) (frame : Frame) (bits : Planes) (reads : List ℕ) (cells : Cells) (has : HasPlanes query frame bits (counts_after query reads (length reads)) cells) where
+  abbrev has_same : HaveSame query (counts_after query reads (length reads)) bits (plane_of frame cells)
+  has_same = λ c j h lt. sym (has.same c j h lt)
+
   pub same_stages : (round : ℕ) → stage_after query frame bits reads round ≡ stage_after query frame (plane_of frame cells) reads round
-  same_stages round =
-      sym (planes_tell_stages query frame (plane_of frame cells) bits (counts_after query reads round)
-      (λ c j h lt. has.same c j h (let grow = counts_grow query reads round c h in omega (arith, lt, grow))))
+  same_stages = alike_stages query frame bits (plane_of frame cells) reads has_same
 
   pub same_rounds : (plan : Plan) → AreRounds plan query frame bits reads → AreRounds plan query frame (plane_of frame cells) reads
-  same_rounds plan rounds = record {
-    going = λ round h. subst (λ s. IsNone (ending_at plan s)) (same_stages round) (rounds.going round h);
-    chosen = λ round h. subst (λ s. Chooses plan.policy (outlook_at s) (get_or reads round 0)) (same_stages round) (rounds.chosen round h);
-    legal = λ round h. subst (λ s. IsKnowledge (part_of query frame) s.known) (same_stages round) (rounds.legal round h);
-  }
+  same_rounds = alike_rounds query frame bits (plane_of frame cells) reads has_same
 
 pub rounds_are_of_tables : RoundsAreOfTables
 rounds_are_of_tables plan query frame bits reads cells rounds has =
@@ -60,8 +71,8 @@ plane_there query frame cells c j h =
 pub tables_are_taken : TablesHaveParts → PlanesAreTaken → TablesAreTaken
 tables_are_taken parts taking plan query frame cells reads column plane row named table refused =
     let part = part_of query frame in
-    let followed = refused.followed in
-    let c = refused.next in
+    let followed = refused.before.followed in
+    let c = refused.before.next in
     let counts = counts_after query reads (length reads) in
     let k = get_or counts c 0 in
     let unread = choice_is_unread plan.policy (outlook_at (stage_after query frame (plane_of frame cells) reads (length reads))) c followed.chosen in
@@ -69,8 +80,8 @@ tables_are_taken parts taking plan query frame cells reads column plane row name
     let are = reads_after plan query frame (plane_of frame cells) reads followed.rounds (length reads) (omega arith) in
     let tells = table_tells taking query frame cells named table counts are in
     let (can, same, next) = taking part (projected query cells) counts c ((parts query frame named).part cells table) are unread.column (has_plane query frame (plane_of frame cells) counts c unread) in
-    let bits : plane_of frame cells column plane ≡ plane_of part (projected query cells) c k =
-    ap (λ i. plane_of frame cells i plane) refused.column_is ∙ ap (plane_of frame cells (get_or query.columns c 0)) refused.plane_is ∙ plane_there query frame cells c k inside in
+    let bits : plane_of frame cells (get_or query.columns c 0) (number_after reads (length reads) c) ≡ plane_of part (projected query cells) c k =
+    ap (plane_of frame cells (get_or query.columns c 0)) (sym (count_there query reads (length reads) c 0 inside)) ∙ plane_there query frame cells c k inside in
     let over : IsFirstOver (stage_with query frame cells counts) c (plane_of part (projected query cells) c k) row =
     subst (λ (s : Stage). IsFirstOver s c (plane_of part (projected query cells) c k) row) tells (subst (λ bs. IsFirstOver (stage_by query frame (plane_of frame cells) counts) c bs row) bits refused.over) in
     over.over (can.legal row over.in_range)

@@ -2,16 +2,17 @@
 use Rattle.std.proofs.Common.{◌⊎◌, ℕ, Bool, true, false, length, refl, sym, ◌∙◌, arith, inl, inr, IsNone, IsFalse}
 use Rattle.std.proofs.lemmas.Bool.{false≢true}
 use Rattle.plane_schedule.proofs.Best.{NoneBelow, WidestBelow, widest_below}
-use Rattle.plane_schedule.proofs.Same.{AreSame, same_choice, turned, unread_there}
-use Rattle.plane_schedule.specs.Choices.{Chooses, HasChoice, HasUnread, IsUnread, outlook_of}
+use Rattle.plane_schedule.proofs.Same.{AreSame}
+use Rattle.plane_schedule.specs.Choices.{HasUnread, IsUnread, outlook_of}
 use Rattle.plane_schedule.specs.Plans.{first_ending}
-use Rattle.plane_schedule.specs.declared.policy.Policy.{Policy}
 use Rattle.plane_schedule.specs.declared.progress.Progress.{Progress}
 use Rattle.round_engine.specs.Narrowness.{is_narrow}
 use Rattle.round_engine.specs.Progresses.{IsProgress}
 use Rattle.round_engine.specs.Stages.{HasPlane, Stage}
+use Rattle.table_rounds.specs.Courses.{Tells}
 use Rattle.table_rounds.specs.Headline.{FullStagesAreNarrow, RoundsHavePlanes}
 use Rattle.table_rounds.specs.Rounds.{outlook_at, unread_of}
+use Rattle.table_rounds.proofs.Courses.{tells_of}
 
 -- a progress tells a policy what the stage does
 pub same_outlook : (stage : Stage) (p : Progress) → IsProgress stage p → AreSame (outlook_of p) (outlook_at stage)
@@ -26,14 +27,8 @@ same_outlook stage p is = record {
   read = is.done;
 }
 
-pub choice_there : (policy : Policy) (stage : Stage) (p : Progress) → IsProgress stage p → HasChoice policy (outlook_at stage) → HasChoice policy (outlook_of p)
-choice_there policy stage p is (c, chosen) = (c, same_choice policy (outlook_at stage) (outlook_of p) (turned (outlook_of p) (outlook_at stage) (same_outlook stage p is)) c chosen)
-
-pub choice_back : (policy : Policy) (stage : Stage) (p : Progress) (c : ℕ) → IsProgress stage p → Chooses policy (outlook_of p) c → Chooses policy (outlook_at stage) c
-choice_back policy stage p c is chosen = same_choice policy (outlook_of p) (outlook_at stage) (same_outlook stage p is) c chosen
-
-pub unread_back : (stage : Stage) (p : Progress) (c : ℕ) → IsProgress stage p → IsUnread (outlook_of p) c → IsUnread (outlook_at stage) c
-unread_back stage p c is unread = unread_there (outlook_of p) (outlook_at stage) (same_outlook stage p is) c unread
+pub tells : (stage : Stage) (p : Progress) → IsProgress stage p → Tells (outlook_at stage) p
+tells stage p is = tells_of (outlook_at stage) p is.sound (same_outlook stage p is)
 
 pub unread_has_plane : (stage : Stage) (c : ℕ) → IsUnread (outlook_at stage) c → HasPlane stage c
 unread_has_plane stage c is = record { column = is.column; unread = (let u = is.unread in omega (arith, u)) }

@@ -32,8 +32,9 @@ use Rattle.round_engine.specs.Narrowness.{is_narrow}
 use Rattle.round_engine.specs.Progresses.{planes_read}
 use Rattle.round_engine.specs.Promises.{IsCertain, IsCertainKey, IsCertainStanding, LiesWithin, StandingsStay}
 use Rattle.round_engine.specs.Stages.{Stage, opened}
-use Rattle.table_rounds.specs.Rounds.{AreAllRounds, AreRefused, AreRounds, HasPlanes, HaveRows, HaveSame, IsAfter}
-use Rattle.table_rounds.specs.Rounds.{Planes, counts_after, ending_at, outlook_at, stage_after, stage_by, stage_with}
+use Rattle.table_rounds.specs.Courses.{IsRefused}
+use Rattle.table_rounds.specs.Rounds.{AreAllRounds, AreRounds, HasPlanes, HaveRows, HaveSame, IsAfter}
+use Rattle.table_rounds.specs.Rounds.{Planes, counts_after, ending_at, outlook_at, rounds_of, stage_after, stage_by, stage_with}
 
 -- the planes of the query's columns, of all together
 abbrev pub all_planes : TypedQuery → Frame → ℕ
@@ -192,14 +193,14 @@ RoundsHaveAnEnd =
     (plan : Plan) (query : TypedQuery) (frame : Frame) (bits : Planes) (reads : List ℕ) → NamesColumns query frame → HaveRows frame bits →
     IsReadable plan.policy (projected_frame query frame) → AreRounds plan query frame bits reads →
     (rest : List ℕ) × (AreAllRounds plan query frame bits (reads ++ rest)
-    ⊎ ((column plane row : ℕ) × AreRefused plan query frame bits (reads ++ rest) column plane row))
+    ⊎ ((column plane row : ℕ) × IsRefused (rounds_of plan query frame bits) (reads ++ rest) column plane row))
 
 -- no plane of a table is refused
 abbrev pub TablesAreTaken : Type 0
 TablesAreTaken =
     (plan : Plan) (query : TypedQuery) (frame : Frame) (cells : Cells) (reads : List ℕ) (column plane row : ℕ) →
     NamesColumns query frame → IsTable frame cells →
-    AreRefused plan query frame (plane_of frame cells) reads column plane row → ⊥
+    IsRefused (rounds_of plan query frame (plane_of frame cells)) reads column plane row → ⊥
 
 -- the bounds of all rounds are certain, of each table that has the planes read
 abbrev pub RoundsAreCertain : Type 0

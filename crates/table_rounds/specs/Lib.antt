@@ -1,4 +1,6 @@
+pub mod Courses
 pub mod Rounds
 pub mod Headline
-pub mod Sources
 pub mod Outcomes
+pub mod Steps
+pub mod SessionLaws

@@ -1,13 +1,13 @@
 -- The rounds of a query over the planes of a table by a plan: which column is read next, what is known after each, and which is the last.
 -- The frames and cells here are those of whole tables. Round 0 is nothing read, and each later one reads the next plane of a column of
 -- the query.
-use Rattle.std.specs.Prelude.{◌≡◌, ℕ, zero, suc, ◌-◌, ◌<◌, ◌≤◌, ◌==◌, Bool, List}
-use Rattle.std.specs.Prelude.{length, map, replicate, take, slice_get, slice_index, count_by, IsSome, IsNone}
+use Rattle.std.specs.Prelude.{◌≡◌, ℕ, zero, suc, ◌-◌, ◌<◌, ◌==◌, Bool, List}
+use Rattle.std.specs.Prelude.{length, map, replicate, take, slice_get, slice_index, count_by}
 use Rattle.std.specs.declared.option.Option.{Option}
 use Rattle.std.specs.declared.option.Option.TheVariants.{Some, None}
 use Rattle.std.specs.List.{range_with_len, sum}
 use Rattle.daq_table.specs.Tables.{Cells, Frame, IsTable, ends_at, planes}
-use Rattle.plane_schedule.specs.Choices.{Chooses, Outlook}
+use Rattle.plane_schedule.specs.Choices.{Outlook}
 use Rattle.plane_schedule.specs.Plans.{ending_of}
 use Rattle.plane_schedule.specs.declared.policy.Ending.{Ending}
 use Rattle.plane_schedule.specs.declared.policy.Plan.{Plan}
@@ -17,6 +17,7 @@ use Rattle.query_model.specs.declared.query.TypedQuery.{TypedQuery}
 use Rattle.round_engine.specs.Narrowness.{is_narrow}
 use Rattle.round_engine.specs.Progresses.{gives_values, planes_read, possible_rows, role_of, taken_of, unknown_rows}
 use Rattle.round_engine.specs.Stages.{IsFirstOver, Stage}
+use Rattle.table_rounds.specs.Courses.{AreAllReads, AreReads, Course, number_after}
 
 -- the planes of a table, by its columns and the numbers of their planes: a bit for each row
 abbrev pub Planes : Type 0
@@ -92,34 +93,24 @@ outlook_at stage = record {
 abbrev pub ending_at : Plan → Stage → Option Ending
 ending_at plan stage = ending_of plan (is_narrow plan.width stage) (planes_read stage.known)
 
--- the rounds so far read these columns: none of them was the last, each next one reads the column that the policy chooses, and what was
--- read is legal: each prefix is that of some cell
-pub record AreRounds (plan : Plan) (query : TypedQuery) (frame : Frame) (bits : Planes) (reads : List ℕ) : Type 0 where
-  pub going : (round : ℕ) → round < length reads → IsNone (ending_at plan (stage_after query frame bits reads round))
-  pub chosen : (round : ℕ) → round < length reads →
-      Chooses plan.policy (outlook_at (stage_after query frame bits reads round)) (slice_index reads round)
-  pub legal : (round : ℕ) → round ≤ length reads →
-      IsKnowledge (projected_frame query frame) (stage_after query frame bits reads round).known
+-- the course of the rounds
+abbrev pub rounds_of : Plan → TypedQuery → Frame → Planes → Course
+rounds_of plan query frame bits = record {
+  policy = plan.policy;
+  ending = λ reads round. ending_at plan (stage_after query frame bits reads round);
+  outlook = λ reads round. outlook_at (stage_after query frame bits reads round);
+  legal = λ reads round. IsKnowledge (projected_frame query frame) (stage_after query frame bits reads round).known;
+  place = slice_index query.columns;
+  over = λ reads c. let plane = bits (slice_index query.columns c) (number_after reads (length reads) c) in
+      IsFirstOver (stage_after query frame bits reads (length reads)) c plane;
+}
 
--- all rounds read these columns: the rounds end with the last of them
-pub record AreAllRounds (plan : Plan) (query : TypedQuery) (frame : Frame) (bits : Planes) (reads : List ℕ) : Type 0 where
-  pub rounds : AreRounds plan query frame bits reads
-  pub ended : IsSome (ending_at plan (stage_after query frame bits reads (length reads)))
+-- the rounds so far read these columns, and all do
+abbrev pub AreRounds : Plan → TypedQuery → Frame → Planes → List ℕ → Type 0
+AreRounds plan query frame bits = AreReads (rounds_of plan query frame bits)
 
--- the rounds so far read these columns, and go on: the next one reads this column
-pub record AreFollowed (plan : Plan) (query : TypedQuery) (frame : Frame) (bits : Planes) (reads : List ℕ) (next : ℕ) : Type 0 where
-  pub rounds : AreRounds plan query frame bits reads
-  pub going : IsNone (ending_at plan (stage_after query frame bits reads (length reads)))
-  pub chosen : Chooses plan.policy (outlook_at (stage_after query frame bits reads (length reads))) next
-
--- the next plane is this one of the table, and is refused: at this row first its prefix would be that of no cell
-pub record AreRefused (plan : Plan) (query : TypedQuery) (frame : Frame) (bits : Planes) (reads : List ℕ)
-    (column plane row : ℕ) : Type 0 where
-  pub next : ℕ
-  pub followed : AreFollowed plan query frame bits reads next
-  pub column_is : column ≡ slice_index query.columns next
-  pub plane_is : plane ≡ slice_index (counts_after query reads (length reads)) next
-  pub over : IsFirstOver (stage_after query frame bits reads (length reads)) next (bits column plane) row
+abbrev pub AreAllRounds : Plan → TypedQuery → Frame → Planes → List ℕ → Type 0
+AreAllRounds plan query frame bits = AreAllReads (rounds_of plan query frame bits)
 
 -- the column that a round read: none in round 0
 abbrev pub column_read : List ℕ → ℕ → Option ℕ

@@ -1,11 +1,10 @@
-//! The rounds of a query by a plan: what holds of them over planes, and over a table, and the step that reads the next plane from a source
-//! of planes.
+//! Courses of reads over the planes of a table by a plan: the rounds of a query, and the steps of a session. What holds of them over
+//! planes, and over a table.
 #![tactic(auto)]
 
 mod laws;
 mod longs;
-mod reading;
-mod source;
+mod session_laws;
 
 pub use laws::{
     full_stages_are_narrow, legal_planes_have_tables, lists_are_read, planes_tell_stages,
@@ -14,5 +13,7 @@ pub use laws::{
     tables_tell_stages,
 };
 pub use longs::heads_are_of_longs;
-pub use reading::{StepFault, ending, read_next};
-pub use source::PlaneSource;
+pub use session_laws::{
+    queries_stand_alone, sessions_are_certain, sessions_are_one, sessions_are_short,
+    sessions_begin, sessions_have_an_end,
+};

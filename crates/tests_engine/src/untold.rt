@@ -5,19 +5,19 @@ ghost use Rattle.std.specs.List.{AllByRecursion};
 ghost use Rattle.daq_table.specs.declared.head.Kind.TheVariants.{Int};
 ghost use Rattle.daq_table.specs.Tables.{ends_at, frame_of};
 ghost use Rattle.query_model.specs.Validity.{FitsHead, IsValid};
-ghost use Rattle.session_rounds.specs.Reading.{FitsSession};
+ghost use Rattle.table_rounds.specs.Steps.{FitsSession};
 
 use crate::sessions::three_queries;
 use crate::small::{item, question, small_head};
 use daq_table::{Head, width};
 use multi_session::{Session, SessionFault};
+use plane_course::{PlaneSource, StepFault, ending, read_next, session_ending};
 use plane_kernels::{Plane, transpose};
 use plane_schedule::{Chooser, Plan, Progress, widest};
 use query_model::{Atom, Comparison, Expr, Face, ItemKind, Pred, TypedQuery};
 use round_engine::Engine;
 use std::alloc::{AllocError, Global};
 use std::test::Fail;
-use table_rounds::{PlaneSource, StepFault, ending, read_next};
 
 // A head, and numbers for two columns, of which some may be above the top. It fails where it is told to.
 #[derive(Drop)]
@@ -172,10 +172,10 @@ fn next_of_session(
     ensures fits { FitsSession session.new source.new.head }
     ensures rows { length plane.new ≡ session.new.rows }
 {
-    let None = session_rounds::ending(session, &Plan::widest()) else {
+    let None = session_ending(session, &Plan::widest()) else {
         return Ok(None);
     };
-    match session_rounds::read_next(
+    match read_next(
         session,
         source,
         &Chooser::new(|p: &Progress| widest(p)),

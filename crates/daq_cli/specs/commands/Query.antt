@@ -1,37 +1,32 @@
 -- `query`: a question to the table whose planes a file holds. Its head is read, and then the planes of the rounds, and nothing else.
-use Rattle.std.specs.Prelude.{◌≡◌, ◌⊎◌, ℕ, ◌≤◌, List, IfSome, IsSome, IsNone, length, option_map, Some}
+use Rattle.std.specs.Prelude.{◌≡◌, ◌⊎◌, ℕ, ◌≤◌, List, length, Some}
 use Rattle.std.specs.declared.option.Option.{Option}
-use Rattle.std.specs.declared.option.Option.TheVariants.{None}
-use Rattle.std.specs.declared.result.Result.{Result}
 use Rattle.command_line.specs.Commands.{Options}
 use Rattle.command_line.specs.Commands as line
 use Rattle.daq_table.specs.Tables.{Contents, frame_of}
 use Rattle.daq_table.specs.declared.table_head.Head.{Head}
-use Rattle.file_rounds.specs.Told.{IsUnpadded, bits_at}
-use Rattle.outer_world.specs.Device.{Rose, SinkState, StoreState}
-use Rattle.outer_world.specs.Whole.{HoldsSame, laid}
+use Rattle.plane_course.specs.Told.{IsUnpadded, bits_at}
+use Rattle.outer_world.specs.Device.{SinkState, StoreState}
+use Rattle.outer_world.specs.Whole.{HoldsSame}
 use Rattle.plane_file.specs.Format.{IsFileOf}
 use Rattle.plane_file.specs.Opening.{Opened, Opens}
-use Rattle.plane_file.specs.Places.{plane_places}
-use Rattle.plane_file.specs.Reading.{StopsReading}
 use Rattle.plane_file.specs.declared.plane_fault.PlaneFault.{PlaneFault}
 use Rattle.plane_schedule.specs.declared.policy.Plan.{Plan}
 use Rattle.query_model.specs.declared.query.TypedQuery.{TypedQuery}
 use Rattle.sql_print.specs.Printed.{printed}
 use Rattle.sql_text.specs.Answer.{IsText}
 use Rattle.sql_text.specs.Tree as sql
-use Rattle.table_rounds.specs.Outcomes.{EndIn, Outcome, ended, refused, unreadable}
-use Rattle.table_rounds.specs.Sources.{OnFailed}
-use Rattle.table_rounds.specs.declared.reading.StepFault.{StepFault}
-use Rattle.daq_cli.specs.Faults as of
+use Rattle.table_rounds.specs.Outcomes.{EndIn, Outcome, ended}
+use Rattle.table_rounds.specs.Rounds.{rounds_of}
+use Rattle.plane_course.specs.declared.reading.StepFault.{StepFault}
+use Rattle.daq_cli.specs.FileReports.{FileReport, IsCutOff, IsReported, IsStopped, refusal_at}
 use Rattle.daq_cli.specs.Files.{StopsOpening, file_step}
 use Rattle.daq_cli.specs.OfTables.{AreCertainOf, AreOfTables}
 use Rattle.daq_cli.specs.Questions.{Asked, IsAnswerable, IsPlanned, IsReport, ShowsQuestion, asked_with, question_of, sql_step}
-use Rattle.daq_cli.specs.Report.{CausesAfter, EndsRounds, Fails, FailsOverSome, Finishes, Stops, WritesOverSome, query_line, report}
+use Rattle.daq_cli.specs.Report.{query_line, report, shown_rounds}
 use Rattle.daq_cli.specs.Steps.{Step, then}
 use Rattle.daq_cli.specs.declared.refusal.Refusal.{Refusal}
-use Rattle.daq_cli.specs.declared.refusal.Refusal.TheVariants.{PadBits, OverTop, WriteFault, NoMemory}
-use Rattle.daq_cli.specs.declared.stop.Stop.{Stop}
+use Rattle.daq_cli.specs.declared.refusal.Refusal.TheVariants.{WriteFault, NoMemory}
 
 -- ---- the steps
 
@@ -51,18 +46,12 @@ pub record EndsIn (asked : Asked) (bytes : List ℕ) (outcome : Outcome) : Type 
   pub plan : Plan
   pub planned : IsPlanned asked typed plan
   pub reads : List ℕ
-  pub ends : EndIn plan typed (frame_of asked.head) (bits_at asked.head bytes) (IsUnpadded asked.head bytes) reads outcome
+  pub ends : EndIn (rounds_of plan typed (frame_of asked.head) (bits_at asked.head bytes)) (IsUnpadded asked.head bytes) reads outcome
 
 -- they have a last one, and this is the report of all
 pub record IsFileReport (asked : Asked) (bytes text : List ℕ) : Type 0 where
   pub rounds : EndsIn asked bytes ended
   pub is : text ≡ report (printed asked.query) asked.head rounds.plan rounds.typed (bits_at asked.head bytes) rounds.reads
-
--- a plane at which rounds stop is refused
-abbrev pub refusal_at : Outcome → Option Refusal
-refusal_at ended = None
-refusal_at (unreadable column plane) = Some (PadBits column plane)
-refusal_at (refused column plane row) = Some (OverTop column plane row)
 
 -- they stop at this plane
 pub record ShowsPlane (asked : Asked) (bytes : List ℕ) (why : Refusal) : Type 0 where
@@ -104,58 +93,30 @@ pub record Begins (words : line.Query) (planes opened : StoreState) : Type 0 whe
   pub plan : Plan
   pub planned : IsPlanned (asked_with query words.options file.head) typed plan
 
--- why a plane is not read, behind the opening, with these places handed over before
-abbrev pub StopsAfter : Head → StoreState → StoreState → CausesAfter PlaneFault
-StopsAfter head opened last at column number fault =
-    (mid : StoreState) × HoldsSame opened mid × (option_map laid mid.pieces ≡ at) × StopsReading head column number mid last fault
+-- what the report is of tables: that of each table that has the planes read; and where the bytes are the file of a table, the report of
+-- the question to that table, which `ask` writes
+pub record AreAsked (words : line.Query) (planes opened : StoreState) (begun : Begins words planes opened) (bytes reads : List ℕ)
+    : Type 0 where
+  pub tables : AreOfTables begun.file.head begun.plan begun.typed bytes reads
+  pub as_asked : (version : ℕ) (table : Contents) → IsFileOf bytes version table →
+      IsReport (question_of begun.query words.options table)
+      (report (printed begun.query) begun.file.head begun.plan begun.typed (bits_at begun.file.head bytes) reads)
 
--- what becomes of rounds over the store of a file with that head, where it tells its bytes, behind the line of the query
-abbrev pub EndsFile : List ℕ → Plan → TypedQuery → Head → Result (Unit {0}) (Stop PlaneFault) → StoreState → StoreState
-    → SinkState → SinkState → Type 0
-EndsFile text plan typed head result opened last out out' =
-    IfSome opened.held (λ bytes. EndsRounds (query_line text) head plan typed (bits_at head bytes) (plane_places head)
-    (IsUnpadded head bytes) (StopsAfter head opened last) result out out' (option_map laid opened.pieces) (option_map laid last.pieces))
+-- the report of the question
+abbrev pub report_of : (words : line.Query) (planes opened : StoreState) → Begins words planes opened → FileReport
+report_of words planes opened begun = record {
+  head = begun.file.head;
+  line = query_line (printed begun.query);
+  shown = shown_rounds begun.file.head begun.plan begun.typed;
+  sure = AreCertainOf begun.typed (frame_of begun.file.head);
+  of_tables = AreAsked words planes opened begun;
+}
 
-module _ (words : line.Query) (planes opened planes' : StoreState) (out out' : SinkState) (begun : Begins words planes opened)
-    (bytes : List ℕ) where
-  -- the report of all rounds was written, each of whose intervals is certain; behind the head the places of the planes read were handed
-  -- over, each once, in order, and no others; and none of these has a bit past its last row. The report is that of each table that has
-  -- the planes read; and where the bytes are the file of a table, it is the report of the question to that table, which `ask` writes
-  pub record Completed : Type 0 where
-    pub rounds : Finishes (query_line (printed begun.query)) begun.file.head begun.plan begun.typed (bits_at begun.file.head bytes)
-        (plane_places begun.file.head) (IsUnpadded begun.file.head bytes) out out'
-        (option_map laid opened.pieces) (option_map laid planes'.pieces)
-    pub headline : AreCertainOf begun.typed (frame_of begun.file.head) (bits_at begun.file.head bytes) rounds.reads
-    pub tables : AreOfTables begun.file.head begun.plan begun.typed bytes rounds.reads
-    pub as_asked : (version : ℕ) (table : Contents) → IsFileOf bytes version table →
-        IsReport (question_of begun.query words.options table)
-        (report (printed begun.query) begun.file.head begun.plan begun.typed (bits_at begun.file.head bytes) rounds.reads)
-
-  -- a write failed in the last of these rounds, for which no plane past theirs was read
-  pub record CutOff : Type 0 where
-    pub rounds : Fails (query_line (printed begun.query)) begun.file.head begun.plan begun.typed (bits_at begun.file.head bytes)
-        (plane_places begun.file.head) (IsUnpadded begun.file.head bytes) out out'
-        (option_map laid opened.pieces) (option_map laid planes'.pieces)
-    pub headline : AreCertainOf begun.typed (frame_of begun.file.head) (bits_at begun.file.head bytes) rounds.reads
-
-  -- the plane after these rounds, whose blocks were written, was not read, or is refused
-  pub record Stopped (fault : StepFault PlaneFault) : Type 0 where
-    pub rounds : Stops (query_line (printed begun.query)) begun.file.head begun.plan begun.typed (bits_at begun.file.head bytes)
-        (plane_places begun.file.head) (IsUnpadded begun.file.head bytes) (StopsAfter begun.file.head opened planes') fault out out'
-        (option_map laid opened.pieces) (option_map laid planes'.pieces)
-    pub headline : AreCertainOf begun.typed (frame_of begun.file.head) (bits_at begun.file.head bytes) rounds.reads
-
--- a `query` was done. Told or not, the report is that of all rounds over some planes
+-- a `query` was done
 pub record Queries (words : line.Query) (planes planes' : StoreState) (out out' : SinkState) : Type 0 where
   pub opened : StoreState
   pub begun : Begins words planes opened
-  pub written : WritesOverSome (query_line (printed begun.query)) begun.file.head begun.plan begun.typed IsSome out out'
-  pub completed : IfSome planes.held (Completed words planes opened planes' out out' begun)
-
--- why a plane behind the opening is not read, told or not
-abbrev pub PlaneCause : Head → StoreState → StoreState → StepFault PlaneFault → Type 0
-PlaneCause head opened last fault =
-    OnFailed fault (λ error. (at : Option (List ℕ)) × (column : ℕ) × (number : ℕ) × StopsAfter head opened last at column number error)
+  pub reported : IsReported (report_of words planes opened begun) planes opened planes' out out'
 
 -- why a `query` stops. Before its first round nothing was written; from then on, told or not, rounds over some planes, and in a failed
 -- write a part of the last
@@ -165,13 +126,10 @@ pub data QueryCause (words : line.Query) (planes planes' : StoreState) (out out'
       QueryCause words planes planes' out out' why
   at_question : {why : Refusal} (query : sql.Query) (file : Opened) → IsText words.sql query → Opens planes planes' file →
       ShowsQuestion (asked_with query words.options file.head) why → out' ≡ out → QueryCause words planes planes' out out' why
-  at_write : (opened : StoreState) (begun : Begins words planes opened) → Rose out.faults out'.faults →
-      FailsOverSome (query_line (printed begun.query)) begun.file.head begun.plan begun.typed out out' →
-      IfSome planes.held (CutOff words planes opened planes' out out' begun) → QueryCause words planes planes' out out' WriteFault
+  at_write : (opened : StoreState) (begun : Begins words planes opened) →
+      IsCutOff (report_of words planes opened begun) planes opened planes' out out' → QueryCause words planes planes' out out' WriteFault
   at_plane : {why : Refusal} (opened : StoreState) (begun : Begins words planes opened) (fault : StepFault PlaneFault) →
-      why ≡ of.step fault → PlaneCause begun.file.head opened planes' fault →
-      WritesOverSome (query_line (printed begun.query)) begun.file.head begun.plan begun.typed IsNone out out' →
-      IfSome planes.held (λ bytes. Stopped words planes opened planes' out out' begun bytes fault) →
+      IsStopped (report_of words planes opened begun) planes opened planes' out out' fault why →
       QueryCause words planes planes' out out' why
   no_memory : length words.sql ≤ 4096 → (planes' ≡ planes ⊎ ((file : Opened) × Opens planes planes' file)) → out' ≡ out →
       QueryCause words planes planes' out out' NoMemory

@@ -1,46 +1,40 @@
 -- `session`: the queries of a script over the planes that a file holds. Each plane is read once, for all queries that await it.
-use Rattle.std.specs.Prelude.{◌≡◌, ◌≢◌, ◌⊎◌, ℕ, List, IfSome, IsSome, IsNone, length, map, option_map, slice_get, Some}
+use Rattle.std.specs.Prelude.{◌≡◌, ◌≢◌, ◌⊎◌, ℕ, List, length, map, slice_get, Some}
 use Rattle.std.specs.declared.option.Option.{Option}
 use Rattle.std.specs.declared.option.Option.TheVariants.{None}
-use Rattle.std.specs.declared.result.Result.{Result}
 use Rattle.command_line.specs.Commands.{Options, ReadOrder}
 use Rattle.command_line.specs.Commands as line
 use Rattle.daq_table.specs.Tables.{frame_of}
 use Rattle.daq_table.specs.declared.table_head.Head.{Head}
-use Rattle.file_rounds.specs.Told.{IsUnpadded, bits_at}
+use Rattle.plane_course.specs.Told.{IsUnpadded, bits_at}
 use Rattle.multi_session.specs.Limits.{limit_passed}
 use Rattle.multi_session.specs.declared.limits.SessionFault.{SessionFault}
-use Rattle.outer_world.specs.Device.{Rose, SinkState, SourceState, StoreState}
-use Rattle.outer_world.specs.Whole.{HoldsSame, laid}
+use Rattle.outer_world.specs.Device.{SinkState, SourceState, StoreState}
+use Rattle.outer_world.specs.Whole.{HoldsSame}
 use Rattle.plane_file.specs.Opening.{Opened, Opens}
-use Rattle.plane_file.specs.Places.{plane_places}
 use Rattle.plane_file.specs.declared.plane_fault.PlaneFault.{PlaneFault}
 use Rattle.plane_schedule.specs.declared.policy.Plan.{Plan}
 use Rattle.plane_schedule.specs.declared.policy.Policy.{Policy}
 use Rattle.plane_schedule.specs.declared.policy.Policy.TheVariants as p
 use Rattle.query_model.specs.declared.query.TypedQuery.{TypedQuery}
-use Rattle.session_rounds.specs.Outcomes.{EndIn}
-use Rattle.session_rounds.specs.Steps.{own_reads, places_read}
+use Rattle.table_rounds.specs.Steps.{own_reads, places_read, steps_of}
 use Rattle.sql_print.specs.Printed.{printed}
 use Rattle.sql_typing.specs.Refusals as typing
 use Rattle.sql_typing.specs.Refusals.{IsTyped}
 use Rattle.sql_typing.specs.declared.fault.TypeFault.{TypeFault}
 use Rattle.sql_typing.specs.declared.fault.TypeFault.TheVariants as y
-use Rattle.table_rounds.specs.Outcomes.{Outcome, ended}
+use Rattle.table_rounds.specs.Outcomes.{EndIn, Outcome, ended}
 use Rattle.table_rounds.specs.Rounds.{Planes}
-use Rattle.table_rounds.specs.declared.reading.StepFault.{StepFault}
-use Rattle.daq_cli.specs.Faults as of
+use Rattle.plane_course.specs.declared.reading.StepFault.{StepFault}
+use Rattle.daq_cli.specs.FileReports.{FileReport, IsCutOff, IsReported, IsStopped, refusal_at}
 use Rattle.daq_cli.specs.Files.{StopsOpening, file_step}
 use Rattle.daq_cli.specs.OfTables.{AllAreOfTables, AreCertainOf}
 use Rattle.daq_cli.specs.Questions.{extras_of}
 use Rattle.daq_cli.specs.Scripts.{ReadsScript, ScriptCause, Scripted, queries_step}
-use Rattle.daq_cli.specs.SessionReport.{EndsSession, FailsSession, FailsStepsOverSome, FinishesSession}
-use Rattle.daq_cli.specs.SessionReport.{StopsSession, WritesStepsOverSome, queries_lines, session_report}
+use Rattle.daq_cli.specs.SessionReport.{queries_lines, session_report, shown_steps}
 use Rattle.daq_cli.specs.Steps.{Step, each, then}
-use Rattle.daq_cli.specs.commands.Query.{PlaneCause, StopsAfter, refusal_at}
 use Rattle.daq_cli.specs.declared.refusal.Refusal.{Refusal}
 use Rattle.daq_cli.specs.declared.refusal.Refusal.TheVariants.{LineTyping, Session, WriteFault, NoMemory}
-use Rattle.daq_cli.specs.declared.stop.Stop.{Stop}
 
 -- ---- the steps
 
@@ -109,7 +103,7 @@ pub record StepsEndIn (options : Options) (asked : AskedTogether) (bytes : List 
   pub plan : Plan
   pub planned : IsSessionPlan options plan
   pub reads : List ℕ
-  pub ends : EndIn plan asked.typed asked.head (bits_at asked.head bytes) (IsUnpadded asked.head bytes) reads outcome
+  pub ends : EndIn (steps_of plan asked.typed asked.head (bits_at asked.head bytes)) (IsUnpadded asked.head bytes) reads outcome
 
 -- they have a last one, and this is the report of all
 pub record IsSessionReport (options : Options) (asked : AskedTogether) (bytes text : List ℕ) : Type 0 where
@@ -164,45 +158,23 @@ AreAllCertain plan queries head bits reads =
     (n : ℕ) (query : TypedQuery) → slice_get queries n ≡ Some query →
     AreCertainOf query (frame_of head) bits (own_reads plan.width (frame_of head) bits (places_read queries reads) query (length reads))
 
--- what becomes of the steps over the store of a file with that head, where it tells its bytes, behind the lines of these queries
-abbrev pub EndsSteps : List (List ℕ) → Plan → List TypedQuery → Head → Result (Unit {0}) (Stop PlaneFault) → StoreState → StoreState
-    → SinkState → SinkState → Type 0
-EndsSteps sqls plan queries head result opened last out out' =
-    IfSome opened.held (λ bytes. EndsSession (queries_lines sqls) head plan queries (bits_at head bytes) (plane_places head)
-    (IsUnpadded head bytes) (StopsAfter head opened last) result out out' (option_map laid opened.pieces) (option_map laid last.pieces))
+-- the report of the queries. What is shown of each are the blocks of its report alone, which is that of each table that has the planes
+-- that it read, as the table has whose file the bytes are
+abbrev pub report_of : (words : line.Session) (side side' : SourceState) (planes opened : StoreState) →
+    BeginsSteps words side side' planes opened → FileReport
+report_of words side side' planes opened begun = record {
+  head = begun.file.head;
+  line = queries_lines (printed_forms begun.queries);
+  shown = shown_steps begun.file.head begun.plan begun.typed;
+  sure = AreAllCertain begun.plan begun.typed begun.file.head;
+  of_tables = AllAreOfTables begun.plan begun.typed begun.file.head;
+}
 
-module _ (words : line.Session) (side side' : SourceState) (planes opened planes' : StoreState) (out out' : SinkState)
-    (begun : BeginsSteps words side side' planes opened) (bytes : List ℕ) where
-  -- the report of all steps was written, each of whose intervals is certain; behind the head the places of the planes read were handed
-  -- over, each once, in order, and no others; and none of these has a bit past its last row. What is shown of each query are the blocks of
-  -- its report alone, which is that of each table that has the planes that it read, as the table has whose file the bytes are
-  pub record Completed : Type 0 where
-    pub steps : FinishesSession (queries_lines (printed_forms begun.queries)) begun.file.head begun.plan begun.typed
-        (bits_at begun.file.head bytes) (plane_places begun.file.head) (IsUnpadded begun.file.head bytes) out out'
-        (option_map laid opened.pieces) (option_map laid planes'.pieces)
-    pub headline : AreAllCertain begun.plan begun.typed begun.file.head (bits_at begun.file.head bytes) steps.reads
-    pub tables : AllAreOfTables begun.plan begun.typed begun.file.head bytes steps.reads
-
-  -- a write failed in the last of these steps, for which no plane past theirs was read
-  pub record CutOff : Type 0 where
-    pub steps : FailsSession (queries_lines (printed_forms begun.queries)) begun.file.head begun.plan begun.typed
-        (bits_at begun.file.head bytes) (plane_places begun.file.head) (IsUnpadded begun.file.head bytes) out out'
-        (option_map laid opened.pieces) (option_map laid planes'.pieces)
-    pub headline : AreAllCertain begun.plan begun.typed begun.file.head (bits_at begun.file.head bytes) steps.reads
-
-  -- the plane after these steps, whose blocks were written, was not read, or is refused
-  pub record Stopped (fault : StepFault PlaneFault) : Type 0 where
-    pub steps : StopsSession (queries_lines (printed_forms begun.queries)) begun.file.head begun.plan begun.typed
-        (bits_at begun.file.head bytes) (plane_places begun.file.head) (IsUnpadded begun.file.head bytes)
-        (StopsAfter begun.file.head opened planes') fault out out' (option_map laid opened.pieces) (option_map laid planes'.pieces)
-    pub headline : AreAllCertain begun.plan begun.typed begun.file.head (bits_at begun.file.head bytes) steps.reads
-
--- a `session` was done. Told or not, the report is that of all steps over some planes
+-- a `session` was done
 pub record Sessions (words : line.Session) (side side' : SourceState) (planes planes' : StoreState) (out out' : SinkState) : Type 0 where
   pub opened : StoreState
   pub begun : BeginsSteps words side side' planes opened
-  pub written : WritesStepsOverSome (queries_lines (printed_forms begun.queries)) begun.file.head begun.plan begun.typed IsSome out out'
-  pub completed : IfSome planes.held (Completed words side side' planes opened planes' out out' begun)
+  pub reported : IsReported (report_of words side side' planes opened begun) planes opened planes' out out'
 
 -- why a `session` stops. Before its first step nothing was written; from then on, told or not, steps over some planes, and in a failed
 -- write a part of the last
@@ -216,12 +188,9 @@ pub data SessionCause (words : line.Session) (side side' : SourceState) (planes 
       (together_step queries file.head).shows why → out' ≡ out → SessionCause words side side' planes planes' out out' why
   no_memory : (queries : List Scripted) (file : Opened) → HasOpened side side' planes planes' queries file → out' ≡ out →
       SessionCause words side side' planes planes' out out' NoMemory
-  at_write : (opened : StoreState) (begun : BeginsSteps words side side' planes opened) → Rose out.faults out'.faults →
-      FailsStepsOverSome (queries_lines (printed_forms begun.queries)) begun.file.head begun.plan begun.typed out out' →
-      IfSome planes.held (CutOff words side side' planes opened planes' out out' begun) →
+  at_write : (opened : StoreState) (begun : BeginsSteps words side side' planes opened) →
+      IsCutOff (report_of words side side' planes opened begun) planes opened planes' out out' →
       SessionCause words side side' planes planes' out out' WriteFault
   at_plane : {why : Refusal} (opened : StoreState) (begun : BeginsSteps words side side' planes opened) (fault : StepFault PlaneFault) →
-      why ≡ of.step fault → PlaneCause begun.file.head opened planes' fault →
-      WritesStepsOverSome (queries_lines (printed_forms begun.queries)) begun.file.head begun.plan begun.typed IsNone out out' →
-      IfSome planes.held (λ bytes. Stopped words side side' planes opened planes' out out' begun bytes fault) →
+      IsStopped (report_of words side side' planes opened begun) planes opened planes' out out' fault why →
       SessionCause words side side' planes planes' out out' why

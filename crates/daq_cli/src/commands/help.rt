@@ -4,15 +4,15 @@ ghost use Rattle.std.specs.Prelude.{OnOk, IfErr};
 ghost use Rattle.outer_world.specs.Whole.{Writes};
 ghost use Rattle.daq_cli.specs.Notices.{NoticeCause};
 ghost use Rattle.daq_cli.specs.Worlds.{whole};
-ghost use Rattle.daq_cli.specs.commands.Help.{command_lines, help_text, note_lines, option_lines};
+ghost use Rattle.daq_cli.specs.commands.Help.{help_text};
 
 use crate::refusal::Refusal;
 use outer_world::{Failed, Sink, write_pieces};
 
-// Writes what the program is, and each command.
-#[tactic(auto, unfolding(crate::specs::commands::Help::command_lines))]
-fn write_commands<K: Sink>(out: &mut K) -> Result<(), Failed>
-    ensures { Writes result (K.state out.old) (K.state out.new) command_lines }
+// Writes what the program is, each command and each option, what holds of schemas, and the limits of queries.
+#[tactic(auto, unfolding(crate::specs::commands::Help::help_text))]
+fn write_help<K: Sink>(out: &mut K) -> Result<(), Failed>
+    ensures { Writes result (K.state out.old) (K.state out.new) help_text }
 {
     write_pieces(
         out,
@@ -27,18 +27,6 @@ fn write_commands<K: Sink>(out: &mut K) -> Result<(), Failed>
             b"  daq demo SEED ROWS SQL [OPTION ..]   asks a table that is made from a seed\n",
             b"  daq help                             prints this help, as do daq --help and daq -h\n",
             b"  daq --version                        prints the version, as does daq -V\n\n",
-        ],
-    )
-}
-
-// Writes each option.
-#[tactic(auto, unfolding(crate::specs::commands::Help::option_lines))]
-fn write_options<K: Sink>(out: &mut K) -> Result<(), Failed>
-    ensures { Writes result (K.state out.old) (K.state out.new) option_lines }
-{
-    write_pieces(
-        out,
-        &[
             b"  --width NUMBER    ends once each interval is this narrow, in units of the last digit shown\n",
             b"  --rounds NUMBER   ends after so many planes\n",
             b"  --policy POLICY   which column is read next: widest (the default), order, filter, or balanced\n",
@@ -46,34 +34,12 @@ fn write_options<K: Sink>(out: &mut K) -> Result<(), Failed>
             b"  --list            with ORDER BY, also shows the rows that may be among the first\n",
             b"  --clip            shows the interval of a sum or an extreme whose column the condition clips\n",
             b"  --exact-avg       shows the exact extremes of an average\n\n",
-        ],
-    )
-}
-
-// Writes what holds of schemas, and the limits of queries.
-#[tactic(auto, unfolding(crate::specs::commands::Help::note_lines))]
-fn write_notes<K: Sink>(out: &mut K) -> Result<(), Failed>
-    ensures { Writes result (K.state out.old) (K.state out.new) note_lines }
-{
-    write_pieces(
-        out,
-        &[
             b"A schema names each column of the CSV with its type: int, dec0 to dec9, date or text, and ? where it may be empty:\n\n",
             b"  daq ask shop.csv price:int,qty:int?,city:text 'SELECT city, SUM(price) FROM t WHERE qty > 2 GROUP BY city'\n\n",
             b"The table is always t. A query has at most 16 columns, 16 aggregates, 64 values in an IN, and 1,000 rows behind LIMIT.\n",
             b"A session has at most 16 queries, which name 16 columns together. The manual: man daq\n",
         ],
     )
-}
-
-// Writes all of it.
-#[tactic(auto, unfolding(crate::specs::commands::Help::help_text))]
-fn write_help<K: Sink>(out: &mut K) -> Result<(), Failed>
-    ensures { Writes result (K.state out.old) (K.state out.new) help_text }
-{
-    write_commands(out)?;
-    write_options(out)?;
-    write_notes(out)
 }
 
 // Writes the help. It takes no memory.

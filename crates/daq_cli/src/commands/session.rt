@@ -5,95 +5,61 @@ ghost use Rattle.std.specs.Prelude.{◌≡◌, ◌≢◌, ◌<◌, ◌^◌, ℕ,
 ghost use Rattle.std.specs.List.{All};
 ghost use Rattle.command_line.specs.Commands.{reads};
 ghost use Rattle.command_line.specs.Values.{order_of, session_of};
-ghost use Rattle.file_rounds.specs.Told.{HoldsFile};
+ghost use Rattle.plane_course.specs.Told.{HoldsFile};
 ghost use Rattle.multi_session.specs.Sessions.{session_opened};
 ghost use Rattle.outer_world.specs.Device.{SourceState, StoreState};
 ghost use Rattle.outer_world.specs.Whole.{HoldsSame};
-ghost use Rattle.session_rounds.specs.Laws.{AreValid};
-ghost use Rattle.session_rounds.specs.Steps.{IsUnlisted};
+ghost use Rattle.table_rounds.specs.SessionLaws.{AreValid};
+ghost use Rattle.table_rounds.specs.Steps.{IsUnlisted, queries_of};
 ghost use Rattle.sql_print.specs.Printed.{printed};
 ghost use Rattle.sql_text.specs.Tree.{query_of};
-ghost use Rattle.daq_cli.specs.Report.{HasStopCause};
+ghost use Rattle.daq_cli.specs.FileReports.{EndsFile, StopsAfter};
+ghost use Rattle.daq_cli.specs.Report.{EndsOverSome, HasStopCause};
 ghost use Rattle.daq_cli.specs.ScriptValues.{scripted_of};
 ghost use Rattle.daq_cli.specs.Scripts.{AcceptsScript};
-ghost use Rattle.daq_cli.specs.SessionReport.{EndsStepsOverSome, queries_lines, queries_of};
-ghost use Rattle.daq_cli.specs.commands.Query.{StopsAfter};
-ghost use Rattle.daq_cli.specs.commands.Session.{EndsSteps, HasOpened, SessionCause, Sessions};
+ghost use Rattle.daq_cli.specs.SessionReport.{queries_lines, shown_steps};
+ghost use Rattle.daq_cli.specs.commands.Session.{HasOpened, SessionCause, Sessions};
 
+use crate::course_report::Begun;
+use crate::file_report::report_file;
 use crate::refusal::Refusal;
 use crate::scripts::{Scripted, read_queries};
-use crate::session_report::{queries_are_shown_alone, write_session};
+use crate::session_report::{queries_are_shown_alone, write_queries};
 use crate::stop::Stop;
 use crate::together::prepare_all;
 use command_line::Session as Asked;
-use file_rounds::FilePlanes;
 use multi_session::Session;
 use outer_world::{Sink, Source, Store};
 use plane_file::{PlaneFault, PlaneFile, open};
-use plane_kernels::Plane;
-use plane_schedule::Plan;
 use query_model::valid_queries_name_columns;
-use session_rounds::sessions_are_certain;
 use std::alloc::Global;
-use table_rounds::{heads_are_of_longs, rounds_have_tables};
+use table_rounds::{heads_are_of_longs, rounds_have_tables, sessions_are_certain, sessions_begin};
 
-// Writes the report of a session of queries with those printed forms over a file, on which it was opened. The planes of its steps are read,
-// each before the blocks of its step.
-fn report_planes<P: Store, K: Sink>(
+// Writes the report of a session of queries with those printed forms over a file, on which it was opened.
+fn report_session<P: Store, K: Sink>(
     sqls: &[String],
-    plan: &Plan,
-    session: &mut Session,
-    source: &mut FilePlanes<'_, P>,
-    plane: &mut Plane,
-    out: &mut K,
-) -> Result<(), Stop<PlaneFault>>
-    requires holds { HoldsFile source.old.file.now.head (P.state source.old.store.now) }
-    requires valid { AreValid source.old.file.now.head (queries_of session.old) }
-    requires opened { session.old ≡ session_opened (queries_of session.old) source.old.file.now.head plan.now.width }
-    requires rows { length plane.old ≡ session.old.rows }
-    requires unlisted { IsUnlisted plan.now.policy }
-    ensures same_reference { source.new.store.ghost_name ≡ source.old.store.ghost_name }
-    ensures same { HoldsSame (P.state source.old.store.now) (P.state source.new.store.now) }
-    ensures cause { HasStopCause (StopsAfter source.old.file.now.head (P.state source.old.store.now) (P.state source.new.store.now)) result
-        (K.state out.old) (K.state out.new) }
-    ensures written { EndsStepsOverSome (queries_lines (map string_bytes sqls.now)) source.old.file.now.head plan.now
-        (queries_of session.old) result (K.state out.old) (K.state out.new) }
-    ensures ends { EndsSteps (map string_bytes sqls.now) plan.now (queries_of session.old) source.old.file.now.head result
-        (P.state source.old.store.now) (P.state source.new.store.now) (K.state out.old) (K.state out.new) }
-{
-    // The head's clause says that it can be spelled.
-    let _head = source.file.head();
-    write_session(sqls, plan, session, source, plane, out)
-}
-
-// The same, of a file and a store that holds it.
-fn report_file<P: Store, K: Sink>(
-    sqls: &[String],
-    plan: &Plan,
-    session: &mut Session,
+    begun: &mut Begun<Session>,
     file: &PlaneFile,
     planes: &mut P,
-    plane: &mut Plane,
     out: &mut K,
 ) -> Result<(), Stop<PlaneFault>>
     requires holds { HoldsFile file.now.head (P.state planes.old) }
-    requires valid { AreValid file.now.head (queries_of session.old) }
-    requires opened { session.old ≡ session_opened (queries_of session.old) file.now.head plan.now.width }
-    requires rows { length plane.old ≡ session.old.rows }
-    requires unlisted { IsUnlisted plan.now.policy }
+    requires valid { AreValid file.now.head (queries_of begun.old.running) }
+    requires opened { begun.old.running ≡ session_opened (queries_of begun.old.running) file.now.head begun.old.plan.width }
+    requires rows { length begun.old.plane ≡ begun.old.running.rows }
+    requires unlisted { IsUnlisted begun.old.plan.policy }
     ensures same { HoldsSame (P.state planes.old) (P.state planes.new) }
     ensures cause { HasStopCause (StopsAfter file.now.head (P.state planes.old) (P.state planes.new)) result
         (K.state out.old) (K.state out.new) }
-    ensures written { EndsStepsOverSome (queries_lines (map string_bytes sqls.now)) file.now.head plan.now (queries_of session.old) result
-        (K.state out.old) (K.state out.new) }
-    ensures ends { EndsSteps (map string_bytes sqls.now) plan.now (queries_of session.old) file.now.head result
+    ensures written { EndsOverSome (queries_lines (map string_bytes sqls.now))
+        (shown_steps file.now.head begun.old.plan (queries_of begun.old.running)) result (K.state out.old) (K.state out.new) }
+    ensures ends { EndsFile (queries_lines (map string_bytes sqls.now))
+        (shown_steps file.now.head begun.old.plan (queries_of begun.old.running)) file.now.head result
         (P.state planes.old) (P.state planes.new) (K.state out.old) (K.state out.new) }
 {
-    let mut source = FilePlanes {
-        file,
-        store: planes,
-    };
-    report_planes(sqls, plan, session, &mut source, plane, out)
+    sessions_begin();
+    write_queries(sqls, out)?;
+    report_file(begun, file, planes, out)
 }
 
 // Answers the queries over the table of a file that was opened. All memory is taken before the report's first byte.
@@ -125,15 +91,7 @@ fn answer_file<P: Store, K: Sink>(
     let head = file.head();
     heads_are_of_longs(head);
     let mut together = prepare_all(alloc, queries, &asked.options, head)?;
-    report_file(
-        &together.sqls,
-        &together.plan,
-        &mut together.session,
-        file,
-        planes,
-        &mut together.plane,
-        out,
-    )?;
+    report_session(&together.sqls, &mut together.begun, file, planes, out)?;
     Ok(())
 }
 

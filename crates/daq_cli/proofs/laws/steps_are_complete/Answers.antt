@@ -15,12 +15,10 @@ returns c = steps_complete (record {
   rounds = record {
     valid = c.typed_queries_are_valid.ensures;
     columns = c.valid_queries_name_columns.ensures;
-    choices = c.choices_are_one.ensures;
     choose = c.policies_choose.ensures;
     have = c.rounds_have_planes.ensures;
     taken = c.taken_is_knowledge.ensures;
     begin = c.rounds_begin.ensures;
   };
   scripts = c.scripts_have_answers.ensures;
-  sessions = c.sessions_have_an_end.ensures;
 })

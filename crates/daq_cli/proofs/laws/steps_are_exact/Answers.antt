@@ -25,5 +25,4 @@ returns c = steps_exact (record {
   good_files = c.file_faults_are_exact.ensures.none;
   choices = c.choices_are_one.ensures;
   scripts = c.answers_are_one-2.ensures;
-  sessions = c.sessions_are_one.ensures;
 })

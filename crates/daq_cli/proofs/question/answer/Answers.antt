@@ -25,11 +25,11 @@ returns-in_err-report_table-clause-refused g c =
     let asked = question_of query options c.args.table.now in
     let old = g.K.Sink.state c.args.out.now in
     let made = c.in_ok-prepared.prepared in
-    let planned = subst (λ h. IsPlanned (asked_with query options h) made.engine.query made.plan) c.head.ensures.head c.in_ok-prepared.ensures.planned in
+    let planned = subst (λ h. IsPlanned (asked_with query options h) made.begun.running.query made.begun.plan) c.head.ensures.head c.in_ok-prepared.ensures.planned in
     let text = c.as_bytes.ensures.value ∙ c.in_ok-prepared.ensures.text in
     let law : Laws = record { typings = c.typing_is_exact.ensures.once; valid = c.typed_queries_are_valid.ensures; lists = c.answers_are_one.ensures; rounds = c.rounds_are_one.ensures } in
     let p = err_from_is_err_and c.from_residual-in_err-report_table.result c.from_residual-in_err-report_table.ensures.1 in
-    rw (p.1, p.2) (write_fault (reports_of law asked made.engine.query made.engine.query made.plan partly old (g.K.Sink.state c.report_table.new.out) refl planned (c.in_err-report_table.ensures.failed query text)))
+    rw (p.1, p.2) (write_fault (reports_of law asked made.begun.running.query made.begun.running.query made.begun.plan partly old (g.K.Sink.state c.report_table.new.out) refl planned (c.in_err-report_table.ensures.failed query text)))
 
 pub returns-clause-done : goal.returns-clause-done
 returns-clause-done g c =
@@ -38,7 +38,7 @@ returns-clause-done g c =
     let asked = question_of query options c.args.table.now in
     let old = g.K.Sink.state c.args.out.now in
     let made = c.in_ok-prepared.prepared in
-    let planned = subst (λ h. IsPlanned (asked_with query options h) made.engine.query made.plan) c.head.ensures.head c.in_ok-prepared.ensures.planned in
+    let planned = subst (λ h. IsPlanned (asked_with query options h) made.begun.running.query made.begun.plan) c.head.ensures.head c.in_ok-prepared.ensures.planned in
     let text = c.as_bytes.ensures.value ∙ c.in_ok-prepared.ensures.text in
     let law : Laws = record { typings = c.typing_is_exact.ensures.once; valid = c.typed_queries_are_valid.ensures; lists = c.answers_are_one.ensures; rounds = c.rounds_are_one.ensures } in
-    reports_of law asked made.engine.query made.engine.query made.plan whole old (g.K.Sink.state c.report_table.new.out) refl planned (c.in_ok-report_table.ensures.done query text)
+    reports_of law asked made.begun.running.query made.begun.running.query made.begun.plan whole old (g.K.Sink.state c.report_table.new.out) refl planned (c.in_ok-report_table.ensures.done query text)

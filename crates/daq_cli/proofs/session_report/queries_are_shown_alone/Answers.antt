@@ -1,7 +1,7 @@
 -- By the law of its stages, and of its blocks.
 use Rattle.std.proofs.Common.{◌∙◌, length, suc}
 use Rattle.daq_table.specs.Tables.{frame_of}
-use Rattle.session_rounds.specs.Steps.{own_reads, places_read}
+use Rattle.table_rounds.specs.Steps.{own_reads, places_read}
 use Rattle.daq_cli.proofs.ShownAlone.{listed_alike, shown_alone}
 use Rattle.daq_cli.proofs.session_report.queries_are_shown_alone.Goals as goal
 

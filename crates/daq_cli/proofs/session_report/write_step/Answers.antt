@@ -1,6 +1,6 @@
 -- The blocks are written in order.
 use Rattle.std.proofs.Common.{arith, length}
-use Rattle.session_rounds.specs.Steps.{places_read}
+use Rattle.table_rounds.specs.Steps.{places_read}
 use Rattle.daq_cli.specs.SessionReport.{block_at}
 use Rattle.daq_cli.proofs.Numbered.{all_texts, text_after, text_cut, there_below}
 use Rattle.daq_cli.proofs.StepBlocks.{as_many}

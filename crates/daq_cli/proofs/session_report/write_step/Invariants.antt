@@ -3,7 +3,7 @@ use Rattle.std.proofs.Common.{◌≡◌, ℕ, ◌≤◌, List, Ok, length, take}
 use Rattle.outer_world.specs.declared.device.Failed.{Failed}
 use Rattle.outer_world.specs.Whole.{Writes}
 use Rattle.query_model.specs.Queries.{Query}
-use Rattle.session_rounds.specs.Steps.{IsAfter, places_read}
+use Rattle.table_rounds.specs.Steps.{IsAfter, places_read}
 use Rattle.table_rounds.specs.Rounds.{Planes, column_read}
 use Rattle.daq_cli.specs.SessionReport.{block_at, numbered}
 use Rattle.daq_cli.proofs.session_report.write_step.Given as goal

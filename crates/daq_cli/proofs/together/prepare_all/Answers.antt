@@ -4,9 +4,9 @@ use Rattle.std.proofs.lemmas.List.{length-replicate}
 use Rattle.std.proofs.lemmas.Result.{err_from_is_err_and}
 use Rattle.multi_session.specs.Sessions.{Session, session_opened}
 use Rattle.query_model.specs.Queries.{Query}
-use Rattle.session_rounds.specs.Laws.{AreValid}
+use Rattle.table_rounds.specs.SessionLaws.{AreValid}
 use Rattle.daq_cli.specs.ScriptValues.{scripted_of}
-use Rattle.daq_cli.specs.SessionReport.{queries_of}
+use Rattle.table_rounds.specs.Steps.{queries_of}
 use Rattle.daq_cli.specs.commands.Session.{asked_together, typing_step}
 use Rattle.daq_cli.proofs.SessionCauses.{limits_stop, typings_stop}
 use Rattle.daq_cli.proofs.SessionQueries.{queries_of_opened}

@@ -3,7 +3,7 @@ use Rattle.std.proofs.lemmas.Result.{err_from_is_err_and}
 use Rattle.daq_table.specs.declared.table_head.Head.{Head}
 use Rattle.query_model.specs.Queries.{Query}
 use Rattle.query_model.specs.Validity.{IsValid}
-use Rattle.session_rounds.specs.Laws.{AreValid}
+use Rattle.table_rounds.specs.SessionLaws.{AreValid}
 use Rattle.daq_cli.specs.ScriptValues.{scripted_of}
 use Rattle.daq_cli.specs.commands.Session.{typing_step}
 use Rattle.daq_cli.proofs.Steps.{IsLeft, none_left, one_less, one_stops}

@@ -1,5 +1,5 @@
 -- The queries so far are typed.
-use Rattle.session_rounds.specs.Laws.{AreValid}
+use Rattle.table_rounds.specs.SessionLaws.{AreValid}
 use Rattle.daq_cli.specs.ScriptValues.{scripted_of}
 use Rattle.daq_cli.specs.commands.Session.{typing_step}
 use Rattle.daq_cli.proofs.Steps.{IsLeft}

@@ -1,5 +1,5 @@
 -- Each round of one is a round of the other.
-use Rattle.table_rounds.proofs.One.{rounds_are_one}
+use Rattle.table_rounds.proofs.Going.{rounds_are_one}
 use Rattle.table_rounds.proofs.laws.rounds_are_one.Goals as goal
 
 pub returns : goal.returns

@@ -1,4 +1,4 @@
-use Rattle.table_rounds.proofs.Steps.{rounds_begin}
+use Rattle.table_rounds.proofs.Begun.{rounds_begin}
 use Rattle.table_rounds.proofs.laws.rounds_begin.Goals as goal
 
 pub returns : goal.returns

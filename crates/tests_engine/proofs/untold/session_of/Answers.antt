@@ -1,8 +1,8 @@
 use Rattle.std.proofs.Common.{subst, sym, ◌≡◌}
 use Rattle.std.proofs.lemmas.Result.{IfOk-weaker}
 use Rattle.multi_session.specs.Sessions.{session_opened}
-use Rattle.session_rounds.specs.Reading.{FitsSession}
-use Rattle.session_rounds.proofs.Fitting.{fits_opened}
+use Rattle.table_rounds.specs.Steps.{FitsSession}
+use Rattle.table_rounds.proofs.Fitting.{fits_opened}
 use Rattle.tests_engine.proofs.untold.session_of.Goals as goal
 
 pub returns-clause-fits : goal.returns-clause-fits

@@ -1,5 +1,0 @@
-use Rattle.file_rounds.proofs.Files as files
-use Rattle.file_rounds.proofs.laws.files_tell_planes.Goals as goal
-
-pub returns : goal.returns
-returns c = files.files_tell_planes

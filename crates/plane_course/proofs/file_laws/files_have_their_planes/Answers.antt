@@ -1,0 +1,5 @@
+use Rattle.plane_course.proofs.Files as files
+use Rattle.plane_course.proofs.file_laws.files_have_their_planes.Goals as goal
+
+pub returns : goal.returns
+returns c = files.files_have_their_planes

@@ -1,5 +1,0 @@
-use Rattle.session_rounds.proofs.Alone.{queries_stand_alone}
-use Rattle.session_rounds.proofs.laws.queries_stand_alone.Goals as goal
-
-pub returns : goal.returns
-returns c = queries_stand_alone

@@ -1,5 +1,0 @@
-use Rattle.session_rounds.proofs.Alone.{sessions_are_certain}
-use Rattle.session_rounds.proofs.laws.sessions_are_certain.Goals as goal
-
-pub returns : goal.returns
-returns c = sessions_are_certain c.valid_queries_name_columns.ensures c.rounds_are_certain.ensures

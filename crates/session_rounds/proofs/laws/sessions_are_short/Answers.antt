@@ -1,5 +1,0 @@
-use Rattle.session_rounds.proofs.Short.{sessions_are_short}
-use Rattle.session_rounds.proofs.laws.sessions_are_short.Goals as goal
-
-pub returns : goal.returns
-returns c = sessions_are_short

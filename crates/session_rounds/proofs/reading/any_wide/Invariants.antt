@@ -1,7 +1,0 @@
-use Rattle.std.proofs.Common.{take, IsTrue}
-use Rattle.std.specs.List.{list_all}
-use Rattle.round_engine.specs.Narrowness.{is_narrow}
-use Rattle.session_rounds.proofs.reading.any_wide.Given as goal
-
-abbrev pub invariant-loop-query : goal.invariant-loop-query
-invariant-loop-query l = IsTrue (list_all (is_narrow l.session.width) (take l.query l.session.stages))

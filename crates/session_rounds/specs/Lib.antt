@@ -1,4 +1,0 @@
-pub mod Steps
-pub mod Reading
-pub mod Outcomes
-pub mod Laws
