@@ -1,0 +1,5 @@
+pub mod DigitTexts
+pub mod EndPlaces
+pub mod NumberTexts
+pub mod RoundLines
+pub mod ShownTexts

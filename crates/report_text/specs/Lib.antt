@@ -1,0 +1,7 @@
+pub mod Answers
+pub mod Averages
+pub mod Bounds
+pub mod Layouts
+pub mod Lines
+pub mod Numbers
+pub mod Words

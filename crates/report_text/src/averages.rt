@@ -1,0 +1,135 @@
+//! What a line says of an average, read back.
+
+ghost use Rattle.std.specs.Prelude.{◌≡◌, ◌≢◌, ◌≤◌, Some, IfSome, decimal, length};
+ghost use Rattle.query_model.specs.declared.bounds.Nullity.TheVariants.{Always};
+ghost use Rattle.report_text.specs.Averages.{CanBeDivided, IsShownAverage, average_text, ratio_text};
+ghost use Rattle.report_text.specs.Layouts.{IsLaid};
+ghost use Rattle.report_text.specs.declared.averages.Ratio.{Ratio};
+ghost use Rattle.report_text.specs.declared.averages.ShownAverage.{ShownAverage};
+
+use crate::counts::{read_count, written_count};
+use crate::digits::around_first;
+use crate::layouts::{Layout, lay, written_interval};
+use crate::numbers::{Number, read_number, written};
+use daq_table::TextBuf;
+use query_model::Nullity;
+
+/// A sum over a number of rows, not reduced.
+#[derive(Clone, Copy, Debug, PartialEq, Eq)]
+pub struct Ratio {
+    pub sum: Number,
+    pub rows: u64,
+}
+
+/// Where an average lies: its ends have equally many decimals, and are 0 over 1 where there is no answer.
+#[derive(Clone, Copy, Debug, PartialEq, Eq)]
+pub struct ShownAverage {
+    pub null: Nullity,
+    pub low: Ratio,
+    pub high: Ratio,
+}
+
+// The text of a sum over a number of rows.
+fn written_ratio(ratio: Ratio) -> TextBuf
+    requires { ratio.sum.decimals ≤ 18 }
+    ensures text { result ≡ ratio_text ratio }
+    ensures short { length result ≤ 201 }
+{
+    let mut text = written(ratio.sum);
+    text.append(b"/");
+    text.append(written_count(ratio.rows).bytes());
+    text
+}
+
+// The ratio whose text this is.
+fn read_ratio(text: &[u8]) -> Option<Ratio>
+    ensures read { (ratio : Ratio) → CanBeDivided ratio → ratio_text ratio ≡ text.now → result ≡ Some ratio }
+    ensures divided { IfSome result CanBeDivided }
+{
+    let (front, rest) = around_first(text, b'/');
+    let sum = read_number(front)?;
+    let rows = read_count(rest)?;
+    if rows == 0 {
+        return None;
+    }
+    Some(Ratio { sum, rows })
+}
+
+/// The text of an average, as a line shows it.
+pub fn written_average(shown: &ShownAverage) -> TextBuf
+    requires low { shown.now.low.sum.decimals ≤ 18 }
+    requires high { shown.now.high.sum.decimals ≤ 18 }
+    ensures text { result ≡ average_text shown.now }
+    ensures short { length result ≤ 414 }
+{
+    written_interval(
+        shown.null,
+        shown.low.sum.units == shown.high.sum.units && shown.low.rows == shown.high.rows,
+        written_ratio(shown.low),
+        written_ratio(shown.high),
+    )
+}
+
+const NO_RATIO: Ratio = Ratio {
+    sum: Number {
+        decimals: 0,
+        units: 0,
+    },
+    rows: 1,
+};
+
+// The average between two ratios, if they have equally many decimals.
+fn alike(null: Nullity, low: Ratio, high: Ratio) -> Option<ShownAverage>
+    requires null { null ≢ Always }
+    requires low { CanBeDivided low }
+    requires high { CanBeDivided high }
+    ensures shown { IfSome result IsShownAverage }
+    ensures is { low.sum.decimals ≡ high.sum.decimals → result ≡ Some (record { null = null; low = low; high = high }) }
+{
+    if low.sum.decimals != high.sum.decimals {
+        return None;
+    }
+    Some(ShownAverage { null, low, high })
+}
+
+// The average between two ratios with these texts.
+fn between(null: Nullity, low: &[u8], high: &[u8]) -> Option<ShownAverage>
+    requires { null ≢ Always }
+    ensures shown { IfSome result IsShownAverage }
+    ensures read { (shown : ShownAverage) → IsShownAverage shown → shown.null ≡ null
+        → ratio_text shown.low ≡ low.now → ratio_text shown.high ≡ high.now → result ≡ Some shown }
+{
+    let low = read_ratio(low)?;
+    let high = read_ratio(high)?;
+    alike(null, low, high)
+}
+
+// The average of a layout.
+fn average_of(layout: Layout<'_>) -> Option<ShownAverage>
+    ensures shown { IfSome result IsShownAverage }
+    ensures read { (shown : ShownAverage) → IsShownAverage shown
+        → IsLaid shown.null (ratio_text shown.low) (ratio_text shown.high) layout.entry → result ≡ Some shown }
+{
+    match layout.null {
+        Nullity::Always => Some(ShownAverage {
+            null: Nullity::Always,
+            low: NO_RATIO,
+            high: NO_RATIO,
+        }),
+        Nullity::Never | Nullity::Possibly => between(layout.null, layout.low, layout.high),
+    }
+}
+
+/// What the text says of an average: it is read back as it was written, and what is read is written as it stood.
+pub fn read_average(text: &[u8]) -> Option<ShownAverage>
+    ensures read { (shown : ShownAverage) → IsShownAverage shown → average_text shown ≡ text.now → result ≡ Some shown }
+    ensures written { IfSome result (λ shown. IsShownAverage shown × (average_text shown ≡ text.now)) }
+{
+    let layout = lay(text)?;
+    let shown = average_of(layout)?;
+    if written_average(&shown).bytes() == text {
+        Some(shown)
+    } else {
+        None
+    }
+}

@@ -1,0 +1,20 @@
+//! Reports read back: what a line of a report says. Each reader answers exactly where the line is one that a report may have, and what it
+//! answers is written as the line.
+#![tactic(auto)]
+
+mod answers;
+mod averages;
+mod bounds;
+mod counts;
+mod digits;
+mod layouts;
+mod lines;
+mod numbers;
+
+pub use answers::{Answer, read_answer, written_answer};
+pub use averages::{Ratio, ShownAverage, read_average, written_average};
+pub use bounds::{ShownBound, read_bound, written_bound};
+pub use lines::{
+    ReportEnd, is_round_line, read_end, read_item, read_parts, text_of_item, written_item,
+};
+pub use numbers::{Number, read_number};
