@@ -1,0 +1,4 @@
+pub mod Certain
+pub mod Grows
+pub mod Stays
+pub mod Turns

@@ -1,0 +1,36 @@
+-- How a combined report ends.
+use Rattle.std.specs.Prelude.{ℕ, Bool, true, false, List, if◌then◌else◌}
+use Rattle.std.specs.declared.option.Option.{Option}
+use Rattle.std.specs.declared.option.Option.TheVariants.{Some, None}
+use Rattle.std.specs.List.{list_all}
+use Rattle.report_text.specs.declared.lines.ReportEnd.{ReportEnd}
+use Rattle.report_text.specs.declared.lines.ReportEnd.TheVariants.{Narrow, Reads, Rounds}
+use Rattle.report_parts.specs.Rounds.{is_over}
+use Rattle.report_parts.specs.Told.{Told}
+use Rattle.report_parts.specs.declared.part.Place.{Place}
+use Rattle.report_parts.specs.declared.part.Place.TheVariants.{Query, Opened, Round, Items, Ended}
+
+abbrev pub is_narrow_end : ReportEnd → Bool
+is_narrow_end Narrow = true
+is_narrow_end Rounds = false
+is_narrow_end Reads = false
+
+-- the report has ended narrow
+abbrev pub ends_narrow : Place → Bool
+ends_narrow Query = false
+ends_narrow Opened = false
+ends_narrow Round = false
+ends_narrow Items = false
+ends_narrow (Ended end) = is_narrow_end end
+
+-- where no part goes on
+abbrev pub end_of_all : List Told → ReportEnd
+end_of_all parts = if list_all (λ part. ends_narrow part.place) parts then Narrow else Rounds
+
+-- behind a block that is narrow, or the last that is wanted, or behind which no part goes on
+abbrev pub end_behind : Bool → Bool → ℕ → List Told → Option ReportEnd
+end_behind narrow last round parts =
+    if narrow then Some Narrow
+    else if last then Some Rounds
+    else if list_all (is_over round) parts then Some (end_of_all parts)
+    else None

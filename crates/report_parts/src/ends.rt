@@ -1,0 +1,61 @@
+//! How a combined report ends.
+
+ghost use Rattle.std.specs.Prelude.{◌≡◌, ◌<◌, ◌^◌};
+ghost use Rattle.std.specs.List.{list_all};
+ghost use Rattle.report_parts.specs.Ends.{end_behind, end_of_all, ends_narrow};
+
+use crate::part::{Part, Place};
+use crate::rounds::have_all_ended;
+use report_text::ReportEnd;
+
+// Whether the report has ended narrow.
+fn ends_narrow(place: Place) -> bool
+    ensures { result ≡ ends_narrow place }
+{
+    match place {
+        Place::Ended(ReportEnd::Narrow) => true,
+        Place::Ended(ReportEnd::Rounds | ReportEnd::Reads) => false,
+        Place::Query | Place::Opened | Place::Round | Place::Items => false,
+    }
+}
+
+// Whether the report of each part has ended narrow.
+fn have_ended_narrow(parts: &[Part]) -> bool
+    ensures { result ≡ list_all (λ part. ends_narrow part.place) parts.now }
+{
+    for part in parts {
+        if !ends_narrow(part.place()) {
+            return false;
+        }
+    }
+    true
+}
+
+// How it ends where no part goes on.
+fn end_of_all(parts: &[Part]) -> ReportEnd
+    ensures { result ≡ end_of_all parts.now }
+{
+    if have_ended_narrow(parts) {
+        ReportEnd::Narrow
+    } else {
+        ReportEnd::Rounds
+    }
+}
+
+/// How the combined report ends behind the block of that round, if it does: the block is narrow, or the last that is wanted, or no part
+/// goes on.
+pub fn end_behind(narrow: bool, last: bool, round: usize, parts: &[Part]) -> Option<ReportEnd>
+    requires { round < 2 ^ 63 }
+    ensures { result ≡ end_behind narrow last round parts.now }
+{
+    if narrow {
+        return Some(ReportEnd::Narrow);
+    }
+    if last {
+        return Some(ReportEnd::Rounds);
+    }
+    if have_all_ended(round, parts) {
+        return Some(end_of_all(parts));
+    }
+    None
+}

@@ -1,0 +1,65 @@
+//! Why a line of a part is refused, and why answers are not combined.
+
+ghost use Rattle.std.specs.Prelude.{◌≡◌};
+ghost use Rattle.report_parts.specs.declared.fault.CombineFault.TheVariants.{NoMemory};
+ghost use Rattle.report_parts.specs.declared.fault.LineFault.TheVariants.{NoMemory as NoRoom};
+
+use std::alloc::{AllocError, AllocFailed};
+use thiserror::Error;
+
+/// Why a line is not taken.
+#[derive(Debug, PartialEq, Eq, Drop, Error)]
+pub enum LineFault {
+    /// At its place no report of the query has this line.
+    #[error("no line of a report")]
+    OtherLine,
+    /// Memory ran out.
+    #[error("no memory")]
+    NoMemory,
+}
+
+impl From<AllocError> for LineFault {
+    ghost from_gives = { λ _ e. e ≡ NoRoom };
+
+    fn from(_: AllocError) -> Self {
+        LineFault::NoMemory
+    }
+}
+
+impl<T: Drop> From<AllocFailed<T>> for LineFault {
+    ghost from_gives = { λ _ e. e ≡ NoRoom };
+
+    fn from(_: AllocFailed<T>) -> Self {
+        LineFault::NoMemory
+    }
+}
+
+/// Why the answers of parts are not combined. Of several faults that which is named first here is answered.
+#[derive(Debug, PartialEq, Eq, Drop, Error)]
+pub enum CombineFault {
+    /// The numbers of two parts have other decimals.
+    #[error("other decimals")]
+    OtherDecimals,
+    /// An end has more than 128 bits, or a number of rows more than 64.
+    #[error("too wide")]
+    TooWide,
+    /// Memory ran out.
+    #[error("no memory")]
+    NoMemory,
+}
+
+impl From<AllocError> for CombineFault {
+    ghost from_gives = { λ _ e. e ≡ NoMemory };
+
+    fn from(_: AllocError) -> Self {
+        CombineFault::NoMemory
+    }
+}
+
+impl<T: Drop> From<AllocFailed<T>> for CombineFault {
+    ghost from_gives = { λ _ e. e ≡ NoMemory };
+
+    fn from(_: AllocFailed<T>) -> Self {
+        CombineFault::NoMemory
+    }
+}

@@ -1,0 +1,52 @@
+//! What holds of the lines of parts. Each law stands on a function that does nothing.
+
+ghost use Rattle.report_parts.specs.Laws.{AnswersContain, AnswersNest, AnswersTell, AveragesContain, LinesOnlyAdd, ReportsOnlyGrow, ToldBlocksStay};
+
+use shard_bounds::{
+    combinations_contain, combinations_nest, combinations_report_averages, combinations_tell,
+};
+
+/// A line takes nothing back of what was told before.
+pub fn lines_only_add()
+    ensures { LinesOnlyAdd }
+{}
+
+/// What a part says in a round stays, whatever lines come behind.
+pub fn told_blocks_stay()
+    ensures { ToldBlocksStay }
+{}
+
+/// The blocks of rounds that all parts have told stay as they are, whatever lines come behind, and in whatever order: the combined report
+/// of all lines begins with what was told before.
+pub fn reports_only_grow()
+    ensures { ReportsOnlyGrow }
+{}
+
+/// Where what each part says contains the part's answer, what is combined contains the answer over all parts.
+pub fn answers_contain()
+    ensures { AnswersContain }
+{
+    combinations_contain();
+}
+
+/// Where what each part says lies within what it said before, so does what is combined.
+pub fn answers_nest()
+    ensures { AnswersNest }
+{
+    combinations_nest();
+}
+
+/// Where each part says its answer, what is combined says the answer over all parts.
+pub fn answers_tell()
+    ensures { AnswersTell }
+{
+    combinations_tell();
+}
+
+/// Where what each part says contains the part's average, and one fraction alone is its sum over its number of values, what is combined
+/// contains the average over all parts.
+pub fn averages_contain()
+    ensures { AveragesContain }
+{
+    combinations_report_averages();
+}

@@ -1,0 +1,24 @@
+//! Reports of the parts of a table: what the lines of each have told, and what a line says of the answer over all parts.
+#![tactic(auto)]
+
+mod averages;
+mod combined;
+mod decimals;
+mod ends;
+mod fault;
+mod laws;
+mod narrowness;
+mod part;
+mod rounds;
+mod values;
+
+pub use combined::combine_item;
+pub use ends::end_behind;
+pub use fault::{CombineFault, LineFault};
+pub use laws::{
+    answers_contain, answers_nest, answers_tell, averages_contain, lines_only_add,
+    reports_only_grow, told_blocks_stay,
+};
+pub use narrowness::is_narrow;
+pub use part::{Block, Part, Place};
+pub use rounds::{all_have_block, have_all_ended};

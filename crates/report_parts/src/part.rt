@@ -1,0 +1,240 @@
+//! The report of a part, read line by line.
+
+ghost use Rattle.std.specs.Prelude.{◌≡◌, ◌+◌, ◌==◌, ◌<◌, ◌++◌, [], ◌∷◌, Err, MatchBool, MatchOption, OnOk, slice_get, length, if◌then◌else◌};
+ghost use Rattle.query_model.specs.declared.query.ItemKind.{ItemKind};
+ghost use Rattle.report_text.specs.declared.answers.Answer.{Answer};
+ghost use Rattle.report_parts.specs.Told.{Answers, BeginsRound, Ends, GoesOn, IsNextAnswer, IsOpened, Opens, Refuses, Takes, TellsParts, Told, at_place, nothing_told, with_answer};
+ghost use Rattle.report_parts.specs.declared.part.Place.TheVariants.{Items, Opened, Round};
+
+use crate::fault::LineFault;
+use daq_table::Listed;
+use query_model::ItemKind;
+use report_text::{Answer, ReportEnd, is_round_line, read_end, read_item, read_parts};
+use std::alloc::{AllocError, Global};
+use std::marker::Model;
+use std::mem;
+
+/// What comes next in a report.
+#[derive(Clone, Copy, Debug, PartialEq, Eq)]
+pub enum Place {
+    /// The line of the query.
+    Query,
+    /// How many parts it is of, or the first round.
+    Opened,
+    /// The next round, or, behind a block, the end.
+    Round,
+    /// The answer of the next item.
+    Items,
+    /// Nothing.
+    Ended(ReportEnd),
+}
+
+/// The answers of a block, one for each item.
+pub type Block = Listed<Answer>;
+
+/// The report of a part, as far as it was read.
+#[derive(Drop)]
+pub struct Part {
+    blocks: Vec<Block>,
+    current: Vec<Answer>,
+    place: Place,
+}
+
+impl Model for Part {
+    ghost use Rattle.report_parts.specs.Told.{Told};
+
+    ghost Value = { Told };
+
+    ghost view = { λ p. record { blocks = p.blocks.items; current = p.current.items; place = p.place } };
+}
+
+// The kind of an item.
+fn kind_at(kinds: &[ItemKind], item: usize) -> Option<ItemKind>
+    ensures { result ≡ slice_get kinds.now item }
+{
+    kinds.get(item).copied()
+}
+
+impl Part {
+    /// A part of which no line was read.
+    pub fn new(alloc: Global) -> Part
+        ensures { result ≡ nothing_told }
+    {
+        Part {
+            blocks: Vec::new(alloc),
+            current: Vec::new(alloc),
+            place: Place::Query,
+        }
+    }
+
+    /// The whole blocks.
+    pub fn blocks(&self) -> &[Block]
+        ensures { result.now ≡ self.now.blocks }
+    {
+        &self.blocks
+    }
+
+    /// What comes next.
+    pub fn place(&self) -> Place
+        ensures { result ≡ self.now.place }
+    {
+        self.place
+    }
+
+    // Goes on at another place.
+    fn go(&mut self, place: Place)
+        ensures { self.new ≡ at_place self.old place }
+    {
+        self.place = place;
+    }
+
+    // Takes the line of the query.
+    fn take_query(&mut self, query: &[u8], line: &[u8]) -> bool
+        ensures { MatchBool result
+            (Opens query.now self.old line.now self.new)
+            (Refuses (Opens query.now self.old line.now) self.old self.new) }
+    {
+        if query != line {
+            return false;
+        }
+        self.go(Place::Opened);
+        true
+    }
+
+    // Takes how many parts a combined report is of.
+    fn take_parts(&mut self, line: &[u8]) -> bool
+        ensures { MatchBool result
+            (TellsParts self.old line.now self.new)
+            (Refuses (TellsParts self.old line.now) self.old self.new) }
+    {
+        if read_parts(line).is_none() {
+            return false;
+        }
+        self.go(Place::Round);
+        true
+    }
+
+    // Takes the line of the next round.
+    fn take_round(&mut self, line: &[u8]) -> bool
+        ensures { MatchBool result
+            (BeginsRound self.old line.now self.new)
+            (Refuses (BeginsRound self.old line.now) self.old self.new) }
+    {
+        if !is_round_line(self.blocks.len() as u64, line) {
+            return false;
+        }
+        self.go(Place::Items);
+        true
+    }
+
+    // Takes the end.
+    fn take_end(&mut self, line: &[u8]) -> bool
+        ensures { MatchBool result
+            (Ends self.old line.now self.new)
+            (Refuses (Ends self.old line.now) self.old self.new) }
+    {
+        if self.blocks.is_empty() {
+            return false;
+        }
+        match read_end(line) {
+            Some(end) => {
+                self.go(Place::Ended(end));
+                true
+            }
+            None => false,
+        }
+    }
+
+    // Takes how many parts a combined report is of, or the first round.
+    fn take_opened(&mut self, line: &[u8]) -> bool
+        ensures { MatchBool result
+            (IsOpened self.old line.now self.new)
+            (Refuses (IsOpened self.old line.now) self.old self.new) }
+    {
+        if self.take_parts(line) {
+            true
+        } else {
+            self.take_round(line)
+        }
+    }
+
+    // Takes the next round, or the end.
+    fn take_next(&mut self, line: &[u8]) -> bool
+        ensures { MatchBool result
+            (GoesOn self.old line.now self.new)
+            (Refuses (GoesOn self.old line.now) self.old self.new) }
+    {
+        if self.take_round(line) {
+            true
+        } else {
+            self.take_end(line)
+        }
+    }
+
+    // Puts an answer behind the others. A block with an answer for each of so many items is whole.
+    fn put(&mut self, alloc: Global, items: usize, answer: Answer) -> Result<(), AllocError>
+        ensures { OnOk result (self.new ≡ with_answer items self.old answer) }
+    {
+        self.current.push(answer)?;
+        if self.current.len() == items {
+            let whole = mem::replace(&mut self.current, Vec::new(alloc));
+            self.blocks.push(Block::new(whole))?;
+            self.place = Place::Round;
+        } else {
+            self.place = Place::Items;
+        }
+        Ok(())
+    }
+
+    // The answer of the next item, by its line.
+    fn next_answer(&self, kinds: &[ItemKind], line: &[u8]) -> Option<Answer>
+        ensures { MatchOption result
+            ((kind : ItemKind) (answer : Answer) → IsNextAnswer kinds.now self.now line.now kind answer → ⊥)
+            (λ answer. (kind : ItemKind) × IsNextAnswer kinds.now self.now line.now kind answer) }
+    {
+        let item = self.current.len();
+        let kind = kind_at(kinds, item)?;
+        read_item(kind, item as u64 + 1, line)
+    }
+
+    /// Takes the next line of the report of that query, which asks for items of these kinds. A line that no such report has at this place is
+    /// refused, and changes nothing.
+    pub fn take(
+        &mut self,
+        alloc: Global,
+        query: &[u8],
+        kinds: &[ItemKind],
+        line: &[u8],
+    ) -> Result<(), LineFault>
+        ensures taken { OnOk result (Takes query.now kinds.now self.old line.now self.new) }
+        ensures other { result ≡ Err LineFault.OtherLine
+            → Refuses (Takes query.now kinds.now self.old line.now) self.old self.new }
+    {
+        let taken = match self.place {
+            Place::Query => self.take_query(query, line),
+            Place::Opened => self.take_opened(line),
+            Place::Round => self.take_next(line),
+            Place::Items => return self.take_item(alloc, kinds, line),
+            Place::Ended(_) => false,
+        };
+        if taken {
+            Ok(())
+        } else {
+            Err(LineFault::OtherLine)
+        }
+    }
+
+    // Takes the answer of the next item.
+    fn take_item(&mut self, alloc: Global, kinds: &[ItemKind], line: &[u8]) -> Result<(), LineFault>
+        ensures taken { OnOk result (Answers kinds.now self.old line.now self.new) }
+        ensures other { result ≡ Err LineFault.OtherLine → Refuses (Answers kinds.now self.old line.now) self.old self.new }
+    {
+        match self.next_answer(kinds, line) {
+            Some(answer) => match self.put(alloc, kinds.len(), answer) {
+                Ok(()) => Ok(()),
+                Err(_) => Err(LineFault::NoMemory),
+            },
+            None => Err(LineFault::OtherLine),
+        }
+    }
+}

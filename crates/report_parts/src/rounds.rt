@@ -1,0 +1,107 @@
+//! What the parts say in a round.
+
+ghost use Rattle.std.specs.Prelude.{◌≡◌, ◌<◌, ◌+◌, ◌^◌, IfOk, slice_index_or};
+ghost use Rattle.std.specs.List.{list_all};
+ghost use Rattle.report_parts.specs.Rounds.{answer_in, answers_in, block_for, has_block, is_ended, is_over, no_answer};
+
+use crate::part::{Part, Place};
+use query_model::{Bound, Nullity};
+use report_text::{Answer, ShownBound};
+use std::alloc::{AllocError, Global};
+
+// Whether the report has ended.
+fn is_ended(place: Place) -> bool
+    ensures { result ≡ is_ended place }
+{
+    match place {
+        Place::Query | Place::Opened | Place::Round | Place::Items => false,
+        Place::Ended(_) => true,
+    }
+}
+
+// Whether the part tells what it knows in that round.
+fn has_block(round: usize, part: &Part) -> bool
+    ensures { result ≡ has_block round part.now }
+{
+    is_ended(part.place()) || round < part.blocks().len()
+}
+
+/// Whether each part tells what it knows in that round: its block is whole, or its report has ended before.
+pub fn all_have_block(round: usize, parts: &[Part]) -> bool
+    ensures { result ≡ list_all (has_block round) parts.now }
+{
+    for part in parts {
+        if !has_block(round, part) {
+            return false;
+        }
+    }
+    true
+}
+
+// Whether the part's report has ended, and has no block behind that round.
+fn is_over(round: usize, part: &Part) -> bool
+    requires { round < 2 ^ 63 }
+    ensures { result ≡ is_over round part.now }
+{
+    is_ended(part.place()) && part.blocks().len() <= round + 1
+}
+
+/// Whether the report of each part has ended, with no block behind that round.
+pub fn have_all_ended(round: usize, parts: &[Part]) -> bool
+    requires { round < 2 ^ 63 }
+    ensures { result ≡ list_all (is_over round) parts.now }
+{
+    for part in parts {
+        if !is_over(round, part) {
+            return false;
+        }
+    }
+    true
+}
+
+const NO_ANSWER: Answer = Answer::Value(ShownBound {
+    decimals: 0,
+    bound: Bound {
+        null: Nullity::Always,
+        lo: 0,
+        hi: 0,
+    },
+});
+
+// The answer of an item in a block.
+fn answer_at(item: usize, block: &[Answer]) -> Answer
+    ensures { result ≡ slice_index_or block.now item no_answer }
+{
+    if item < block.len() {
+        block[item]
+    } else {
+        NO_ANSWER
+    }
+}
+
+// What the part says of an item in that round.
+fn answer_in(round: usize, item: usize, part: &Part) -> Answer
+    ensures { result ≡ answer_in round item part.now }
+{
+    let blocks = part.blocks();
+    if blocks.is_empty() {
+        return NO_ANSWER;
+    }
+    answer_at(item, blocks[round.min(blocks.len() - 1)].as_slice())
+}
+
+// What all parts say of an item in that round.
+pub(crate) fn answers_in(
+    alloc: Global,
+    round: usize,
+    item: usize,
+    parts: &[Part],
+) -> Result<Vec<Answer>, AllocError>
+    ensures { IfOk result (λ answers. answers.items ≡ answers_in round item parts.now) }
+{
+    let mut answers = Vec::with_capacity(alloc, parts.len())?;
+    for part in parts {
+        answers.push(answer_in(round, item, part))?;
+    }
+    Ok(answers)
+}
