@@ -1,0 +1,98 @@
+-- What reports show is what is read back, as statements. A public function with an empty body has each as its contract.
+use Rattle.std.specs.Prelude.{◌≡◌, ◌≢◌, ℕ, ◌<◌, ◌≤◌, ◌^◌, pos, ◌≤ℤ◌, List, FitsSigned}
+use Rattle.std.specs.Int.{w128}
+use Rattle.std.specs.declared.option.Option.{Option}
+use Rattle.std.specs.declared.option.Option.TheVariants.{Some, None}
+use Rattle.daq_report.specs.Intervals.{bound_text, column_of}
+use Rattle.daq_report.specs.Intervals as report
+use Rattle.daq_table.specs.declared.head.ColumnHead.{ColumnHead}
+use Rattle.daq_table.specs.declared.head.Kind.{Kind}
+use Rattle.daq_table.specs.declared.head.Kind.TheVariants.{Int, Dec, Date, Text}
+use Rattle.daq_table.specs.declared.table_head.Head.{Head}
+use Rattle.interval_calc.specs.Intervals.{Fraction}
+use Rattle.query_model.specs.Bounds.{AverageBound}
+use Rattle.query_model.specs.declared.bounds.Bound.{Bound}
+use Rattle.query_model.specs.declared.bounds.Nullity.{Nullity}
+use Rattle.query_model.specs.declared.bounds.Nullity.TheVariants.{Never, Possibly, Always}
+use Rattle.query_model.specs.declared.query.Face.{Face}
+use Rattle.query_model.specs.declared.query.Face.TheVariants.{Number, OfColumn}
+use Rattle.query_model.specs.declared.query.TypedQuery.{TypedQuery}
+use Rattle.report_text.specs.Averages.{IsShownAverage, average_text, no_ratio}
+use Rattle.report_text.specs.Bounds.{IsShown, shown_text}
+use Rattle.report_text.specs.declared.averages.Ratio.{Ratio}
+use Rattle.report_text.specs.declared.averages.ShownAverage.{ShownAverage}
+use Rattle.report_text.specs.declared.bounds.ShownBound.{ShownBound}
+
+-- the decimals of the numbers of a kind; dates and texts are no numbers
+abbrev pub decimals_of_kind : Kind → Option ℕ
+decimals_of_kind Int = Some 0
+decimals_of_kind (Dec scale) = Some scale
+decimals_of_kind Date = None
+decimals_of_kind Text = None
+
+abbrev pub decimals_of_column : Option ColumnHead → Option ℕ
+decimals_of_column None = None
+decimals_of_column (Some column) = decimals_of_kind column.kind
+
+-- the decimals of the numbers that a face shows
+abbrev pub decimals_of_face : Head → TypedQuery → Face → Option ℕ
+decimals_of_face head query (Number scale) = Some scale
+decimals_of_face head query (OfColumn c) = decimals_of_column (column_of head query c)
+
+-- ---- bounds
+
+abbrev pub shown_by : Nullity → ℕ → Bound → ShownBound
+shown_by Never decimals bound = record { decimals = decimals; bound = record { null = Never; lo = bound.lo; hi = bound.hi } }
+shown_by Possibly decimals bound = record { decimals = decimals; bound = record { null = Possibly; lo = bound.lo; hi = bound.hi } }
+shown_by Always decimals bound = record { decimals = 0; bound = record { null = Always; lo = pos 0; hi = pos 0 } }
+
+-- what a line says of a bound: where there is no answer no ends
+abbrev pub shown_of : ℕ → Bound → ShownBound
+shown_of decimals bound = shown_by bound.null decimals bound
+
+abbrev pub BoundsAreShown : Type 0
+BoundsAreShown =
+    (head : Head) (query : TypedQuery) (face : Face) (decimals : ℕ) (bound : Bound) →
+    decimals_of_face head query face ≡ Some decimals → bound_text head query face bound ≡ shown_text (shown_of decimals bound)
+
+-- numbers of 128 bits in order, with decimals that a column may have
+pub record IsPlainBound (decimals : ℕ) (bound : Bound) : Type 0 where
+  pub few : decimals ≤ 18
+  pub low : FitsSigned w128 bound.lo
+  pub high : FitsSigned w128 bound.hi
+  pub ordered : bound.null ≢ Always → bound.lo ≤ℤ bound.hi
+
+abbrev pub BoundsCanBeRead : Type 0
+BoundsCanBeRead = (decimals : ℕ) (bound : Bound) → IsPlainBound decimals bound → IsShown (shown_of decimals bound)
+
+-- ---- averages
+
+abbrev pub ratio_of : ℕ → Fraction → Ratio
+ratio_of decimals ratio = record { sum = record { decimals = decimals; units = ratio.num }; rows = ratio.den }
+
+abbrev pub average_by : Nullity → ℕ → AverageBound → ShownAverage
+average_by Never decimals bound = record { null = Never; low = ratio_of decimals bound.lo; high = ratio_of decimals bound.hi }
+average_by Possibly decimals bound = record { null = Possibly; low = ratio_of decimals bound.lo; high = ratio_of decimals bound.hi }
+average_by Always decimals bound = record { null = Always; low = no_ratio; high = no_ratio }
+
+abbrev pub average_of : ℕ → AverageBound → ShownAverage
+average_of decimals bound = average_by bound.null decimals bound
+
+abbrev pub AveragesAreShown : Type 0
+AveragesAreShown =
+    (head : Head) (query : TypedQuery) (face : Face) (decimals : ℕ) (bound : AverageBound) →
+    decimals_of_face head query face ≡ Some decimals → report.average_text head query face bound ≡ average_text (average_of decimals bound)
+
+-- a number of 128 bits over a count of 64 bits that is not 0
+pub record IsPlainFraction (ratio : Fraction) : Type 0 where
+  pub fits : FitsSigned w128 ratio.num
+  pub few : ratio.den < 2 ^ 64
+  pub some : 0 < ratio.den
+
+pub record IsPlainAverage (decimals : ℕ) (bound : AverageBound) : Type 0 where
+  pub few : decimals ≤ 18
+  pub low : IsPlainFraction bound.lo
+  pub high : IsPlainFraction bound.hi
+
+abbrev pub AveragesCanBeRead : Type 0
+AveragesCanBeRead = (decimals : ℕ) (bound : AverageBound) → IsPlainAverage decimals bound → IsShownAverage (average_of decimals bound)

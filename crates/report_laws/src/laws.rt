@@ -1,0 +1,23 @@
+//! What reports show is what is read back.
+
+ghost use Rattle.report_laws.specs.Laws.{AveragesAreShown, AveragesCanBeRead, BoundsAreShown, BoundsCanBeRead};
+
+/// Where the ends of an answer are numbers, the text that a report shows of its bound is the one that is read back.
+pub fn bounds_are_shown()
+    ensures { BoundsAreShown }
+{}
+
+/// The same of the bound of an average.
+pub fn averages_are_shown()
+    ensures { AveragesAreShown }
+{}
+
+/// What a report says of a bound is of the form that is read back.
+pub fn bounds_can_be_read()
+    ensures { BoundsCanBeRead }
+{}
+
+/// The same of the bound of an average.
+pub fn averages_can_be_read()
+    ensures { AveragesCanBeRead }
+{}

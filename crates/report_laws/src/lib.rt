@@ -1,0 +1,8 @@
+//! What reports show and what is read back: where the ends of an answer are numbers, these are the same, both ways.
+#![tactic(auto)]
+
+mod laws;
+mod readers;
+
+pub use laws::{averages_are_shown, averages_can_be_read, bounds_are_shown, bounds_can_be_read};
+pub use readers::{read_report_average, read_report_bound};
