@@ -1,4 +1,4 @@
-//! What is known of rows: conditions, expressions, and bounds of aggregates.
+//! What is known of rows: conditions, expressions, and bounds of aggregates, also over the shards of a table.
 #![tactic(auto)]
 
 #[cfg(test)]
@@ -11,6 +11,8 @@ mod filters;
 mod heads;
 #[cfg(test)]
 mod kept_sums;
+#[cfg(test)]
+mod shards;
 #[cfg(test)]
 mod truths;
 #[cfg(test)]

@@ -1,4 +1,4 @@
-//! Words of command lines, scripts, tokens of SQL, and devices in memory and over the system.
+//! Words of command lines, scripts, lines of reports, tokens of SQL, and devices in memory and over the system.
 #![tactic(auto)]
 
 #[cfg(test)]
@@ -7,6 +7,10 @@ mod commands;
 mod devices;
 #[cfg(test)]
 mod files;
+#[cfg(test)]
+mod part_reports;
+#[cfg(test)]
+mod report_lines;
 #[cfg(test)]
 mod scripts;
 #[cfg(test)]

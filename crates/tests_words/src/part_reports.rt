@@ -1,0 +1,173 @@
+//! The reports of a table's parts, read line by line and combined: worked out by hand.
+
+use query_model::{Bound, ItemKind, Nullity};
+use report_parts::{
+    CombineFault, LineFault, Part, all_have_block, combine_item, end_behind, have_all_ended,
+    is_narrow,
+};
+use report_text::{Answer, Number, Ratio, ReportEnd, ShownAverage, ShownBound};
+use std::alloc::Global;
+
+const QUERY: &[u8] = b"query SELECT SUM(price), COUNT(*) FROM t";
+
+const KINDS: [ItemKind; 2] = [ItemKind::Sum, ItemKind::Count];
+
+fn part_of(alloc: Global, lines: &[&[u8]]) -> Result<Part, LineFault> {
+    let mut part = Part::new(alloc);
+    for line in lines {
+        part.take(alloc, QUERY, &KINDS, line)?;
+    }
+    Ok(part)
+}
+
+fn value_within(null: Nullity, lo: i128, hi: i128) -> Answer {
+    Answer::Value(ShownBound {
+        decimals: 0,
+        bound: Bound { null, lo, hi },
+    })
+}
+
+fn value(null: Nullity, lo: i128, hi: i128) -> Result<Answer, CombineFault> {
+    Ok(value_within(null, lo, hi))
+}
+
+#[test]
+fn a_part_that_has_ended_stands_by_its_last_block(rt: HostRuntime) {
+    let alloc = rt.alloc();
+    let first = part_of(
+        alloc,
+        &[
+            QUERY,
+            b"round 0",
+            b"1 [3, 24]",
+            b"2 2",
+            b"round 1 price 1/3",
+            b"1 [14, 17]",
+            b"2 2",
+            b"end rounds",
+        ],
+    );
+    let second = part_of(
+        alloc,
+        &[
+            QUERY,
+            b"parts 2",
+            b"round 0",
+            b"1 5 or null",
+            b"2 [0, 1]",
+            b"end reads",
+        ],
+    );
+    let (Ok(first), Ok(second)) = (first, second) else {
+        panic!(rt; "a line is refused");
+    };
+    let parts = [first, second];
+    assert!(rt; all_have_block(1, &parts));
+    assert!(rt; !have_all_ended(0, &parts));
+    assert!(rt; have_all_ended(1, &parts));
+    assert_eq!(rt; end_behind(false, false, 0, &parts), None);
+    assert_eq!(rt; end_behind(false, true, 0, &parts), Some(ReportEnd::Rounds));
+    assert_eq!(rt; end_behind(true, true, 0, &parts), Some(ReportEnd::Narrow));
+    assert_eq!(rt;
+        end_behind(false, false, 1, &parts),
+        Some(ReportEnd::Rounds)
+    );
+    assert_eq!(rt;
+        combine_item(alloc, ItemKind::Sum, 0, 0, &parts),
+        value(Nullity::Never, 3, 29)
+    );
+    assert_eq!(rt;
+        combine_item(alloc, ItemKind::Sum, 1, 0, &parts),
+        value(Nullity::Never, 14, 22)
+    );
+    assert_eq!(rt;
+        combine_item(alloc, ItemKind::Count, 1, 1, &parts),
+        value(Nullity::Never, 2, 3)
+    );
+}
+
+#[test]
+fn lines_out_of_place_are_refused(rt: HostRuntime) {
+    let alloc = rt.alloc();
+    let wrong: [&[&[u8]]; 9] = [
+        &[b"round 0"],
+        &[b"query SELECT COUNT(*) FROM t"],
+        &[QUERY, b"round 1"],
+        &[QUERY, b"end narrow"],
+        &[QUERY, b"round 0", b"2 1"],
+        &[QUERY, b"round 0", b"1 1", b"2 1", b"round 2"],
+        &[QUERY, b"round 0", b"1 1", b"2 1.0"],
+        &[QUERY, b"round 0", b"1 1", b"end narrow"],
+        &[
+            QUERY,
+            b"round 0",
+            b"1 1",
+            b"2 1",
+            b"end narrow",
+            b"end narrow",
+        ],
+    ];
+    for lines in wrong {
+        assert!(rt; part_of(alloc, lines).is_err());
+    }
+}
+
+#[test]
+fn other_decimals_are_refused(rt: HostRuntime) {
+    let alloc = rt.alloc();
+    let whole = part_of(alloc, &[QUERY, b"round 0", b"1 3", b"2 1"]);
+    let tenths = part_of(alloc, &[QUERY, b"round 0", b"1 3.5", b"2 1"]);
+    let (Ok(whole), Ok(tenths)) = (whole, tenths) else {
+        panic!(rt; "a line is refused");
+    };
+    let parts = [whole, tenths];
+    assert_eq!(rt;
+        combine_item(alloc, ItemKind::Sum, 0, 0, &parts),
+        Err(CombineFault::OtherDecimals)
+    );
+    assert_eq!(rt;
+        combine_item(alloc, ItemKind::Count, 0, 1, &parts),
+        value(Nullity::Never, 2, 2)
+    );
+}
+
+fn ratio(end: (i128, u64)) -> Ratio {
+    Ratio {
+        sum: Number {
+            decimals: 0,
+            units: end.0,
+        },
+        rows: end.1,
+    }
+}
+
+fn average(low: (i128, u64), high: (i128, u64)) -> Answer {
+    Answer::Average(ShownAverage {
+        null: Nullity::Never,
+        low: ratio(low),
+        high: ratio(high),
+    })
+}
+
+#[test]
+fn an_answer_is_narrow_by_its_width(rt: HostRuntime) {
+    let near = [
+        value_within(Nullity::Never, 3, 5),
+        value_within(Nullity::Always, 0, 0),
+        average((7, 2), (11, 2)),
+        average((1, 2), (2, 4)),
+    ];
+    for answer in near {
+        assert!(rt; is_narrow(2, &answer));
+    }
+    let far = [
+        value_within(Nullity::Never, 3, 6),
+        value_within(Nullity::Possibly, 3, 3),
+        value_within(Nullity::Never, i128::MIN, i128::MAX),
+        average((7, 2), (12, 2)),
+        average((i128::MIN, 1), (i128::MAX, 1)),
+    ];
+    for answer in far {
+        assert!(rt; !is_narrow(2, &answer));
+    }
+}
