@@ -1,0 +1,415 @@
+#!/usr/bin/env python3
+"""Reports of the parts of a table, combined by the definitions alone, apart from the program.
+
+parts.py PARTS REPORTS [--width W] [--rounds N]  prints the combined report of PARTS parts; each line of REPORTS is a tag, a tab and a line
+                                                 of that part's report. A refusal is told on standard error, with status 9
+parts.py --certain [COUNT [SEED]]                cuts tables made by chance into parts, combines the parts' reports in several orders of
+                                                 their lines, and looks whether each interval holds what the uncut table answers
+"""
+import datetime
+import random
+import re
+import sys
+from fractions import Fraction
+
+import reports
+
+EPOCH = datetime.date(1970, 1, 1).toordinal()
+DATE, TEXT = r"\d{4}-\d{2}-\d{2}", r"'(?:[^']|'')*'"
+CALL = re.compile(r"(COUNT|SUM|AVG|MIN|MAX)\(")
+
+
+class Refused(Exception):
+    pass
+
+
+# ---- values: how a line writes them, and what they are
+
+
+class Form:
+    """A way in which lines write values: its name, its pattern, the value of a text and the text of a value."""
+
+    def __init__(self, name, pattern, value, text):
+        self.name, self.pattern, self.value, self.text = name, re.compile(pattern), value, text
+        self.interval = re.compile(r"(?:(%s)|\[(%s), (%s)\])( or null)?" % (pattern, pattern, pattern), re.DOTALL)
+
+
+def number_form(decimals):
+    return Form(
+        decimals,
+        r"-?(?:0|[1-9]\d*)" + (r"\.\d{%d}" % decimals if decimals else ""),
+        lambda text: int(text.replace(".", "")),
+        lambda value: reports.scaled(value, decimals),
+    )
+
+
+def ratio_form(decimals):
+    inner = number_form(decimals)
+    return Form(
+        decimals,
+        inner.pattern.pattern + r"/[1-9]\d*",
+        lambda text: (inner.value(text.split("/")[0]), int(text.split("/")[1])),
+        lambda value: "%s/%d" % (inner.text(value[0]), value[1]),
+    )
+
+
+DATES = Form(
+    "date",
+    DATE,
+    lambda text: datetime.date.fromisoformat(text).toordinal() - EPOCH,
+    lambda value: datetime.date.fromordinal(value + EPOCH).isoformat(),
+)
+TEXTS = Form("text", TEXT, lambda t: t[1:-1].replace("''", "'").encode(), lambda v: reports.quoted(v.decode()))
+NO_TEXTS = "- or null"
+
+
+class Known:
+    """Where an answer lies: the word on null, both ends, and the form in which they are written, None where there is no answer."""
+
+    def __init__(self, word, low, high, form):
+        self.word, self.low, self.high, self.form = word, low, high, form
+
+    def text(self):
+        return reports.interval(self.word, self.low, self.high, self.form.text if self.form else None)
+
+    def is_exact(self):
+        return self.word == "always" or self.word == "never" and self.low == self.high
+
+
+NOTHING = Known("always", 0, 0, None)
+
+
+def forms_of(kind, text):
+    """The forms that the text of an item's answer may have."""
+    decimals = [len(part) - 1 for part in re.findall(r"\.\d+", text)][:1] or [0]
+    if kind == "AVG":
+        return [ratio_form(decimals[0])]
+    return [number_form(decimals[0])] + ([DATES, TEXTS] if kind in ("MIN", "MAX") else [])
+
+
+def order(kind, end):
+    return Fraction(*end) if kind == "AVG" else end
+
+
+def read(kind, text):
+    """What the text says of an answer, or None where no report says so."""
+    if text == "null" and kind != "COUNT" or text == NO_TEXTS and kind in ("MIN", "MAX"):
+        return NOTHING
+    for form in forms_of(kind, text):
+        match = form.interval.fullmatch(text)
+        if match:
+            try:
+                low, high = (form.value(match.group(i) or match.group(1)) for i in (2, 3))
+            except ValueError:
+                return None
+            known = Known("possibly" if match.group(4) else "never", low, high, form)
+            ordered = kind == "AVG" or low <= high
+            right = ordered and known.text() == text and (kind != "COUNT" or form.name == 0 and known.word == "never")
+            return known if right else None
+    return None
+
+
+# ---- an answer over all parts
+
+
+def combined(kind, parts):
+    """Where the answer over all parts lies, from where each part's lies: a part is like a row whose value lies so."""
+    told = [part for part in parts if part.word != "always"]
+    forms = {part.form.name for part in told}
+    if len(forms) > 1:
+        raise Refused("other decimals")
+    if kind == "COUNT":
+        return fitting(Known("never", sum(p.low for p in parts), sum(p.high for p in parts), number_form(0)))
+    if not told:
+        return NOTHING
+    if kind == "AVG":
+        return combined_average(parts, told)
+    pairs = [(part.word == "never", part.low, part.high) for part in told]
+    return fitting(Known(*reports.bound(kind, pairs), told[0].form))
+
+
+def combined_average(parts, told):
+    form = told[0].form
+    if all(part.is_exact() for part in parts):
+        total = (sum(p.low[0] for p in told), sum(p.low[1] for p in told))
+        return fitting(Known("never", total, total, form))
+    return hull(told)
+
+
+def hull(told):
+    """From the least low to the greatest high; of equal ones that of the first part."""
+    word = "never" if any(part.word == "never" for part in told) else "possibly"
+    low = min((part.low for part in told), key=lambda end: Fraction(*end))
+    high = max((part.high for part in told), key=lambda end: Fraction(*end))
+    return Known(word, low, high, told[0].form)
+
+
+def fitting(known):
+    for end in (known.low, known.high):
+        number, rows = end if isinstance(end, tuple) else (end, 1)
+        if isinstance(number, int) and not (-(2**127) <= number < 2**127 and rows < 2**64):
+            raise Refused("too wide")
+    return known
+
+
+def is_near(known, width):
+    if known.word != "never" or known.form in (DATES, TEXTS) and width == 0:
+        return known.word == "always" or known.word == "never" and known.low == known.high
+    if known.form is TEXTS:
+        return known.low == known.high
+    return reports.is_near((known.word, known.low, known.high), width)
+
+
+# ---- the report of one part
+
+
+def kinds_of(query):
+    """The kinds of the items of a query of totals."""
+    return CALL.findall(re.sub(TEXT, "''", query).partition(" FROM ")[0])
+
+
+class Part:
+    def __init__(self, query):
+        self.query, self.kinds, self.blocks, self.current, self.end, self.place = query, kinds_of(query), [], None, None, "query"
+
+    def take(self, line):
+        if self.place == "query":
+            if line != self.query:
+                raise Refused("another query")
+            self.place = "opened"
+            return
+        if self.end is not None or not (self.takes_item(line) or self.takes_round(line)):
+            raise Refused("no line of a report")
+
+    def takes_item(self, line):
+        if self.current is None:
+            return False
+        place = len(self.current)
+        if place < len(self.kinds) and line.startswith("%d " % (place + 1)):
+            known = read(self.kinds[place], line.partition(" ")[2])
+            if known:
+                self.current.append(known)
+            if known and len(self.current) == len(self.kinds):
+                self.blocks.append(self.current)
+                self.current, self.place = None, "round"
+            return known is not None
+        return False
+
+    def takes_round(self, line):
+        if self.current is not None:
+            return False
+        if self.place == "opened" and re.fullmatch(r"parts (0|[1-9]\d*)", line):
+            self.place = "round"
+            return True
+        if self.blocks and line in ("end narrow", "end rounds", "end reads"):
+            self.end = line
+            return True
+        start = "round %d" % len(self.blocks)
+        if line == start or line.startswith(start + " "):
+            self.current = []
+            return True
+        return False
+
+    def has_block(self, number):
+        return self.end is not None or number < len(self.blocks)
+
+    def block(self, number):
+        return self.blocks[min(number, len(self.blocks) - 1)]
+
+    def is_over(self, number):
+        return self.end is not None and len(self.blocks) <= number + 1
+
+
+# ---- the combined report
+
+
+class Combined:
+    def __init__(self, count, width, rounds):
+        self.count, self.width, self.rounds = count, width, rounds
+        self.query, self.parts, self.lines, self.number, self.ended, self.blocks = None, {}, [], 0, False, []
+
+    def in_order(self):
+        return [self.parts[tag] for tag in sorted(self.parts)]
+
+    def take(self, line):
+        tag, tab, rest = line.partition(b"\t")
+        if not tab:
+            raise Refused("no tab")
+        if not 1 <= len(tag) <= 255:
+            raise Refused("no tag of 1 to 255 bytes")
+        if tag not in self.parts:
+            if len(self.parts) == self.count:
+                raise Refused("more than %d parts" % self.count)
+            self.query = self.query or rest.decode(errors="surrogateescape")
+            self.parts[tag] = Part(self.query)
+        self.parts[tag].take(rest.decode(errors="surrogateescape"))
+        while len(self.parts) == self.count and not self.ended and self.goes_on():
+            pass
+
+    def goes_on(self):
+        parts = self.in_order()
+        if self.number and all(part.is_over(self.number - 1) for part in parts):
+            self.finish("end narrow" if all(part.end == "end narrow" for part in parts) else "end rounds")
+            return False
+        if not all(part.has_block(self.number) for part in parts):
+            return False
+        self.write(parts)
+        return True
+
+    def write(self, parts):
+        blocks = [part.block(self.number) for part in parts]
+        block = []
+        for place, kind in enumerate(parts[0].kinds):
+            try:
+                block.append(combined(kind, [b[place] for b in blocks]))
+            except Refused as why:
+                raise Refused("item %d: %s" % (place + 1, why))
+        if self.number == 0:
+            self.lines += [self.query, "parts %d" % self.count]
+        self.lines += ["round %d" % self.number] + ["%d %s" % (i, known.text()) for i, known in enumerate(block, 1)]
+        self.blocks.append(block)
+        if all(is_near(known, self.width) for known in block):
+            self.finish("end narrow")
+        elif self.number == self.rounds:
+            self.finish("end rounds")
+        self.number += 1
+
+    def finish(self, line):
+        self.lines.append(line)
+        self.ended = True
+
+    def close(self):
+        if self.ended:
+            return
+        early = [tag for tag in sorted(self.parts) if self.parts[tag].end is None]
+        if early:
+            raise Refused("part %s ends early" % early[0].decode(errors="surrogateescape"))
+        raise Refused("%d parts, not %d" % (len(self.parts), self.count))
+
+
+def combine(count, text, width=0, rounds=None):
+    """The combined report, and the refusal if there is one. A last line without its end is none."""
+    whole = Combined(count, width, rounds)
+    try:
+        for number, line in enumerate(text.split(b"\n")[:-1], 1):
+            try:
+                whole.take(line)
+            except Refused as why:
+                raise Refused("line %d: %s" % (number, why))
+            if whole.ended:
+                break
+        whole.close()
+    except Refused as why:
+        return whole, "daq: report refused: %s" % why
+    return whole, None
+
+
+# ---- by chance
+
+
+def interleaved(chance, lists):
+    """The lines of all lists, those of each in order."""
+    places = [i for i, lines in enumerate(lists) for _ in lines]
+    chance.shuffle(places)
+    ways = [iter(lines) for lines in lists]
+    return b"".join(next(ways[i]) for i in places)
+
+
+def some_query(chance, columns):
+    return "SELECT %s FROM t%s" % (", ".join(reports.some_items(chance, columns)), reports.some_condition(chance, columns))
+
+
+def cut(chance, text, count):
+    """The CSVs of the parts of a table: runs of its rows."""
+    head, *rows = text.splitlines(True)
+    places = sorted(chance.randint(0, len(rows)) for _ in range(count - 1))
+    return [head + "".join(rows[a:b]) for a, b in zip([0] + places, places + [len(rows)])]
+
+
+def tagged(chance, texts, schema, sql):
+    """For each part its report's lines behind its tag, by options of its own; the tags are in the order of the parts."""
+    lists = []
+    for number, text in enumerate(texts):
+        words = ["--policy", chance.choice(["widest", "order", "filter", "balanced"])]
+        lines = reports.report(text, schema, sql, words).splitlines(True)
+        lists.append([b"p%04d\t" % number + line.encode() for line in lines])
+    return lists
+
+
+def holds(kind, known, answer):
+    """Whether the answer, which is exact, lies where it is said to lie."""
+    if answer.word == "always":
+        return known.word != "never"
+    if known.word == "always":
+        return False
+    return order(kind, known.low) <= order(kind, answer.low) and order(kind, answer.high) <= order(kind, known.high)
+
+
+def is_within(kind, new, old):
+    if new.word == "always":
+        return old.word != "never"
+    if old.word == "always" or new.word == "possibly" and old.word == "never":
+        return False
+    return order(kind, old.low) <= order(kind, new.low) and order(kind, new.high) <= order(kind, old.high)
+
+
+def is_same(kind, known, answer):
+    """Whether it is known to be the answer. Equal averages may be written as other fractions."""
+    return holds(kind, known, answer) and is_within(kind, known, answer)
+
+
+def faults(chance, text, schema, sql, count):
+    """What is wrong with the combined reports of a table that is cut."""
+    lists = tagged(chance, cut(chance, text, count), schema, sql)
+    first, refusal = combine(count, b"".join(line for lines in lists for line in lines))
+    if refusal:
+        return [refusal]
+    wrong = []
+    for _ in range(3):
+        other, refusal = combine(count, interleaved(chance, lists))
+        if refusal or other.lines != first.lines:
+            wrong.append("another order of lines: %s %s" % (refusal, other.lines))
+    last = Part("query " + sql)
+    for line in reports.report(text, schema, sql, []).splitlines():
+        last.take(line)
+    answers, kinds = last.blocks[-1], last.kinds
+    for number, block in enumerate(first.blocks):
+        before = first.blocks[max(number - 1, 0)]
+        for place, kind in enumerate(kinds):
+            if not holds(kind, block[place], answers[place]) or not is_within(kind, block[place], before[place]):
+                wrong.append("block %d item %d" % (number, place + 1))
+    if not all(is_same(k, known, answer) for k, known, answer in zip(kinds, first.blocks[-1], answers)):
+        wrong.append("at the end %s, not %s" % ([k.text() for k in first.blocks[-1]], [k.text() for k in answers]))
+    return wrong
+
+
+def certain(count, seed):
+    chance, wrong = random.Random(seed), 0
+    for number in range(count):
+        text, schema, columns = reports.some_table(chance)
+        sql = some_query(chance, columns)
+        found = faults(chance, text, schema, sql, chance.choice([1, 2, 2, 3, 5]))
+        if found:
+            wrong += 1
+            print("wrong (%d): %s\n%s%s\n%s" % (number, schema, text, sql, "\n".join(found)))
+            if wrong == 3:
+                break
+    print("%d tables cut and combined, %d wrong" % (count, wrong))
+    return 1 if wrong else 0
+
+
+def main(words):
+    if words[0] == "--certain":
+        return certain(int(words[1]) if len(words) > 1 else 1000, int(words[2]) if len(words) > 2 else 1)
+    options = dict(zip(words[2::2], map(int, words[3::2])))
+    with open(words[1], "rb") as file:
+        whole, refusal = combine(int(words[0]), file.read(), options.get("--width", 0), options.get("--rounds"))
+    sys.stdout.write("".join(line + "\n" for line in whole.lines))
+    if refusal:
+        print(refusal, file=sys.stderr)
+        return 9
+    return 0
+
+
+if __name__ == "__main__":
+    sys.exit(main(sys.argv[1:]))
