@@ -20,8 +20,8 @@ pub fn tables_are_one()
     ensures { StandsOnce }
 {}
 
-/// Each text stands for a table under each schema or has a fault, want of memory left aside: nothing falls between the
-/// answers of `load`.
+/// Under each schema each text stands for a table or has a fault, so `load` has an answer for each (want of memory left
+/// aside).
 pub fn texts_have_answers()
     ensures { HasAnswer }
 {}

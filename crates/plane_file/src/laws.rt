@@ -3,8 +3,8 @@
 ghost use Rattle.plane_file.specs.Laws.{AreFaultless, FilesShowNoFault, FilesTellCells, HasHead};
 ghost use Rattle.plane_file.specs.Laws.{HaveOneHead, HaveTables, ShowOneFault, TablesAreOne};
 
-/// Bytes without a fault begin with the head of a table, and have the size of its file: nothing falls between the answers
-/// of `open`.
+/// Bytes without a fault begin with the head of a table, and have the size of its file: so `open` has an answer for all
+/// bytes.
 pub fn faultless_files_have_heads()
     ensures { HasHead }
 {}

@@ -24,7 +24,7 @@ impl<F: Fn(&Progress) -> usize> Chooser<F> {
         Chooser { choose }
     }
 
-    /// The closure's answer, or none where nothing is unread. It is what each policy chooses that the closure follows.
+    /// The closure's answer, or none where nothing is unread. Each policy that the closure follows chooses it.
     pub fn next(&self, progress: &Progress) -> Option<usize>
         requires kept { Keeps F.Fn self.now.choose }
         requires sound { IsSound progress.now }

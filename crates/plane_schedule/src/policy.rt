@@ -28,8 +28,8 @@ pub struct Extras {
     pub exact: bool,
 }
 
-/// A policy, how far apart the ends of a narrow bound may be, and the number of the last round that is wanted, if any. And whether
-/// of rows in an order those are listed too that only may be among the first, and which lines a block has besides.
+/// A policy, how far apart the ends of a narrow bound may be, and the number of the last round that is wanted, if any. Where rows
+/// are asked in an order, `list` says whether possible rows are listed too. `extras` says which lines a block has besides.
 #[derive(Drop, Debug)]
 pub struct Plan {
     pub policy: Policy,

@@ -6,9 +6,9 @@ ghost use Rattle.sql_typing.specs.declared.fault.TypeFault.TheVariants.{NoMemory
 use std::alloc::{AllocError, AllocFailed};
 use thiserror::Error;
 
-/// Why a query cannot be answered on a table, or that memory ran out. Places are bytes of the text. Of several faults
-/// that is answered which is named first here, but for those of kinds, scales, groups, values and the limit, of which
-/// the one at the first place is.
+/// Why a query cannot be answered on a table, or that memory ran out. Places are bytes of the text. Where a query has
+/// several faults, the answer is the one that stands first in this list; but of the faults of kinds, scales, groups,
+/// values and the limit it is the one at the least place.
 #[derive(Debug, PartialEq, Eq, Drop, Error)]
 pub enum TypeFault {
     /// The table is not named `t`.
