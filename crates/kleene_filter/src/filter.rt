@@ -8,7 +8,7 @@ ghost use Rattle.query_model.specs.Queries.{condition_of};
 ghost use Rattle.std.specs.Prelude.{List};
 ghost use Rattle.known_column.specs.KnownTables.{IsKnownTable};
 ghost use Rattle.kleene_filter.specs.Filters.{is_certain, is_possible, is_unknown, truths_under, AreJudged, AreKept};
-ghost use Rattle.kleene_filter.specs.Filters.{AreRightWhereSame, AreUnread, IsJudged, IsWritten, StandsFor, StoodBefore};
+ghost use Rattle.kleene_filter.specs.Filters.{AreRightWhereSame, AreSettled, AreUnread, IsJudged, IsWritten, StandsFor, StoodBefore};
 ghost use Rattle.kleene_filter.specs.Kept.{kept_by_all};
 ghost use Rattle.kleene_filter.specs.Masks.{atoms_of, AddsMasks, AreMasksOf, AreRowsOf, WereMasksOf};
 
@@ -409,6 +409,13 @@ impl Filter {
         ensures { result.now ≡ map is_possible self.now.truths }
     {
         &self.truths.masks.may
+    }
+
+    /// The blocks of 512 rows that may have a row at which it is not known whether the condition holds, a bit for each block.
+    pub fn undecided(&self) -> &Mask
+        ensures { AreSettled (map is_certain self.now.truths) (map is_possible self.now.truths) result.now }
+    {
+        &self.truths.undecided
     }
 
     /// The number of rows at which it is not known whether the condition holds.
