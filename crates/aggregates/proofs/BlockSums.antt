@@ -4,7 +4,6 @@ use Rattle.std.specs.Int.Bits.{bit_and}
 use Rattle.std.specs.Int.Count.{ones}
 use Rattle.std.specs.Simd.Lanes.{zip2}
 use Rattle.std.proofs.Math.Seq.{take-add}
-use Rattle.std.proofs.lemmas.Bool.{false≢true}
 use Rattle.std.proofs.lemmas.List.{drop-map, get_or-drop, get_or-take, length-map, length-take, map-append, take-map, take_all}
 use Rattle.plane_kernels.specs.Rows.{block_rows, rows_of, IsPadded}
 use Rattle.plane_kernels.proofs.Bitwise.{and_is_bitwise, padded-zip2, rows_of-zip2}
@@ -12,11 +11,9 @@ use Rattle.plane_kernels.proofs.RowLemmas.{count-rows_of}
 use Rattle.query_model.specs.Knowledge.{null_with, IsLegal}
 use Rattle.query_model.specs.Truths.{may_be_number}
 use Rattle.known_column.specs.Columns.{KnownColumn, rows_of_column}
-use Rattle.aggregates.specs.ExtremeRows.{AreBlockRows, AreZero}
 use Rattle.aggregates.specs.Selections.{block_of, sum_where, IsSound}
-use Rattle.aggregates.proofs.BlockWords.{no_places, row_within}
+use Rattle.aggregates.proofs.BlockWords.{row_within}
 use Rattle.aggregates.proofs.EndSums.{Counts, OfColumn}
-use Rattle.aggregates.proofs.MaskSums.{sum_none}
 
 -- ---- rows of two blocks
 
@@ -73,15 +70,6 @@ counts_block column mask block h =
           let small : row < 512 = omega (arith, row_within (block_of block mask) row has, length_block block mask) in
           subst (λ p. IsTrue (may_be_number (null_with column.ends column.known.read p))) (sym (get_block block ps row 0 small)) (h.values (512 * block + row) (sym (get_block block mask row false small) ∙ has));
     }
-
--- a block without rows
-pub none_in_block : (column : KnownColumn) (mask : List Bool) (block : ℕ) (words : List ℕ) (f : ℕ → ℕ) → length mask ≡ length column.known.prefixes → AreBlockRows mask block words → AreZero words →
-    sum_where (block_of block mask) (map f (block_of block column.known.prefixes)) ≡ 0
-none_in_block column mask block words f long rows none =
-    let ps = column.known.prefixes in
-    sum_none (block_of block mask) (block_of block ps) f (length_block block mask ∙ ap (λ n. min 512 (n - 512 * block)) long ∙ sym (length_block block ps)) (λ r below has.
-    let small : r < 512 = omega (arith, below, length_block block ps) in
-    absurd (false≢true (sym (no_places words r none) ∙ rows r small ∙ sym (get_block block mask r false small) ∙ has)))
 
 -- ---- all blocks
 

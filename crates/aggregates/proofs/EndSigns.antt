@@ -24,7 +24,7 @@ below_zero (pos n) x h = by_test (nat_lt x n) refl
 below_zero (negsuc n) x h = grind (arith, ints, nat_tests)
 
 -- a mask that has each row as it should is those rows
-all_those : (out within : List Bool) (test : ℕ → Bool) → length out ≡ length within → ((k : ℕ) → k < length within → get_or out k false ≡ (get_or within k false && test k)) → out ≡ those_of within test
+pub all_those : (out within : List Bool) (test : ℕ → Bool) → length out ≡ length within → ((k : ℕ) → k < length within → get_or out k false ≡ (get_or within k false && test k)) → out ≡ those_of within test
 all_those out within test same each =
     let f : ℕ → Bool = λ k. has_row within k && test k in
     let n = length within in

@@ -1,12 +1,15 @@
 -- Sums that follow the rows of a block that come and leave, and planes that are read.
-use Rattle.std.proofs.Common.{◌≤◌, ◌&&◌, count_by, ◌≡◌, ℕ, zero, suc, ◌+◌, ◌-◌, ◌*◌, ◌/◌, ◌^◌, min, Bool, true, false, cond, List, [], ◌∷◌, ◌++◌, length, map, take, drop, replicate, refl, ap, sym, subst, ◌∙◌, arith}
+use Rattle.std.proofs.Common.{◌&&◌, not, count_by, sum_by, ◌≡◌, ℕ, zero, suc, ◌+◌, ◌-◌, ◌*◌, ◌/◌, ◌^◌, min, Bool, true, false, cond, List, [], ◌∷◌, ◌++◌, length, map, take, drop, replicate, refl, ap, sym, subst, ◌∙◌, arith}
+use Rattle.std.specs.Int.Count.{ones}
 use Rattle.std.specs.Simd.Lanes.{put_chunk, zip2}
-use Rattle.std.proofs.lemmas.List.Sums.{sum_by-cons}
+use Rattle.std.proofs.lemmas.List.Sums.{count_by-le-length, sum_by-cons}
 use Rattle.std.proofs.Math.Nat.{pow-suc, div-div-eq-div-mul}
 use Rattle.std.proofs.Math.Seq.{take-add}
 use Rattle.std.proofs.lemmas.List.{drop-map, length-map, take-map}
-use Rattle.plane_kernels.specs.Rows.{block_rows, rows_of}
-use Rattle.plane_kernels.proofs.RowLemmas.{length-rows_of}
+use Rattle.plane_kernels.specs.Rows.{block_rows, rows_of, IsPadded}
+use Rattle.plane_kernels.specs.Words.{and_not}
+use Rattle.plane_kernels.proofs.Bitwise.{and_not_is_bitwise, padded-zip2, rows_of-zip2}
+use Rattle.plane_kernels.proofs.RowLemmas.{count-rows_of, length-rows_of}
 use Rattle.query_model.specs.Knowledge.{longer}
 use Rattle.known_column.specs.Columns.{KnownColumn, number_of, read_further, rows_of_column}
 use Rattle.known_column.proofs.Growing.{length-longer}
@@ -71,77 +74,110 @@ block_moved f block xs ys ps long few =
     sym (ap (λ l. sum_where (put_chunk at xs ys) (map f ps) + sum_where (block_of block xs) l) same) ∙ sum_moved 512 at xs ys (map f ps) (long ∙ sym (length-map ps f)) few
     ∙ ap (λ l. sum_where xs (map f ps) + sum_where ys l) same
 
+-- of the rows of one list and of another those that only one has are told apart
+sum_apart : (xs ys : List Bool) (ns : List ℕ) → length ys ≡ length xs → sum_where ys ns + sum_where (zip2 (λ a b. a && not b) xs ys) ns ≡ sum_where xs ns + sum_where (zip2 (λ a b. a && not b) ys xs) ns
+sum_apart [] [] ns e = refl
+sum_apart [] (y ∷ ys) ns e = absurd (omega (arith, e))
+sum_apart (x ∷ xs) [] ns e = absurd (omega (arith, e))
+sum_apart (x ∷ xs) (y ∷ ys) [] e = refl
+sum_apart (true ∷ xs) (true ∷ ys) (n ∷ ns) e = (let rest = sum_apart xs ys ns (omega (arith, e)) in omega (arith, rest))
+sum_apart (true ∷ xs) (false ∷ ys) (n ∷ ns) e = (let rest = sum_apart xs ys ns (omega (arith, e)) in omega (arith, rest))
+sum_apart (false ∷ xs) (true ∷ ys) (n ∷ ns) e = (let rest = sum_apart xs ys ns (omega (arith, e)) in omega (arith, rest))
+sum_apart (false ∷ xs) (false ∷ ys) (n ∷ ns) e = (let rest = sum_apart xs ys ns (omega (arith, e)) in omega (arith, rest))
+
+-- how many rows there are, once those of a block are others
+count_moved : (size i : ℕ) (xs ys : List Bool) → length ys ≡ min size (length xs - i) →
+    count_by (λ b. b) (put_chunk i xs ys) + count_by (λ b. b) (take size (drop i xs)) ≡ count_by (λ b. b) xs + count_by (λ b. b) ys
+count_moved size i [] [] few = nothing size i
+  where
+    nothing : (size i : ℕ) → count_by (λ b. b) (put_chunk {A = Bool} i [] []) + count_by (λ b. b) (take size (drop {A = Bool} i [])) ≡ 0
+    nothing zero zero = refl
+    nothing (suc size) zero = refl
+    nothing zero (suc i) = refl
+    nothing (suc size) (suc i) = refl
+count_moved size i [] (y ∷ ys) few = absurd (omega (arith, few))
+count_moved zero zero (x ∷ xs) [] few = refl
+count_moved zero zero (x ∷ xs) (y ∷ ys) few = absurd (omega (arith, few))
+count_moved (suc size) zero (x ∷ xs) [] few = absurd (omega (arith, few))
+count_moved (suc size) zero (x ∷ xs) (y ∷ ys) few =
+    omega (
+      arith,
+      count_moved size zero xs ys (omega (arith, few)),
+      sum_by-cons (λ b. cond {A = ℕ} b 1 0) y (put_chunk zero xs ys),
+      sum_by-cons (λ b. cond {A = ℕ} b 1 0) x (take size xs),
+      sum_by-cons (λ b. cond {A = ℕ} b 1 0) x xs,
+      sum_by-cons (λ b. cond {A = ℕ} b 1 0) y ys,
+    )
+count_moved size (suc i) (x ∷ xs) ys few =
+    omega (arith, count_moved size i xs ys (omega (arith, few)), sum_by-cons (λ b. cond {A = ℕ} b 1 0) x (put_chunk i xs ys), sum_by-cons (λ b. cond {A = ℕ} b 1 0) x xs)
+
+-- rows of a block in words, those that came and those that left
+pub record AreMoved (n : ℕ) (old new came left : List ℕ) : Type 0 where
+  pub came_is : came ≡ zip2 and_not new old
+  pub left_is : left ≡ zip2 and_not old new
+  pub old_eight : length old ≡ 8
+  pub new_eight : length new ≡ 8
+  pub old_padded : IsPadded n old
+  pub new_padded : IsPadded n new
+
+pub left_padded : (n : ℕ) (old new came left : List ℕ) → AreMoved n old new came left → IsPadded n left
+left_padded n old new came left m = subst (IsPadded n) (sym m.left_is) (padded-zip2 and_not (λ a b. a && not b) and_not_is_bitwise n old new (m.new_eight ∙ sym m.old_eight) m.old_padded m.new_padded)
+
 -- what is kept, once the rows of a block moved
-pub sum_follows : (column : KnownColumn) (kept : KeptSum) (block left came : ℕ) (old new : List ℕ) → IsKept column kept → length new ≡ 8 → rows_of (block_rows (length kept.mask) block) old ≡ block_of block kept.mask →
-    left ≡ sum_where (rows_of (block_rows (rows_of_column column) block) old) (map (early_number column kept.read) (block_of block column.known.prefixes)) →
-    came ≡ sum_where (rows_of (block_rows (rows_of_column column) block) new) (map (early_number column kept.read) (block_of block column.known.prefixes)) →
-    sum_of_first column kept.read (put_chunk (512 * block) kept.mask (rows_of (block_rows (rows_of_column column) block) new)) + left ≡ kept.number + came
-sum_follows column kept block left came old new is eight rows off on =
+pub sum_follows : (column : KnownColumn) (kept : KeptSum) (block off on : ℕ) (old new came left : List ℕ) → IsKept column kept → AreMoved (block_rows (rows_of_column column) block) old new came left →
+    rows_of (block_rows (length kept.mask) block) old ≡ block_of block kept.mask →
+    off ≡ sum_where (rows_of (block_rows (rows_of_column column) block) left) (map (early_number column kept.read) (block_of block column.known.prefixes)) →
+    on ≡ sum_where (rows_of (block_rows (rows_of_column column) block) came) (map (early_number column kept.read) (block_of block column.known.prefixes)) →
+    sum_of_first column kept.read (put_chunk (512 * block) kept.mask (rows_of (block_rows (rows_of_column column) block) new)) + off ≡ kept.number + on
+sum_follows column kept block off on old new came left is moved rows off_is on_is =
     let ps = column.known.prefixes in
-    let f = early_number column kept.read in
+    let ns = map (early_number column kept.read) (block_of block ps) in
+    let n = block_rows (rows_of_column column) block in
+    let old_rows : rows_of n old ≡ block_of block kept.mask = subst (λ k. rows_of (block_rows k block) old ≡ block_of block kept.mask) is.rows rows in
+    let new_long : length (rows_of n new) ≡ n = length-rows_of n new (omega (arith, moved.new_eight)) in
+    let old_long : length (rows_of n old) ≡ n = length-rows_of n old (omega (arith, moved.old_eight)) in
+    let long : length (rows_of n new) ≡ min 512 (length kept.mask - 512 * block) = new_long ∙ ap (λ k. block_rows k block) (sym is.rows) in
+    let replaced = block_moved (early_number column kept.read) block kept.mask (rows_of n new) ps is.rows long in
+    let apart = sum_apart (rows_of n old) (rows_of n new) ns (new_long ∙ sym old_long) in
+    let came_rows : rows_of n came ≡ zip2 (λ a b. a && not b) (rows_of n new) (rows_of n old) =
+    ap (rows_of n) moved.came_is ∙ rows_of-zip2 and_not (λ a b. a && not b) and_not_is_bitwise n new old (moved.old_eight ∙ sym moved.new_eight) moved.new_padded moved.old_padded in
+    let left_rows : rows_of n left ≡ zip2 (λ a b. a && not b) (rows_of n old) (rows_of n new) =
+    ap (rows_of n) moved.left_is ∙ rows_of-zip2 and_not (λ a b. a && not b) and_not_is_bitwise n old new (moved.new_eight ∙ sym moved.old_eight) moved.old_padded moved.new_padded in
+    let on_sum : on ≡ sum_where (zip2 (λ a b. a && not b) (rows_of n new) (rows_of n old)) ns = on_is ∙ ap (λ r. sum_where r ns) came_rows in
+    let off_sum : off ≡ sum_where (zip2 (λ a b. a && not b) (rows_of n old) (rows_of n new)) ns = off_is ∙ ap (λ r. sum_where r ns) left_rows in
+    let old_sum : sum_where (rows_of n old) ns ≡ sum_where (block_of block kept.mask) ns = ap (λ r. sum_where r ns) old_rows in
+    omega (arith, replaced, apart, is.adds, on_sum, off_sum, old_sum)
+
+pub count_follows : (column : KnownColumn) (kept : KeptSum) (block : ℕ) (old new : List ℕ) → IsKept column kept → length new ≡ 8 →
+    IsPadded (block_rows (rows_of_column column) block) old → IsPadded (block_rows (rows_of_column column) block) new →
+    rows_of (block_rows (length kept.mask) block) old ≡ block_of block kept.mask →
+    count_by (λ b. b) (put_chunk (512 * block) kept.mask (rows_of (block_rows (rows_of_column column) block) new)) + sum_by ones old ≡ kept.count + sum_by ones new
+count_follows column kept block old new is eight p q rows =
     let n = block_rows (rows_of_column column) block in
     let old_rows : rows_of n old ≡ block_of block kept.mask = subst (λ k. rows_of (block_rows k block) old ≡ block_of block kept.mask) is.rows rows in
     let long : length (rows_of n new) ≡ min 512 (length kept.mask - 512 * block) = length-rows_of n new (omega (arith, eight)) ∙ ap (λ k. block_rows k block) (sym is.rows) in
-    ap (λ k. sum_of_first column kept.read (put_chunk (512 * block) kept.mask (rows_of n new)) + k) (off ∙ ap (λ r. sum_where r (map f (block_of block ps))) old_rows)
-    ∙ block_moved f block kept.mask (rows_of n new) ps is.rows long
-    ∙ ap (λ k. k + sum_where (rows_of n new) (map f (block_of block ps))) (sym is.adds) ∙ ap (λ k. kept.number + k) (sym on)
+    let old_count : sum_by ones old ≡ count_by (λ b. b) (block_of block kept.mask) = sym (count-rows_of n old p) ∙ ap (count_by (λ b. b)) old_rows in
+    let new_count : count_by (λ b. b) (rows_of n new) ≡ sum_by ones new = count-rows_of n new q in
+    omega (arith, count_moved 512 (512 * block) kept.mask (rows_of n new) long, old_count, new_count, is.count)
 
--- of two masks' rows those that both have are rows of each; where they are all rows of each, the masks are the same
-pub both_le : (xs ys : List Bool) → length xs ≡ length ys →
-    (count_by (λ b. b) (zip2 (λ a b. a && b) xs ys) ≤ count_by (λ b. b) xs) × (count_by (λ b. b) (zip2 (λ a b. a && b) xs ys) ≤ count_by (λ b. b) ys)
-both_le [] [] e = (omega arith, omega arith)
-both_le [] (y ∷ ys) e = absurd (omega (arith, e))
-both_le (x ∷ xs) [] e = absurd (omega (arith, e))
-both_le (x ∷ xs) (y ∷ ys) e =
-    let rest = both_le xs ys (omega (arith, e)) in
-    let c = count_by (λ b. b) (zip2 (λ a b. a && b) xs ys) in
-    let here : count_by (λ b. b) (zip2 (λ a b. a && b) (x ∷ xs) (y ∷ ys)) ≡ cond (x && y) 1 0 + c = sum_by-cons (λ b. cond b 1 0) (x && y) (zip2 (λ a b. a && b) xs ys) in
-    let left : count_by (λ b. b) (x ∷ xs) ≡ cond x 1 0 + count_by (λ b. b) xs = sum_by-cons (λ b. cond b 1 0) x xs in
-    let right : count_by (λ b. b) (y ∷ ys) ≡ cond y 1 0 + count_by (λ b. b) ys = sum_by-cons (λ b. cond b 1 0) y ys in
-    (omega (arith, here, left, rest.0, least x y), omega (arith, here, right, rest.1, last x y))
-  where
-    least : (x y : Bool) → cond {A = ℕ} (x && y) 1 0 ≤ cond {A = ℕ} x 1 0
-    least true true = omega arith
-    least true false = omega arith
-    least false y = omega arith
+-- a mask that counts as many rows as it has has all of them
+all_rows : (xs : List Bool) → count_by (λ b. b) xs ≡ length xs → xs ≡ replicate (length xs) true
+all_rows [] e = refl
+all_rows (true ∷ xs) e = ap (λ l. true ∷ l) (all_rows xs (omega (arith, e, sum_by-cons (λ b. cond {A = ℕ} b 1 0) true xs)))
+all_rows (false ∷ xs) e = absurd (omega (arith, e, sum_by-cons (λ b. cond {A = ℕ} b 1 0) false xs, count_by-le-length {X = Bool} (λ b. b) xs))
 
-    last : (x y : Bool) → cond {A = ℕ} (x && y) 1 0 ≤ cond {A = ℕ} y 1 0
-    last true true = omega arith
-    last true false = omega arith
-    last false true = omega arith
-    last false false = omega arith
-
-pub none_moved : (xs ys : List Bool) → length xs ≡ length ys → count_by (λ b. b) xs ≤ count_by (λ b. b) (zip2 (λ a b. a && b) xs ys) →
-    count_by (λ b. b) ys ≤ count_by (λ b. b) (zip2 (λ a b. a && b) xs ys) → xs ≡ ys
-none_moved [] [] e p q = refl
-none_moved [] (y ∷ ys) e p q = absurd (omega (arith, e))
-none_moved (x ∷ xs) [] e p q = absurd (omega (arith, e))
-none_moved (true ∷ xs) (true ∷ ys) e p q =
-    let both = sum_by-cons (λ b. cond b 1 0) true (zip2 (λ a b. a && b) xs ys) in
-    let left = sum_by-cons (λ b. cond b 1 0) true xs in
-    let right = sum_by-cons (λ b. cond b 1 0) true ys in
-    ap (λ t. true ∷ t) (none_moved xs ys (omega (arith, e)) (omega (arith, left, both, p)) (omega (arith, right, both, q)))
-none_moved (false ∷ xs) (false ∷ ys) e p q =
-    let both = sum_by-cons (λ b. cond b 1 0) false (zip2 (λ a b. a && b) xs ys) in
-    let left = sum_by-cons (λ b. cond b 1 0) false xs in
-    let right = sum_by-cons (λ b. cond b 1 0) false ys in
-    ap (λ t. false ∷ t) (none_moved xs ys (omega (arith, e)) (omega (arith, left, both, p)) (omega (arith, right, both, q)))
-none_moved (true ∷ xs) (false ∷ ys) e p q =
-    let both = sum_by-cons (λ b. cond b 1 0) false (zip2 (λ a b. a && b) xs ys) in
-    let left = sum_by-cons (λ b. cond b 1 0) true xs in
-    let right = sum_by-cons (λ b. cond b 1 0) false ys in
-    absurd (omega (arith, left, both, p, (both_le xs ys (omega (arith, e))).0))
-none_moved (false ∷ xs) (true ∷ ys) e p q =
-    let both = sum_by-cons (λ b. cond b 1 0) false (zip2 (λ a b. a && b) xs ys) in
-    let left = sum_by-cons (λ b. cond b 1 0) false xs in
-    let right = sum_by-cons (λ b. cond b 1 0) true ys in
-    absurd (omega (arith, right, both, q, (both_le xs ys (omega (arith, e))).1))
+pub both_full : (xs ys : List Bool) → length xs ≡ length ys → count_by (λ b. b) xs ≡ length xs → count_by (λ b. b) ys ≡ length ys → xs ≡ ys
+both_full xs ys same p q = all_rows xs p ∙ ap (λ n. replicate n true) same ∙ sym (all_rows ys q)
 
 -- no row gives nothing
 pub sum_of_none : (n : ℕ) (ns : List ℕ) → sum_where (replicate n false) ns ≡ 0
 sum_of_none zero ns = refl
 sum_of_none (suc n) [] = refl
 sum_of_none (suc n) (m ∷ ns) = ap (λ k. 0 + k) (sum_of_none n ns)
+
+pub count-none : (n : ℕ) → count_by (λ b. b) (replicate n false) ≡ 0
+count-none zero = refl
+count-none (suc n) = sum_by-cons (λ b. cond {A = ℕ} b 1 0) false (replicate n false) ∙ ap (λ k. 0 + k) (count-none n)
 
 -- ---- planes that are read
 
@@ -168,6 +204,7 @@ still_kept column bits kept long is =
     let next : (read + 1) - kept.read ≡ suc (read - kept.read) = omega (arith, is.some_read) in
     record {
       rows = is.rows ∙ sym (length-longer ps bits long);
+      count = is.count;
       some_read = omega (arith, is.some_read);
       adds = is.adds ∙ ap (sum_where kept.mask) (sym (map_longer (early_number (read_further column bits) kept.read) (early_number column kept.read)
           (λ p b. ap (λ k. number_of column.ends kept.read ((2 * p + cond b 1 0) / 2 ^ k)) next ∙ ap (number_of column.ends kept.read) (first_digits p (read - kept.read) b)) ps bits long));

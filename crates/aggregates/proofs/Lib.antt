@@ -11,4 +11,6 @@ pub mod ExtremeEnds
 pub mod KeptSums
 pub mod MaskSums
 pub mod NumberRows
+pub mod RowSums
 pub mod Values
+pub mod Widening

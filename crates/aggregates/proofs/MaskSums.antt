@@ -197,6 +197,13 @@ first_value f false mask = ap total (first_row f false mask) ∙ alone (total (m
     alone : (z : ℤ) → z ≡ pos 0 +ℤ z
     alone z = omega (arith, ints)
 
+-- a mask without a row has no sum
+pub total_of_none : (f : ℕ → ℤ) (mask : List Bool) → count_by (λ b. b) mask ≡ 0 → total (map f (rows_in mask)) ≡ pos 0
+total_of_none f [] none = refl
+total_of_none f (true ∷ mask) none = absurd (omega (arith, none, sum_by-cons (λ b. cond {A = ℕ} b 1 0) true mask))
+total_of_none f (false ∷ mask) none =
+    first_value f false mask ∙ ap (λ z. pos 0 +ℤ z) (total_of_none (λ r. f (suc r)) mask (omega (arith, none, sum_by-cons (λ b. cond {A = ℕ} b 1 0) false mask))) ∙ omega (arith, ints)
+
 either_value : (z : ℤ) (a b : Bool) → cond (a || b) z (pos 0) ≡ cond b z (pos 0) +ℤ cond (a && not b) z (pos 0)
 either_value z true true = omega (arith, ints)
 either_value z true false = omega (arith, ints)

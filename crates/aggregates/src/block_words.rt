@@ -1,6 +1,9 @@
 //! Rows of a block of 512, as the bits of eight words.
 
 ghost use Rattle.std.specs.Prelude.{◌≡◌, ◌<◌, ◌↔◌, IsTrue};
+ghost use Rattle.std.specs.Int.Bits.{bit_and, bit_or};
+ghost use Rattle.std.specs.Simd.Lanes.{zip2};
+ghost use Rattle.plane_kernels.specs.Words.{and_not};
 ghost use Rattle.aggregates.specs.ExtremeRows.{has_place, AreZero};
 
 use std::simd::prelude::*;
@@ -17,6 +20,27 @@ pub(crate) fn are_same(words: &[u64; 8], others: &[u64; 8]) -> bool
     ensures { IsTrue result → words.now ≡ others.now }
 {
     words == others
+}
+
+// The rows that both words have.
+pub(crate) fn and_words(words: &[u64; 8], others: &[u64; 8]) -> [u64; 8]
+    ensures { result ≡ zip2 bit_and words.now others.now }
+{
+    (u64x8::from_array(*words) & u64x8::from_array(*others)).to_array()
+}
+
+// The rows that one of both has.
+pub(crate) fn or_words(words: &[u64; 8], others: &[u64; 8]) -> [u64; 8]
+    ensures { result ≡ zip2 bit_or words.now others.now }
+{
+    (u64x8::from_array(*words) | u64x8::from_array(*others)).to_array()
+}
+
+// The rows that the other words have not.
+pub(crate) fn and_not_words(words: &[u64; 8], others: &[u64; 8]) -> [u64; 8]
+    ensures { result ≡ zip2 and_not words.now others.now }
+{
+    (u64x8::from_array(*words) & !u64x8::from_array(*others)).to_array()
 }
 
 /// The place of a row that the words have.

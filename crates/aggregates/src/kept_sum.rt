@@ -1,25 +1,24 @@
 //! A sum that is kept from one plane to the next, and follows the rows that come and leave and the planes that are read.
 
-ghost use Rattle.std.specs.Prelude.{◌≡◌, ◌+◌, ◌*◌, ◌<◌, length, take, IfOk};
+ghost use Rattle.std.specs.Prelude.{◌≡◌, ◌+◌, ◌*◌, ◌<◌, length, take, count_by, IfOk, IsTrue};
 ghost use Rattle.query_model.specs.Answers.{total};
 ghost use Rattle.known_column.specs.Columns.{KnownColumn, rows_of_column};
 ghost use Rattle.aggregates.specs.KeptSums.{IsKept};
 ghost use Rattle.aggregates.specs.Selections.{highs_in, lows_in, IsSmallSum, IsSumOfDigits, MayHaveValues};
 
-use crate::block_words::are_same;
+use crate::block_words::{and_not_words, are_same};
 use crate::digits::number_planes;
-use crate::sums::{SumSpan, ends_by_digits, sum_further, sum_numbers, sum_rows};
+use crate::row_sums::ends_of_mask;
+use crate::sums::{SumSpan, sum_further, sum_numbers, sum_rows};
 use known_column::Known;
-use plane_kernels::Mask;
+use plane_kernels::{Mask, count_ones};
 use std::alloc::{AllocError, Global};
 
-// Where of so many rows one moved, or fewer, each block of 512 that has such a row is added by itself.
-const ROWS_FOR_ONE_MOVED: u64 = 8192;
-
-/// Rows of a column, and what its first planes gave of their numbers, added up.
+/// Rows of a column, how many they are, and what its first planes gave of their numbers, added up.
 #[derive(Drop)]
 pub struct KeptSum {
     mask: Mask,
+    count: u64,
     read: u8,
     number: u128,
 }
@@ -31,12 +30,13 @@ impl KeptSum {
     {
         Ok(KeptSum {
             mask: Mask::none(alloc, rows)?,
+            count: 0,
             read: 0,
             number: 0,
         })
     }
 
-    // Makes its rows of a block those of the mask: what the new ones gave is added, and what the old ones gave is taken off.
+    // Makes its rows of a block those of the mask: what the rows gave that came is added, and what those gave that left is taken off.
     fn move_block(&mut self, known: &Known, mask: &Mask, block: usize)
         requires rows { length mask.now ≡ rows_of_column known.now }
         requires block { 512 * block < rows_of_column known.now }
@@ -46,56 +46,57 @@ impl KeptSum {
         ensures moved { take (512 * (block + 1)) self.new.mask ≡ take (512 * (block + 1)) mask.now }
     {
         let _planes = number_planes(known);
+        let _rows = known.rows();
         let old = self.mask.block(block);
         let new = mask.block(block);
         if !are_same(&old, &new) {
-            let left = sum_rows(known, block, &old, self.read);
-            let came = sum_rows(known, block, &new, self.read);
+            let came = sum_rows(known, block, &and_not_words(&new, &old), self.read);
+            let left = sum_rows(known, block, &and_not_words(&old, &new), self.read);
+            self.count = self.count + count_ones(&new) - count_ones(&old);
             self.number = self.number + came - left;
             self.mask.set_block(block, new);
         }
     }
 
-    // How many rows came or left.
-    fn count_moved(&self, known: &Known, mask: &Mask) -> u64
-        requires rows { length mask.now ≡ rows_of_column known.now }
-        requires kept { IsKept known.now self.now }
-        ensures { result ≡ 0 → self.now.mask ≡ mask.now }
+    // Whether both have all rows.
+    fn is_full(&self, mask: &Mask) -> bool
+        requires rows { length mask.now ≡ length self.now.mask }
+        requires count { self.now.count ≡ count_by (λ b. b) self.now.mask }
+        ensures { IsTrue result → self.now.mask ≡ mask.now }
     {
-        let _rows = known.rows();
-        let both = self.mask.count_and(mask);
-        (self.mask.count() - both) + (mask.count() - both)
+        let rows = mask.rows() as u64;
+        self.count == rows && mask.count() == rows
     }
 
-    // Makes its rows those of the mask, where so many moved. Blocks of which no row moved are passed over.
-    fn move_rows(&mut self, known: &Known, mask: &Mask, moved: u64)
+    // Makes its rows those of the mask, where it has some. Blocks of which no row moved are passed over.
+    fn move_rows(&mut self, known: &Known, mask: &Mask)
         requires rows { length mask.now ≡ rows_of_column known.now }
         requires kept { IsKept known.now self.old }
-        requires moved { moved ≡ 0 → self.old.mask ≡ mask.now }
         ensures kept { IsKept known.now self.new }
         ensures moved { self.new.mask ≡ mask.now }
     {
-        if moved > 0 {
-            for block in 0..mask.rows().div_ceil(512) {
-                self.move_block(known, mask, block);
-            }
+        if self.is_full(mask) {
+            return;
+        }
+        for block in 0..mask.rows().div_ceil(512) {
+            self.move_block(known, mask, block);
         }
     }
 
-    // The digits that were read of the numbers at the mask's rows, added up as numbers. Where many rows moved, they are added anew: only
-    // how fast the sum is found hangs on that.
+    // The digits that were read of the numbers at the mask's rows, added up as numbers. The first rows are taken over, and added up anew.
     fn follow(&mut self, known: &Known, mask: &Mask) -> u128
         requires rows { length mask.now ≡ rows_of_column known.now }
         requires kept { IsKept known.now self.old }
         ensures kept { IsKept known.now self.new }
+        ensures rows { self.new.mask ≡ mask.now }
         ensures sum { IsSumOfDigits known.now mask.now result }
     {
-        let moved = self.count_moved(known, mask);
-        if moved > mask.rows() as u64 / ROWS_FOR_ONE_MOVED {
+        if self.count == 0 {
             self.mask.copy_from(mask);
+            self.count = mask.count();
             self.number = sum_numbers(known, mask);
         } else {
-            self.move_rows(known, mask, moved);
+            self.move_rows(known, mask);
             self.number = sum_further(known, mask, self.number, self.read);
         }
         self.read = number_planes(known).1;
@@ -114,6 +115,6 @@ impl KeptSum {
         ensures few { IsSmallSum result.low × IsSmallSum result.high }
     {
         let numbers = self.follow(known, mask);
-        ends_by_digits(known, mask, numbers)
+        ends_of_mask(known, mask, self.count, numbers)
     }
 }

@@ -7,6 +7,8 @@ mod ends;
 mod extreme_rows;
 mod extremes;
 mod kept_sum;
+mod others;
+mod row_sums;
 mod running;
 mod signs;
 mod spans;
@@ -20,6 +22,7 @@ pub use ends::{
     positive_highs, sum_ends, sum_highs, sum_lows,
 };
 pub use kept_sum::KeptSum;
+pub use others::{OtherRows, sum_others};
 pub use running::Running;
 pub use spans::{block_span, lows_of_rows, spans_of_rows, top_span};
 pub use sums::SumSpan;

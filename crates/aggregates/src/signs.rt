@@ -11,7 +11,7 @@ use known_column::Known;
 use plane_kernels::Mask;
 
 // Whether the range at the prefix of 0 begins below 0: a digit of 1 of the number 0 is unread.
-fn begins_below(base: i64, unread: u8) -> bool
+pub(crate) fn begins_below(base: i64, unread: u8) -> bool
     requires { unread ≤ 65 }
     ensures { result ≡ nat_lt 0 (nat_abs base % 2 ^ unread) }
 {
@@ -19,7 +19,7 @@ fn begins_below(base: i64, unread: u8) -> bool
 }
 
 // Whether the range at the prefix of 0 ends above 0, if top does: a digit of 0 of the number 0 is unread.
-fn ends_above(base: i64, unread: u8) -> bool
+pub(crate) fn ends_above(base: i64, unread: u8) -> bool
     requires { unread ≤ 65 }
     ensures { result ≡ nat_lt (nat_abs base % 2 ^ unread + 1) (2 ^ unread) }
 {

@@ -9,11 +9,13 @@ ghost use Rattle.aggregates.specs.Selections.{early_number, highs_in, lows_in, s
 
 use crate::block_words::is_empty;
 use crate::digits::number_planes;
-use crate::spans::{lows_of_rows, spans_of_rows};
+use crate::row_sums::ends_of_mask;
+use crate::spans::lows_of_rows;
 use known_column::Known;
 use plane_kernels::{Mask, count_both};
 
-// The digits that the first planes gave of the numbers at some rows of a block of 512, added up as numbers.
+// The digits that the first planes gave of the numbers at some rows of a block of 512, added up as numbers. Where there is no row no
+// plane is read.
 pub(crate) fn sum_rows(known: &Known, block: usize, rows: &[u64; 8], read: u8) -> u128
     requires block { 512 * block < rows_of_column known.now }
     requires rows { IsPadded (block_rows (rows_of_column known.now) block) rows.now }
@@ -23,6 +25,9 @@ pub(crate) fn sum_rows(known: &Known, block: usize, rows: &[u64; 8], read: u8) -
     ensures few { result ≤ 2 ^ 88 }
 {
     let (from, _) = number_planes(known);
+    if is_empty(rows) {
+        return 0;
+    }
     let mut sum = 0;
     for j in from.min(read)..read {
         sum = 2 * sum + u128::from(count_both(rows, &known.plane(j).block(block)));
@@ -39,14 +44,11 @@ fn sum_block(known: &Known, mask: &Mask, block: usize) -> u128
     ensures few { result ≤ 2 ^ 88 }
 {
     let rows = mask.block(block);
-    if is_empty(&rows) {
-        return 0;
-    }
     let (_, read) = number_planes(known);
     sum_rows(known, block, &rows, read)
 }
 
-// The digits that were read of the numbers at the mask's rows, added up as numbers. Planes are read where the mask has rows.
+// The digits that were read of the numbers at the mask's rows, added up as numbers, block by block.
 fn sum_by_blocks(known: &Known, mask: &Mask) -> u128
     requires rows { length mask.now ≡ rows_of_column known.now }
     ensures { IsSumOfDigits known.now mask.now result }
@@ -142,27 +144,6 @@ pub struct SumSpan {
     pub high: i128,
 }
 
-// Both ends at the mask's rows, added up, where the sum of their digits is known: a high end lies above its low end by what is not
-// read.
-pub(crate) fn ends_by_digits(known: &Known, mask: &Mask, numbers: u128) -> SumSpan
-    requires rows { length mask.now ≡ rows_of_column known.now }
-    requires values { MayHaveValues known.now mask.now }
-    requires numbers { IsSumOfDigits known.now mask.now numbers }
-    ensures low { result.low ≡ total (lows_in known.now mask.now) }
-    ensures high { result.high ≡ total (highs_in known.now mask.now) }
-    ensures few { IsSmallSum result.low × IsSmallSum result.high }
-{
-    let low = lows_by_digits(known, mask, numbers);
-    let unread = known.unread();
-    let _rows = known.rows();
-    let at_top = mask.count_and(known.at_top());
-    let spans = spans_of_rows(known.base(), known.top(), unread, mask.count(), at_top);
-    SumSpan {
-        low,
-        high: low + spans as i128,
-    }
-}
-
 // Both ends at the mask's rows, added up. Their digits are added once.
 pub(crate) fn add_ends(known: &Known, mask: &Mask) -> SumSpan
     requires rows { length mask.now ≡ rows_of_column known.now }
@@ -171,5 +152,5 @@ pub(crate) fn add_ends(known: &Known, mask: &Mask) -> SumSpan
     ensures high { result.high ≡ total (highs_in known.now mask.now) }
     ensures few { IsSmallSum result.low × IsSmallSum result.high }
 {
-    ends_by_digits(known, mask, sum_numbers(known, mask))
+    ends_of_mask(known, mask, mask.count(), sum_numbers(known, mask))
 }

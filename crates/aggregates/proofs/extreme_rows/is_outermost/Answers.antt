@@ -1,4 +1,4 @@
-use Rattle.std.proofs.Common.{◌≡◌, ◌≤◌, Some, sym, ap, subst, ◌∙◌, arith}
+use Rattle.std.proofs.Common.{Some, sym, ap, subst, ◌∙◌, arith}
 use Rattle.std.proofs.lemmas.Bool.{eqb-true}
 use Rattle.aggregates.specs.declared.extreme_rows.Extreme.{Extreme}
 use Rattle.aggregates.specs.ExtremeRows.{number_at, IsAsFar}

@@ -1,23 +1,9 @@
-use Rattle.std.proofs.Common.{◌≡◌, map, ap, sym, subst, ◌∙◌, arith}
+use Rattle.std.proofs.Common.{◌≡◌, map, ap, subst, ◌∙◌}
 use Rattle.plane_kernels.specs.Rows.{block_rows, rows_of, IsPadded}
-use Rattle.known_column.specs.Columns.{number_of, rows_of_column}
-use Rattle.aggregates.specs.ExtremeRows.{AreBlockRows}
+use Rattle.known_column.specs.Columns.{rows_of_column}
 use Rattle.aggregates.specs.Selections.{block_of, early_number, sum_where}
-use Rattle.aggregates.proofs.BlockSums.{none_in_block}
-use Rattle.aggregates.proofs.BlockWords.{block_is}
 use Rattle.aggregates.proofs.EarlyNumbers.{all_digits}
 use Rattle.aggregates.proofs.sums.sum_block.Goals as goal
-
-pub returns-then-is_empty : goal.returns-then-is_empty
-returns-then-is_empty c =
-    let column = c.args.known.now in
-    let mask = c.args.mask.now in
-    let words = c.block-rows.result in
-    let rows : AreBlockRows mask c.args.block words = block_is mask c.args.block words c.block-rows.ensures.rows c.block-rows.ensures.padded (omega arith) (omega (arith, c.requires.rows, c.requires.block)) in
-    record {
-      sum = sym (none_in_block column mask c.args.block words (number_of column.ends column.known.read) c.requires.rows rows (c.is_empty.ensures.0 c.if-is_empty.true));
-      few = omega arith;
-    }
 
 pub sum_rows-requires-clause-rows : goal.sum_rows-requires-clause-rows
 sum_rows-requires-clause-rows c = subst (λ n. IsPadded (block_rows n c.args.block) c.block-rows.result) c.requires.rows c.block-rows.ensures.padded

@@ -4,9 +4,10 @@ use Rattle.std.proofs.lemmas.List.{length-map}
 use Rattle.plane_kernels.specs.Rows.{block_rows, rows_of, IsPadded}
 use Rattle.plane_kernels.proofs.RowLemmas.{length-rows_of}
 use Rattle.known_column.specs.Columns.{KnownColumn, digit_of, rows_of_column}
-use Rattle.aggregates.specs.Selections.{block_of, IsSound}
+use Rattle.aggregates.specs.Selections.{block_of, early_number, IsSound}
 use Rattle.aggregates.proofs.BlockSums.{column_block, count_block, of_block}
 use Rattle.aggregates.proofs.EndSums.{OfColumn, short_early, short_few, short_further, short_start, sum_short}
+use Rattle.aggregates.proofs.RowSums.{sum_uncounted, zero_rows}
 use Rattle.aggregates.proofs.sums.sum_rows.Goals as goal
 
 abbrev rows : KnownColumn → ℕ → List ℕ → List Bool
@@ -16,6 +17,16 @@ of : (column : KnownColumn) (block : ℕ) (words : List ℕ) → IsSound column 
 of column block words sound eight =
     let n = block_rows (rows_of_column column) block in
     of_block column (rows column block words) block sound (length-rows_of n words (omega (arith, eight)))
+
+pub returns-then-is_empty : goal.returns-then-is_empty
+returns-then-is_empty c =
+    let column = c.args.known.now in
+    let n = block_rows (rows_of_column column) c.args.block in
+    let none = zero_rows n c.args.rows.now c.requires.rows (c.is_empty.ensures.0 c.if-is_empty.true) in
+    record {
+      sum = sym (sum_uncounted (rows_of n c.args.rows.now) (map (early_number column c.args.read) (block_of c.args.block column.known.prefixes)) none);
+      few = omega arith;
+    }
 
 pub loop-j-init : goal.loop-j-init
 loop-j-init c =
