@@ -12,6 +12,7 @@ pub mod Narrow
 pub mod Declared
 pub mod Places
 pub mod Unmoved
+pub mod Covers
 pub mod Walks
 pub mod KeptSums
 pub mod Masked

@@ -8,6 +8,7 @@ use Rattle.std.proofs.lemmas.Int.{ints}
 use Rattle.std.proofs.lemmas.List.{length-map}
 use Rattle.std.proofs.lemmas.List.FromFn.{get_or-map-range_with_len, length-map-range_with_len}
 use Rattle.std.proofs.lemmas.Simd.{get_or-zip2, length-zip2, map-map}
+use Rattle.aggregates.specs.Widening.{widens}
 use Rattle.aggregates.specs.declared.ends.End.{End}
 use Rattle.aggregates.specs.declared.ends.End.TheVariants.{Low, High}
 use Rattle.aggregates.specs.Selections.{IsPartOf, MayHaveValues, end_at, ends_in, has_row, highs_in, lows_in, rows_in, those_of}
@@ -22,7 +23,7 @@ use Rattle.query_model.specs.Answers.{answer, greatest, least, total}
 use Rattle.query_model.specs.Bounds.{certain_count, certain_highs, certain_lows, high_of_least, highs, low_of_greatest, lows}
 use Rattle.round_engine.specs.declared.selection.Selection.{Selection}
 use Rattle.round_engine.specs.Selected.{IsSelection, pair_in, pairs_in}
-use Rattle.round_engine.specs.SumEnds.{ends_of, inner_end, innermost, outermost, share_at, sum_at, widening_rows, widens}
+use Rattle.round_engine.specs.SumEnds.{ends_of, inner_end, innermost, outermost, share_at, sum_at, widening_rows}
 use Rattle.round_engine.proofs.Rows.{certain_numbers_of, certain_of, count_rows, narrowed, no_element}
 use Rattle.round_engine.proofs.SumEnds.{adds, alone, outermost_or_zero, shares, stands}
 

@@ -6,6 +6,7 @@ use Rattle.std.specs.Option.{unwrap_or}
 use Rattle.std.proofs.lemmas.Bool.{cases_Bool, false≢true, or_left, or_parts, or_right}
 use Rattle.std.proofs.lemmas.Int.{ints, clamps}
 use Rattle.interval_calc.specs.Intervals.{Interval}
+use Rattle.aggregates.specs.Widening.{widens}
 use Rattle.aggregates.specs.declared.ends.End.{End}
 use Rattle.aggregates.specs.declared.ends.End.TheVariants.{Low, High}
 use Rattle.aggregates.specs.Selections.{end_at, end_of, has_row}
@@ -15,7 +16,7 @@ use Rattle.query_model.specs.Answers.{greatest, least, total}
 use Rattle.query_model.specs.Bounds.{Pair, certain_count, high_share, highs, low_share, lows}
 use Rattle.query_model.proofs.ListBounds.{keeps_high, keeps_low}
 use Rattle.round_engine.specs.Selected.{pair_in}
-use Rattle.round_engine.specs.SumEnds.{ends_of, outermost, share_at, sum_at, widens}
+use Rattle.round_engine.specs.SumEnds.{ends_of, outermost, share_at, sum_at}
 use Rattle.round_engine.proofs.Rows.{no_element, passed, skipped}
 
 -- ---- one pair

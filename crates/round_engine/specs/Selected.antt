@@ -1,5 +1,5 @@
 -- Items whose bound masks tell, and the pairs of a column's rows as masks tell them.
-use Rattle.std.specs.Prelude.{◌≡◌, ℕ, ◌||◌, Bool, true, false, List, length, map, IsTrue}
+use Rattle.std.specs.Prelude.{◌≡◌, ℕ, ◌*◌, ◌≤◌, ◌||◌, Bool, true, false, List, length, map, replicate, IsTrue}
 use Rattle.aggregates.specs.Selections.{MayHaveValues, has_row, rows_in}
 use Rattle.daq_table.specs.Tables.{Frame}
 use Rattle.known_column.specs.Columns.{KnownColumn, numbers_at, rows_of_column}
@@ -26,10 +26,11 @@ pub record HasRows (rows : ℕ) (selection : Selection) : Type 0 where
   pub may : length selection.may ≡ rows
   pub must : length selection.must ≡ rows
 
--- all masks are of so many rows
+-- the masks are of so many rows, and each of their blocks of 512 has a bit of 1
 pub record HaveRows (rows : ℕ) (masks : RowMasks) : Type 0 where
   pub selection : HasRows rows masks.selection
-  pub others : length masks.others ≡ rows
+  pub room : rows ≤ 512 * length masks.blocks
+  pub each : masks.blocks ≡ replicate (length masks.blocks) true
 
 -- rows of a column that may have values, and among them those that surely count
 pub record IsSelection (column : KnownColumn) (selection : Selection) : Type 0 where

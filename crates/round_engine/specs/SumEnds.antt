@@ -1,19 +1,13 @@
 -- The least and the greatest sum, as ends of one sum, and what rows add to each.
-use Rattle.std.specs.Prelude.{ℤ, pos, int_lt, Bool, not, ◌&&◌, List, Option}
-use Rattle.std.specs.Simd.Lanes.{zip2}
+use Rattle.std.specs.Prelude.{ℤ, Bool, List, Option}
 use Rattle.aggregates.specs.declared.ends.End.{End}
 use Rattle.aggregates.specs.declared.ends.End.TheVariants.{Low, High}
-use Rattle.aggregates.specs.Selections.{end_at, those_of}
+use Rattle.aggregates.specs.Widening as widening
 use Rattle.known_column.specs.Columns.{KnownColumn}
 use Rattle.query_model.specs.Answers.{answer}
 use Rattle.query_model.specs.declared.query.ItemKind.TheVariants.{Max, Min}
 use Rattle.query_model.specs.Bounds.{Pair, greatest_sum, high_of_least, high_share, highs, least_sum, low_of_greatest, low_share, lows}
 use Rattle.round_engine.specs.declared.selection.Selection.{Selection}
-
--- a number of a row that need not count widens the sum at this end: below 0 the low end, above 0 the high end
-abbrev pub widens : End → ℤ → Bool
-widens Low n = int_lt n (pos 0)
-widens High n = int_lt (pos 0) n
 
 -- what a row adds to this end of the sum
 abbrev pub share_at : End → Pair → ℤ
@@ -47,5 +41,4 @@ inner_end High ps = high_of_least ps
 
 -- the rows that need not count and widen the sum at this end
 abbrev pub widening_rows : End → KnownColumn → Selection → List Bool
-widening_rows end column selection =
-    zip2 (λ a b. a && not b) (those_of selection.may (λ row. widens end (end_at end column row))) selection.must
+widening_rows end column selection = widening.widening_rows end column selection.may selection.must

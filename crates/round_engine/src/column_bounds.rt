@@ -2,6 +2,7 @@
 
 ghost use Rattle.std.specs.Prelude.{◌≡◌, ◌<◌, length, count_by, IfSome, IsFalse, IsTrue};
 ghost use Rattle.aggregates.specs.KeptSums.{IsKept};
+ghost use Rattle.aggregates.specs.Widening.{CoverOthers};
 ghost use Rattle.known_column.specs.Columns.{KnownColumn, rows_of_column};
 ghost use Rattle.query_model.specs.declared.query.ItemKind.TheVariants.{Count, Max, Min, Sum};
 ghost use Rattle.query_model.specs.Bounds.{average_bound_of, bound_of, fractions_of, nullity_of};
@@ -76,37 +77,35 @@ impl Selected<'_> {
     }
 
     // The bound of the sum.
-    fn sum(&self, known: &Known, others: &mut Mask, kept: &mut Option<KeptSum>) -> Bound
+    fn sum(&self, known: &Known, blocks: &Mask, kept: &mut Option<KeptSum>) -> Bound
         requires selection { IsSelection known.now self.now }
-        requires room { length others.old ≡ rows_of_column known.now }
+        requires blocks { CoverOthers self.now.may self.now.must blocks.now }
         requires kept { IfSome kept.old (IsKept known.now) }
-        ensures room { length others.new ≡ rows_of_column known.now }
         ensures kept { IfSome kept.new (IsKept known.now) }
         ensures bound { result ≡ bound_of Sum (pairs_in known.now self.now) }
     {
         let certain = ends_by_kept(kept, known, self.must);
         Bound {
             null: self.nullity(),
-            lo: self.sum_end(End::Low, known, certain.low, others),
-            hi: self.sum_end(End::High, known, certain.high, others),
+            lo: self.sum_end(End::Low, known, certain.low, blocks),
+            hi: self.sum_end(End::High, known, certain.high, blocks),
         }
     }
 
     // The bound of the average: a sum that is not negative is divided by as many rows as may count for the low end, and by as few
     // as surely count for the high end.
-    fn average(&self, known: &Known, others: &mut Mask, kept: &mut Option<KeptSum>) -> AverageBound
+    fn average(&self, known: &Known, blocks: &Mask, kept: &mut Option<KeptSum>) -> AverageBound
         requires selection { IsSelection known.now self.now }
-        requires room { length others.old ≡ rows_of_column known.now }
+        requires blocks { CoverOthers self.now.may self.now.must blocks.now }
         requires kept { IfSome kept.old (IsKept known.now) }
-        ensures room { length others.new ≡ rows_of_column known.now }
         ensures kept { IfSome kept.new (IsKept known.now) }
         ensures bound { fractions_of result ≡ average_bound_of (pairs_in known.now self.now) }
     {
         let most = self.may.count().max(1);
         let fewest = self.must.count().max(1);
         let certain = ends_by_kept(kept, known, self.must);
-        let low = self.sum_end(End::Low, known, certain.low, others);
-        let high = self.sum_end(End::High, known, certain.high, others);
+        let low = self.sum_end(End::Low, known, certain.low, blocks);
+        let high = self.sum_end(End::High, known, certain.high, blocks);
         AverageBound {
             null: self.nullity(),
             lo: quotient(low, most, fewest),
@@ -119,22 +118,21 @@ impl Selected<'_> {
         &self,
         kind: ItemKind,
         known: &Known,
-        others: &mut Mask,
+        blocks: &Mask,
         kept: &mut Option<KeptSum>,
     ) -> ItemBound
         requires selection { IsSelection known.now self.now }
-        requires room { length others.old ≡ rows_of_column known.now }
+        requires blocks { CoverOthers self.now.may self.now.must blocks.now }
         requires kept { IfSome kept.old (IsKept known.now) }
-        ensures room { length others.new ≡ rows_of_column known.now }
         ensures kept { IfSome kept.new (IsKept known.now) }
         ensures bound { IsBoundOf kind (pairs_in known.now self.now) result }
     {
         match kind {
             ItemKind::Count => ItemBound::Numbers(self.count()),
-            ItemKind::Sum => ItemBound::Numbers(self.sum(known, others, kept)),
+            ItemKind::Sum => ItemBound::Numbers(self.sum(known, blocks, kept)),
             ItemKind::Min => ItemBound::Numbers(self.least(known)),
             ItemKind::Max => ItemBound::Numbers(self.greatest(known)),
-            ItemKind::Avg => ItemBound::Fractions(self.average(known, others, kept)),
+            ItemKind::Avg => ItemBound::Fractions(self.average(known, blocks, kept)),
         }
     }
 }

@@ -20,11 +20,11 @@ use plane_kernels::Mask;
 use query_model::{Item, TypedQuery};
 use std::alloc::{AllocError, Global};
 
-// Room for the rows that give a value, and for those of them that may move a sum.
+// Room for the rows that give a value, and a bit of 1 for each block of 512.
 #[derive(Drop)]
 pub(crate) struct RowMasks {
     pub(crate) selection: Selection,
-    others: Mask,
+    blocks: Mask,
 }
 
 impl RowMasks {
@@ -33,11 +33,12 @@ impl RowMasks {
         ensures { IfOk result (HaveRows rows) }
     {
         let selection = Selection::open(alloc, rows)?;
-        let others = Mask::none(alloc, rows)?;
-        Ok(RowMasks { selection, others })
+        let blocks = Mask::all(alloc, rows.div_ceil(512))?;
+        Ok(RowMasks { selection, blocks })
     }
 
-    // The bound of an item over a bare column.
+    // The bound of an item over a bare column. Where it is never null, rows that may count and need not are those at which the condition is
+    // unknown.
     pub(crate) fn bound(
         &mut self,
         query: &TypedQuery,
@@ -63,9 +64,9 @@ impl RowMasks {
             self.selection.select(filter, known);
             self.selection
                 .lend()
-                .bound(item.kind, known, &mut self.others, kept)
+                .bound(item.kind, known, &self.blocks, kept)
         } else {
-            select_all(filter, known).bound(item.kind, known, &mut self.others, kept)
+            select_all(filter, known).bound(item.kind, known, filter.undecided(), kept)
         }
     }
 }

@@ -3,14 +3,15 @@
 ghost use Rattle.std.specs.Prelude.{◌≡◌, ◌==◌, if◌then◌else◌, length, map, None};
 ghost use Rattle.aggregates.specs.Selections.{end_at, ends_in, those_of, IsSmallSum, MayHaveValues};
 ghost use Rattle.known_column.specs.Columns.{rows_of_column};
+ghost use Rattle.aggregates.specs.Widening.{CoverOthers, widens};
 ghost use Rattle.query_model.specs.Answers.{total};
 ghost use Rattle.round_engine.specs.Selected.{IsSelection, pairs_in};
-ghost use Rattle.round_engine.specs.SumEnds.{ends_of, inner_end, innermost, outermost, share_at, sum_at, widening_rows, widens};
+ghost use Rattle.round_engine.specs.SumEnds.{ends_of, inner_end, innermost, outermost, share_at, sum_at, widening_rows};
 
 use crate::column_bounds::has_rows;
 use crate::selection::Selected;
 use aggregates::{
-    End, greatest_high, least_low, negative_lows, positive_highs, sum_highs, sum_lows,
+    End, greatest_high, least_low, negative_lows, positive_highs, sum_highs, sum_lows, sum_others,
 };
 use known_column::Known;
 use plane_kernels::Mask;
@@ -74,18 +75,19 @@ impl Selected<'_> {
         }
     }
 
-    // This end of the sum. Where no row surely counts and none widens it, the outermost number stands alone.
-    pub(crate) fn sum_end(&self, end: End, known: &Known, certain: i128, others: &mut Mask) -> i128
+    // This end of the sum. The rows that may count and need not stand in these blocks alone. Where no row surely counts and none widens
+    // it, the outermost number stands alone.
+    pub(crate) fn sum_end(&self, end: End, known: &Known, certain: i128, blocks: &Mask) -> i128
         requires selection { IsSelection known.now self.now }
         requires certain { certain ≡ total (ends_in end known.now self.now.must) }
         requires small { IsSmallSum certain }
-        requires room { length others.old ≡ rows_of_column known.now }
-        ensures room { length others.new ≡ rows_of_column known.now }
+        requires blocks { CoverOthers self.now.may self.now.must blocks.now }
         ensures sum { result ≡ sum_at end (pairs_in known.now self.now) }
     {
-        let sum = self.shares(end, known, certain, others);
-        if has_rows(self.must) || has_rows(others) {
-            sum
+        let others = sum_others(end, known, self.may, self.must, blocks);
+        let stands = has_rows(self.must) | (others.rows > 0);
+        if stands {
+            certain + others.sum
         } else {
             outermost(end, known, self.may).unwrap_or(0)
         }

@@ -1,10 +1,13 @@
-use Rattle.std.proofs.Common.{length, sym, ap, subst, ◌∙◌}
+use Rattle.std.proofs.Common.{◌≡◌, false, length, map, sym, ap, subst, ◌∙◌, arith}
+use Rattle.std.proofs.lemmas.List.{length-map}
 use Rattle.std.proofs.lemmas.List.FromFn.{length-map-range_with_len}
-use Rattle.kleene_filter.specs.Filters.{truth_at}
+use Rattle.kleene_filter.specs.Filters.{is_certain, is_possible, truth_at}
+use Rattle.known_column.specs.Columns.{rows_of_column}
 use Rattle.query_model.specs.Meaning.{ReadsBelow}
 use Rattle.round_engine.specs.Selected.{HasRows, IsSelection, pairs_in}
 use Rattle.round_engine.specs.Totals.{IsBoundOf}
-use Rattle.round_engine.proofs.SelectedPairs.{selected_pairs, selection_is}
+use Rattle.round_engine.proofs.Covers.{all_cover, settled_cover}
+use Rattle.round_engine.proofs.SelectedPairs.{never_null, selected_pairs, selection_is}
 use Rattle.round_engine.proofs.row_masks.RowMasks.bound.Goals as goal
 
 pub column-known-requires : goal.column-known-requires
@@ -29,12 +32,30 @@ bound-requires-else-nullable-clause-selection c =
     selection_is c.args.query.now c.args.item.now c.args.columns.now c.requires.plain c.args.filter.now.truths c.requires.judged c.column-known.result.now c.args.column c.requires.column
     c.column-known.ensures.column c.column-known.ensures.rows c.select_all.result c.select_all.ensures.may c.select_all.ensures.must
 
+pub bound-requires-clause-blocks : goal.bound-requires-clause-blocks
+bound-requires-clause-blocks c =
+    let is : IsSelection c.column-known.result.now c.lend.result =
+    selection_is c.args.query.now c.args.item.now c.args.columns.now c.requires.plain c.args.filter.now.truths c.requires.judged c.column-known.result.now c.args.column c.requires.column
+    c.column-known.ensures.column c.column-known.ensures.rows c.lend.result (ap (λ s. s.may) c.lend.ensures ∙ c.select.ensures.may) (ap (λ s. s.must) c.lend.ensures ∙ c.select.ensures.must) in
+    all_cover c.lend.result.may c.lend.result.must c.args.self.now.blocks (is.rows.must ∙ sym is.rows.may) (omega (arith, is.rows.may, c.column-known.ensures.rows, c.requires.room.room)) c.requires.room.each
+
+pub bound-requires-else-nullable-clause-blocks : goal.bound-requires-else-nullable-clause-blocks
+bound-requires-else-nullable-clause-blocks c =
+    let known = c.column-known.result.now in
+    let truths = c.args.filter.now.truths in
+    let long : length truths ≡ rows_of_column known =
+    ap length c.requires.judged ∙ length-map-range_with_len (truth_at c.args.query.now.pred c.args.columns.now) 0 c.args.columns.now.frame.rows ∙ sym c.column-known.ensures.rows in
+    let plain : known.ends.nullable ≡ false = sym c.nullable.ensures ∙ c.if-nullable.false in
+    let may : c.select_all.result.may ≡ map is_possible truths = c.select_all.ensures.may ∙ sym (never_null known (map is_possible truths) plain (length-map truths is_possible ∙ long)).1 in
+    let must : c.select_all.result.must ≡ map is_certain truths = c.select_all.ensures.must ∙ sym (never_null known (map is_certain truths) plain (length-map truths is_certain ∙ long)).0 in
+    settled_cover truths c.select_all.result.may c.select_all.result.must c.undecided.result.now may must c.undecided.ensures
+
 pub returns-then-nullable-clause-room : goal.returns-then-nullable-clause-room
 returns-then-nullable-clause-room c =
     let is : IsSelection c.column-known.result.now c.select.new.self =
     selection_is c.args.query.now c.args.item.now c.args.columns.now c.requires.plain c.args.filter.now.truths c.requires.judged c.column-known.result.now c.args.column c.requires.column
     c.column-known.ensures.column c.column-known.ensures.rows c.select.new.self c.select.ensures.may c.select.ensures.must in
-    record { selection = subst (λ n. HasRows n c.select.new.self) c.column-known.ensures.rows is.rows; others = c.bound.ensures.room ∙ c.column-known.ensures.rows }
+    record { selection = subst (λ n. HasRows n c.select.new.self) c.column-known.ensures.rows is.rows; room = c.requires.room.room; each = c.requires.room.each }
 
 pub returns-then-nullable-clause-bound : goal.returns-then-nullable-clause-bound
 returns-then-nullable-clause-bound c =

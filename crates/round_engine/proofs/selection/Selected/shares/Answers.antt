@@ -2,9 +2,10 @@ use Rattle.std.proofs.Common.{◌≡◌, ℕ, ◌+ℤ◌, Bool, not, ◌&&◌, p
 use Rattle.std.specs.Int.{w128}
 use Rattle.std.specs.Simd.Lanes.{zip2}
 use Rattle.std.proofs.lemmas.Int.{ints}
+use Rattle.aggregates.specs.Widening.{widens}
 use Rattle.aggregates.specs.Selections.{end_at, ends_in, those_of}
 use Rattle.query_model.specs.Answers.{total}
-use Rattle.round_engine.specs.SumEnds.{widening_rows, widens}
+use Rattle.round_engine.specs.SumEnds.{widening_rows}
 use Rattle.round_engine.proofs.SelectedBounds.{others_long, others_values, shares_are, those_long, total_of_none, with_nothing}
 use Rattle.round_engine.proofs.selection.Selected.shares.Goals as goal
 
