@@ -25,7 +25,7 @@ pub struct OtherRows {
     pub sum: i128,
 }
 
-// The rows of a block that a mask has, or, if so told, another one.
+// The rows of a block that are in `beyond`, or, `with_level`, in `level`.
 fn marks_in(beyond: &Mask, level: &Mask, with_level: bool, block: usize) -> [u64; 8]
     requires level { length level.now ≡ length beyond.now }
     requires block { 512 * block < length beyond.now }

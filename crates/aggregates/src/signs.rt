@@ -38,7 +38,7 @@ pub(crate) fn select_none(known: &Known, within: &Mask, out: &mut Mask)
     out.and_into(within);
 }
 
-// Adds the rows of a mask, if so told.
+// Adds the rows of a mask where `told` is true.
 fn add_if(out: &mut Mask, rows: &Mask, told: bool)
     requires { length rows.now ≡ length out.old }
     ensures { out.new ≡ (if told then zip2 (λ a b. a || b) out.old rows.now else out.old) }
@@ -48,7 +48,7 @@ fn add_if(out: &mut Mask, rows: &Mask, told: bool)
     }
 }
 
-// Selects the rows of one mask, and of another if so told, that a third has too.
+// Selects the rows of `within` that are in `beyond`, or, `with_level`, in `level`.
 fn select(beyond: &Mask, level: &Mask, with_level: bool, within: &Mask, out: &mut Mask)
     requires beyond { length beyond.now ≡ length within.now }
     requires level { length level.now ≡ length within.now }

@@ -86,7 +86,7 @@ fn sum_by_planes(known: &Known, mask: &Mask) -> u128
     sum_further(known, mask, 0, 0)
 }
 
-// Whether more than half of the blocks have rows. Only how fast a sum is found hangs on it.
+// Whether more than half of the blocks have rows. It affects speed alone.
 fn is_dense(mask: &Mask) -> bool {
     let blocks = mask.rows().div_ceil(512);
     let mut used = 0;

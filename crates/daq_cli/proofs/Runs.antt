@@ -185,7 +185,7 @@ module _ (law : StepsAreExact) (before after : WorldState) where
   command_accepted why of_help cause = inr (inr (inr (refl, notice_accepted help_text before.out after.out why cause)))
   command_accepted why of_version cause = inr (inr (inr (refl, notice_accepted version_text before.out after.out why cause)))
 
--- but for a failed write, and for rounds that were begun, nothing was written; a device that the command does not use tells what it told
+-- but for a failed write, and for rounds that were begun, nothing was written; a device that the command does not use is unchanged
 abbrev pub IsEarly : WorldState → WorldState → Command → Refusal → Type 0
 IsEarly before after command why = IsUnwritten before after ⊎ HasBegun before command ⊎ (why ≡ WriteFault)
 

@@ -1,4 +1,4 @@
--- That the steps of each command are exact, and that nothing falls between: so a run has one answer.
+-- That the steps of each command are exact, and that there is always one: so a run has one answer.
 use Rattle.std.specs.Prelude.{◌≢◌, ℕ, List}
 use Rattle.command_line.specs.Commands.{Ask, Demo, Load, Query, Session, reads}
 use Rattle.plane_file.specs.Bytes.{AreBytes}

@@ -19,7 +19,7 @@ pub data Device : Type 0 where
   made : Device
   out : Device
 
--- a device tells what it told, and its counts are what they were
+-- the device is unchanged
 abbrev pub IsSame : Device → WorldState → WorldState → Type 0
 IsSame input before after = after.input ≡ before.input
 IsSame side before after = after.side ≡ before.side

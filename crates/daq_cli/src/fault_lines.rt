@@ -71,7 +71,7 @@ pub(crate) fn written_session_fault(fault: &SessionFault) -> TextBuf
     }
 }
 
-// What is said of the query in a line of a script, by what is said of it alone.
+// The refusal of a query in a line of a script, made of the refusal that the query shows alone.
 pub(crate) fn written_at_line(line: usize, alone: &[u8]) -> TextBuf
     requires { length alone.now ≤ 160 }
     ensures text { result ≡ line_fault_text line alone.now }

@@ -37,8 +37,7 @@ pub fn steps_are_exact()
     session_script::answers_are_one();
 }
 
-/// Words alone, words with an input, with a store, or with a script and a store, the bytes of a script and those of a store are
-/// accepted or show a refusal: nothing falls between.
+/// Whatever the words, the input, the script and the store are, they are accepted or they show a refusal: there is no third case.
 pub fn steps_are_complete()
     ensures { StepsAreComplete }
 {

@@ -54,7 +54,7 @@ pub(crate) fn write_queries<K: Sink>(sqls: &[String], out: &mut K) -> Result<(),
     write_printed(sqls, out)
 }
 
-// The query's number of the column of the session that the last step read; none where no step was done.
+// The column that the last step read, by its number in the query; none where the query does not read it or no step was done.
 fn last_own(session: &Session, query: usize, last: Option<usize>) -> Option<usize>
     requires query { query < length session.now.stages }
     requires last { IfSome last (λ column. column < length session.now.columns) }

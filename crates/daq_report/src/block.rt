@@ -37,8 +37,8 @@ fn write_form<K: Sink>(
 }
 
 /// Appends the block of a round: its number, where it is not the first the column that was read in it (by its number in the query),
-/// and the lines of the query's form: one for each item, or those of each group, or the first rows in an order, with `list` those too
-/// of which it is not known yet. Items over all rows have with `extras` more lines. Takes no memory; all was handed over before `Ok`,
+/// and the lines of the query's form: one for each item, or those of each group, or the first rows in an order, and with `list` the
+/// possible rows too. Items over all rows have more lines with `extras`. Takes no memory; all was handed over before `Ok`,
 /// and a part of the block, from its front, where a write failed.
 pub fn write_block<K: Sink>(
     engine: &EngineView<'_>,

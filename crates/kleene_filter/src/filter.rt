@@ -62,7 +62,7 @@ fn write_word(mask: &mut Mask, block: usize, word: u64)
     mask.set_word(block, word);
 }
 
-// Sets the bits of a block's rows, which stand in others from the first on, by what is known of the condition there.
+// Sets the bits of a block's rows by what is known of the condition there. The block's values begin at `first` in `rows`.
 fn judge_rows<R: KnownRows>(
     pred: &Pred,
     masks: &[AtomMasks],
@@ -142,7 +142,8 @@ fn judge_wide(
     requires same { AreRightWhereSame (condition_of pred.now) columns.now (512 * wide) truths.old.must truths.old.may }
     ensures block { block.new.frame.columns ≡ columns.now.frame.columns }
     ensures must { AreJudged is_certain (condition_of pred.now) columns.now (512 * wide) (512 * wide + 512) truths.old.must truths.new.must }
-    ensures may { AreJudged is_possible (condition_of pred.now) columns.now (512 * wide) (512 * wide + 512) truths.old.may truths.new.may }
+    ensures may { AreJudged is_possible (condition_of pred.now) columns.now (512 * wide) (512 * wide + 512)
+        truths.old.may truths.new.may }
     ensures same { AreRightWhereSame (condition_of pred.now) columns.now (512 * wide + 512) truths.new.must truths.new.may }
 {
     let by_rows = masks.iter().any(|own| own.is_by_rows());

@@ -160,8 +160,8 @@ impl Session {
         self.members[query].own(self.columns.places[column])
     }
 
-    /// A query that is not finished, or to which the last step went. Whatever other queries there are, it stands where it would alone,
-    /// after the planes of its own reads: those of its columns up to its first narrow round.
+    /// A query that is not finished, or to which the last step went. It stands as it would alone, whatever the other queries are:
+    /// after the planes of its own columns that were read up to its first narrow round.
     pub fn view(&self, query: usize) -> EngineView<'_>
         requires query { query < length self.now.stages }
         requires current { (slice_get self.now.moved query ≡ Some true)

@@ -75,7 +75,7 @@ fn digits_read(known: &Known, number: i128) -> u128 {
 }
 
 impl OuterNumbers {
-    // Finds those of the columns of an expression. Only where a row is looked for hangs on them.
+    // Finds those of the columns of an expression. They say only where a row is looked for.
     fn find(&mut self, expr: &Expr, columns: &LentColumns<'_>, mask: &Mask)
         requires columns { ReadsBelow (length columns.now.frame.columns) (term_of expr.now) }
         requires rows { length mask.now ≡ columns.now.frame.rows }

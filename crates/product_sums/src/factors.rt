@@ -36,7 +36,7 @@ pub(crate) fn joined<'a>(first: Factor<'a>, rest: &[Factor<'a>]) -> [Factor<'a>;
     factors
 }
 
-// How many planes were read of that column of an expression of which most were. Only how fast a sum is found hangs on it.
+// The greatest number of planes read of any column in an expression. It affects speed alone.
 fn most_read(expr: &Expr, columns: &LentColumns<'_>) -> u8 {
     match expr {
         Expr::Column(column) => {

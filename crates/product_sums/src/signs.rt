@@ -86,7 +86,7 @@ fn counts_of_column(known: &Known) -> u64 {
     1 + u64::from(to - from) + u64::from(known.unread().min(1))
 }
 
-/// How many counts of rows a block takes. Only how fast a sum is found hangs on it.
+/// How many counts of rows a block takes. It affects speed alone.
 pub fn count_of_counts(expr: &Expr, columns: &LentColumns<'_>) -> u64 {
     match expr {
         Expr::Column(column) => {

@@ -25,7 +25,7 @@ use query_model::{Item, TypedQuery};
 use row_groups::{Cells, cells_tell_keys};
 
 impl Selection {
-    // Selects those of some rows at which a condition holds. Unless so told, the other mask is that of the rows that surely count.
+    // Selects those of some rows at which a condition holds. Where `certain` is false, none of them surely counts.
     fn select_passing_within(&mut self, within: &Mask, filter: &Filter, certain: bool, none: &Mask)
         requires within { length within.now ≡ length filter.now.truths }
         requires none { length none.now ≡ length filter.now.truths }

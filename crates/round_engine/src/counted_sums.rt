@@ -20,7 +20,7 @@ use known_column::LentColumns;
 use product_sums::{count_of_counts, is_never_negative, is_product_sum, sum_tally};
 use query_model::{Expr, Item, ItemKind, TypedQuery};
 
-// So many counts of rows a block of 512 cost about what its rows cost one by one. Only how fast a sum is found hangs on it.
+// So many counts of rows a block of 512 cost about what its rows cost one by one. It affects speed alone.
 const MOST_COUNTS: u64 = 800;
 
 // Whether counts of rows may tell the item in so many cells: a sum or an average of a sum of products that is never below 0.

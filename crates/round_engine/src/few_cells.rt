@@ -21,7 +21,7 @@ use plane_kernels::Mask;
 use query_model::{Expr, Item, TypedQuery};
 use row_groups::{Cells, cells_tell_keys};
 
-// So many cells are told one after the other by masks. Only how fast they are told hangs on it.
+// So many cells are told one after the other by masks. It affects speed alone.
 pub(crate) const FEW_CELLS: u32 = 16;
 
 // How many of some rows surely count: where their cell holds one key, those at which the condition surely holds.

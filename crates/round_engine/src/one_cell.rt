@@ -30,7 +30,7 @@ pub(crate) struct CellMasks {
 }
 
 impl<'a> Selected<'a> {
-    // The same rows, of which, unless so told, none surely counts.
+    // The same rows; where `certain` is false, none of them surely counts.
     pub(crate) fn certain_if(self, certain: bool, none: &'a Mask) -> Selected<'a>
         ensures may { result.may ≡ self.entry.may }
         ensures must { result.must ≡ (if certain then self.entry.must else none.now) }

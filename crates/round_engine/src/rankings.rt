@@ -37,7 +37,7 @@ impl EngineView<'_> {
         self.follower.state.answers.ranking().top.certain()
     }
 
-    /// The rows of which it is not known yet.
+    /// The rows that may be among the first, though not for certain.
     pub fn possible_rows(&self) -> &Mask
         requires ranked { IsTop self.now.query.shape }
         ensures { result.now
