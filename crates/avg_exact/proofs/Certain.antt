@@ -1,5 +1,5 @@
 -- From the query's columns to whole tables.
-use Rattle.std.proofs.Common.{◌≡◌, ◌≢◌, ℕ, ℤ, [], IsTrue, Option, Some, subst, ap, ◌∙◌, refl}
+use Rattle.std.proofs.Common.{◌≡◌, ◌≢◌, ℕ, ℤ, [], Option, Some, subst, ap, ◌∙◌, refl}
 use Rattle.daq_table.specs.declared.table_head.Head.{Head}
 use Rattle.daq_table.specs.Tables.{Cells, Frame, frame_of, row_of}
 use Rattle.query_model.specs.declared.bounds.Nullity.TheVariants.{Always}
@@ -8,7 +8,8 @@ use Rattle.query_model.specs.Answers.{average_of, outcome_of, values_of}
 use Rattle.query_model.specs.Bounds.{IsExtremesAverage, Pair, pairs}
 use Rattle.query_model.specs.Knowledge.{IsKnowledge, Knowledge}
 use Rattle.query_model.specs.Projection.{projected, projected_frame}
-use Rattle.query_model.specs.Validity.{FitsHead, reads_each_once}
+use Rattle.query_model.specs.Attaining.{AttainsEnds}
+use Rattle.query_model.specs.Validity.{FitsHead, declared_ranges}
 use Rattle.query_model.specs.Worlds.{AgreesWith, NamesColumns, average_on}
 use Rattle.query_model.proofs.Exact.{words_become_exact}
 use Rattle.query_model.proofs.Queries.{pairs_ordered}
@@ -18,7 +19,7 @@ use Rattle.avg_exact.specs.ExactAverages.{ends_of, exact_under}
 use Rattle.avg_exact.specs.Laws.{ExactAveragesAreCertain}
 use Rattle.avg_exact.specs.Promises.{Gives, IsAttained, IsCertainExact, exact_at, high_given, low_given}
 use Rattle.avg_exact.proofs.ListEnds.{exact_averages_lie_within, word_of_sum}
-use Rattle.avg_exact.proofs.Worlds.{EndHolds, as_sum, exact_average_is, exact_averages_contain, high_holds, low_holds}
+use Rattle.avg_exact.proofs.Worlds.{EndHolds, as_sum, exact_average_is, exact_averages_contain, high_holds, low_holds, sum_attains}
 
 -- what is known of the query's columns in a table
 abbrev stage_in : Query → Frame → Knowledge → Stage
@@ -43,22 +44,22 @@ holds_on_table query item frame known given s n names (cells, gives, is) =
     )
 
 attained : (query : Query) (item : Aggregate) (frame : Frame) (known : Knowledge) → NamesColumns query frame → IsKnowledge (projected_frame query frame) known →
-    IsTrue (reads_each_once query item) → (exact_at (stage_in query frame known) item).null ≢ Always → IsAttained (stage_in query frame known) item frame
-attained query item frame known names k once w =
+    AttainsEnds query item (declared_ranges (projected_frame query frame)) → (exact_at (stage_in query frame known) item).null ≢ Always → IsAttained (stage_in query frame known) item frame
+attained query item frame known names k attains w =
     let part = projected_frame query frame in
     let exact = exact_under query item part known in
     record {
-      low = holds_on_table query item frame known (low_given exact.low_cut) exact.lo.num exact.lo.den names (low_holds query item part known once k w);
-      high = holds_on_table query item frame known (high_given exact.high_cut) exact.hi.num exact.hi.den names (high_holds query item part known once k w);
+      low = holds_on_table query item frame known (low_given exact.low_cut) exact.lo.num exact.lo.den names (low_holds query item part known attains k w);
+      high = holds_on_table query item frame known (high_given exact.high_cut) exact.hi.num exact.hi.den names (high_holds query item part known attains k w);
     }
 
 tight : (query : Query) (item : Aggregate) (frame : Frame) (known : Knowledge) → NamesColumns query frame → IsKnowledge (projected_frame query frame) known →
-    IsTrue (reads_each_once query item) →
+    AttainsEnds query item (declared_ranges (projected_frame query frame)) →
     IsExtremesAverage (AgreesWith query frame known) (average_on query item [] frame) (ends_of (exact_at (stage_in query frame known) item))
-tight query item frame known names k once =
+tight query item frame known names k attains =
     let part = projected_frame query frame in
-    let sums = bounds_are_extremes_on_tables query (as_sum item) [] frame part known (λ e. cc) once (record { columns = names; same = refl }) k in
-    let reached = attained query item frame known names k once in
+    let sums = bounds_are_extremes_on_tables query (as_sum item) [] frame part known (λ e. cc) (sum_attains query item (declared_ranges part) attains) (record { columns = names; same = refl }) k in
+    let reached = attained query item frame known names k attains in
     record {
       admits = λ cells h. exact_averages_contain query item part known (projected query cells) k h.part;
       null = word_of_sum (AgreesWith query frame known) (λ cells. values_of query item [] part (projected query cells)) (exact_under query item part known).null sums.null;
@@ -73,8 +74,8 @@ certain_there query item frame known names k =
     record {
       contains = λ cells h. exact_averages_contain query item part known (projected query cells) k h.part;
       within = exact_averages_lie_within (pairs query item [] part known) (pairs_ordered query item [] part known k);
-      tight = λ once. tight query item frame known names k once;
-      attained = λ once w. attained query item frame known names k once w;
+      tight = λ attains. tight query item frame known names k attains;
+      attained = λ attains w. attained query item frame known names k attains w;
       exact = λ all w cells h. exact_average_is query item part known (projected query cells) k all h.part w;
       told = λ all. words_become_exact query item [] part known k all;
     }

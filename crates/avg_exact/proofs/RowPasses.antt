@@ -18,9 +18,8 @@ use Rattle.query_model.specs.Bounds.{Pair, highs, pair_of, pair_unless_false}
 use Rattle.query_model.specs.Knowledge.{ranges_of}
 use Rattle.query_model.specs.Truths.{and_of, null_of, span_of, truth_of, truth_of_number}
 use Rattle.query_model.specs.Validity.{declared_ranges}
-use Rattle.query_model.proofs.Fits.{declared_outside}
 use Rattle.query_model.proofs.Queries.{ranges_ordered}
-use Rattle.query_model.proofs.Spans.{span_inside}
+use Rattle.query_model.proofs.Spans.{span_inside, declared_outside}
 use Rattle.round_engine.specs.Stages.{Stage}
 use Rattle.round_engine.proofs.RowPairs.{plain_pair}
 use Rattle.avg_exact.specs.declared.passes.End.{End}

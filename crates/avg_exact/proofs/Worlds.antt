@@ -12,7 +12,9 @@ use Rattle.query_model.specs.Answers.{average, average_of, outcome_of, values_of
 use Rattle.query_model.specs.Bounds.{AdmitsAverage, Pair, nullity_of, pair_of, pairs}
 use Rattle.query_model.specs.Knowledge.{IsAllRead, IsCompletion, IsKnowledge, Knowledge, ranges_of}
 use Rattle.query_model.specs.Laws.{AreOutcomes, IsEndOrLeftOut, IsEndOutcome, present}
-use Rattle.query_model.specs.Validity.{reads_each_once}
+use Rattle.query_model.specs.Attaining.{AttainsEnds}
+use Rattle.query_model.specs.Truths.{Ranges}
+use Rattle.query_model.specs.Validity.{declared_ranges}
 use Rattle.query_model.proofs.Exact.{AreSure, sure_from}
 use Rattle.query_model.proofs.Nesting.{bounds_nest, choices_are_older, taken_is_knowledge}
 use Rattle.query_model.proofs.Queries.{bounds_are_extremes, filter_map_same, pairs_ordered, rows_reach_ends, values_chosen}
@@ -32,6 +34,10 @@ exact_averages_contain query item frame known cells k h =
 -- the same item as a sum
 abbrev pub as_sum : Aggregate → Aggregate
 as_sum item = record item { kind = Sum }
+
+-- it attains its ends where the average does
+pub sum_attains : (query : Query) (item : Aggregate) (ranges : Ranges) → AttainsEnds query item ranges → AttainsEnds query (as_sum item) ranges
+sum_attains query item ranges attains = record { rows = attains.rows; apart = attains.apart; argument = attains.argument }
 
 pub exact_averages_nest : ExactAveragesNest
 exact_averages_nest query item frame known c bits k t =
@@ -75,11 +81,11 @@ RuleHolds query item frame known given test value =
     × (average_of query item [] frame cells ≡ average (map value (filter test (pairs query item [] frame known))))
 
 rule_holds : (query : Query) (item : Aggregate) (frame : Frame) (known : Knowledge) (given : Option Pair → Option ℤ) (test : Pair → Bool) (value : Pair → ℤ) →
-    IsTrue (reads_each_once query item) → IsKnowledge frame known → given None ≡ None → ((p : Pair) → given (Some p) ≡ given_where test value p) →
+    AttainsEnds query item (declared_ranges frame) → IsKnowledge frame known → given None ≡ None → ((p : Pair) → given (Some p) ≡ given_where test value p) →
     ((p : Pair) → IsEndOutcome p (given_where test value p)) → RuleHolds query item frame known given test value
-rule_holds query item frame known given test value once k none some ends =
+rule_holds query item frame known given test value attains k none some ends =
     let pair = λ (r : ℕ). pair_of query item [] (ranges_of frame known r) in
-    let found = rows_reach_ends query item [] frame known (λ r. given (pair r)) once k (λ r r_in. left_out_or_end given test value none some ends (pair r)) in (
+    let found = rows_reach_ends query item [] frame known (λ r. given (pair r)) attains k (λ r r_in. left_out_or_end given test value none some ends (pair r)) in (
       found.0,
       record { completes = found.1; rows = found.2 },
       ap average (filter_map_same (λ r. outcome_of query item [] (row_of frame found.0 r)) (λ r. given (pair r)) 0 frame.rows (λ r low high. found.2 r (omega arith))
@@ -104,12 +110,12 @@ EndHolds query item frame known given s n =
     (cells : Cells) × GivesIn query item frame known given cells × (average_of query item [] frame cells ≡ Some (s, n))
 
 high_of_list : (query : Query) (item : Aggregate) (frame : Frame) (known : Knowledge) (ps : List Pair) → pairs query item [] frame known ≡ ps →
-    IsTrue (reads_each_once query item) → IsKnowledge frame known → nullity_of ps ≢ Always →
+    AttainsEnds query item (declared_ranges frame) → IsKnowledge frame known → nullity_of ps ≢ Always →
     EndHolds query item frame known (high_given (high_end ps).cut) (high_end ps).sum (high_end ps).rows
-high_of_list query item frame known [] e once k w = absurd (w refl)
-high_of_list query item frame known (p ∷ ps) e once k w =
+high_of_list query item frame known [] e attains k w = absurd (w refl)
+high_of_list query item frame known (p ∷ ps) e attains k w =
     let best = best_cut p ps in
-    let holds = rule_holds query item frame known (high_given best.0) (counted_high best.0) (λ p. p.high) once k refl (λ p. refl)
+    let holds = rule_holds query item frame known (high_given best.0) (counted_high best.0) (λ p. p.high) attains k refl (λ p. refl)
     (λ p. given_end (counted_high best.0) (λ p. p.high) p (inr refl) (certain_counted p.certain (takes best.0 p))) in
     subst (λ (b : Choice). EndHolds query item frame known (high_given b.cut) b.sum b.rows) (sym best.1.best) (
       holds.0,
@@ -118,13 +124,13 @@ high_of_list query item frame known (p ∷ ps) e once k w =
     )
 
 low_of_list : (query : Query) (item : Aggregate) (frame : Frame) (known : Knowledge) (ps : List Pair) → pairs query item [] frame known ≡ ps →
-    IsTrue (reads_each_once query item) → IsKnowledge frame known → nullity_of ps ≢ Always →
+    AttainsEnds query item (declared_ranges frame) → IsKnowledge frame known → nullity_of ps ≢ Always →
     EndHolds query item frame known (low_given (low_end ps).cut) (low_end ps).sum (low_end ps).rows
-low_of_list query item frame known [] e once k w = absurd (w refl)
-low_of_list query item frame known (p ∷ ps) e once k w =
+low_of_list query item frame known [] e attains k w = absurd (w refl)
+low_of_list query item frame known (p ∷ ps) e attains k w =
     let best = best_cut (negated p) (map negated ps) in
     let cut = option_map negative best.0 in
-    let holds = rule_holds query item frame known (low_given cut) (counted_low best.0) (λ p. p.low) once k refl
+    let holds = rule_holds query item frame known (low_given cut) (counted_low best.0) (λ p. p.low) attains k refl
     (λ p. ap (λ b. cond (p.certain || b) (Some p.low) None) (takes_negated best.0 p))
     (λ p. given_end (counted_low best.0) (λ p. p.low) p (inl refl) (certain_counted p.certain (takes best.0 (negated p)))) in
     subst (λ (b : Choice). EndHolds query item frame known (low_given (option_map negative b.cut)) (negative b.sum) b.rows) (sym best.1.best) (
@@ -134,24 +140,24 @@ low_of_list query item frame known (p ∷ ps) e once k w =
           ∙ low_average (p ∷ ps) best.0 (counts_rows (map negated (p ∷ ps)) best.0 best.1.tried),
     )
 
-pub high_holds : (query : Query) (item : Aggregate) (frame : Frame) (known : Knowledge) → IsTrue (reads_each_once query item) → IsKnowledge frame known →
+pub high_holds : (query : Query) (item : Aggregate) (frame : Frame) (known : Knowledge) → AttainsEnds query item (declared_ranges frame) → IsKnowledge frame known →
     (exact_under query item frame known).null ≢ Always →
     EndHolds query item frame known (high_given (exact_under query item frame known).high_cut) (exact_under query item frame known).hi.num (exact_under query item frame known).hi.den
-high_holds query item frame known once k w = high_of_list query item frame known (pairs query item [] frame known) refl once k w
+high_holds query item frame known attains k w = high_of_list query item frame known (pairs query item [] frame known) refl attains k w
 
-pub low_holds : (query : Query) (item : Aggregate) (frame : Frame) (known : Knowledge) → IsTrue (reads_each_once query item) → IsKnowledge frame known →
+pub low_holds : (query : Query) (item : Aggregate) (frame : Frame) (known : Knowledge) → AttainsEnds query item (declared_ranges frame) → IsKnowledge frame known →
     (exact_under query item frame known).null ≢ Always →
     EndHolds query item frame known (low_given (exact_under query item frame known).low_cut) (exact_under query item frame known).lo.num (exact_under query item frame known).lo.den
-low_holds query item frame known once k w = low_of_list query item frame known (pairs query item [] frame known) refl once k w
+low_holds query item frame known attains k w = low_of_list query item frame known (pairs query item [] frame known) refl attains k w
 
 pub exact_averages_are_extremes : ExactAveragesAreExtremes
-exact_averages_are_extremes query item frame known once k =
-    let sums = bounds_are_extremes query (as_sum item) [] frame known (λ e. cc) once k in
+exact_averages_are_extremes query item frame known attains k =
+    let sums = bounds_are_extremes query (as_sum item) [] frame known (λ e. cc) (sum_attains query item (declared_ranges frame) attains) k in
     record {
       admits = λ cells h. exact_averages_contain query item frame known cells k h;
       null = word_of_sum (IsCompletion frame known) (λ cells. values_of query item [] frame cells) (exact_under query item frame known).null sums.null;
-      lo = λ w. (let found = low_holds query item frame known once k w in (found.0, found.1.completes, found.2));
-      hi = λ w. (let found = high_holds query item frame known once k w in (found.0, found.1.completes, found.2));
+      lo = λ w. (let found = low_holds query item frame known attains k w in (found.0, found.1.completes, found.2));
+      hi = λ w. (let found = high_holds query item frame known attains k w in (found.0, found.1.completes, found.2));
     }
 
 -- ---- everything read

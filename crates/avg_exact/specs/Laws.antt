@@ -1,13 +1,14 @@
 -- The laws of exact averages, as statements. A public function with an empty body has each as its contract.
 -- A frame, a knowledge and cells here are those of the query's columns alone.
-use Rattle.std.specs.Prelude.{◌≢◌, ℕ, Bool, List, [], IsTrue}
+use Rattle.std.specs.Prelude.{◌≢◌, ℕ, Bool, List, []}
 use Rattle.daq_table.specs.Tables.{Cells, Frame}
 use Rattle.query_model.specs.Queries.{Aggregate, Query}
 use Rattle.query_model.specs.Answers.{average, average_of}
 use Rattle.query_model.specs.Bounds.{AdmitsAverage, IsExtremesAverage, IsNestedAverage, Pair, average_bound_of}
 use Rattle.query_model.specs.Knowledge.{CanTake, IsCompletion, IsKnowledge, Knowledge, taken}
 use Rattle.query_model.specs.Laws.{AreEndOutcomes, AreOutcomes, ArePairs, present}
-use Rattle.query_model.specs.Validity.{reads_each_once}
+use Rattle.query_model.specs.Attaining.{AttainsEnds}
+use Rattle.query_model.specs.Validity.{declared_ranges}
 use Rattle.query_model.specs.Worlds.{IsPart}
 use Rattle.round_engine.specs.Stages.{Stage}
 use Rattle.avg_exact.specs.ExactAverages.{IsHighEnd, ends_of, exact_of, exact_under, high_end}
@@ -42,11 +43,11 @@ ExactAveragesNest =
     IsKnowledge frame known → CanTake frame known c bits →
     IsNestedAverage (ends_of (exact_under query item frame known)) (ends_of (exact_under query item frame (taken known c bits)))
 
--- where the item is read-once, it is the extremes over all completions
+-- where the item attains its ends, it is the extremes over all completions
 abbrev pub ExactAveragesAreExtremes : Type 0
 ExactAveragesAreExtremes =
     (query : Query) (item : Aggregate) (frame : Frame) (known : Knowledge) →
-    IsTrue (reads_each_once query item) → IsKnowledge frame known →
+    AttainsEnds query item (declared_ranges frame) → IsKnowledge frame known →
     IsExtremesAverage (IsCompletion frame known) (average_of query item [] frame) (ends_of (exact_under query item frame known))
 
 -- on whole tables: what is said of exact averages holds at each stage

@@ -1,7 +1,7 @@
 -- What the exact ends of an average say of the answer on whole tables: on each that agrees with the planes read, for whatever head
 -- the query fits.
 use Rattle.std.specs.Prelude.{◌≡◌, ◌≢◌, ℕ, ◌<◌, ℤ, int_le, Bool, false}
-use Rattle.std.specs.Prelude.{not, ◌&&◌, ◌||◌, [], IsTrue, if◌then◌else◌}
+use Rattle.std.specs.Prelude.{not, ◌&&◌, ◌||◌, [], if◌then◌else◌}
 use Rattle.std.specs.declared.option.Option.{Option}
 use Rattle.std.specs.declared.option.Option.TheVariants.{Some, None}
 use Rattle.daq_table.specs.Tables.{Cells, Frame, row_of}
@@ -11,7 +11,8 @@ use Rattle.query_model.specs.Answers.{outcome_of}
 use Rattle.query_model.specs.Bounds.{AdmitsAverage, IsExtremesAverage, IsNestedAverage, Pair, average_under, pair_of}
 use Rattle.query_model.specs.Knowledge.{IsAllRead, ranges_of}
 use Rattle.query_model.specs.Projection.{projected, projected_frame}
-use Rattle.query_model.specs.Validity.{reads_each_once}
+use Rattle.query_model.specs.Attaining.{AttainsEnds}
+use Rattle.query_model.specs.Validity.{declared_ranges}
 use Rattle.query_model.specs.Worlds.{AgreesWith, average_on}
 use Rattle.round_engine.specs.Stages.{Stage}
 use Rattle.avg_exact.specs.ExactAverages.{Cut, ExactAverage, ends_of, exact_under, takes}
@@ -55,10 +56,11 @@ pub record IsCertainExact (stage : Stage) (item : Aggregate) (frame : Frame) : T
       AdmitsAverage (ends_of (exact_at stage item)) (average_on stage.query item [] frame world)
   -- they lie within the average's own bound
   pub within : IsNestedAverage (average_under stage.query item [] stage.frame stage.known) (ends_of (exact_at stage item))
-  -- where the item is read-once they are as narrow as they can be, and the rows that they take reach them
-  pub tight : IsTrue (reads_each_once stage.query item) →
+  -- where the item attains its ends they are as narrow as they can be, and the rows that they take reach them
+  pub tight : AttainsEnds stage.query item (declared_ranges stage.frame) →
       IsExtremesAverage (AgreesWith stage.query frame stage.known) (average_on stage.query item [] frame) (ends_of (exact_at stage item))
-  pub attained : IsTrue (reads_each_once stage.query item) → (exact_at stage item).null ≢ Always → IsAttained stage item frame
+  pub attained : AttainsEnds stage.query item (declared_ranges stage.frame) →
+      (exact_at stage item).null ≢ Always → IsAttained stage item frame
   -- where all planes are read, both are the average
   pub exact : IsAllRead stage.frame stage.known → (exact_at stage item).null ≢ Always →
       (world : Cells) → AgreesWith stage.query frame stage.known world →

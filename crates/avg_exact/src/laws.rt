@@ -29,13 +29,13 @@ pub fn exact_averages_nest()
     ensures { ExactAveragesNest }
 {}
 
-/// Where an item is read-once, its exact average is the extremes of its averages over all completions.
+/// Where an item attains its ends, its exact average is the extremes of its averages over all completions.
 pub fn exact_averages_are_extremes()
     ensures { ExactAveragesAreExtremes }
 {}
 
 /// On whole tables: at each stage an exact average admits the average of each table that agrees with what is known, lies within the
-/// bound of the average, and where the item is read-once is the extremes, which the rows that it takes reach.
+/// bound of the average, and where the item attains its ends is the extremes, which the rows that it takes reach.
 pub fn exact_averages_are_certain()
     ensures { ExactAveragesAreCertain }
 {}

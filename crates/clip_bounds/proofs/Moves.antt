@@ -20,7 +20,7 @@ use Rattle.query_model.specs.Laws.{NoneEmpty}
 use Rattle.query_model.specs.Queries.{Aggregate, Query}
 use Rattle.query_model.specs.Truths.{Ranges, and_of, may_be_number, truth_of, truth_of_number, truths_of}
 use Rattle.query_model.proofs.Blocks.{range_holds, range_ordered}
-use Rattle.query_model.proofs.Fits.{declared_outside}
+use Rattle.query_model.proofs.Spans.{declared_outside}
 use Rattle.query_model.proofs.Numbers.{Allows, high_within, low_within}
 use Rattle.query_model.proofs.Queries.{ranges_ordered}
 use Rattle.known_column.specs.Columns.{KnownColumn}

@@ -20,7 +20,7 @@ use Rattle.query_model.specs.Laws.{NoneEmpty}
 use Rattle.query_model.specs.Meaning.{Row, holds, val}
 use Rattle.query_model.specs.Queries.{Aggregate, Condition, Query, Term, Column, Literal, Add, Sub, Mul}
 use Rattle.query_model.specs.Truths.{Ranges, and_of, may_be_null, may_be_number, null_of, span_of, truth_among, truth_of, truth_of_number, truths_of}
-use Rattle.query_model.proofs.Fits.{declared_outside}
+use Rattle.query_model.proofs.Spans.{declared_outside}
 use Rattle.query_model.proofs.Numbers.{Allows}
 use Rattle.clip_bounds.specs.declared.clip.Clip.{Clip}
 use Rattle.clip_bounds.specs.Clips.{IsLong, clip_in, clip_of, clip_of_argument, is_clipped_kind, is_plain, stands_once}

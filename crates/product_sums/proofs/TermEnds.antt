@@ -18,9 +18,8 @@ use Rattle.query_model.specs.Knowledge.{known_at, prefix_at, ranges_of}
 use Rattle.query_model.specs.Queries.{Term, Column, Mul}
 use Rattle.query_model.specs.Truths.{span_of}
 use Rattle.query_model.specs.Validity.{declared_ranges}
-use Rattle.query_model.proofs.Fits.{declared_outside}
 use Rattle.query_model.proofs.Queries.{ranges_ordered}
-use Rattle.query_model.proofs.Spans.{IsSmaller, span_inside}
+use Rattle.query_model.proofs.Spans.{IsSmaller, span_inside, declared_outside}
 use Rattle.product_sums.specs.ColumnEnds.{numbers_alike, weight_of_all, weight_of_digits, weight_of_top}
 use Rattle.product_sums.specs.Products.{HasValue, is_never_negative, other_end, term_end}
 use Rattle.product_sums.proofs.Multiplying.{both_true}

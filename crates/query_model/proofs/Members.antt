@@ -25,7 +25,7 @@ low_value range = cond (may_be_number range.null) (Some range.numbers.low) None
 abbrev pub high_value : Range → Option ℤ
 high_value range = cond (may_be_number range.null) (Some range.numbers.high) None
 
-by_word : (w : Nullity) (i : Interval) (x : ℤ) → Within i x → IsIn (record { null = w; numbers = i }) (cond (may_be_number w) (Some x) None)
+pub by_word : (w : Nullity) (i : Interval) (x : ℤ) → Within i x → IsIn (record { null = w; numbers = i }) (cond (may_be_number w) (Some x) None)
 by_word Never i x h = (refl, h)
 by_word Possibly i x h = (refl, h)
 by_word Always i x h = refl
@@ -319,7 +319,7 @@ pub truth_among_allows : (t : Truths) (x : Option Bool) → MayBe t x → Allows
 truth_among_allows t x m = among_allows t.may_hold t.may_fail t.may_be_null x m
 
 -- a truth of the set that is, or is not, true
-abbrev TruthWith : Truths → Bool → Type 0
+abbrev pub TruthWith : Truths → Bool → Type 0
 TruthWith t b = (x : Option Bool) × MayBe t x × (is_sql_true x ≡ b)
 
 among_reached : (h f n b : Bool) → SomeTruth (record { may_hold = h; may_fail = f; may_be_null = n }) → Allows (truth_among (record { may_hold = h; may_fail = f; may_be_null = n })) b →

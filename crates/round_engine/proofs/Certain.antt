@@ -34,7 +34,7 @@ bound_is_certain stage i key head contain reach settle words parts k kind fits =
     let part = parts stage.query stage.frame head fits in
     record {
       contains = λ world agrees. contain stage.query i key (frame_of head) stage.frame stage.known world kind part k agrees;
-      tight = λ once. reach stage.query i key (frame_of head) stage.frame stage.known kind once part k;
+      tight = λ attains. reach stage.query i key (frame_of head) stage.frame stage.known kind attains part k;
       exact = λ all some world agrees. settle stage.query i key (frame_of head) stage.frame stage.known world kind part k all agrees some;
       told = λ all. word_of_bound i.kind (pairs stage.query i key stage.frame stage.known) (words stage.query i key stage.frame stage.known k all);
     }

@@ -20,8 +20,7 @@ use Rattle.query_model.specs.Knowledge.{Knowledge, IsKnowledge, ranges_of}
 use Rattle.query_model.specs.Truths.{and_of, null_of, span_of, truth_of_number}
 use Rattle.query_model.specs.Validity.{FaceOf, declared_range, declared_ranges}
 use Rattle.query_model.proofs.Extremes.{Has, least_stands, greatest_stands}
-use Rattle.query_model.proofs.Fits.{declared_outside}
-use Rattle.query_model.proofs.Spans.{IsSmaller, span_inside}
+use Rattle.query_model.proofs.Spans.{IsSmaller, span_inside, declared_outside}
 use Rattle.query_model.proofs.Queries.{ranges_ordered}
 use Rattle.round_engine.specs.Promises.{IsShownWithin}
 

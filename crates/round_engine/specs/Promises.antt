@@ -1,5 +1,5 @@
 -- What a bound says of the answer on whole tables: on each that agrees with the planes read, for whatever head the query fits.
-use Rattle.std.specs.Prelude.{◌≡◌, ◌≢◌, ℕ, ◌<◌, IsTrue}
+use Rattle.std.specs.Prelude.{◌≡◌, ◌≢◌, ℕ, ◌<◌}
 use Rattle.std.specs.declared.option.Option.TheVariants.{Some}
 use Rattle.interval_calc.specs.Intervals.{Within}
 use Rattle.daq_table.specs.Tables.{Cells, Frame, ends_at}
@@ -15,7 +15,8 @@ use Rattle.query_model.specs.Bounds.{Admits, AdmitsAverage, IsExtremes, IsNested
 use Rattle.query_model.specs.Knowledge.{IsAllRead}
 use Rattle.query_model.specs.Laws.{ResultIsToldOnTables, StandingIsRightOnTables}
 use Rattle.query_model.specs.Ranking.{StandingKept, standing_under}
-use Rattle.query_model.specs.Validity.{declared_range, reads_each_once}
+use Rattle.query_model.specs.Attaining.{AttainsEnds}
+use Rattle.query_model.specs.Validity.{declared_range, declared_ranges}
 use Rattle.query_model.specs.Worlds.{AgreesWith, answer_on, average_on}
 use Rattle.round_engine.specs.Stages.{Stage}
 
@@ -25,8 +26,8 @@ pub record IsCertainBound (stage : Stage) (item : Aggregate) (key : Key) (frame 
   -- the bound admits the answer on each table that agrees with what is known
   pub contains : (world : Cells) → AgreesWith stage.query frame stage.known world →
       Admits (bound_under stage.query item key stage.frame stage.known) (answer_on stage.query item key frame world)
-  -- where the item is read-once, the bound is as narrow as it can be: its ends are answers on such tables
-  pub tight : IsTrue (reads_each_once stage.query item) →
+  -- where the item attains its ends, as each read-once item does, the bound is as narrow as it can be: its ends are answers on such tables
+  pub tight : AttainsEnds stage.query item (declared_ranges stage.frame) →
       IsExtremes (AgreesWith stage.query frame stage.known) (answer_on stage.query item key frame)
       (bound_under stage.query item key stage.frame stage.known)
   -- where all planes are read, the ends are the answer
@@ -70,7 +71,8 @@ IsShownWithin frame (OfColumn c) bound =
 
 -- whether a key is in the result
 pub record IsCertainKey (stage : Stage) (key : Key) (frame : Frame) : Type 0 where
-  -- where a row surely counts for it, it is in the result of each table that agrees, and where none may, in that of none
+  -- where a row surely counts for it, it is in the result of each table that agrees, and where none may, in that of none; else, where
+  -- condition and group columns attain their truths, it is in that of one such table and missing in that of another
   pub told : ResultIsToldOnTables stage.query key frame stage.frame stage.known
   -- where all planes are read, it is known whether the key is in the result
   pub exact : IsAllRead stage.frame stage.known → absence_of stage.query key stage.frame stage.known ≢ Possibly

@@ -13,6 +13,8 @@ use Rattle.query_model.specs.Answers.{answer, answer_of, outcome_of}
 use Rattle.query_model.specs.Bounds.{Admits, IsExtremes, IsNested, Pair, bound_of, nullity_of}
 use Rattle.query_model.proofs.Exact.{words_become_exact, bounds_become_exact}
 use Rattle.query_model.proofs.Nesting.{bounds_nest, taken_is_knowledge}
+use Rattle.query_model.specs.Validity.{declared_ranges}
+use Rattle.query_model.proofs.Attaining.{once_attains}
 use Rattle.query_model.proofs.Queries.{bounds_contain, bounds_are_extremes, completions_exist, pairs_ordered}
 use Rattle.shard_bounds.specs.Combined.{together, answer_over, combined, IsBoundOf, AreBoundsOf}
 use Rattle.shard_bounds.specs.Laws.{AreAdmitted, AreChoices, AreTightShards, IsTightShard, AreAllPairs, AreNested, AreTold, Tells}
@@ -69,7 +71,8 @@ shards_are_tight kind [] k h o = tt
 shards_are_tight kind (shard ∷ shards) k h o = (
   shard_is_tight kind shard h.0
       (subst (λ n. IsExtremes (IsCompletion shard.frame shard.known) (λ cells. answer n (values_at shard cells)) (reported shard)) h.0
-      (bounds_are_extremes shard.query shard.item shard.key shard.frame shard.known (not_average kind shard k h.0) o.0 h.1))
+      (bounds_are_extremes shard.query shard.item shard.key shard.frame shard.known (not_average kind shard k h.0)
+      (once_attains shard.query shard.item (declared_ranges shard.frame) o.0) h.1))
       (completions_exist shard.frame shard.known h.1),
   shards_are_tight kind shards k h.2 o.1,
 )

@@ -65,7 +65,7 @@ module _ (law : Laws) (plan : Plan) (query : TypedQuery) (frame : Frame) (cells 
       record {
         bound = λ plain. record {
           contains = λ world agrees. law.contain query item key frame part known world plain its is_known agrees;
-          tight = λ once. law.extremes query item key frame part known plain once its is_known;
+          tight = λ attains. law.extremes query item key frame part known plain attains its is_known;
           exact = λ read full world agrees. law.exact query item key frame part known world plain its is_known read agrees full;
           told = λ read. word_of_bound item.kind (pairs query item key part known) (law.words query item key part known is_known read);
         };

@@ -91,9 +91,9 @@ pub record AreCertain (query : TypedQuery) (frame : Frame) (cells : Cells) (read
   -- each value's range lies within the one before
   pub values_nested : (round : ℕ) → round < length reads → (row column : ℕ) → row < frame.rows →
       ValueLiesWithin (stage_of query frame cells reads round) (stage_of query frame cells reads (round + 1)) row column
-  -- for each key, each item's bound admits its answer on every table that agrees; where the item is read-once (condition, groups and
-  -- argument together name no column twice) it is as narrow as it can be, but for averages; and where all planes are read, its ends are
-  -- the answer, and it is known whether that is null
+  -- for each key, each item's bound admits its answer on every table that agrees; where the item attains its ends, as it does where it
+  -- is read-once (condition, groups and argument together name no column twice), it is as narrow as it can be, but for averages; and
+  -- where all planes are read, its ends are the answer, and it is known whether that is null
   pub certain : (round : ℕ) → round ≤ length reads → (key : Key) → IsKeyOn query frame key →
       (i : ℕ) (item : Item) → slice_get query.items i ≡ Some item → IsCertain (stage_of query frame cells reads round) item key frame
   -- each bound lies within the one before
@@ -108,14 +108,15 @@ pub record AreCertain (query : TypedQuery) (frame : Frame) (cells : Cells) (read
   -- each clipped bound lies within the one before
   pub clips_nested : (round : ℕ) → round < length reads → (i : ℕ) (item : Item) (clip : Clip) → IsClippedItem query i item clip →
       ClipLiesWithin (stage_of query frame cells reads round) (stage_of query frame cells reads (round + 1)) item clip
-  -- the exact ends of an average admit it on every table that agrees; where the item is read-once they are as narrow as they can
+  -- the exact ends of an average admit it on every table that agrees; where the item attains its ends they are as narrow as they can
   -- be; and where all planes are read, they are the average, and it is known whether that is null
   pub averages : (round : ℕ) → round ≤ length reads → (i : ℕ) (item : Item) → IsPlainAverage query i item →
       IsCertainExact (stage_of query frame cells reads round) item frame
   -- they lie within those before
   pub averages_nested : (round : ℕ) → round < length reads → (i : ℕ) (item : Item) → IsPlainAverage query i item →
       ExactLiesWithin (stage_of query frame cells reads round) (stage_of query frame cells reads (round + 1)) item
-  -- a key is said to be in the result only where it is in that of each table that agrees, and to be missing only where it is in none
+  -- a key is said to be in the result only where it is in that of each table that agrees, and to be missing only where it is in none;
+  -- where condition and group columns attain their truths, any other key is in that of one such table and missing in that of another
   pub results : (round : ℕ) → round ≤ length reads → (key : Key) → IsKeyOn query frame key →
       IsCertainKey (stage_of query frame cells reads round) key frame
   -- each key is in one cell, and what is told of the cell is so of the key; of the cells that are told, its own alone has it in its

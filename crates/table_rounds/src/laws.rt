@@ -97,7 +97,7 @@ pub fn tables_are_taken()
 }
 
 /// In each round each table that has the planes read agrees with what is known; each value lies in its range, which lies within the one
-/// before; for each key each bound admits the answer on every table that agrees, is as narrow as it can be where its item is read-once
+/// before; for each key each bound admits the answer on every table that agrees, is as narrow as it can be where its item attains its ends
 /// and is no average, and lies within the one before; with all planes read its ends are the answer, and it is known whether that is
 /// null. So it is with a bound that the condition clips, and the exact ends of an average. A key that is said to be in the result is, and
 /// so is a row that is said to be among the first. There are no more reads than planes.
