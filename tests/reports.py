@@ -229,21 +229,21 @@ class Parser:
             low = self.literal(column)
             self.expect("AND")
             high = self.literal(column)
-            atom = ("test", column, lambda v: low <= v <= high, (floor(column, low), ceiling(column, high)))
+            atom = ("test", column, lambda v: low <= v <= high, (floor(column, low), ceiling(column, high)), [low, high])
         elif self.take("IN"):
             self.expect("(")
             values = [self.literal(column)]
             while self.take(","):
                 values.append(self.literal(column))
             self.expect(")")
-            atom = ("test", column, lambda v: v in values, None)
+            atom = ("test", column, lambda v: v in values, None, values)
         else:
             sign = self.take()
             compare = COMPARISONS[sign]
             if self.peek() in self.table or self.peek().startswith('"'):
                 return ("columns", column, compare, self.column())
             value = self.literal(column)
-            return ("test", column, lambda v: compare(v, value), let_through(column, sign, value))
+            return ("test", column, lambda v: compare(v, value), let_through(column, sign, value), [value])
         return ("not", atom) if negated else atom
 
     def query(self):
@@ -380,18 +380,36 @@ def truths(condition, row):
         found = {NULL} if a.null or b.null else set()
         if a.numbers() and b.numbers():
             up, down = 10 ** (scale - left.scale), 10 ** (scale - right.scale)
-            found |= {compare(x * up, y * down) for x in sample(a) for y in sample(b)}
+            found |= {compare(x, y) for x, y in sample_of_pairs(a, up, b, down)}
         return found
-    _, column, test, _ = condition
+    _, column, test, _, named = condition
     given = column.range(row)
     found = {NULL} if given.null else set()
     if given.numbers():
-        found |= {test(meaning(column, v)) for v in range(given.low, given.high + 1)}
+        found |= {test(meaning(column, v)) for v in sample(given, named)}
     return found
 
 
-def sample(given):
-    return range(given.low, given.high + 1)
+FEW = 64
+
+
+def sample(given, named):
+    """The numbers of a range; of many, the ends and those beside a number that the test names, since between them it says the same."""
+    if given.high - given.low < FEW or isinstance(named[0], str):
+        return range(given.low, given.high + 1)
+    beside = {v + step for v in named for step in (-1, 0, 1)}
+    return [given.low, given.high] + [v for v in beside if given.low < v < given.high]
+
+
+def sample_of_pairs(a, up, b, down):
+    """The pairs of numbers of two ranges, each as so many times its units; of many, some in each order that there is."""
+    if a.high - a.low < FEW and b.high - b.low < FEW:
+        return [(x * up, y * down) for x in range(a.low, a.high + 1) for y in range(b.low, b.high + 1)]
+    pairs = [(a.low * up, b.high * down), (a.high * up, b.low * down)]
+    # one of the two is 1: the least number of both ranges that both can write
+    step = max(up, down)
+    least = -(-max(a.low * up, b.low * down) // step) * step
+    return pairs + [(least, least)] * (least <= min(a.high * up, b.high * down))
 
 
 def conjunction(a, b):
@@ -433,20 +451,33 @@ def scale_of(expression):
 
 
 # ---- bounds: (word, low, high), where the word says whether there may be no answer
+# each of the pairs of ends, (certain, low, high), stands for one row, or for as many as are told behind it
+
+
+def rows_of(pair):
+    return pair[3] if len(pair) > 3 else 1
+
+
+def count(pairs):
+    return sum(rows_of(p) for p in pairs)
+
+
+def total(ends):
+    return sum(end * rows for end, rows in ends)
 
 
 def least_sum(certain, others):
     """Of the sums of all certain rows and some of the others, at least one row in all, the least."""
-    if certain or any(low <= 0 for low in others):
-        return sum(certain) + sum(low for low in others if low < 0)
-    return min(others)
+    if certain or any(low <= 0 for low, _ in others):
+        return total(certain) + total((low, rows) for low, rows in others if low < 0)
+    return min(low for low, _ in others)
 
 
 def bound(kind, pairs):
     certain = [p for p in pairs if p[0]]
     others = [p for p in pairs if not p[0]]
     if kind == "COUNT":
-        return "never", len(certain), len(pairs)
+        return "never", count(certain), count(pairs)
     if not pairs:
         return "always", 0, 0
     word = "never" if certain else "possibly"
@@ -455,11 +486,11 @@ def bound(kind, pairs):
         return word, min(lows), min(p[2] for p in certain) if certain else max(highs)
     if kind == "MAX":
         return word, max(p[1] for p in certain) if certain else min(lows), max(highs)
-    low = least_sum([p[1] for p in certain], [p[1] for p in others])
-    high = -least_sum([-p[2] for p in certain], [-p[2] for p in others])
+    low = least_sum([(p[1], rows_of(p)) for p in certain], [(p[1], rows_of(p)) for p in others])
+    high = -least_sum([(-p[2], rows_of(p)) for p in certain], [(-p[2], rows_of(p)) for p in others])
     if kind == "SUM":
         return word, low, high
-    few, many = max(len(certain), 1), len(pairs)
+    few, many = max(count(certain), 1), count(pairs)
     return word, (low, many if low >= 0 else few), (high, few if high >= 0 else many)
 
 
@@ -471,17 +502,21 @@ def clipped(pairs, low, high):
     def below(end):
         return end if high is None or end <= high else high
 
-    return [(certain, within(l), below(h)) for certain, l, h in pairs]
+    return [(certain, within(l), below(h), rows) for certain, l, h, rows in pairs]
 
 
 def best_choice(pairs):
     """Of the choices of uncertain rows whose high is at least a cut, at least one row in all, that of the greatest average of highs,
     of several that with the fewest rows: sum, number of rows, how many are chosen, and the cut."""
-    certain = [p[2] for p in pairs if p[0]]
-    others = [p[2] for p in pairs if not p[0]]
-    choices = [[h for h in others if h >= cut] for cut in sorted(set(others))] + ([[]] if certain else [])
-    best = max(choices, key=lambda chosen: (Fraction(sum(certain + chosen), len(certain + chosen)), -len(chosen)))
-    return sum(certain + best), len(certain + best), len(best), min(best, default=None)
+    certain = [p for p in pairs if p[0]]
+    others = [p for p in pairs if not p[0]]
+    choices = [[p for p in others if p[2] >= cut] for cut in sorted({p[2] for p in others})] + ([[]] if certain else [])
+
+    def of(chosen):
+        return total((p[2], rows_of(p)) for p in certain + chosen), count(certain + chosen)
+
+    best = max(choices, key=lambda chosen: (Fraction(*of(chosen)), -count(chosen)))
+    return (*of(best), count(best), min((p[2] for p in best), default=None))
 
 
 def exact_lines(pairs, text, cut_text):
@@ -489,10 +524,10 @@ def exact_lines(pairs, text, cut_text):
     if not pairs:
         return ["exact null"]
     top = best_choice(pairs)
-    turned = best_choice([(certain, -high, -low) for certain, low, high in pairs])
+    turned = best_choice([(certain, -high, -low, rows) for certain, low, high, rows in pairs])
     low = (-turned[0], turned[1])
     word = "never" if any(p[0] for p in pairs) else "possibly"
-    of = sum(not p[0] for p in pairs)
+    of = count(pairs) - count(p for p in pairs if p[0])
     return [
         "exact " + interval(word, low, top[:2], text),
         "low takes %d of %d" % (turned[2], of) + (" at most " + cut_text(-turned[3]) if turned[2] else ""),
@@ -525,17 +560,24 @@ class Rounds:
     def __init__(self, columns, rows, query, options):
         self.table, self.rows, self.query, self.options = columns, rows, query, options
 
+    def truth(self, row):
+        found = truths(self.query.condition, row)
+        return "T" if found == {True} else "U" if True in found else "F"
+
     def truths(self):
-        found = [truths(self.query.condition, r) for r in range(self.rows)]
-        return [("T" if t == {True} else "U" if True in t else "F") for t in found]
+        return [self.truth(r) for r in range(self.rows)]
+
+    def judged(self):
+        """The rows, the truth at each, and for how many rows it stands."""
+        return [(r, truth, 1) for r, truth in enumerate(self.truths())]
 
     def pairs(self, item, rows):
-        """The rows that may give a value; each with whether it surely counts."""
+        """The rows that may give a value; each with whether it surely counts, and for how many it stands."""
         found = []
-        for r, certain in rows:
-            _, low, high, null, number = span(item[1], r)
-            if number:
-                found.append((certain and not null, low, high))
+        for r, certain, number in rows:
+            _, low, high, null, has_value = span(item[1], r)
+            if has_value:
+                found.append((certain and not null, low, high, number))
         return found
 
     def lines_of_items(self, rows):
@@ -560,20 +602,19 @@ class Rounds:
         return []
 
     def totals(self):
-        truth = self.truths()
-        return self.lines_of_items([(r, truth[r] == "T") for r in range(self.rows) if truth[r] != "F"])
+        return self.lines_of_items([(r, truth == "T", number) for r, truth, number in self.judged() if truth != "F"])
 
     def cells(self):
-        truth, groups, cells = self.truths(), self.query.groups, {}
-        for r in range(self.rows):
-            if truth[r] != "F":
-                cells.setdefault(tuple(c.prefix(r) for c in groups), []).append(r)
+        groups, cells = self.query.groups, {}
+        for r, truth, number in self.judged():
+            if truth != "F":
+                cells.setdefault(tuple(c.prefix(r) for c in groups), []).append((r, truth == "T", number))
         lines, narrow = [], True
         for cell in sorted(cells):
             ranges = [c.range_of(p) for c, p in zip(groups, cell)]
             single = all(given.is_one() for given in ranges)
-            rows = [(r, single and truth[r] == "T") for r in cells[cell]]
-            present = any(certain for _, certain in rows)
+            rows = [(r, single and certain, number) for r, certain, number in cells[cell]]
+            present = any(certain for _, certain, _ in rows)
             keys = ", ".join(key_text(c, given) for c, given in zip(groups, ranges))
             lines.append("group %s %s" % (keys, "present" if present else "possible"))
             found, near = self.lines_of_items(rows)
