@@ -1,15 +1,17 @@
 //! Some rows of a block of 512, as the bits of eight words.
 
 ghost use Rattle.std.specs.Prelude.{◌≡◌, ◌<◌, ◌*◌, ◌&&◌, ◌||◌};
-ghost use Rattle.std.specs.Prelude.{not, length, take, drop, count_by, sum_by};
+ghost use Rattle.std.specs.Prelude.{not, true, false, length, replicate, take, drop, count_by, sum_by};
 ghost use Rattle.std.specs.Int.Bits.{bit_and, bit_or};
 ghost use Rattle.std.specs.Int.Count.{ones};
-ghost use Rattle.std.specs.Simd.Lanes.{zip2};
+ghost use Rattle.std.specs.Simd.Lanes.{put_chunk, zip2};
+ghost use Rattle.plane_kernels.specs.Rows.{block_rows};
 ghost use Rattle.plane_kernels.specs.Words.{and_not};
 
 use crate::lanes::count_eight;
 use crate::mask::Mask;
 use crate::plane::Plane;
+use crate::row_bits::RowBits;
 use std::marker::Model;
 use std::simd::prelude::*;
 
@@ -118,6 +120,22 @@ impl Block {
             rows: self.rows,
             words: or_words(&self.words, &other.words),
         }
+    }
+
+    // Makes the rows of a block of 512 these, and leaves the others.
+    pub(crate) fn put_into(&self, bits: &mut RowBits, block: usize)
+        requires block { 512 * block < length bits.old }
+        requires rows { length self.now ≡ block_rows (length bits.old) block }
+        ensures { bits.new ≡ put_chunk (512 * block) bits.old self.now }
+    {
+        bits.set_block(block, &self.words);
+    }
+
+    /// Whether there is none.
+    pub fn is_empty(&self) -> bool
+        ensures { result ≡ true → self.now ≡ replicate (length self.now) false }
+    {
+        u64x8::from_array(self.words).reduce_or() == 0
     }
 
     /// How many rows there are.
