@@ -146,7 +146,7 @@ impl Known {
         ensures few { result ≤ 16777216 }
         ensures known { IsKnownColumn self.now }
     {
-        self.marks.at_top.rows()
+        self.marks.at_top.mask().rows()
     }
 
     /// The least number that the column may have.
@@ -256,7 +256,7 @@ impl Known {
     pub fn at_top(&self) -> &Mask
         ensures { result.now ≡ rows_where is_at_top self.now }
     {
-        &self.marks.at_top
+        self.marks.at_top.mask()
     }
 
     // The rows about 0.
@@ -283,7 +283,7 @@ impl Known {
         requires { HasZero self.now.ends }
         ensures { result.now ≡ rows_where is_level_zero self.now }
     {
-        &self.signs().level
+        self.signs().level.mask()
     }
 
     /// The rows that may have a value and whose prefix is greater than that of 0.
