@@ -154,7 +154,7 @@ def some_atom(chance, table):
     if form == 0:
         return "%s IS %sNULL" % (column.name, chance.choice(["", "NOT "]))
     if form == 1:
-        alike = [c for c in table.columns if c is not column and {c.kind, column.kind} <= {"int", "dec1", "dec2"}]
+        alike = [c for c in table.columns if c is not column and c.kind == column.kind != "text"]
         if alike:
             return "%s %s %s" % (column.name, chance.choice(list(reports.COMPARISONS)), chance.choice(alike).name)
     if form in (2, 3):
