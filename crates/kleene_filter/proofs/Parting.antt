@@ -1,15 +1,16 @@
 -- Rows parted by their prefixes, plane by plane, and their sides as words.
-use Rattle.std.proofs.Common.{◌≡◌, ℕ, ℤ, suc, ◌+◌, ◌-◌, ◌*◌, ◌^◌, ◌<◌, ◌≤◌, ◌==◌, nat_lt, min, Bool, true, false, not, ◌&&◌, ◌||◌, List, [], ◌∷◌, length, map, replicate, take, drop, get_or, slice_get, cond, Some, IsTrue, refl, ap, sym, subst, ◌∙◌, arith}
+use Rattle.std.proofs.Common.{◌≡◌, ℕ, ℤ, suc, ◌+◌, ◌-◌, ◌*◌, ◌^◌, ◌<◌, ◌≤◌, ◌==◌, nat_lt, min, Bool, true, false, not, ◌&&◌, ◌||◌, List, [], ◌∷◌, length, map, replicate, take, drop, get_or, slice_get, cond, if◌then◌else◌, Some, None, IsTrue, refl, ap, sym, subst, ◌∙◌, arith}
 use Rattle.std.specs.Prelude.{nat_abs, ◌-ℤ◌}
-use Rattle.std.specs.List.{position}
-use Rattle.std.proofs.lemmas.Bool.{eqb-true}
+use Rattle.std.specs.List.{position, position_or_len}
+use Rattle.std.proofs.lemmas.Bool.{eqb-true, false≢true}
 use Rattle.std.proofs.lemmas.Bool.Decides.{nat_tests}
 use Rattle.std.proofs.lemmas.Int.{ints}
 use Rattle.std.proofs.lemmas.List.{get_or-take, get_or-drop, get_or-map, length-map}
 use Rattle.std.proofs.lemmas.List.Quantifiers.{position-Some}
+use Rattle.std.proofs.lemmas.List.Sums.{fails_before_first}
 use Rattle.std.proofs.lemmas.Nat.{le-div, pow_pos}
 use Rattle.std.proofs.lemmas.Option.{get_or_from_slice_get}
-use Rattle.plane_kernels.specs.Rows.{bits_of, digit_at, greater_rows, kept_rows, less_rows}
+use Rattle.plane_kernels.specs.Rows.{bits_of, digit_at, kept_rows}
 use Rattle.plane_kernels.proofs.RowLemmas.{get-bits_of}
 use Rattle.daq_table.specs.declared.head.Ends.{Ends}
 use Rattle.daq_table.specs.Tables.{code, first_code, planes, spread}
@@ -24,11 +25,11 @@ use Rattle.known_column.proofs.CodeDigits.{prefix_further, spread_small}
 use Rattle.known_column.proofs.FirstMarks.{none_known}
 use Rattle.known_column.proofs.Growing.{map-longer_or, map-longer_same}
 use Rattle.known_column.proofs.Nulls.{legal_code}
-use Rattle.known_column.proofs.Steps.{equal_further, greater_further}
+use Rattle.known_column.proofs.Steps.{equal_further}
 use Rattle.kleene_filter.specs.declared.parted.SideWords.{SideWords}
 use Rattle.kleene_filter.specs.declared.parted.Sides.{Sides}
 use Rattle.kleene_filter.specs.declared.parted.Sides.TheVariants as sides
-use Rattle.kleene_filter.specs.Parted.{cell_with, equal_at, greater_at, is_greater, is_less, is_level, less_at, AreSideWords, HasRow, HasSides, IsAtEqual, IsBetweenEnds, IsTruthAt, ReadFurther}
+use Rattle.kleene_filter.specs.Parted.{cell_with, equal_at, greater_holds, is_level, is_passed, less_holds, others_hold, passed_at, passed_rows, AreSideWords, HasRow, HasSides, IsAtEqual, IsBetweenEnds, IsTruthAt, ReadFurther}
 use Rattle.kleene_filter.proofs.SideTruths.{IsTold, told_all_less, told_all_greater, told_parted}
 
 -- ---- words of masks
@@ -64,10 +65,45 @@ less_false : (m m' p : ℕ) (b : Bool) → m' ≡ 2 * m + 0 → nat_lt (2 * p + 
 less_false m m' p true e = grind (arith, nat_tests)
 less_false m m' p false e = grind (arith, nat_tests)
 
-less_further : (m m' : ℕ) (digit : Bool) → m' ≡ 2 * m + cond digit 1 0 → (ps : List ℕ) (bits : List Bool) → length bits ≡ length ps →
-    map (λ p. nat_lt p m') (longer ps bits) ≡ less_rows digit (map (λ p. nat_lt p m) ps) (map (λ p. p == m) ps) bits
-less_further m m' true e ps bits same = map-longer_or (λ p. nat_lt p m') (λ p. nat_lt p m) (λ p. p == m) (λ a b. a && not b) (λ p b. less_true m m' p b e) ps bits same
-less_further m m' false e ps bits same = map-longer_same (λ p. nat_lt p m') (λ p. nat_lt p m) (λ p b. less_false m m' p b e) ps bits same
+greater_true : (m m' p : ℕ) (b : Bool) → m' ≡ 2 * m + 1 → nat_lt m' (2 * p + cond b 1 0) ≡ nat_lt m p
+greater_true m m' p true e = grind (arith, nat_tests)
+greater_true m m' p false e = grind (arith, nat_tests)
+
+greater_false : (m m' p : ℕ) (b : Bool) → m' ≡ 2 * m + 0 → nat_lt m' (2 * p + cond b 1 0) ≡ (nat_lt m p || ((p == m) && b))
+greater_false m m' p true e = grind (arith, nat_tests)
+greater_false m m' p false e = grind (arith, nat_tests)
+
+last_first : (x y z : Bool) → ((x || y) || z) ≡ ((x || z) || y)
+last_first true y z = refl
+last_first false true true = refl
+last_first false true false = refl
+last_first false false true = refl
+last_first false false false = refl
+
+grouped : (x y z : Bool) → (x || (y || z)) ≡ ((x || y) || z)
+grouped true y z = refl
+grouped false y z = refl
+
+-- a prefix is less than m and that counts, or is greater and that counts
+abbrev pub beside : Bool → Bool → ℕ → ℕ → Bool
+beside l g m p = (l && nat_lt p m) || (g && nat_lt m p)
+
+beside_true : (g : Bool) (m m' p : ℕ) (b : Bool) → m' ≡ 2 * m + 1 → beside true g m' (2 * p + cond b 1 0) ≡ (beside true g m p || ((p == m) && not b))
+beside_true g m m' p b e =
+    ap (λ x. x || (g && nat_lt m' (2 * p + cond b 1 0))) (less_true m m' p b e) ∙ ap (λ x. (nat_lt p m || ((p == m) && not b)) || (g && x)) (greater_true m m' p b e)
+    ∙ last_first (nat_lt p m) ((p == m) && not b) (g && nat_lt m p)
+
+beside_false : (l : Bool) (m m' p : ℕ) (b : Bool) → m' ≡ 2 * m + 0 → beside l true m' (2 * p + cond b 1 0) ≡ (beside l true m p || ((p == m) && b))
+beside_false l m m' p b e =
+    ap (λ x. (l && x) || nat_lt m' (2 * p + cond b 1 0)) (less_false m m' p b e) ∙ ap (λ x. (l && nat_lt p m) || x) (greater_false m m' p b e)
+    ∙ grouped (l && nat_lt p m) (nat_lt m p) ((p == m) && b)
+
+passed_further : (l g : Bool) (m m' : ℕ) (digit : Bool) → m' ≡ 2 * m + cond digit 1 0 → (ps : List ℕ) (bits : List Bool) → length bits ≡ length ps →
+    map (beside l g m') (longer ps bits) ≡ passed_rows (if digit then l else g) digit (map (beside l g m) ps) (map (λ p. p == m) ps) bits
+passed_further true g m m' true e ps bits same = map-longer_or (beside true g m') (beside true g m) (λ p. p == m) (λ a b. a && not b) (λ p b. beside_true g m m' p b e) ps bits same
+passed_further false g m m' true e ps bits same = map-longer_same (beside false g m') (beside false g m) (λ p b. ap (λ x. g && x) (greater_true m m' p b e)) ps bits same
+passed_further l true m m' false e ps bits same = map-longer_or (beside l true m') (beside l true m) (λ p. p == m) (λ a b. a && b) (λ p b. beside_false l m m' p b e) ps bits same
+passed_further l false m m' false e ps bits same = map-longer_same (beside l false m') (beside l false m) (λ p b. ap (λ x. (l && x) || false) (less_false m m' p b e)) ps bits same
 
 -- a number's prefix and the rows of a column, after one plane more
 module _ (before column : KnownColumn) (bits : List Bool) (value : ℤ) (bit : Bool) (further : ReadFurther before bits column) (digit : bit ≡ bit_at before.ends before.known.read (cell_with value before.ends)) where
@@ -84,15 +120,12 @@ module _ (before column : KnownColumn) (bits : List Bool) (value : ℤ) (bit : B
   equal_next equal stood =
       ap (λ l. kept_rows bit l bits) stood ∙ sym (equal_further now later bit next before.known.prefixes bits) ∙ ap (rows_where (is_level value)) (sym further.is)
 
-  pub less_next : (less equal : List Bool) → less ≡ rows_where (is_less value) before → equal ≡ rows_where (is_level value) before → less_rows bit less equal bits ≡ rows_where (is_less value) column
-  less_next less equal stood level =
-      ap (λ l. less_rows bit l equal bits) stood ∙ ap (λ l. less_rows bit (rows_where (is_less value) before) l bits) level
-      ∙ sym (less_further now later bit next before.known.prefixes bits further.rows) ∙ ap (rows_where (is_less value)) (sym further.is)
-
-  pub greater_next : (greater equal : List Bool) → greater ≡ rows_where (is_greater value) before → equal ≡ rows_where (is_level value) before → greater_rows bit greater equal bits ≡ rows_where (is_greater value) column
-  greater_next greater equal stood level =
-      ap (λ l. greater_rows bit l equal bits) stood ∙ ap (λ l. greater_rows bit (rows_where (is_greater value) before) l bits) level
-      ∙ sym (greater_further now later bit next before.known.prefixes bits further.rows) ∙ ap (rows_where (is_greater value)) (sym further.is)
+  pub passed_next : (op : Comparison) (passed equal : List Bool) → passed ≡ rows_where (is_passed op value) before → equal ≡ rows_where (is_level value) before →
+      passed_rows (others_hold op bit) bit passed equal bits ≡ rows_where (is_passed op value) column
+  passed_next op passed equal stood level =
+      let pass = others_hold op bit in
+      ap (λ l. passed_rows pass bit l equal bits) stood ∙ ap (λ l. passed_rows pass bit (rows_where (is_passed op value) before) l bits) level
+      ∙ sym (passed_further (less_holds op) (greater_holds op) now later bit next before.known.prefixes bits further.rows) ∙ ap (rows_where (is_passed op value)) (sym further.is)
 
 -- the digit of the number's code in the plane that was read last
 pub last_digit : (before column : KnownColumn) (bits : List Bool) (value : ℤ) (own : ℕ) (bit : Bool) → own ≡ code before.ends (cell_with value before.ends) → ReadFurther before bits column →
@@ -111,6 +144,16 @@ level_shared column test value equal row truth is first told = λ r below on.
     let here : get_or column.known.prefixes r 0 ≡ m = eqb-true (get_or column.known.prefixes r 0) m (sym (row_where (is_level value) column equal r is below) ∙ on) in
     let there : get_or column.known.prefixes row 0 ≡ m = eqb-true (get_or column.known.prefixes row 0) m (sym (row_where (is_level value) column equal row is (omega arith)) ∙ found.1) in
     ap (λ p. truth_over (range_of column.ends column.known.read p).numbers test) (here ∙ sym there) ∙ told
+
+-- where no row is first, none has the prefix
+pub level_none : (column : KnownColumn) (test : ℤ → Bool) (value : ℤ) (equal : List Bool) (truth : Truth) → equal ≡ rows_where (is_level value) column → position (λ b. b) equal ≡ None → IsTruthAt column test equal truth
+level_none column test value equal truth is none = λ r below on.
+    let count = length_where (is_level value) column equal is in
+    let past : length equal ≤ position_or_len (λ b. b) equal = passes (position_or_len (λ b. b) equal) (length equal) none in
+    absurd (false≢true (sym (fails_before_first (λ b. b) equal r false (omega (arith, past, below, count))) ∙ on))
+  where
+    passes : (n m : ℕ) → cond (nat_lt n m) (Some n) None ≡ None → m ≤ n
+    passes n m e = grind (arith, nat_tests)
 
 -- ---- nothing is read
 
@@ -138,33 +181,40 @@ no_value_prefix ends value between =
     let within : nat_abs (value -ℤ ends.base) ≤ spread ends = omega (arith, ints) in
     none_known ends (nat_abs (value -ℤ ends.base)) (omega arith)
 
+-- none has passed
+pub none_beside : (l g : Bool) (m : ℕ) → m ≡ 0 → beside l g m 0 ≡ false
+none_beside l g m e = subst (λ k. beside l g k 0 ≡ false) (sym e) (neither l g)
+  where
+    neither : (l g : Bool) → beside l g 0 0 ≡ false
+    neither true true = refl
+    neither true false = refl
+    neither false true = refl
+    neither false false = refl
+
 -- ---- the sides of a row
 
 pub has_row : (column : KnownColumn) (op : Comparison) (value : ℤ) (s : Sides) (row : ℕ) → HasSides column op value s → row < rows_of_column column → HasRow row s
 has_row column op value sides.AllLess row has below = tt
 has_row column op value (sides.Parted parted) row has below =
-    let less = length_where (is_less value) column parted.less has.less in
+    let passed = length_where (is_passed op value) column parted.passed has.passed in
     let equal = length_where (is_level value) column parted.equal has.equal in
-    let greater = length_where (is_greater value) column parted.greater has.greater in
-    (omega arith, omega arith, omega arith)
+    (omega arith, omega arith)
 has_row column op value sides.AllGreater row has below = tt
 
 pub told_sides : (column : KnownColumn) (op : Comparison) (value : ℤ) (s : Sides) (row : ℕ) (at_equal : Truth) → HasSides column op value s → IsKnownColumn column → row < rows_of_column column → IsAtEqual s at_equal →
-    IsTrue (may_be_number (range_at column row).null) → IsTold op at_equal (truth_over (numbers_at column row) (λ x. compares op x value)) (less_at s row) (equal_at s row) (greater_at s row)
+    IsTrue (may_be_number (range_at column row).null) → IsTold at_equal (truth_over (numbers_at column row) (λ x. compares op x value)) (passed_at op s row) (equal_at s row)
 told_sides column op value sides.AllLess row at_equal has known below is some =
     told_all_less column.ends column.known.read (get_or column.known.prefixes row 0) op value at_equal (known.legal row 0 below) has
 told_sides column op value (sides.Parted parted) row at_equal has known below is some =
     let p = get_or column.known.prefixes row 0 in
     let m = prefix_of column.ends column.known.read (cell_with value column.ends) in
     let truth = truth_over (numbers_at column row) (λ x. compares op x value) in
-    let less = row_where (is_less value) column parted.less row has.less below in
+    let passed = row_where (is_passed op value) column parted.passed row has.passed below in
     let equal = row_where (is_level value) column parted.equal row has.equal below in
-    let greater = row_where (is_greater value) column parted.greater row has.greater below in
-    subst (λ b. IsTold op at_equal truth b (get_or parted.equal row false) (get_or parted.greater row false)) (sym less)
-    (subst (λ b. IsTold op at_equal truth (nat_lt p m) b (get_or parted.greater row false)) (sym equal)
-    (subst (λ b. IsTold op at_equal truth (nat_lt p m) (p == m) b) (sym greater)
+    subst (λ b. IsTold at_equal truth b (get_or parted.equal row false)) (sym passed)
+    (subst (λ b. IsTold at_equal truth (beside (less_holds op) (greater_holds op) m p) b) (sym equal)
     (told_parted column.ends column.known.read p m op value at_equal (known.legal row 0 below) some has.between.above refl
-    (λ e. has.at_equal row below (equal ∙ e) ∙ sym is))))
+    (λ e. has.at_equal row below (equal ∙ e) ∙ sym is)))
 told_sides column op value sides.AllGreater row at_equal has known below is some =
     told_all_greater column.ends column.known.read (get_or column.known.prefixes row 0) op value at_equal (known.legal row 0 below) has
 
@@ -180,15 +230,13 @@ not_sure false = refl
 
 -- where the row may have a number, its bits in the words tell whether the comparison may hold and may fail
 pub row_told : (column : KnownColumn) (op : Comparison) (value : ℤ) (s : Sides) (block r : ℕ) (words : SideWords) → HasSides column op value s → IsKnownColumn column → r < count_in_block block (rows_of_column column) →
-    AreSideWords s block words → IsTrue (may_be_number (range_at column (64 * block + r)).null) →
-    IsTold op words.at_equal (truth_over (numbers_at column (64 * block + r)) (λ x. compares op x value)) (digit_at r words.less) (digit_at r words.equal) (digit_at r words.greater)
+    AreSideWords op s block words → IsTrue (may_be_number (range_at column (64 * block + r)).null) →
+    IsTold words.at_equal (truth_over (numbers_at column (64 * block + r)) (λ x. compares op x value)) (digit_at r words.passed) (digit_at r words.equal)
 row_told column op value s block r words has known few on some =
     let row = 64 * block + r in
     let truth = truth_over (numbers_at column row) (λ x. compares op x value) in
     let inside = has_row column op value s row has (omega arith) in
-    let less = on.less r (omega arith) inside in
+    let passed = on.passed r (omega arith) inside in
     let equal = on.equal r (omega arith) inside in
-    let greater = on.greater r (omega arith) inside in
-    subst (λ b. IsTold op words.at_equal truth b (digit_at r words.equal) (digit_at r words.greater)) (sym less)
-    (subst (λ b. IsTold op words.at_equal truth (less_at s row) b (digit_at r words.greater)) (sym equal)
-    (subst (λ b. IsTold op words.at_equal truth (less_at s row) (equal_at s row) b) (sym greater) (told_sides column op value s row words.at_equal has known (omega arith) on.at_equal some)))
+    subst (λ b. IsTold words.at_equal truth b (digit_at r words.equal)) (sym passed)
+    (subst (λ b. IsTold words.at_equal truth (passed_at op s row) b) (sym equal) (told_sides column op value s row words.at_equal has known (omega arith) on.at_equal some))

@@ -1,5 +1,5 @@
 -- What is known of a comparison by the side on which a row stands.
-use Rattle.std.proofs.Common.{◌≡◌, ℕ, ℤ, ◌<◌, ◌≤◌, ◌≤ℤ◌, ◌<ℤ◌, Bool, true, false, not, ◌⊎◌, inl, inr, Some, IsTrue, refl, sym, ap, ◌∙◌, subst, arith}
+use Rattle.std.proofs.Common.{◌≡◌, ℕ, ℤ, ◌<◌, ◌≤◌, ◌≤ℤ◌, ◌<ℤ◌, Bool, true, false, not, ◌&&◌, ◌||◌, ◌⊎◌, inl, inr, Some, IsTrue, refl, sym, ap, ◌∙◌, subst, arith}
 use Rattle.std.specs.Prelude.{int_lt, int_le, nat_abs, ◌-ℤ◌, nat_lt, ◌==◌}
 use Rattle.std.specs.Ordering.{int_eq}
 use Rattle.std.proofs.lemmas.Bool.{cases_Bool, cases_lt}
@@ -8,6 +8,7 @@ use Rattle.std.proofs.lemmas.Int.{ints}
 use Rattle.daq_table.specs.declared.head.Ends.{Ends}
 use Rattle.interval_calc.specs.Intervals.{Interval, Within, only}
 use Rattle.query_model.specs.declared.bounds.Truth.{Truth}
+use Rattle.query_model.specs.declared.bounds.Truth.TheVariants.{False, Unknown, True}
 use Rattle.query_model.specs.declared.query.Comparison.{Comparison}
 use Rattle.query_model.specs.declared.query.Comparison.TheVariants.{Eq, Ne, Lt, Le, Gt, Ge}
 use Rattle.query_model.specs.Knowledge.{IsLegal, null_with, prefix_of, range_of}
@@ -17,7 +18,7 @@ use Rattle.query_model.proofs.Blocks.{range_gives, range_ordered}
 use Rattle.query_model.proofs.Numbers.{high_within, low_within}
 use Rattle.known_column.proofs.CodeDigits.{prefix_mono}
 use Rattle.kleene_filter.specs.ByEnds.{always_compares, sometimes_compares}
-use Rattle.kleene_filter.specs.Parted.{cell_with, fails_on, greater_holds, holds_on, less_holds, on_chosen}
+use Rattle.kleene_filter.specs.Parted.{cell_with, fails_at, greater_holds, holds_at, less_holds}
 use Rattle.kleene_filter.proofs.TestsByEnds.{against_one, and_false_left, and_false_right, compared_by_ends, eq_fails, le_is}
 
 -- ---- ranges on one side of a number
@@ -66,61 +67,30 @@ greater_truth op i v o h = sym (against_one op i v o) ∙ compared_by_ends op i 
 
 -- ---- what the side tells
 
-pub record IsTold (op : Comparison) (at_equal truth : Truth) (less equal greater : Bool) : Type 0 where
-  pub hold : holds_on op at_equal less equal greater ≡ not (is_false truth)
-  pub fail : fails_on op at_equal less equal greater ≡ not (is_true truth)
+-- at a row that passed or not, and has the number's own prefix or not
+pub record IsTold (at_equal truth : Truth) (passed equal : Bool) : Type 0 where
+  pub hold : holds_at at_equal passed equal ≡ not (is_false truth)
+  pub fail : fails_at at_equal passed equal ≡ not (is_true truth)
 
-pick_less : (l e g : Bool) → on_chosen l e g true false false ≡ l
-pick_less true e g = refl
-pick_less false true true = refl
-pick_less false true false = refl
-pick_less false false true = refl
-pick_less false false false = refl
+-- a test that holds for all numbers of a range or for none
+told_one : (b : Bool) (at_equal : Truth) → IsTold at_equal (truth_from b b) b false
+told_one true False = record { hold = refl; fail = refl }
+told_one true Unknown = record { hold = refl; fail = refl }
+told_one true True = record { hold = refl; fail = refl }
+told_one false False = record { hold = refl; fail = refl }
+told_one false Unknown = record { hold = refl; fail = refl }
+told_one false True = record { hold = refl; fail = refl }
 
-pick_equal : (l e g : Bool) → on_chosen l e g false true false ≡ e
-pick_equal true true g = refl
-pick_equal true false true = refl
-pick_equal true false false = refl
-pick_equal false true g = refl
-pick_equal false false true = refl
-pick_equal false false false = refl
+pub told_side : (b : Bool) (at_equal truth : Truth) → truth ≡ truth_from b b → IsTold at_equal truth b false
+told_side b at_equal truth e = subst (λ t. IsTold at_equal t b false) (sym e) (told_one b at_equal)
 
-pick_greater : (l e g : Bool) → on_chosen l e g false false true ≡ g
-pick_greater true true true = refl
-pick_greater true true false = refl
-pick_greater true false true = refl
-pick_greater true false false = refl
-pick_greater false true true = refl
-pick_greater false true false = refl
-pick_greater false false true = refl
-pick_greater false false false = refl
+told_level : (at_equal : Truth) → IsTold at_equal at_equal false true
+told_level False = record { hold = refl; fail = refl }
+told_level Unknown = record { hold = refl; fail = refl }
+told_level True = record { hold = refl; fail = refl }
 
--- a test that holds for all numbers or for none
-never_fails : (b : Bool) → b ≡ not (is_false (truth_from b b))
-never_fails true = refl
-never_fails false = refl
-
-never_holds : (b : Bool) → not b ≡ not (is_true (truth_from b b))
-never_holds true = refl
-never_holds false = refl
-
-told_less : (op : Comparison) (at_equal truth : Truth) → truth ≡ truth_from (less_holds op) (less_holds op) → IsTold op at_equal truth true false false
-told_less op at_equal truth e = record {
-  hold = pick_less (less_holds op) (not (is_false at_equal)) (greater_holds op) ∙ never_fails (less_holds op) ∙ ap (λ t. not (is_false t)) (sym e);
-  fail = pick_less (not (less_holds op)) (not (is_true at_equal)) (not (greater_holds op)) ∙ never_holds (less_holds op) ∙ ap (λ t. not (is_true t)) (sym e);
-}
-
-told_greater : (op : Comparison) (at_equal truth : Truth) → truth ≡ truth_from (greater_holds op) (greater_holds op) → IsTold op at_equal truth false false true
-told_greater op at_equal truth e = record {
-  hold = pick_greater (less_holds op) (not (is_false at_equal)) (greater_holds op) ∙ never_fails (greater_holds op) ∙ ap (λ t. not (is_false t)) (sym e);
-  fail = pick_greater (not (less_holds op)) (not (is_true at_equal)) (not (greater_holds op)) ∙ never_holds (greater_holds op) ∙ ap (λ t. not (is_true t)) (sym e);
-}
-
-told_equal : (op : Comparison) (at_equal truth : Truth) → truth ≡ at_equal → IsTold op at_equal truth false true false
-told_equal op at_equal truth e = record {
-  hold = pick_equal (less_holds op) (not (is_false at_equal)) (greater_holds op) ∙ ap (λ t. not (is_false t)) (sym e);
-  fail = pick_equal (not (less_holds op)) (not (is_true at_equal)) (not (greater_holds op)) ∙ ap (λ t. not (is_true t)) (sym e);
-}
+told_equal : (at_equal truth : Truth) → truth ≡ at_equal → IsTold at_equal truth false true
+told_equal at_equal truth e = subst (λ t. IsTold at_equal t false true) (sym e) (told_level at_equal)
 
 -- ---- numbers by their prefixes
 
@@ -171,34 +141,54 @@ above_value ends read p v legal some greater =
 
 -- ---- each side
 
-pub told_all_less : (ends : Ends) (read p : ℕ) (op : Comparison) (v : ℤ) (at_equal : Truth) → IsLegal ends read p → ends.top <ℤ v → IsTold op at_equal (truth_over (range_of ends read p).numbers (λ x. compares op x v)) true false false
+pub told_all_less : (ends : Ends) (read p : ℕ) (op : Comparison) (v : ℤ) (at_equal : Truth) → IsLegal ends read p → ends.top <ℤ v → IsTold at_equal (truth_over (range_of ends read p).numbers (λ x. compares op x v)) (less_holds op) false
 told_all_less ends read p op v at_equal legal past =
     let i = (range_of ends read p).numbers in
     let order = ends.ordered in
     let high : i.high ≤ℤ ends.top = omega (arith, ints) in
-    told_less op at_equal (truth_over i (λ x. compares op x v)) (less_truth op i v (range_ordered ends read p legal) (omega (arith, ints)))
+    told_side (less_holds op) at_equal (truth_over i (λ x. compares op x v)) (less_truth op i v (range_ordered ends read p legal) (omega (arith, ints)))
 
-pub told_all_greater : (ends : Ends) (read p : ℕ) (op : Comparison) (v : ℤ) (at_equal : Truth) → IsLegal ends read p → v <ℤ ends.base → IsTold op at_equal (truth_over (range_of ends read p).numbers (λ x. compares op x v)) false false true
+pub told_all_greater : (ends : Ends) (read p : ℕ) (op : Comparison) (v : ℤ) (at_equal : Truth) → IsLegal ends read p → v <ℤ ends.base → IsTold at_equal (truth_over (range_of ends read p).numbers (λ x. compares op x v)) (greater_holds op) false
 told_all_greater ends read p op v at_equal legal past =
     let i = (range_of ends read p).numbers in
     let low : ends.base ≤ℤ i.low = omega (arith, ints) in
-    told_greater op at_equal (truth_over i (λ x. compares op x v)) (greater_truth op i v (range_ordered ends read p legal) (omega (arith, ints)))
+    told_side (greater_holds op) at_equal (truth_over i (λ x. compares op x v)) (greater_truth op i v (range_ordered ends read p legal) (omega (arith, ints)))
+
+-- the row passes, where it is less, greater, or neither
+passes_less : (l g x z : Bool) → x ≡ true → z ≡ false → ((l && x) || (g && z)) ≡ l
+passes_less true g x z e f = ap (λ v. v || (g && z)) e
+passes_less false true x z e f = f
+passes_less false false x z e f = refl
+
+passes_greater : (l g x z : Bool) → x ≡ false → z ≡ true → ((l && x) || (g && z)) ≡ g
+passes_greater true true x z e f = ap (λ v. v || z) e ∙ f
+passes_greater true false x z e f = ap (λ v. v || false) e
+passes_greater false true x z e f = f
+passes_greater false false x z e f = refl
+
+passes_neither : (l g x z : Bool) → x ≡ false → z ≡ false → ((l && x) || (g && z)) ≡ false
+passes_neither true true x z e f = ap (λ v. v || z) e ∙ f
+passes_neither true false x z e f = ap (λ v. v || false) e
+passes_neither false true x z e f = f
+passes_neither false false x z e f = refl
 
 -- by the prefix of the row, where m is that of the number
 pub told_parted : (ends : Ends) (read p m : ℕ) (op : Comparison) (v : ℤ) (at_equal : Truth) → IsLegal ends read p → IsTrue (may_be_number (null_with ends read p)) → ends.base ≤ℤ v → prefix_of ends read (cell_with v ends) ≡ m →
     ((p == m) ≡ true → truth_over (range_of ends read p).numbers (λ x. compares op x v) ≡ at_equal) →
-    IsTold op at_equal (truth_over (range_of ends read p).numbers (λ x. compares op x v)) (nat_lt p m) (p == m) (nat_lt m p)
+    IsTold at_equal (truth_over (range_of ends read p).numbers (λ x. compares op x v)) ((less_holds op && nat_lt p m) || (greater_holds op && nat_lt m p)) (p == m)
 told_parted ends read p m op v at_equal legal some above is same =
     let i = (range_of ends read p).numbers in
     let truth = truth_over i (λ x. compares op x v) in
     let ordered = range_ordered ends read p legal in
+    let l = less_holds op in
+    let g = greater_holds op in
     elim (nat_cases p m) [
-      | inl less ↦ subst (λ n. IsTold op at_equal truth (nat_lt p m) (p == m) n) (sym (less.2)) (subst (λ e. IsTold op at_equal truth (nat_lt p m) e false) (sym (less.1))
-          (subst (λ l. IsTold op at_equal truth l false false) (sym (less.0)) (told_less op at_equal truth (less_truth op i v ordered (below_value ends read p v legal some above (omega (arith, less.3, is)))))))
+      | inl less ↦ subst (λ e. IsTold at_equal truth ((l && nat_lt p m) || (g && nat_lt m p)) e) (sym (less.1)) (subst (λ b. IsTold at_equal truth b false) (sym (passes_less l g (nat_lt p m) (nat_lt m p) less.0 less.2))
+          (told_side l at_equal truth (less_truth op i v ordered (below_value ends read p v legal some above (omega (arith, less.3, is))))))
       | inr rest ↦ elim rest [
-        | inl level ↦ subst (λ n. IsTold op at_equal truth (nat_lt p m) (p == m) n) (sym (level.2)) (subst (λ e. IsTold op at_equal truth (nat_lt p m) e false) (sym (level.1))
-            (subst (λ l. IsTold op at_equal truth l true false) (sym (level.0)) (told_equal op at_equal truth (same level.1))))
-        | inr greater ↦ subst (λ n. IsTold op at_equal truth (nat_lt p m) (p == m) n) (sym (greater.2)) (subst (λ e. IsTold op at_equal truth (nat_lt p m) e true) (sym (greater.1))
-            (subst (λ l. IsTold op at_equal truth l false true) (sym (greater.0)) (told_greater op at_equal truth (greater_truth op i v ordered (above_value ends read p v legal some (omega (arith, greater.3, is)))))))
+        | inl level ↦ subst (λ e. IsTold at_equal truth ((l && nat_lt p m) || (g && nat_lt m p)) e) (sym (level.1)) (subst (λ b. IsTold at_equal truth b true) (sym (passes_neither l g (nat_lt p m) (nat_lt m p) level.0 level.2))
+            (told_equal at_equal truth (same level.1)))
+        | inr greater ↦ subst (λ e. IsTold at_equal truth ((l && nat_lt p m) || (g && nat_lt m p)) e) (sym (greater.1)) (subst (λ b. IsTold at_equal truth b false) (sym (passes_greater l g (nat_lt p m) (nat_lt m p) greater.0 greater.2))
+            (told_side g at_equal truth (greater_truth op i v ordered (above_value ends read p v legal some (omega (arith, greater.3, is))))))
       ]
     ]

@@ -36,6 +36,11 @@ digit-ones r h = ap (λ n. n == 1) (bit_at_ones 64 r h)
 pub digit-zero : (r : ℕ) → digit_at r 0 ≡ false
 digit-zero r = ap (λ n. n == 1) (bit_at-zero r)
 
+-- all bits, or none
+pub all_chosen : (r word : ℕ) (is b : Bool) → r < 64 → digit_at r word ≡ (is && digit_at r (2 ^ 64 - 1)) → is ≡ b → digit_at r word ≡ b
+all_chosen r word true b few e same = e ∙ digit-ones r few ∙ same
+all_chosen r word false b few e same = e ∙ same
+
 -- ---- out of the bits of the parts
 
 pub both_bits : (r a b : ℕ) (x y : Bool) → digit_at r a ≡ x → digit_at r b ≡ y → digit_at r (bit_and a b) ≡ (x && y)

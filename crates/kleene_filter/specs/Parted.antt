@@ -1,8 +1,9 @@
 -- Rows parted by how their prefixes compare with the prefix of a number.
 use Rattle.std.specs.Prelude.{◌≡◌, ℕ, ◌+◌, ◌*◌, ◌<◌, ℤ, ◌-ℤ◌, ◌≤ℤ◌, ◌<ℤ◌, ◌==◌}
-use Rattle.std.specs.Prelude.{nat_lt, nat_abs, Bool, true, false, not, ◌&&◌, ◌||◌, List, length, slice_index_or}
+use Rattle.std.specs.Prelude.{nat_lt, nat_abs, Bool, true, false, not, ◌&&◌, ◌||◌, List, length, slice_index_or, if◌then◌else◌}
 use Rattle.std.specs.declared.option.Option.TheVariants.{Some}
-use Rattle.plane_kernels.specs.Rows.{digit_at}
+use Rattle.std.specs.Simd.Lanes.{zip2}
+use Rattle.plane_kernels.specs.Rows.{digit_at, kept_rows}
 use Rattle.daq_table.specs.declared.head.Ends.{Ends}
 use Rattle.daq_table.specs.Tables.{Cell, code, planes as planes_of}
 use Rattle.query_model.specs.declared.bounds.Truth.{Truth}
@@ -31,6 +32,35 @@ is_level value ends read prefix = prefix == prefix_of ends read (cell_with value
 abbrev pub is_greater : ℤ → Ends → ℕ → ℕ → Bool
 is_greater value ends read prefix = nat_lt (prefix_of ends read (cell_with value ends)) prefix
 
+-- a lesser number compares so, a greater one does
+abbrev pub less_holds : Comparison → Bool
+less_holds Eq = false
+less_holds Ne = true
+less_holds Lt = true
+less_holds Le = true
+less_holds Gt = false
+less_holds Ge = false
+
+abbrev pub greater_holds : Comparison → Bool
+greater_holds Eq = false
+greater_holds Ne = true
+greater_holds Lt = false
+greater_holds Le = false
+greater_holds Gt = true
+greater_holds Ge = true
+
+-- all numbers of the prefix compare so with the number, whose own prefix is less or greater
+abbrev pub is_passed : Comparison → ℤ → Ends → ℕ → ℕ → Bool
+is_passed op value ends read prefix = (less_holds op && is_less value ends read prefix) || (greater_holds op && is_greater value ends read prefix)
+
+-- the rows whose digit is not the number's compare so
+abbrev pub others_hold : Comparison → Bool → Bool
+others_hold op digit = if digit then less_holds op else greater_holds op
+
+-- the rows that passed, and where the others do, those of the second mask whose bit is not this one
+abbrev pub passed_rows : Bool → Bool → List Bool → List Bool → List Bool → List Bool
+passed_rows pass bit passed equal plane = if pass then zip2 (λ a b. a || b) passed (kept_rows (not bit) equal plane) else passed
+
 -- this is what is known of the test at each of these rows
 abbrev pub IsTruthAt : KnownColumn → (ℤ → Bool) → List Bool → Truth → Type 0
 IsTruthAt column test rows truth =
@@ -41,13 +71,13 @@ pub record IsBetweenEnds (ends : Ends) (value : ℤ) : Type 0 where
   pub above : ends.base ≤ℤ value
   pub below : value ≤ℤ ends.top
 
--- the rows of a column are parted by their prefixes, and the comparison is known at the rows with the number's own prefix
+-- the rows of a column are parted by their prefixes: those that passed, those with the number's own prefix, where this is known of the
+-- comparison, and those that failed, which are the others
 pub record IsParted (column : KnownColumn) (op : Comparison) (value : ℤ) (parted : Parted) : Type 0 where
   pub between : IsBetweenEnds column.ends value
   pub code : parted.code ≡ code column.ends (cell_with value column.ends)
-  pub less : parted.less ≡ rows_where (is_less value) column
+  pub passed : parted.passed ≡ rows_where (is_passed op value) column
   pub equal : parted.equal ≡ rows_where (is_level value) column
-  pub greater : parted.greater ≡ rows_where (is_greater value) column
   pub at_equal : IsTruthAt column (λ x. compares op x value) parted.equal parted.at_equal
 
 -- all numbers of the column are less than the number, or greater, or its rows are parted
@@ -70,55 +100,29 @@ pub record Had (Holds : KnownColumn → Type 0) (column : KnownColumn) (bits : L
 
 -- ---- what the sides tell of a comparison
 
--- a lesser number compares so, a greater one does
-abbrev pub less_holds : Comparison → Bool
-less_holds Eq = false
-less_holds Ne = true
-less_holds Lt = true
-less_holds Le = true
-less_holds Gt = false
-less_holds Ge = false
+-- it may hold, may fail, at a row that passed or not, and has the number's own prefix or not
+abbrev pub holds_at : Truth → Bool → Bool → Bool
+holds_at at_equal passed equal = passed || (not (is_false at_equal) && equal)
 
-abbrev pub greater_holds : Comparison → Bool
-greater_holds Eq = false
-greater_holds Ne = true
-greater_holds Lt = false
-greater_holds Le = false
-greater_holds Gt = true
-greater_holds Ge = true
-
--- a row is on one of the chosen sides
-abbrev pub on_chosen : Bool → Bool → Bool → Bool → Bool → Bool → Bool
-on_chosen l e g less equal greater = (l && less) || (e && equal) || (g && greater)
-
--- the comparison may hold, may fail, at a row on this side
-abbrev pub holds_on : Comparison → Truth → Bool → Bool → Bool → Bool
-holds_on op at_equal = on_chosen (less_holds op) (not (is_false at_equal)) (greater_holds op)
-
-abbrev pub fails_on : Comparison → Truth → Bool → Bool → Bool → Bool
-fails_on op at_equal = on_chosen (not (less_holds op)) (not (is_true at_equal)) (not (greater_holds op))
+abbrev pub fails_at : Truth → Bool → Bool → Bool
+fails_at at_equal passed equal = (not passed && not equal) || (not (is_true at_equal) && equal)
 
 -- the row is one of the masks, if there are masks
 abbrev pub HasRow : ℕ → Sides → Type 0
 HasRow row sides.AllLess = Unit {0}
-HasRow row (sides.Parted parted) = (row < length parted.less) × (row < length parted.equal) × (row < length parted.greater)
+HasRow row (sides.Parted parted) = (row < length parted.passed) × (row < length parted.equal)
 HasRow row sides.AllGreater = Unit {0}
 
--- the row is on the side
-abbrev pub less_at : Sides → ℕ → Bool
-less_at sides.AllLess row = true
-less_at (sides.Parted parted) row = slice_index_or parted.less row false
-less_at sides.AllGreater row = false
+-- the row passed, has the number's own prefix
+abbrev pub passed_at : Comparison → Sides → ℕ → Bool
+passed_at op sides.AllLess row = less_holds op
+passed_at op (sides.Parted parted) row = slice_index_or parted.passed row false
+passed_at op sides.AllGreater row = greater_holds op
 
 abbrev pub equal_at : Sides → ℕ → Bool
 equal_at sides.AllLess row = false
 equal_at (sides.Parted parted) row = slice_index_or parted.equal row false
 equal_at sides.AllGreater row = false
-
-abbrev pub greater_at : Sides → ℕ → Bool
-greater_at sides.AllLess row = false
-greater_at (sides.Parted parted) row = slice_index_or parted.greater row false
-greater_at sides.AllGreater row = true
 
 -- what is known of the comparison at the rows of the number's own prefix
 abbrev pub IsAtEqual : Sides → Truth → Type 0
@@ -127,8 +131,7 @@ IsAtEqual (sides.Parted parted) truth = truth ≡ parted.at_equal
 IsAtEqual sides.AllGreater truth = Unit {0}
 
 -- the sides of the rows of a block, as words
-pub record AreSideWords (sides : Sides) (block : ℕ) (words : SideWords) : Type 0 where
-  pub less : (r : ℕ) → r < 64 → HasRow (64 * block + r) sides → digit_at r words.less ≡ less_at sides (64 * block + r)
+pub record AreSideWords (op : Comparison) (sides : Sides) (block : ℕ) (words : SideWords) : Type 0 where
+  pub passed : (r : ℕ) → r < 64 → HasRow (64 * block + r) sides → digit_at r words.passed ≡ passed_at op sides (64 * block + r)
   pub equal : (r : ℕ) → r < 64 → HasRow (64 * block + r) sides → digit_at r words.equal ≡ equal_at sides (64 * block + r)
-  pub greater : (r : ℕ) → r < 64 → HasRow (64 * block + r) sides → digit_at r words.greater ≡ greater_at sides (64 * block + r)
   pub at_equal : IsAtEqual sides words.at_equal

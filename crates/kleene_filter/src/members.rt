@@ -15,7 +15,7 @@ use crate::parted::{code_of, next_digit};
 use crate::ranges::is_one_of;
 use crate::words::{TruthWords, chosen};
 use known_column::{Known, LentColumns};
-use plane_kernels::{Mask, Plane};
+use plane_kernels::{Plane, Remaining};
 use query_model::{Truth, Values};
 use std::alloc::{AllocError, Global};
 
@@ -24,7 +24,7 @@ use std::alloc::{AllocError, Global};
 #[derive(Drop)]
 pub(crate) struct Level {
     number: i128,
-    rows: Mask,
+    rows: Remaining,
     truth: Truth,
 }
 
@@ -44,7 +44,7 @@ struct MemberWords {
 }
 
 // What is known of whether a number is listed, at the rows with the prefix of one number.
-fn truth_at_level(values: &[i128], rows: &Mask, column: &Known) -> Truth
+fn truth_at_level(values: &[i128], rows: &Remaining, column: &Known) -> Truth
     requires { (number : ℤ) × (rows.now ≡ rows_where (is_level number) column.now) }
     ensures { IsTruthAt column.now (among values.now) rows.now result }
 {
@@ -75,7 +75,7 @@ impl Level {
         ensures level { IfOk result (IsLevel column.now values.now) }
         ensures number { IfOk result (λ level. level.number ≡ number) }
     {
-        let rows = Mask::all(alloc, column.rows())?;
+        let rows = Remaining::all(alloc, column.rows())?;
         let truth = truth_at_level(values, &rows, column);
         Ok(Level {
             number,

@@ -1,12 +1,12 @@
 //! Rows of a column parted by how their prefixes compare with the prefix of a number.
 
-ghost use Rattle.std.specs.Prelude.{◌≡◌, ◌<◌, ◌*◌, ◌+◌, ◌-◌, ℕ, IfOk};
+ghost use Rattle.std.specs.Prelude.{◌≡◌, ◌<◌, ◌*◌, ◌+◌, ◌-◌, ℕ, length, IfOk};
 ghost use Rattle.daq_table.specs.Tables.{code, planes};
-ghost use Rattle.plane_kernels.specs.Rows.{digit_at};
+ghost use Rattle.plane_kernels.specs.Rows.{digit_at, kept_rows};
 ghost use Rattle.query_model.specs.Meaning.{compares};
 ghost use Rattle.known_column.specs.Columns.{rows_of_column, rows_where};
 ghost use Rattle.known_column.specs.RowBlocks.{IsKnownColumn};
-ghost use Rattle.kleene_filter.specs.Parted.{cell_with, fails_on, greater_holds, holds_on, is_level, less_holds, on_chosen};
+ghost use Rattle.kleene_filter.specs.Parted.{cell_with, fails_at, greater_holds, holds_at, is_level, less_holds, others_hold, passed_rows};
 ghost use Rattle.kleene_filter.specs.Parted.{AreSideWords, Had, HasRow, HasSides, IsBetweenEnds, IsParted, IsTruthAt};
 ghost use Rattle.kleene_filter.specs.Words.{AreTruthsInColumn};
 
@@ -14,18 +14,18 @@ use crate::nulls::number_truths;
 use crate::ranges::compared_with;
 use crate::words::{TruthWords, chosen};
 use known_column::Known;
-use plane_kernels::{Mask, Plane, step_compare};
+use plane_kernels::{Mask, Plane, Remaining};
 use query_model::{Comparison, Truth};
 use std::alloc::{AllocError, Global};
 
-// The rows whose prefix is less than that of a number, the same, or greater, the number's code, and what is known of the
-// comparison at the rows with the number's own prefix: they share one range.
+// The rows that passed a comparison with a number, since their prefix is less than the number's or greater, those whose prefix is the
+// same, the number's code, and what is known of the comparison at the rows with the number's own prefix: they share one range. The
+// other rows failed.
 #[derive(Drop)]
 pub(crate) struct Parted {
     code: u128,
-    less: Mask,
-    equal: Mask,
-    greater: Mask,
+    passed: Mask,
+    equal: Remaining,
     at_equal: Truth,
 }
 
@@ -37,17 +37,16 @@ pub(crate) enum Sides {
     AllGreater,
 }
 
-// The rows of a block on each side, as words.
+// The rows of a block that passed, and those with the number's own prefix, as words.
 #[derive(Clone, Copy)]
 struct SideWords {
-    less: u64,
+    passed: u64,
     equal: u64,
-    greater: u64,
     at_equal: Truth,
 }
 
 // What is known of the comparison at the rows with the number's own prefix.
-fn truth_at_equal(op: Comparison, value: i128, equal: &Mask, column: &Known) -> Truth
+fn truth_at_equal(op: Comparison, value: i128, equal: &Remaining, column: &Known) -> Truth
     requires { equal.now ≡ rows_where (is_level value) column.now }
     ensures { IsTruthAt column.now (λ x. compares op x value) equal.now result }
 {
@@ -79,6 +78,51 @@ pub(crate) fn next_digit(code: u128, column: &Known) -> bool
     (code >> column.unread()) & 1 == 1
 }
 
+// Whether a lesser number compares so.
+fn less_compares(op: Comparison) -> bool
+    ensures { result ≡ less_holds op }
+{
+    match op {
+        Comparison::Eq | Comparison::Gt | Comparison::Ge => false,
+        Comparison::Ne | Comparison::Lt | Comparison::Le => true,
+    }
+}
+
+// Whether a greater number compares so.
+fn greater_compares(op: Comparison) -> bool
+    ensures { result ≡ greater_holds op }
+{
+    match op {
+        Comparison::Eq | Comparison::Lt | Comparison::Le => false,
+        Comparison::Ne | Comparison::Gt | Comparison::Ge => true,
+    }
+}
+
+// Whether the rows compare so whose digit is not the number's.
+fn others_compare(op: Comparison, digit: bool) -> bool
+    ensures { result ≡ others_hold op digit }
+{
+    if digit {
+        less_compares(op)
+    } else {
+        greater_compares(op)
+    }
+}
+
+// Keeps the rows that have this bit in the plane. The others pass, if they do.
+fn keep_level(passed: &mut Mask, equal: &mut Remaining, plane: &Plane, bit: bool, pass: bool)
+    requires passed { length passed.old ≡ length equal.old }
+    requires plane { length plane.now ≡ length equal.old }
+    ensures passed { passed.new ≡ passed_rows pass bit passed.old equal.old plane.now }
+    ensures equal { equal.new ≡ kept_rows bit equal.old plane.now }
+{
+    if pass {
+        equal.move_others(passed, plane, bit);
+    } else {
+        equal.keep(plane, bit);
+    }
+}
+
 impl Parted {
     // Nothing is read of the column: all rows have the number's prefix.
     fn open(
@@ -92,13 +136,12 @@ impl Parted {
         requires known { IsKnownColumn column.now }
         ensures { IfOk result (IsParted column.now op value) }
     {
-        let equal = Mask::all(alloc, column.rows())?;
+        let equal = Remaining::all(alloc, column.rows())?;
         let at_equal = truth_at_equal(op, value, &equal, column);
         Ok(Parted {
             code: code_of(column, value),
-            less: Mask::none(alloc, column.rows())?,
+            passed: Mask::none(alloc, column.rows())?,
             equal,
-            greater: Mask::none(alloc, column.rows())?,
             at_equal,
         })
     }
@@ -109,13 +152,8 @@ impl Parted {
         ensures { IsParted column.now op value self.new }
     {
         let bit = next_digit(self.code, column);
-        step_compare(
-            &mut self.less,
-            &mut self.greater,
-            &mut self.equal,
-            plane,
-            bit,
-        );
+        let pass = others_compare(op, bit);
+        keep_level(&mut self.passed, &mut self.equal, plane, bit, pass);
         self.at_equal = truth_at_equal(op, value, &self.equal, column);
     }
 }
@@ -153,27 +191,24 @@ impl Sides {
     }
 
     // The sides of a block's rows.
-    fn words(&self, block: usize) -> SideWords
+    fn words(&self, op: Comparison, block: usize) -> SideWords
         requires { HasRow (64 * block) self.now }
-        ensures { AreSideWords self.now block result }
+        ensures { AreSideWords op self.now block result }
     {
         match self {
             Sides::AllLess => SideWords {
-                less: u64::MAX,
+                passed: chosen(less_compares(op), u64::MAX),
                 equal: 0,
-                greater: 0,
                 at_equal: Truth::Unknown,
             },
             Sides::Parted(parted) => SideWords {
-                less: parted.less.word(block),
+                passed: parted.passed.word(block),
                 equal: parted.equal.word(block),
-                greater: parted.greater.word(block),
                 at_equal: parted.at_equal,
             },
             Sides::AllGreater => SideWords {
-                less: 0,
+                passed: chosen(greater_compares(op), u64::MAX),
                 equal: 0,
-                greater: u64::MAX,
                 at_equal: Truth::Unknown,
             },
         }
@@ -192,61 +227,25 @@ impl Sides {
         requires block { 64 * block < rows_of_column column.now }
         ensures { AreTruthsInColumn column.now block (λ x. compares op x value) result }
     {
-        let words = self.words(block);
-        number_truths(column, block, words.may_hold(op), words.may_fail(op))
-    }
-}
-
-// Whether a lesser number compares so.
-fn less_compares(op: Comparison) -> bool
-    ensures { result ≡ less_holds op }
-{
-    match op {
-        Comparison::Eq | Comparison::Gt | Comparison::Ge => false,
-        Comparison::Ne | Comparison::Lt | Comparison::Le => true,
-    }
-}
-
-// Whether a greater number compares so.
-fn greater_compares(op: Comparison) -> bool
-    ensures { result ≡ greater_holds op }
-{
-    match op {
-        Comparison::Eq | Comparison::Lt | Comparison::Le => false,
-        Comparison::Ne | Comparison::Gt | Comparison::Ge => true,
+        let words = self.words(op, block);
+        number_truths(column, block, words.may_hold(), words.may_fail())
     }
 }
 
 impl SideWords {
-    // The rows on the chosen sides.
-    fn on(&self, less: bool, equal: bool, greater: bool) -> u64
-        ensures { (row : ℕ) → digit_at row result
-            ≡ on_chosen less equal greater (digit_at row self.now.less) (digit_at row self.now.equal) (digit_at row self.now.greater) }
-    {
-        chosen(less, self.less) | chosen(equal, self.equal) | chosen(greater, self.greater)
-    }
-
     // The rows at which the comparison may hold.
-    fn may_hold(&self, op: Comparison) -> u64
-        ensures { (row : ℕ) → digit_at row result ≡ holds_on op self.now.at_equal
-            (digit_at row self.now.less) (digit_at row self.now.equal) (digit_at row self.now.greater) }
+    fn may_hold(&self) -> u64
+        ensures { (row : ℕ) → row < 64 → digit_at row result
+            ≡ holds_at self.now.at_equal (digit_at row self.now.passed) (digit_at row self.now.equal) }
     {
-        self.on(
-            less_compares(op),
-            self.at_equal != Truth::False,
-            greater_compares(op),
-        )
+        self.passed | chosen(self.at_equal != Truth::False, self.equal)
     }
 
     // The rows at which it may fail.
-    fn may_fail(&self, op: Comparison) -> u64
-        ensures { (row : ℕ) → digit_at row result ≡ fails_on op self.now.at_equal
-            (digit_at row self.now.less) (digit_at row self.now.equal) (digit_at row self.now.greater) }
+    fn may_fail(&self) -> u64
+        ensures { (row : ℕ) → row < 64 → digit_at row result
+            ≡ fails_at self.now.at_equal (digit_at row self.now.passed) (digit_at row self.now.equal) }
     {
-        self.on(
-            !less_compares(op),
-            self.at_equal != Truth::True,
-            !greater_compares(op),
-        )
+        (!self.passed & !self.equal) | chosen(self.at_equal != Truth::True, self.equal)
     }
 }

@@ -4,8 +4,8 @@ use Rattle.std.specs.Int.{w128}
 use Rattle.daq_table.specs.Tables.{code}
 use Rattle.query_model.specs.Meaning.{compares}
 use Rattle.known_column.specs.Columns.{KnownColumn, rows_where}
-use Rattle.kleene_filter.specs.Parted.{cell_with, is_level, IsBetweenEnds, IsTruthAt}
-use Rattle.kleene_filter.proofs.Parting.{equal_next, greater_next, last_digit, less_next}
+use Rattle.kleene_filter.specs.Parted.{cell_with, is_level, passed_rows, IsBetweenEnds, IsTruthAt}
+use Rattle.kleene_filter.proofs.Parting.{equal_next, last_digit, passed_next}
 use Rattle.kleene_filter.proofs.parted.Parted.follow.Goals as goal
 
 pub next_digit-bit-requires : goal.next_digit-bit-requires
@@ -19,8 +19,8 @@ truth_at_equal-self-requires c =
     let stood = c.requires.had in
     let fits : to_z w128 (of_z w128 v) ≡ v = to_z-of_z w128 v (search rules) in
     let digit = last_digit c.requires.before column c.args.plane.now v old.code c.next_digit-bit.result stood.code c.requires.further c.next_digit-bit.ensures in
-    subst (λ n. c.step_compare.new.eq ≡ rows_where (is_level n) column) (sym fits)
-    (c.step_compare.ensures.eq ∙ equal_next c.requires.before column c.args.plane.now v c.next_digit-bit.result c.requires.further digit old.equal stood.equal)
+    subst (λ n. c.keep_level.new.equal ≡ rows_where (is_level n) column) (sym fits)
+    (c.keep_level.ensures.equal ∙ equal_next c.requires.before column c.args.plane.now v c.next_digit-bit.result c.requires.further digit old.equal stood.equal)
 
 pub returns : goal.returns
 returns c =
@@ -37,8 +37,8 @@ returns c =
     record {
       between = subst (λ (k : KnownColumn). IsBetweenEnds k.ends v) (sym further.is) stood.between;
       code = stood.code ∙ ap (λ (k : KnownColumn). code k.ends (cell_with v k.ends)) (sym further.is);
-      less = c.step_compare.ensures.lt ∙ less_next before column bits v bit further digit old.less old.equal stood.less stood.equal;
-      equal = c.step_compare.ensures.eq ∙ equal_next before column bits v bit further digit old.equal stood.equal;
-      greater = c.step_compare.ensures.gt ∙ greater_next before column bits v bit further digit old.greater old.equal stood.greater stood.equal;
-      at_equal = subst (λ n. IsTruthAt column (λ x. compares c.args.op x n) c.step_compare.new.eq c.truth_at_equal-self.result) fits c.truth_at_equal-self.ensures;
+      passed = c.keep_level.ensures.passed ∙ ap (λ p. passed_rows p bit old.passed old.equal bits) c.others_compare-pass.ensures
+          ∙ passed_next before column bits v bit further digit c.args.op old.passed old.equal stood.passed stood.equal;
+      equal = c.keep_level.ensures.equal ∙ equal_next before column bits v bit further digit old.equal stood.equal;
+      at_equal = subst (λ n. IsTruthAt column (λ x. compares c.args.op x n) c.keep_level.new.equal c.truth_at_equal-self.result) fits c.truth_at_equal-self.ensures;
     }

@@ -1,11 +1,12 @@
-use Rattle.std.proofs.Common.{◌≡◌, true, false, ◌==◌, nat_lt, replicate, sym, ap, subst, ◌∙◌, rules, to_z, of_z}
+use Rattle.std.proofs.Common.{◌≡◌, true, false, ◌==◌, replicate, sym, ap, subst, ◌∙◌, rules, to_z, of_z}
 use Rattle.std.proofs.lemmas.Int.{to_z-of_z}
 use Rattle.std.specs.Int.{w128}
 use Rattle.daq_table.specs.Tables.{code}
 use Rattle.query_model.specs.Meaning.{compares}
 use Rattle.known_column.specs.Columns.{rows_where}
-use Rattle.kleene_filter.specs.Parted.{cell_with, is_greater, is_less, is_level, IsTruthAt}
-use Rattle.kleene_filter.proofs.Parting.{no_value_prefix, starts_where}
+use Rattle.query_model.specs.Knowledge.{prefix_of}
+use Rattle.kleene_filter.specs.Parted.{cell_with, greater_holds, is_level, is_passed, less_holds, IsTruthAt}
+use Rattle.kleene_filter.proofs.Parting.{no_value_prefix, none_beside, starts_where}
 use Rattle.kleene_filter.proofs.parted.Parted.open.Goals as goal
 
 pub truth_at_equal-at_equal-requires : goal.truth_at_equal-at_equal-requires
@@ -27,10 +28,9 @@ returns c =
     record {
       between = c.requires.between;
       code = c.code_of.ensures ∙ ap (λ n. code column.ends (cell_with n column.ends)) fits;
-      less = c.in_ok-none.ensures ∙ ap (λ n. replicate n false) c.rows-2.ensures.rows ∙ starts_where (is_less v) false column c.requires.unread c.requires.known (ap (nat_lt 0) own);
+      passed = c.in_ok-none.ensures ∙ ap (λ n. replicate n false) c.rows-2.ensures.rows
+          ∙ starts_where (is_passed op v) false column c.requires.unread c.requires.known (none_beside (less_holds op) (greater_holds op) (prefix_of column.ends 0 (cell_with v column.ends)) own);
       equal = c.in_ok-equal.ensures ∙ ap (λ n. replicate n true) c.rows.ensures.rows
           ∙ starts_where (is_level v) true column c.requires.unread c.requires.known (ap (λ m. 0 == m) own);
-      greater = c.in_ok-none-2.ensures ∙ ap (λ n. replicate n false) c.rows-3.ensures.rows
-          ∙ starts_where (is_greater v) false column c.requires.unread c.requires.known (ap (λ m. nat_lt m 0) own);
       at_equal = subst (λ n. IsTruthAt column (λ x. compares op x n) c.in_ok-equal.equal c.truth_at_equal-at_equal.result) fits c.truth_at_equal-at_equal.ensures;
     }

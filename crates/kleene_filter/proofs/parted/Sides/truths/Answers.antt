@@ -1,4 +1,4 @@
-use Rattle.std.proofs.Common.{◌∙◌}
+use Rattle.std.proofs.Common.{◌∙◌, arith}
 use Rattle.query_model.specs.Meaning.{compares}
 use Rattle.kleene_filter.proofs.Parting.{row_told}
 use Rattle.kleene_filter.proofs.parted.Sides.truths.Goals as goal
@@ -8,6 +8,6 @@ returns c =
     let op = c.args.op in
     let v = c.args.value in
     c.number_truths.ensures (λ x. compares op x v) (record {
-      pass = λ r few some. c.may_hold.ensures r ∙ (row_told c.args.column.now op v c.args.self.now c.args.block r c.words-words.result c.requires.sides c.requires.known few c.words-words.ensures some).hold;
-      fail = λ r few some. c.may_fail.ensures r ∙ (row_told c.args.column.now op v c.args.self.now c.args.block r c.words-words.result c.requires.sides c.requires.known few c.words-words.ensures some).fail;
+      pass = λ r few some. c.may_hold.ensures r (omega arith) ∙ (row_told c.args.column.now op v c.args.self.now c.args.block r c.words-words.result c.requires.sides c.requires.known few c.words-words.ensures some).hold;
+      fail = λ r few some. c.may_fail.ensures r (omega arith) ∙ (row_told c.args.column.now op v c.args.self.now c.args.block r c.words-words.result c.requires.sides c.requires.known few c.words-words.ensures some).fail;
     })
