@@ -4,7 +4,6 @@ use Rattle.std.proofs.lemmas.Bool.{cases_eq, cases_lt, true≢false}
 use Rattle.std.proofs.lemmas.List.{drop-drop, ext_get_or, get_or-drop, get_or-replicate, get_or-set_other, get_or-take, get_or_past, length-drop, length-replicate, length-take}
 use Rattle.std.proofs.lemmas.List.Sums.{sum_by-take-drop}
 use Rattle.std.proofs.lemmas.Simd.{get_or-chunk}
-use Rattle.std.specs.Simd.Lanes.{chunk}
 use Rattle.query_model.specs.Queries.{Condition}
 use Rattle.query_model.specs.declared.bounds.Truth.{Truth}
 use Rattle.known_column.specs.KnownTables.{KnownTable}

@@ -2,14 +2,13 @@
 use Rattle.std.specs.Prelude.{◌≡◌, ◌≢◌, ℕ, ◌+◌, ◌*◌, ◌≤◌, ◌<◌, ◌==◌, Bool}
 use Rattle.std.specs.Prelude.{true, false, List, [], ◌∷◌, length, map, slice_index_or, IsTrue}
 use Rattle.std.specs.List.{count_by, list_any}
-use Rattle.std.specs.Simd.Lanes.{zip2}
 use Rattle.daq_table.specs.Tables.{rows_of}
 use Rattle.query_model.specs.Queries.{Condition}
 use Rattle.query_model.specs.declared.bounds.Truth.{Truth}
 use Rattle.query_model.specs.declared.bounds.Truth.TheVariants.{False, Unknown, True}
 use Rattle.query_model.specs.declared.bounds.Truths.{Truths}
 use Rattle.query_model.specs.Knowledge.{CanTake, known_at, ranges_of}
-use Rattle.query_model.specs.Truths.{truth_from, truth_of, truths_of}
+use Rattle.query_model.specs.Truths.{truth_of, truths_of}
 use Rattle.plane_kernels.specs.Rows.{digit_at}
 use Rattle.known_column.specs.Columns.{count_in_block}
 use Rattle.known_column.specs.KnownTables.{IsKnownTable, KnownTable, read_column}

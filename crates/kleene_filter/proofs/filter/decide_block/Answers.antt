@@ -1,8 +1,7 @@
-use Rattle.std.proofs.Common.{◌≡◌, ◌+◌, ◌*◌, ◌<◌, ◌≤◌, Bool, false, length, get_or, count_by, refl, ◌∙◌, arith}
+use Rattle.std.proofs.Common.{◌≡◌, ◌*◌, Bool, false, get_or, refl, ◌∙◌, arith}
 use Rattle.std.proofs.lemmas.Option.{get_or_from_slice_get}
 use Rattle.std.proofs.lemmas.List.Sums.{count_by-le-length}
 use Rattle.query_model.specs.Queries.{condition_of}
-use Rattle.kleene_filter.specs.Filters.{is_certain, is_possible}
 use Rattle.kleene_filter.proofs.Judged.{counted_within, decided, recounted, settled_beside}
 use Rattle.kleene_filter.proofs.filter.decide_block.Goals as goal
 

@@ -1,4 +1,4 @@
-use Rattle.std.proofs.Common.{ap, ◌∙◌, arith}
+use Rattle.std.proofs.Common.{arith}
 use Rattle.kleene_filter.proofs.Judged.{all_open}
 use Rattle.kleene_filter.proofs.truth_masks.KeptTruths.of.Goals as goal
 
