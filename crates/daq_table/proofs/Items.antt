@@ -8,10 +8,11 @@ use Rattle.std.proofs.lemmas.List.Sums.{fails_before_first, prefix_len-le-length
 use Rattle.std.specs.Char.{is_ascii_digit}
 use Rattle.std.specs.List.{after_first, before_first, cons_option, position_or_len, slice_split, starts_with}
 use Rattle.std.specs.Str.{bytes_eq}
-use Rattle.daq_table.specs.Schemas.{bad_place, column_named, column_of, column_worded, columns_of, fit_scales, fits_scale, is_dec_word, is_nullable_word, is_schema_name, items_of, kind_of, kind_word}
+use Rattle.daq_table.specs.Schemas.{bad_place, column_named, column_of, column_worded, columns_of, declared_of, fit_scales, fits_scale, is_dec_word, is_nullable_word, is_schema_name, item_of, items_of, kind_of, kind_word}
 use Rattle.daq_table.specs.declared.head.Kind.{Kind}
 use Rattle.daq_table.specs.declared.head.Kind.TheVariants.{Int, Dec, Date, Text}
 use Rattle.daq_table.specs.declared.schema_column.SchemaColumn.{SchemaColumn}
+use Rattle.daq_table.specs.declared.schema_item.SchemaItem.{SchemaItem}
 
 -- the part before the first such byte ends where that byte stands
 ends_at : (p : ℕ → Bool) (xs : List ℕ) → (length (before_first p xs) ≡ position_or_len p xs) × (position_or_len p xs ≤ length xs)
@@ -40,14 +41,14 @@ more_items text at item e within h =
     let parts = more_parts (λ c. c == 44) (drop at text) (omega (arith, length-drop at text, ap length e)) in
     rw (← e, drop-drop) at parts
 
-bad_step : (at : ℕ) (item : List ℕ) (items : List (List ℕ)) (c : Option SchemaColumn) → column_of item ≡ c → bad_place at (item ∷ items) ≡ cond (is_some c) (bad_place (at + length item + 1) items) (Some at)
-bad_step at item items c e = ap (λ (o : Option SchemaColumn). cond (is_some o) (bad_place (at + length item + 1) items) (Some at)) e
+bad_step : (at : ℕ) (item : List ℕ) (items : List (List ℕ)) (c : Option SchemaItem) → item_of item ≡ c → bad_place at (item ∷ items) ≡ cond (is_some c) (bad_place (at + length item + 1) items) (Some at)
+bad_step at item items c e = ap (λ (o : Option SchemaItem). cond (is_some o) (bad_place (at + length item + 1) items) (Some at)) e
 
-columns_step : (item : List ℕ) (items : List (List ℕ)) (c : Option SchemaColumn) → column_of item ≡ c → columns_of (item ∷ items) ≡ cons_option c (columns_of items)
-columns_step item items c e = ap (λ (o : Option SchemaColumn). cons_option o (columns_of items)) e
+declared_step : (item : List ℕ) (items : List (List ℕ)) (c : Option SchemaItem) → item_of item ≡ c → declared_of (item ∷ items) ≡ cons_option c (declared_of items)
+declared_step item items c e = ap (λ (o : Option SchemaItem). cons_option o (declared_of items)) e
 
--- the first of the items declares no column
-bad_first : (at : ℕ) (item : List ℕ) (items rest : List (List ℕ)) → items ≡ item ∷ rest → column_of item ≡ None → bad_place at items ≡ Some at
+-- the first of the items has not the form of one
+bad_first : (at : ℕ) (item : List ℕ) (items rest : List (List ℕ)) → items ≡ item ∷ rest → item_of item ≡ None → bad_place at items ≡ Some at
 bad_first at item items rest e h = rw e (bad_step at item rest None h)
 
 -- an item is no longer than what is left
@@ -56,20 +57,20 @@ item_within text at item e within =
     let ends = ends_at (λ c. c == 44) (drop at text) in
     omega (arith, length-drop at text, ap length e)
 
-pub bad_here : (text : List ℕ) (at : ℕ) (item : List ℕ) → item ≡ before_first (λ c. c == 44) (drop at text) → at ≤ length text → column_of item ≡ None → bad_place at (items_of (drop at text)) ≡ Some at
+pub bad_here : (text : List ℕ) (at : ℕ) (item : List ℕ) → item ≡ before_first (λ c. c == 44) (drop at text) → at ≤ length text → item_of item ≡ None → bad_place at (items_of (drop at text)) ≡ Some at
 bad_here text at item e within h =
     elim (cases_lt (at + length item) (length text)) [
       | inl more ↦ bad_first at item (items_of (drop at text)) (items_of (drop (at + (length item + 1)) text)) (more_items text at item e within more) h
       | inr end ↦ bad_first at item (items_of (drop at text)) [] (last_item text at item e (omega (arith, end, item_within text at item e within))) h
     ]
 
-pub good_last : (text : List ℕ) (at : ℕ) (item : List ℕ) (column : SchemaColumn) → item ≡ before_first (λ c. c == 44) (drop at text) → at + length item ≡ length text → column_of item ≡ Some column → bad_place at (items_of (drop at text)) ≡ None
+pub good_last : (text : List ℕ) (at : ℕ) (item : List ℕ) (column : SchemaItem) → item ≡ before_first (λ c. c == 44) (drop at text) → at + length item ≡ length text → item_of item ≡ Some column → bad_place at (items_of (drop at text)) ≡ None
 good_last text at item column e end h = rw (last_item text at item e end) (bad_step at item [] (Some column) h)
 
-pub columns_last : (text : List ℕ) (at : ℕ) (item : List ℕ) (column : SchemaColumn) → item ≡ before_first (λ c. c == 44) (drop at text) → at + length item ≡ length text → column_of item ≡ Some column → columns_of (items_of (drop at text)) ≡ column ∷ []
-columns_last text at item column e end h = rw (last_item text at item e end) (columns_step item [] (Some column) h)
+pub declared_last : (text : List ℕ) (at : ℕ) (item : List ℕ) (column : SchemaItem) → item ≡ before_first (λ c. c == 44) (drop at text) → at + length item ≡ length text → item_of item ≡ Some column → declared_of (items_of (drop at text)) ≡ column ∷ []
+declared_last text at item column e end h = rw (last_item text at item e end) (declared_step item [] (Some column) h)
 
-pub good_more : (text : List ℕ) (at : ℕ) (item : List ℕ) (column : SchemaColumn) → item ≡ before_first (λ c. c == 44) (drop at text) → at ≤ length text → at + length item < length text → column_of item ≡ Some column
+pub good_more : (text : List ℕ) (at : ℕ) (item : List ℕ) (column : SchemaItem) → item ≡ before_first (λ c. c == 44) (drop at text) → at ≤ length text → at + length item < length text → item_of item ≡ Some column
     → bad_place (at + (length item + 1)) (items_of (drop (at + (length item + 1)) text)) ≡ bad_place at (items_of (drop at text))
 good_more text at item column e within more h =
     let rest = items_of (drop (at + (length item + 1)) text) in
@@ -77,20 +78,20 @@ good_more text at item column e within more h =
     let moved = ap (λ (n : ℕ). bad_place n rest) place in
     rw (more_items text at item e within more) (sym moved ∙ sym (bad_step at item rest (Some column) h))
 
-pub columns_more : (text : List ℕ) (at : ℕ) (item : List ℕ) (column : SchemaColumn) → item ≡ before_first (λ c. c == 44) (drop at text) → at ≤ length text → at + length item < length text → column_of item ≡ Some column
-    → columns_of (items_of (drop at text)) ≡ column ∷ columns_of (items_of (drop (at + (length item + 1)) text))
-columns_more text at item column e within more h =
-    rw (more_items text at item e within more) (columns_step item (items_of (drop (at + (length item + 1)) text)) (Some column) h)
+pub declared_more : (text : List ℕ) (at : ℕ) (item : List ℕ) (column : SchemaItem) → item ≡ before_first (λ c. c == 44) (drop at text) → at ≤ length text → at + length item < length text → item_of item ≡ Some column
+    → declared_of (items_of (drop at text)) ≡ column ∷ declared_of (items_of (drop (at + (length item + 1)) text))
+declared_more text at item column e within more h =
+    rw (more_items text at item e within more) (declared_step item (items_of (drop (at + (length item + 1)) text)) (Some column) h)
 
-by_column : (c : Option SchemaColumn) (at next : ℕ) (items : List (List ℕ)) → cond (is_some c) (bad_place next items) (Some at) ≡ None → (bad_place next items ≡ None → length (columns_of items) ≡ length items) → length (cons_option c (columns_of items)) ≡ suc (length items)
-by_column None at next items h rest = absurd cc
-by_column (Some column) at next items h rest = ap suc (rest h)
+by_item : (c : Option SchemaItem) (at next : ℕ) (items : List (List ℕ)) → cond (is_some c) (bad_place next items) (Some at) ≡ None → (bad_place next items ≡ None → length (declared_of items) ≡ length items) → length (cons_option c (declared_of items)) ≡ suc (length items)
+by_item None at next items h rest = absurd cc
+by_item (Some column) at next items h rest = ap suc (rest h)
 
--- where each item declares a column, there are as many columns as items
-pub length-columns : (at : ℕ) (items : List (List ℕ)) → bad_place at items ≡ None → length (columns_of items) ≡ length items
-length-columns at [] h = refl
-length-columns at (item ∷ items) h =
-    by_column (column_of item) at (at + length item + 1) items h (λ good. length-columns (at + length item + 1) items good)
+-- where each item has the form of one, as much is declared
+pub length-declared : (at : ℕ) (items : List (List ℕ)) → bad_place at items ≡ None → length (declared_of items) ≡ length items
+length-declared at [] h = refl
+length-declared at (item ∷ items) h =
+    by_item (item_of item) at (at + length item + 1) items h (λ good. length-declared (at + length item + 1) items good)
 
 abbrev KindFits : Option Kind → Type 0
 KindFits None = Unit {0}

@@ -1,4 +1,4 @@
--- The text of a schema has one fault at most, and none where it declares columns.
+-- The text of a schema has one fault at most, and none where it declares columns and skipped fields.
 use Rattle.std.proofs.Common.{◌≡◌, ◌≢◌, ℕ, zero, suc, ◌<◌, Bool, true, false, not, Some, None, List, [], ◌∷◌, length, take, get_or, slice_get, refl, sym, ap, subst, inl, inr, ◌⊎◌, ◌∙◌, arith, IsTrue}
 use Rattle.std.proofs.lemmas.Bool.{and_parts}
 use Rattle.std.proofs.lemmas.List.{get_or-take, length-take-le}
@@ -9,14 +9,14 @@ use Rattle.std.proofs.lemmas.Slice.Eq.{bytes_eq-Decides}
 use Rattle.std.specs.Cmp.Lexicographic.{slice_cmp}
 use Rattle.std.specs.List.{list_any}
 use Rattle.std.specs.Ordering.{is_eq, nat_cmp}
-use Rattle.daq_table.proofs.Items.{length-columns}
+use Rattle.daq_table.proofs.Items.{length-declared}
 use Rattle.daq_table.specs.HeadFacts.{all_differ}
 use Rattle.daq_table.specs.SchemaFaults.{Refuses}
 use Rattle.daq_table.specs.SchemaLaws.{HasOneFault, IsFaultless}
-use Rattle.daq_table.specs.Schemas.{Declares, IsFirstRepeat, bad_place, columns_of, items_of, names_of}
-use Rattle.daq_table.specs.declared.schema_column.SchemaColumn.{SchemaColumn}
+use Rattle.daq_table.specs.Schemas.{DeclaresItems, IsFirstRepeat, bad_place, columns_in, declared_of, item_names, items_of}
+use Rattle.daq_table.specs.declared.schema_item.SchemaItem.{SchemaItem}
 use Rattle.daq_table.specs.declared.schema_fault.SchemaFault.{SchemaFault}
-use Rattle.daq_table.specs.declared.schema_fault.SchemaFault.TheVariants.{BadItem, TooMany, RepeatedName, NoMemory}
+use Rattle.daq_table.specs.declared.schema_fault.SchemaFault.TheVariants.{BadItem, TooMany, TooManyItems, NoColumn, RepeatedName, NoMemory}
 
 pub not_both : (b : Bool) → not b ≡ true → b ≡ true → ⊥
 not_both true h k = absurd cc
@@ -77,26 +77,40 @@ pub one_fault : HasOneFault
 one_fault text NoMemory other some known h k = absurd (some refl)
 one_fault text one NoMemory some known h k = absurd (known refl)
 one_fault text (BadItem a) (BadItem b) some known h k = ap BadItem (same_Some a b (sym h ∙ k))
-one_fault text (BadItem a) (TooMany n) some known h k = absurd (good_bad text a k.good h)
-one_fault text (BadItem a) (RepeatedName f s) some known h k = absurd (good_bad text a k.good h)
-one_fault text (TooMany n) (BadItem a) some known h k = absurd (good_bad text a h.good k)
+one_fault text (BadItem a) (TooMany m) some known h k = absurd (good_bad text a k.good h)
+one_fault text (BadItem a) (TooManyItems m) some known h k = absurd (good_bad text a k.good h)
+one_fault text (BadItem a) NoColumn some known h k = absurd (good_bad text a k.good h)
+one_fault text (BadItem a) (RepeatedName g t) some known h k = absurd (good_bad text a k.good h)
+one_fault text (TooMany n) (BadItem b) some known h k = absurd (good_bad text b h.good k)
 one_fault text (TooMany n) (TooMany m) some known h k = ap TooMany (h.count_is ∙ sym k.count_is)
-one_fault text (TooMany n) (RepeatedName f s) some known h k = absurd (omega (arith, h.count_is, h.many, k.few))
-one_fault text (RepeatedName f s) (BadItem a) some known h k = absurd (good_bad text a h.good k)
-one_fault text (RepeatedName f s) (TooMany n) some known h k = absurd (omega (arith, k.count_is, k.many, h.few))
-one_fault text (RepeatedName f s) (RepeatedName g t) some known h k = one_repeat (names_of (columns_of (items_of text))) f s g t h.repeat k.repeat
+one_fault text (TooMany n) (TooManyItems m) some known h k = absurd (omega (arith, h.count_is, h.many, k.few))
+one_fault text (TooMany n) NoColumn some known h k = absurd (omega (arith, h.count_is, h.many, k.none))
+one_fault text (TooMany n) (RepeatedName g t) some known h k = absurd (omega (arith, h.count_is, h.many, k.few))
+one_fault text (TooManyItems n) (BadItem b) some known h k = absurd (good_bad text b h.good k)
+one_fault text (TooManyItems n) (TooMany m) some known h k = absurd (omega (arith, k.count_is, k.many, h.few))
+one_fault text (TooManyItems n) (TooManyItems m) some known h k = ap TooManyItems (h.count_is ∙ sym k.count_is)
+one_fault text (TooManyItems n) NoColumn some known h k = absurd (omega (arith, h.count_is, h.many, k.wide))
+one_fault text (TooManyItems n) (RepeatedName g t) some known h k = absurd (omega (arith, h.count_is, h.many, k.wide))
+one_fault text NoColumn (BadItem b) some known h k = absurd (good_bad text b h.good k)
+one_fault text NoColumn (TooMany m) some known h k = absurd (omega (arith, k.count_is, k.many, h.none))
+one_fault text NoColumn (TooManyItems m) some known h k = absurd (omega (arith, k.count_is, k.many, h.wide))
+one_fault text NoColumn NoColumn some known h k = refl
+one_fault text NoColumn (RepeatedName g t) some known h k = absurd (omega (arith, h.none, k.some))
+one_fault text (RepeatedName f s) (BadItem b) some known h k = absurd (good_bad text b h.good k)
+one_fault text (RepeatedName f s) (TooMany m) some known h k = absurd (omega (arith, k.count_is, k.many, h.few))
+one_fault text (RepeatedName f s) (TooManyItems m) some known h k = absurd (omega (arith, k.count_is, k.many, h.wide))
+one_fault text (RepeatedName f s) NoColumn some known h k = absurd (omega (arith, k.none, h.some))
+one_fault text (RepeatedName f s) (RepeatedName g t) some known h k = one_repeat (item_names (declared_of (items_of text))) f s g t h.repeat k.repeat
 
--- columns that are declared are as many as the items
-declared_count : (text : List ℕ) (columns : List SchemaColumn) → Declares text columns → length columns ≡ length (items_of text)
-declared_count text columns d = ap length d.items.columns_are ∙ length-columns 0 (items_of text) d.items.good
-
-no_fault : (text : List ℕ) (columns : List SchemaColumn) (fault : SchemaFault) → Declares text columns → fault ≢ NoMemory → Refuses text fault → ⊥
-no_fault text columns (BadItem a) d some h = good_bad text a d.items.good h
-no_fault text columns (TooMany n) d some h = omega (arith, declared_count text columns d, d.few, h.count_is, h.many)
-no_fault text columns (RepeatedName f s) d some h =
-    let differ = subst (λ (cs : List SchemaColumn). IsTrue (all_differ (names_of cs))) d.items.columns_are d.differ in
-    none_repeats (names_of (columns_of (items_of text))) f s differ h.repeat.before h.repeat.within h.repeat.same
-no_fault text columns NoMemory d some h = some refl
+no_fault : (text : List ℕ) (items : List SchemaItem) (fault : SchemaFault) → DeclaresItems text items → fault ≢ NoMemory → Refuses text fault → ⊥
+no_fault text items (BadItem a) d some h = good_bad text a d.all.good h
+no_fault text items (TooMany n) d some h = omega (arith, d.few, ap (λ (is : List SchemaItem). length (columns_in is)) d.all.items_are, h.count_is, h.many)
+no_fault text items (TooManyItems n) d some h = omega (arith, d.wide, ap length d.all.items_are, length-declared 0 (items_of text) d.all.good, h.count_is, h.many)
+no_fault text items NoColumn d some h = omega (arith, d.some, ap (λ (is : List SchemaItem). length (columns_in is)) d.all.items_are, h.none)
+no_fault text items (RepeatedName f s) d some h =
+    let differ = subst (λ (is : List SchemaItem). IsTrue (all_differ (item_names is))) d.all.items_are d.differ in
+    none_repeats (item_names (declared_of (items_of text))) f s differ h.repeat.before h.repeat.within h.repeat.same
+no_fault text items NoMemory d some h = some refl
 
 pub faultless : IsFaultless
-faultless text columns fault some d h = no_fault text columns fault d some h
+faultless text items fault some d h = no_fault text items fault d some h

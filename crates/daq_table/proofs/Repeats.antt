@@ -14,10 +14,10 @@ use Rattle.std.specs.Ordering.{is_eq, nat_cmp}
 use Rattle.std.specs.Str.{bytes_eq}
 use Rattle.daq_table.proofs.Places.{no_place}
 use Rattle.daq_table.specs.HeadFacts.{all_differ}
-use Rattle.daq_table.specs.Schemas.{IsFirstRepeat, names_of}
-use Rattle.daq_table.specs.declared.schema_column.SchemaColumn.{SchemaColumn}
+use Rattle.daq_table.specs.Schemas.{IsFirstRepeat, item_name, item_names}
+use Rattle.daq_table.specs.declared.schema_item.SchemaItem.{SchemaItem}
 
-neither : (a b : Bool) → not (a || b) ≡ true → (not a ≡ true) × (not b ≡ true)
+pub neither : (a b : Bool) → not (a || b) ≡ true → (not a ≡ true) × (not b ≡ true)
 neither true b h = absurd cc
 neither false b h = (refl, h)
 
@@ -37,38 +37,38 @@ differ_push (first ∷ names) name h k =
     (rw (list_any-append same names (name ∷ [])) (nor (list_any same names) (same name) parts.0 apart.0))
     (differ_push names name parts.1 apart.1)
 
--- where no column has the name, no name is it
-none_is : (columns : List SchemaColumn) (name : List ℕ) (d : SchemaColumn) → position (λ (c : SchemaColumn). bytes_eq c.name name) columns ≡ None → not (list_any (λ other. is_eq (slice_cmp nat_cmp other name)) (names_of columns)) ≡ true
-none_is columns name d e =
-    let has = λ (c : SchemaColumn). bytes_eq c.name name in
-    let end = no_place has columns e in
-    let none : list_any (λ other. is_eq (slice_cmp nat_cmp other name)) (names_of columns) ≡ false =
-    list_any_none _ (names_of columns) (λ k x lt.
-    let within : k < length columns = omega (arith, length-map columns (λ (c : SchemaColumn). c.name)) in
-    rw (get_or-map (λ (c : SchemaColumn). c.name) columns k d x within) (is_eq-slice_cmp (get_or columns k d).name name ∙ fails_before_first has columns k d (omega arith))) in
+-- where no item has the name, no name is it
+none_is : (items : List SchemaItem) (name : List ℕ) (d : SchemaItem) → position (λ (c : SchemaItem). bytes_eq (item_name c) name) items ≡ None → not (list_any (λ other. is_eq (slice_cmp nat_cmp other name)) (item_names items)) ≡ true
+none_is items name d e =
+    let has = λ (c : SchemaItem). bytes_eq (item_name c) name in
+    let end = no_place has items e in
+    let none : list_any (λ other. is_eq (slice_cmp nat_cmp other name)) (item_names items) ≡ false =
+    list_any_none _ (item_names items) (λ k x lt.
+    let within : k < length items = omega (arith, length-map items item_name) in
+    rw (get_or-map item_name items k d x within) (is_eq-slice_cmp (item_name (get_or items k d)) name ∙ fails_before_first has items k d (omega arith))) in
     ap not none
 
-pub differ_more : (columns : List SchemaColumn) (second : ℕ) (column : SchemaColumn) (name : List ℕ) → second < length columns → column ≡ get_or columns second column → name ≡ column.name
-    → position (λ (c : SchemaColumn). bytes_eq c.name name) (take second columns) ≡ None → IsTrue (all_differ (names_of (take second columns))) → IsTrue (all_differ (names_of (take (second + 1) columns)))
-differ_more columns second column name lt e f h k =
-    let longer = map_more (λ (c : SchemaColumn). c.name) columns second column lt in
-    let same : (get_or columns second column).name ≡ name = ap (λ (c : SchemaColumn). c.name) (sym e) ∙ sym f in
-    rw (longer, same) (differ_push (names_of (take second columns)) name k (none_is (take second columns) name column h))
+pub differ_more : (items : List SchemaItem) (second : ℕ) (item : SchemaItem) (name : List ℕ) → second < length items → item ≡ get_or items second item → name ≡ item_name item
+    → position (λ (c : SchemaItem). bytes_eq (item_name c) name) (take second items) ≡ None → IsTrue (all_differ (item_names (take second items))) → IsTrue (all_differ (item_names (take (second + 1) items)))
+differ_more items second item name lt e f h k =
+    let longer = map_more item_name items second item lt in
+    let same : item_name (get_or items second item) ≡ name = ap item_name (sym e) ∙ sym f in
+    rw (longer, same) (differ_push (item_names (take second items)) name k (none_is (take second items) name item h))
 
-pub repeat_found : (columns : List SchemaColumn) (first second : ℕ) (column : SchemaColumn) (name : List ℕ) → second < length columns → column ≡ get_or columns second column → name ≡ column.name
-    → position (λ (c : SchemaColumn). bytes_eq c.name name) (take second columns) ≡ Some first → IsTrue (all_differ (names_of (take second columns))) → IsFirstRepeat (names_of columns) first second
-repeat_found columns first second column name lt e f h k =
-    let name_of = λ (c : SchemaColumn). c.name in
-    let found = position-Some _ (take second columns) first column h in
-    let earlier : first < second = omega (arith, length-take second columns, found.0) in
-    let known : first < length columns = omega arith in
-    let wide = length-map columns name_of in
-    let here : (get_or columns first column).name ≡ (get_or columns second column).name =
-    ap name_of (sym (get_or-take second columns first column earlier)) ∙ (bytes_eq-Decides (get_or (take second columns) first column).name name).0 found.1 ∙ f ∙ ap name_of e in
+pub repeat_found : (items : List SchemaItem) (first second : ℕ) (item : SchemaItem) (name : List ℕ) → second < length items → item ≡ get_or items second item → name ≡ item_name item
+    → position (λ (c : SchemaItem). bytes_eq (item_name c) name) (take second items) ≡ Some first → IsTrue (all_differ (item_names (take second items))) → IsFirstRepeat (item_names items) first second
+repeat_found items first second item name lt e f h k =
+    let name_of = item_name in
+    let found = position-Some _ (take second items) first item h in
+    let earlier : first < second = omega (arith, length-take second items, found.0) in
+    let known : first < length items = omega arith in
+    let wide = length-map items name_of in
+    let here : item_name (get_or items first item) ≡ item_name (get_or items second item) =
+    ap name_of (sym (get_or-take second items first item earlier)) ∙ (bytes_eq-Decides (item_name (get_or (take second items) first item)) name).0 found.1 ∙ f ∙ ap name_of e in
     record {
       within = omega (arith, wide, lt);
       before = earlier;
-      same = slice_get-get_or (names_of columns) first [] (omega (arith, wide, known)) ∙ ap Some (get_or-map name_of columns first column [] known ∙ here ∙ sym (get_or-map name_of columns second column [] lt))
-          ∙ sym (slice_get-get_or (names_of columns) second [] (omega (arith, wide, lt)));
-      differ = rw (take-map name_of second columns) k;
+      same = slice_get-get_or (item_names items) first [] (omega (arith, wide, known)) ∙ ap Some (get_or-map name_of items first item [] known ∙ here ∙ sym (get_or-map name_of items second item [] lt))
+          ∙ sym (slice_get-get_or (item_names items) second [] (omega (arith, wide, lt)));
+      differ = rw (take-map name_of second items) k;
     }

@@ -1,8 +1,8 @@
--- That the text of a schema has one meaning: one list of columns, or one fault.
+-- That the text of a schema has one meaning: one list of columns and skipped fields, or one fault.
 use Rattle.std.specs.Prelude.{◌≡◌, ◌≢◌, ◌⊎◌, ℕ, List}
 use Rattle.daq_table.specs.SchemaFaults.{Refuses}
-use Rattle.daq_table.specs.Schemas.{Declares}
-use Rattle.daq_table.specs.declared.schema_column.SchemaColumn.{SchemaColumn}
+use Rattle.daq_table.specs.Schemas.{DeclaresItems}
+use Rattle.daq_table.specs.declared.schema_item.SchemaItem.{SchemaItem}
 use Rattle.daq_table.specs.declared.schema_fault.SchemaFault.{SchemaFault}
 use Rattle.daq_table.specs.declared.schema_fault.SchemaFault.TheVariants.{NoMemory}
 
@@ -12,18 +12,19 @@ HasOneFault =
     (text : List ℕ) (one other : SchemaFault) → one ≢ NoMemory → other ≢ NoMemory →
     Refuses text one → Refuses text other → one ≡ other
 
--- a text that declares columns has no fault, but for want of memory
+-- a text that declares items has no fault, but for want of memory
 abbrev pub IsFaultless : Type 0
 IsFaultless =
-    (text : List ℕ) (columns : List SchemaColumn) (fault : SchemaFault) →
-    fault ≢ NoMemory → Declares text columns → ¬ Refuses text fault
+    (text : List ℕ) (items : List SchemaItem) (fault : SchemaFault) →
+    fault ≢ NoMemory → DeclaresItems text items → ¬ Refuses text fault
 
--- a text declares one list of columns at most
+-- a text declares one list of items at most, and so one list of columns
 abbrev pub DeclaresOnce : Type 0
-DeclaresOnce = (text : List ℕ) (one other : List SchemaColumn) → Declares text one → Declares text other → one ≡ other
+DeclaresOnce =
+    (text : List ℕ) (one other : List SchemaItem) → DeclaresItems text one → DeclaresItems text other → one ≡ other
 
--- a text declares columns or has a fault, want of memory left aside
+-- a text declares items or has a fault, want of memory left aside
 abbrev pub HasMeaning : Type 0
 HasMeaning =
-    (text : List ℕ) → ((columns : List SchemaColumn) × Declares text columns)
+    (text : List ℕ) → ((items : List SchemaItem) × DeclaresItems text items)
     ⊎ ((fault : SchemaFault) × (fault ≢ NoMemory) × Refuses text fault)

@@ -12,9 +12,15 @@ pub enum SchemaFault {
     /// The item at that byte is the first that has not the form of one.
     #[error("schema item at {at}")]
     BadItem { at: usize },
-    /// There are more than 64 items.
+    /// There are more than 64 items that are not skipped.
     #[error("{count} schema items")]
     TooMany { count: usize },
+    /// There are more than 1,024 items with those that are skipped.
+    #[error("{count} schema items with those skipped")]
+    TooManyItems { count: usize },
+    /// All items are skipped.
+    #[error("all schema items are skipped")]
+    NoColumn,
     /// Two items have one name. The second is the first that repeats an earlier one.
     #[error("schema items {first} and {second}, counted from 0, have one name")]
     RepeatedName { first: usize, second: usize },

@@ -3,14 +3,15 @@
 ghost use Rattle.std.specs.Prelude.{◌≡◌, ◌==◌, ◌≤◌, drop, length, IfOk, IfErr};
 ghost use Rattle.std.specs.List.{before_first, list_all};
 ghost use Rattle.daq_table.specs.SchemaFaults.{Refuses};
-ghost use Rattle.daq_table.specs.Schemas.{AreColumnsOf, column_of, column_worded, is_dec_word, is_name_byte};
-ghost use Rattle.daq_table.specs.Schemas.{is_nullable_word, is_schema_name, kind_of, kind_word};
+ghost use Rattle.daq_table.specs.Schemas.{AreItemsOf, column_worded, is_dec_word, is_name_byte, is_nullable_word};
+ghost use Rattle.daq_table.specs.Schemas.{is_schema_name, item_of, item_worded, kind_of, kind_word, skip_named};
 
 use crate::head::Kind;
 use crate::names::Name;
 use crate::parts::around_first;
 use crate::schema_column::SchemaColumn;
 use crate::schema_fault::SchemaFault;
+use crate::schema_item::SchemaItem;
 use std::alloc::{AllocError, Global};
 
 // Whether a byte may stand in a name.
@@ -91,12 +92,36 @@ fn read_column(alloc: Global, name: &[u8], word: &[u8]) -> Result<Option<SchemaC
     }
 }
 
-// The column that an item declares, if it has the form of one.
-fn read_item(alloc: Global, item: &[u8]) -> Result<Option<SchemaColumn>, AllocError>
-    ensures { IfOk result (λ column. column ≡ column_of item.now) }
+// The skipped field of that name, if it is one.
+fn read_skip(alloc: Global, name: &[u8]) -> Result<Option<SchemaItem>, AllocError>
+    ensures { IfOk result (λ item. item ≡ skip_named name.now) }
+{
+    if !is_column_name(name) {
+        return Ok(None);
+    }
+    let name = Name::new(Vec::from_slice(alloc, name)?);
+    Ok(Some(SchemaItem::Skip(name)))
+}
+
+// What a name and the word behind it declare, if they have the form.
+fn read_worded(alloc: Global, name: &[u8], word: &[u8]) -> Result<Option<SchemaItem>, AllocError>
+    ensures { IfOk result (λ item. item ≡ item_worded name.now word.now) }
+{
+    if word == b"skip".as_slice() {
+        return read_skip(alloc, name);
+    }
+    match read_column(alloc, name, word)? {
+        Some(column) => Ok(Some(SchemaItem::Column(column))),
+        None => Ok(None),
+    }
+}
+
+// What an item declares, if it has the form of one.
+fn read_item(alloc: Global, item: &[u8]) -> Result<Option<SchemaItem>, AllocError>
+    ensures { IfOk result (λ read. read ≡ item_of item.now) }
 {
     let (name, word) = around_first(item, b':');
-    read_column(alloc, name, word)
+    read_worded(alloc, name, word)
 }
 
 // The item that stands at that place.
@@ -108,21 +133,21 @@ fn item_at(text: &[u8], at: usize) -> &[u8]
     item
 }
 
-// The columns that the items of a text declare, or the first item that declares none.
-pub(crate) fn read_items(alloc: Global, text: &[u8]) -> Result<Vec<SchemaColumn>, SchemaFault>
-    ensures ok { IfOk result (λ columns. AreColumnsOf text.now columns.items) }
+// What the items of a text declare, or the first that has not the form of one.
+pub(crate) fn read_items(alloc: Global, text: &[u8]) -> Result<Vec<SchemaItem>, SchemaFault>
+    ensures ok { IfOk result (λ items. AreItemsOf text.now items.items) }
     ensures err { IfErr result (Refuses text.now) }
 {
-    let mut columns = Vec::new(alloc);
+    let mut items = Vec::new(alloc);
     let mut at = 0;
     'items: loop {
         let item = item_at(text, at);
         match read_item(alloc, item)? {
-            Some(column) => columns.push(column)?,
+            Some(read) => items.push(read)?,
             None => return Err(SchemaFault::BadItem { at }),
         }
         if at + item.len() == text.len() {
-            return Ok(columns);
+            return Ok(items);
         }
         at += item.len() + 1;
     }

@@ -4,8 +4,8 @@ use Rattle.daq_table.proofs.schema.first_repeat.Goals as goal
 
 pub returns-in-Some : goal.returns-in-Some
 returns-in-Some c =
-    repeat_found c.args.columns.now c.in-Some.first c.loop-second.second c.index-columns-second.result c.as_slice.result.now (omega arith) c.index-columns-second.is c.as_slice.ensures.bytes (sym c.in-Some.ensures) c.loop-second.invariant
+    repeat_found c.args.items.now c.in-Some.first c.loop-second.second c.index-items-second.result c.name.result.now (omega arith) c.index-items-second.is c.name.ensures (sym c.in-Some.ensures) c.loop-second.invariant
 
 pub loop-second-preserved : goal.loop-second-preserved
 loop-second-preserved c =
-    differ_more c.args.columns.now c.loop-second.second c.index-columns-second.result c.as_slice.result.now (omega arith) c.index-columns-second.is c.as_slice.ensures.bytes (sym c.in_default.ensures) c.loop-second.invariant
+    differ_more c.args.items.now c.loop-second.second c.index-items-second.result c.name.result.now (omega arith) c.index-items-second.is c.name.ensures (sym c.in_default.ensures) c.loop-second.invariant
