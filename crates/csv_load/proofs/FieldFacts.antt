@@ -5,8 +5,8 @@ use Rattle.std.proofs.lemmas.Option.{slice_get-get_or, slice_get_past, slice_get
 use Rattle.std.proofs.lemmas.Slice.Eq.{bytes_eq-Decides}
 use Rattle.std.specs.Option.{unwrap_or}
 use Rattle.std.specs.Str.{bytes_eq}
-use Rattle.daq_table.specs.Schemas.{names_of}
-use Rattle.daq_table.specs.declared.schema_column.SchemaColumn.{SchemaColumn}
+use Rattle.daq_table.specs.Schemas.{item_name, item_names}
+use Rattle.daq_table.specs.declared.schema_item.SchemaItem.{SchemaItem}
 use Rattle.csv_load.specs.Faults.{IsFirstDifference}
 
 pub has_some : (field text : List ℕ) (r : Bool) → r ≡ bytes_eq field text → (IsTrue r → Some field ≡ Some text) × (Some field ≡ Some text → IsTrue r)
@@ -23,14 +23,13 @@ same_more xs ys i y e f g =
     take_more xs i y (slice_get_within xs i y f) ∙ (ap (λ z. take i xs ++ z ∷ []) (get_some xs i y f) ∙ ap (λ (zs : List (List ℕ)). zs ++ y ∷ []) e)
     ∙ sym (take_more ys i y (slice_get_within ys i y g) ∙ ap (λ z. take i ys ++ z ∷ []) (get_some ys i y g))
 
-pub name_at : (columns : List SchemaColumn) (i : ℕ) (column : SchemaColumn) → i < length columns → column ≡ get_or columns i column → slice_get (names_of columns) i ≡ Some column.name
-name_at columns i column lt e =
-    let name = λ (c : SchemaColumn). c.name in
-    slice_get-get_or (names_of columns) i [] (omega (arith, lt, length-map columns name)) ∙ ap Some (get_or-map name columns i column [] lt ∙ ap name (sym e))
+pub name_at : (items : List SchemaItem) (i : ℕ) (item : SchemaItem) → i < length items → item ≡ get_or items i item → slice_get (item_names items) i ≡ Some (item_name item)
+name_at items i item lt e =
+    slice_get-get_or (item_names items) i [] (omega (arith, lt, length-map items item_name)) ∙ ap Some (get_or-map item_name items i item [] lt ∙ ap item_name (sym e))
 
-pub longer_differs : (header : List (List ℕ)) (columns : List SchemaColumn) → take (length columns) header ≡ take (length columns) (names_of columns) → length columns < length header
-    → IsFirstDifference header (names_of columns) (length columns)
-longer_differs header columns e lt =
-    let past = slice_get_past (names_of columns) (length columns) (omega (arith, length-map columns (λ (c : SchemaColumn). c.name))) in
-    let there = slice_get-get_or header (length columns) [] lt in
-    record { same = e; differ = λ h. let bad : Some (get_or header (length columns) []) ≡ None = sym there ∙ h ∙ past in absurd cc }
+pub longer_differs : (header : List (List ℕ)) (items : List SchemaItem) → take (length items) header ≡ take (length items) (item_names items) → length items < length header
+    → IsFirstDifference header (item_names items) (length items)
+longer_differs header items e lt =
+    let past = slice_get_past (item_names items) (length items) (omega (arith, length-map items item_name)) in
+    let there = slice_get-get_or header (length items) [] lt in
+    record { same = e; differ = λ h. let bad : Some (get_or header (length items) []) ≡ None = sym there ∙ h ∙ past in absurd cc }

@@ -7,6 +7,7 @@ use Rattle.jiff_core.proofs.CalendarLemmas.{day_count-day_of_year, day_count-lat
 use Rattle.jiff_core.proofs.MarchLemmas.{day_count-early}
 use Rattle.jiff_core.proofs.SignedLemmas.{signed_arith}
 use Rattle.daq_table.specs.CellTexts.{date_value}
+use Rattle.daq_table.specs.Schemas.{columns_in}
 use Rattle.daq_table.specs.Tables.{Cell}
 use Rattle.daq_table.specs.ValueTexts.{HasText, HasTexts, IsDay}
 use Rattle.daq_table.specs.declared.head.ColumnHead.{ColumnHead}
@@ -17,6 +18,7 @@ use Rattle.daq_table.proofs.Dictionaries.{distinct_has}
 use Rattle.daq_table.proofs.Extremes.{greatest_has, least_has}
 use Rattle.daq_table.proofs.ShownNumbers.{between_has, zero_has}
 use Rattle.csv_load.specs.Columns.{IsValue, column_texts, dictionary, is_null, numbers_of, present}
+use Rattle.csv_load.specs.Kept.{kept_rows}
 use Rattle.csv_load.specs.Laws.{HeadsHaveTexts}
 use Rattle.csv_load.specs.Records.{Fields}
 use Rattle.csv_load.specs.Rows.{AreGoodRows}
@@ -86,13 +88,13 @@ column_has column texts head cells is all =
     }
 
 pub have_texts : HeadsHaveTexts
-have_texts bytes columns limits table t c head e =
+have_texts bytes items limits table t c head e =
     let lt = slice_get_within table.head.columns c head e in
     let cells = get_or table.cells c [] in
     let cells_are : slice_get table.cells c ≡ Some cells = slice_get-get_or table.cells c [] (omega (arith, lt, t.heads, t.lists)) in
-    elim (slice_get_cases columns c).1 [
+    elim (slice_get_cases (columns_in items) c).1 [
       | inl found ↦
-          column_has found.0 (column_texts c t.rows) head cells (t.each c found.0 head cells found.2 e cells_are)
-          (good_values columns limits t.rows c found.0 t.good found.2)
+          column_has found.0 (column_texts c (kept_rows items t.rows)) head cells (t.each c found.0 head cells found.2 e cells_are)
+          (good_values (columns_in items) limits (kept_rows items t.rows) c found.0 t.good found.2)
       | inr past ↦ absurd (omega (arith, lt, past.0, t.heads))
     ]

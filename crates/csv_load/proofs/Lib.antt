@@ -3,6 +3,7 @@ pub mod StateFacts
 pub mod FieldFacts
 pub mod RefusalFacts
 pub mod RowFacts
+pub mod KeptRows
 pub mod RecordSteps
 pub mod RankFacts
 pub mod EndFacts

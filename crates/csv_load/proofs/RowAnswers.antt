@@ -5,15 +5,19 @@ use Rattle.std.proofs.lemmas.Bool.{cases_lt}
 use Rattle.std.proofs.lemmas.List.{take_all, take_more}
 use Rattle.std.proofs.lemmas.Option.{same_Some, slice_get_cases}
 use Rattle.daq_table.specs.declared.schema_column.SchemaColumn.{SchemaColumn}
+use Rattle.daq_table.specs.declared.schema_item.SchemaItem.{SchemaItem}
+use Rattle.daq_table.specs.Schemas.{columns_in}
 use Rattle.csv_load.specs.Columns.{IsValue, column_texts, dictionary, is_null, present}
 use Rattle.csv_load.specs.Faults.{ShowsFault}
+use Rattle.csv_load.specs.Kept.{kept_fields, kept_rows, place_of}
 use Rattle.csv_load.specs.Records.{Fields}
-use Rattle.csv_load.specs.Rows.{AreGoodBefore, AreGoodRows, HasRoom, IsGoodCell, IsGoodRow}
+use Rattle.csv_load.specs.Rows.{AreGoodBefore, HasRoom, IsGoodCell}
 use Rattle.csv_load.specs.declared.fault.TableFault.{TableFault}
 use Rattle.csv_load.specs.declared.fault.TableFault.TheVariants.{TooManyRows, TooManyCells, UnequalLength, BadCell, TooManyNames, NoMemory}
 use Rattle.csv_load.specs.declared.limits.Limits.{Limits}
 use Rattle.csv_load.proofs.Decisions.{value_or_not}
-use Rattle.csv_load.proofs.RowFacts.{last_place, rows_more}
+use Rattle.csv_load.proofs.KeptRows.{GoodRow, GoodRows, good_more, kept_count, no_rows, room_for_kept}
+use Rattle.csv_load.proofs.RowFacts.{last_place}
 
 -- ---- a cell
 
@@ -45,12 +49,12 @@ module _ (column : SchemaColumn) (limit : ℕ) (earlier : List (List ℕ)) (text
 
 -- ---- a row
 
-abbrev pub RowAnswer : List SchemaColumn → Limits → List Fields → Fields → Type 0
-RowAnswer columns limits rows next = IsGoodRow columns limits rows next ⊎ ((fault : TableFault) × (fault ≢ NoMemory) × ShowsFault columns limits rows next fault)
+abbrev pub RowAnswer : List SchemaItem → Limits → List Fields → Fields → Type 0
+RowAnswer items limits rows next = GoodRow items limits rows next ⊎ ((fault : TableFault) × (fault ≢ NoMemory) × ShowsFault items limits rows next fault)
 
-good_more : (columns : List SchemaColumn) (limits : Limits) (rows : List Fields) (next : Fields) (end : ℕ) (column : SchemaColumn) → slice_get columns end ≡ Some column → AreGoodBefore columns limits rows next end
+cell_more : (columns : List SchemaColumn) (limits : Limits) (rows : List Fields) (next : Fields) (end : ℕ) (column : SchemaColumn) → slice_get columns end ≡ Some column → AreGoodBefore columns limits rows next end
     → IsGoodCell column limits.names (column_texts end rows) (get_or next end []) → AreGoodBefore columns limits rows next (end + 1)
-good_more columns limits rows next end column is before good = λ c col lt e.
+cell_more columns limits rows next end column is before good = λ c col lt e.
     elim (last_place c end lt) [
       | inl earlier ↦ before c col earlier e
       | inr here ↦
@@ -58,40 +62,60 @@ good_more columns limits rows next end column is before good = λ c col lt e.
           subst (λ (n : ℕ). IsGoodCell col limits.names (column_texts n rows) (get_or next n [])) (sym here) (subst (λ (x : SchemaColumn). IsGoodCell x limits.names (column_texts end rows) (get_or next end [])) same good)
     ]
 
-module _ (columns : List SchemaColumn) (limits : Limits) (rows : List Fields) (next : Fields) where
-  wrong_cell : (room : HasRoom columns limits rows) (full : length next ≡ length columns) (end : ℕ) (column : SchemaColumn) → slice_get columns end ≡ Some column → AreGoodBefore columns limits rows next end
-      → IsFalse (is_null column.nullable (get_or next end [])) → IsWrong column limits.names (column_texts end rows) (get_or next end []) → RowAnswer columns limits rows next
+module _ (items : List SchemaItem) (limits : Limits) (rows : List Fields) (next : Fields) where
+  wrong_cell : (room : HasRoom (columns_in items) limits (kept_rows items rows)) (full : length next ≡ length items) (end : ℕ) (column : SchemaColumn) → slice_get (columns_in items) end ≡ Some column
+      → AreGoodBefore (columns_in items) limits (kept_rows items rows) (kept_fields items next) end
+      → IsFalse (is_null column.nullable (get_or (kept_fields items next) end [])) → IsWrong column limits.names (column_texts end (kept_rows items rows)) (get_or (kept_fields items next) end []) → RowAnswer items limits rows next
   wrong_cell room full end column is before given (inl bad) =
-      inr (BadCell (suc (length rows)) end, (λ e. absurd cc), record { reached = record { room = room; full = full; before = before; column = column; column_is = is }; entry_is = refl; given = given; bad = bad })
+      inr (
+        BadCell (suc (length (kept_rows items rows))) (place_of items end),
+        (λ e. absurd cc),
+        record {
+          full = full;
+          column = end;
+          place_is = refl;
+          bad = record { reached = record { room = room; full = kept_count items next; before = before; column = column; column_is = is }; entry_is = refl; given = given; bad = bad };
+        },
+      )
   wrong_cell room full end column is before given (inr many) =
-      inr (TooManyNames end, (λ e. absurd cc), record { reached = record { room = room; full = full; before = before; column = column; column_is = is }; given = given; value = many.0; many = many.1 })
+      inr (
+        TooManyNames (place_of items end),
+        (λ e. absurd cc),
+        record {
+          full = full;
+          column = end;
+          place_is = refl;
+          passed = record { reached = record { room = room; full = kept_count items next; before = before; column = column; column_is = is }; given = given; value = many.0; many = many.1 };
+        },
+      )
 
-  cells : HasRoom columns limits rows → length next ≡ length columns → (left end : ℕ) → left + end ≡ length columns → AreGoodBefore columns limits rows next end → RowAnswer columns limits rows next
+  cells : HasRoom (columns_in items) limits (kept_rows items rows) → length next ≡ length items → (left end : ℕ) → left + end ≡ length (columns_in items)
+      → AreGoodBefore (columns_in items) limits (kept_rows items rows) (kept_fields items next) end → RowAnswer items limits rows next
   cells room full zero end e before =
-      let all : end ≡ length columns = omega (arith, e) in
-      inl (record { room = room; full = full; cells = subst (λ (n : ℕ). AreGoodBefore columns limits rows next n) all before })
+      let all : end ≡ length (columns_in items) = omega (arith, e) in
+      inl (record { full = full; good = record { room = room; full = kept_count items next; cells = subst (λ (n : ℕ). AreGoodBefore (columns_in items) limits (kept_rows items rows) (kept_fields items next) n) all before } })
   cells room full (suc left) end e before =
       let there = column_there end (omega (arith, e)) in
-      elim (cell_answer there.0 limits.names (column_texts end rows) (get_or next end [])) [
-        | inl good ↦ cells room full left (end + 1) (omega (arith, e)) (good_more columns limits rows next end there.0 there.1 before good)
+      elim (cell_answer there.0 limits.names (column_texts end (kept_rows items rows)) (get_or (kept_fields items next) end [])) [
+        | inl good ↦ cells room full left (end + 1) (omega (arith, e)) (cell_more (columns_in items) limits (kept_rows items rows) (kept_fields items next) end there.0 there.1 before good)
         | inr wrong ↦ wrong_cell room full end there.0 there.1 before wrong.0 wrong.1
       ]
     where
-      column_there : (c : ℕ) → c < length columns → (x : SchemaColumn) × (slice_get columns c ≡ Some x)
-      column_there c lt = elim (slice_get_cases columns c).1 [ inl inside ↦ (inside.0, inside.2) | inr past ↦ absurd (omega (arith, lt, past.0)) ]
+      column_there : (c : ℕ) → c < length (columns_in items) → (x : SchemaColumn) × (slice_get (columns_in items) c ≡ Some x)
+      column_there c lt = elim (slice_get_cases (columns_in items) c).1 [ inl inside ↦ (inside.0, inside.2) | inr past ↦ absurd (omega (arith, lt, past.0)) ]
 
-  by_length : HasRoom columns limits rows → Dec (length next ≡ length columns) → RowAnswer columns limits rows next
-  by_length room (yes full) = cells room full (length columns) 0 (omega arith) (λ c column lt e. absurd (omega (arith, lt)))
-  by_length room (no differ) = inr (UnequalLength (suc (length rows)) (length next) (length columns), (λ e. absurd cc), record { room = room; entry_is = refl; got_is = refl; want_is = refl; differ = differ })
+  by_length : HasRoom (columns_in items) limits rows → Dec (length next ≡ length items) → RowAnswer items limits rows next
+  by_length room (yes full) = cells (room_for_kept items limits rows room) full (length (columns_in items)) 0 (omega arith) (λ c column lt e. absurd (omega (arith, lt)))
+  by_length room (no differ) = inr (UnequalLength (suc (length rows)) (length next) (length items), (λ e. absurd cc), record { room = room; entry_is = refl; got_is = refl; want_is = refl; differ = differ })
 
-  by_cells : suc (length rows) ≤ limits.rows → RowAnswer columns limits rows next
+  by_cells : suc (length rows) ≤ limits.rows → RowAnswer items limits rows next
   by_cells row =
-      elim (cases_lt limits.cells (suc (length rows) * length columns)) [
-        | inl many ↦ inr (TooManyCells (suc (length rows) * length columns), (λ e. absurd cc), record { row = row; count_is = refl; many = many })
-        | inr few ↦ by_length (record { row = row; cells = few }) (ℕ_discrete (length next) (length columns))
+      elim (cases_lt limits.cells (suc (length rows) * length (columns_in items))) [
+        | inl many ↦ inr (TooManyCells (suc (length rows) * length (columns_in items)), (λ e. absurd cc), record { row = row; count_is = refl; many = many })
+        | inr few ↦ by_length (record { row = row; cells = few }) (ℕ_discrete (length next) (length items))
       ]
 
-  row_answer : RowAnswer columns limits rows next
+  row_answer : RowAnswer items limits rows next
   row_answer =
       elim (cases_lt limits.rows (suc (length rows))) [
         | inl many ↦ inr (TooManyRows limits.rows, (λ e. absurd cc), record { limit_is = refl; many = many })
@@ -101,27 +125,27 @@ module _ (columns : List SchemaColumn) (limits : Limits) (rows : List Fields) (n
 -- ---- all rows
 
 -- the rows before a place are good, and the record there shows a fault
-pub record FirstFault (columns : List SchemaColumn) (limits : Limits) (all : List Fields) : Type 0 where
+pub record FirstFault (items : List SchemaItem) (limits : Limits) (all : List Fields) : Type 0 where
   pub place : ℕ
   pub within : place < length all
-  pub good : AreGoodRows columns limits (take place all)
+  pub good : GoodRows items limits (take place all)
   pub fault : TableFault
   pub some : fault ≢ NoMemory
-  pub shows : ShowsFault columns limits (take place all) (get_or all place []) fault
+  pub shows : ShowsFault items limits (take place all) (get_or all place []) fault
 
-abbrev pub RowsAnswer : List SchemaColumn → Limits → List Fields → Type 0
-RowsAnswer columns limits all = AreGoodRows columns limits all ⊎ FirstFault columns limits all
+abbrev pub RowsAnswer : List SchemaItem → Limits → List Fields → Type 0
+RowsAnswer items limits all = GoodRows items limits all ⊎ FirstFault items limits all
 
-rows_from : (columns : List SchemaColumn) (limits : Limits) (all : List Fields) (left n : ℕ) → left + n ≡ length all → AreGoodRows columns limits (take n all) → RowsAnswer columns limits all
-rows_from columns limits all zero n e good = inl (subst (λ (rs : List Fields). AreGoodRows columns limits rs) (take_all n all (omega (arith, e))) good)
-rows_from columns limits all (suc left) n e good =
+rows_from : (items : List SchemaItem) (limits : Limits) (all : List Fields) (left n : ℕ) → left + n ≡ length all → GoodRows items limits (take n all) → RowsAnswer items limits all
+rows_from items limits all zero n e good = inl (subst (λ (rs : List Fields). GoodRows items limits rs) (take_all n all (omega (arith, e))) good)
+rows_from items limits all (suc left) n e good =
     let lt : n < length all = omega (arith, e) in
-    elim (row_answer columns limits (take n all) (get_or all n [])) [
+    elim (row_answer items limits (take n all) (get_or all n [])) [
       | inl row ↦
-          rows_from columns limits all left (n + 1) (omega (arith, e))
-          (subst (λ (rs : List Fields). AreGoodRows columns limits rs) (sym (take_more all n [] lt)) (rows_more columns limits (take n all) (get_or all n []) good row))
+          rows_from items limits all left (n + 1) (omega (arith, e))
+          (subst (λ (rs : List Fields). GoodRows items limits rs) (sym (take_more all n [] lt)) (good_more items limits (take n all) (get_or all n []) good row))
       | inr shown ↦ inr (record { place = n; within = lt; good = good; fault = shown.0; some = shown.1; shows = shown.2 })
     ]
 
-pub rows_answer : (columns : List SchemaColumn) (limits : Limits) (all : List Fields) → RowsAnswer columns limits all
-rows_answer columns limits all = rows_from columns limits all (length all) 0 (omega arith) (λ r lt. absurd (omega (arith, lt)))
+pub rows_answer : (items : List SchemaItem) (limits : Limits) (all : List Fields) → RowsAnswer items limits all
+rows_answer items limits all = rows_from items limits all (length all) 0 (omega arith) (no_rows items limits)

@@ -17,7 +17,7 @@ use Rattle.daq_table.specs.Dictionaries.{distinct}
 use Rattle.csv_load.specs.Columns.{column_texts, dictionary, is_null, present}
 use Rattle.csv_load.specs.Records.{Fields}
 use Rattle.csv_load.specs.Rows.{AreGoodBefore, AreGoodRows, HasRoom, IsGoodCell, IsGoodRow}
-use Rattle.csv_load.specs.States.{AreStates, HasRoomFor, Kept, State, Takes, TakesRow, TookBelow, kept_of, kept_with, names_with, state_of, state_with}
+use Rattle.csv_load.specs.States.{AreStates, HasRoomFor, Kept, State, Takes, TookBelow, kept_of, kept_with, names_with, state_of, state_with}
 use Rattle.csv_load.specs.declared.limits.Limits.{Limits}
 
 pub distinct_more : (texts : List (List ℕ)) (text : List ℕ) → insert_key (slice_cmp nat_cmp) (distinct texts) text ≡ distinct (texts ++ text ∷ [])
@@ -82,14 +82,6 @@ cells_are_good columns limits rows old next end s t = λ c column lt e.
 
 pub has_room : (columns : List SchemaColumn) (limits : Limits) (rows : List Fields) (n : ℕ) → n ≡ length columns → HasRoomFor limits (length rows) n → HasRoom columns limits rows
 has_room columns limits rows n e h = record { row = h.row; cells = rw (← e) h.cells }
-
-pub row_is_good : (columns : List SchemaColumn) (limits : Limits) (rows : List Fields) (old new : List State) (next : Fields) → AreStates columns rows old → TakesRow limits (length rows) old next new
-    → IsGoodRow columns limits rows next
-row_is_good columns limits rows old new next s t = record {
-  room = has_room columns limits rows (length old) s.wide t.room;
-  full = t.full ∙ s.wide;
-  cells = cells_are_good columns limits rows old next (length columns) s (λ c d lt. t.took.takes c d (omega (arith, lt, s.wide)));
-}
 
 pub last_place : (r n : ℕ) → r < n + 1 → (r < n) ⊎ (r ≡ n)
 last_place r n lt = grind arith

@@ -8,9 +8,11 @@ use Rattle.std.proofs.lemmas.Slice.Eq.{bytes_eq-Decides}
 use Rattle.std.specs.List.{after_first, before_first, cons_option, list_all}
 use Rattle.std.specs.Str.{bytes_eq}
 use Rattle.daq_table.specs.ColumnFacts.{IsName}
-use Rattle.daq_table.specs.Schemas.{Declares, column_named, column_of, columns_of, is_name_byte, is_nullable_word, is_schema_name, items_of, kind_of, kind_word, names_of}
+use Rattle.daq_table.specs.Schemas.{DeclaresItems, column_named, column_of, columns_in, columns_of, is_name_byte, is_nullable_word, is_schema_name, item_names, items_of, kind_of, kind_word}
 use Rattle.daq_table.specs.declared.head.Kind.{Kind}
 use Rattle.daq_table.specs.declared.schema_column.SchemaColumn.{SchemaColumn}
+use Rattle.daq_table.specs.declared.schema_item.SchemaItem.{SchemaItem}
+use Rattle.daq_table.proofs.Kept.{columns_declared, names_differ}
 use Rattle.csv_load.specs.Faults.{HasFaultyRow, IsFirstDifference, Refuses}
 use Rattle.csv_load.specs.Laws.{HasAnswer, IsAnswered}
 use Rattle.csv_load.specs.Records.{AreRecordsOf, Begins, Fields}
@@ -87,43 +89,43 @@ differs (x ∷ xs) (y ∷ ys) =
 
 -- ---- all together
 
-refused_by : (bytes : List ℕ) (columns : List SchemaColumn) (limits : Limits) (fault : TableFault) → HasFaultyRow bytes columns limits fault → Refuses bytes columns limits fault
-refused_by bytes columns limits NoHeader h = absurd h.shows
-refused_by bytes columns limits (HeaderDiffers place) h = absurd h.shows
-refused_by bytes columns limits (TooManyRows limit) h = h
-refused_by bytes columns limits (TooManyCells count) h = h
-refused_by bytes columns limits (UnequalLength entry got want) h = h
-refused_by bytes columns limits (BadCell entry place) h = h
-refused_by bytes columns limits (TooManyNames place) h = h
-refused_by bytes columns limits NoMemory h = tt
+refused_by : (bytes : List ℕ) (items : List SchemaItem) (limits : Limits) (fault : TableFault) → HasFaultyRow bytes items limits fault → Refuses bytes items limits fault
+refused_by bytes items limits NoHeader h = absurd h.shows
+refused_by bytes items limits (HeaderDiffers place) h = absurd h.shows
+refused_by bytes items limits (TooManyRows limit) h = h
+refused_by bytes items limits (TooManyCells count) h = h
+refused_by bytes items limits (UnequalLength entry got want) h = h
+refused_by bytes items limits (BadCell entry place) h = h
+refused_by bytes items limits (TooManyNames place) h = h
+refused_by bytes items limits NoMemory h = tt
 
-module _ (bytes schema : List ℕ) (columns : List SchemaColumn) (limits : Limits) (declared : Declares schema columns) (small : limits.rows ≤ 16777216) where
-  named : AllNamed columns
-  named = subst AllNamed (sym declared.items.columns_are) (all_named (items_of schema))
+module _ (bytes schema : List ℕ) (items : List SchemaItem) (limits : Limits) (declared : DeclaresItems schema items) (small : limits.rows ≤ 16777216) where
+  named : AllNamed (columns_in items)
+  named = subst AllNamed (sym (ap columns_in declared.all.items_are ∙ columns_declared (items_of schema))) (all_named (items_of schema))
 
-  by_fault : (rows : List Fields) → AreRecordsOf bytes (names_of columns ∷ rows) → FirstFault columns limits rows → IsAnswered bytes columns limits
+  by_fault : (rows : List Fields) → AreRecordsOf bytes (item_names items ∷ rows) → FirstFault items limits rows → IsAnswered bytes items limits
   by_fault rows records f =
       let next = get_or rows f.place [] in
       let parts : rows ≡ (take f.place rows ++ next ∷ []) ++ drop (f.place + 1) rows =
       sym (take-append-drop (f.place + 1) rows) ∙ ap (λ (rs : List Fields). rs ++ drop (f.place + 1) rows) (take_more rows f.place [] f.within) in
-      let begins : Begins bytes (names_of columns ∷ (take f.place rows ++ next ∷ [])) =
-      begins_with bytes (names_of columns ∷ (take f.place rows ++ next ∷ [])) (drop (f.place + 1) rows) (subst (λ (rs : List Fields). AreRecordsOf bytes (names_of columns ∷ rs)) parts records) in
-      inr (f.fault, f.some, refused_by bytes columns limits f.fault (record { rows = take f.place rows; next = next; begins = begins; good = f.good; shows = f.shows }))
+      let begins : Begins bytes (item_names items ∷ (take f.place rows ++ next ∷ [])) =
+      begins_with bytes (item_names items ∷ (take f.place rows ++ next ∷ [])) (drop (f.place + 1) rows) (subst (λ (rs : List Fields). AreRecordsOf bytes (item_names items ∷ rs)) parts records) in
+      inr (f.fault, f.some, refused_by bytes items limits f.fault (record { rows = take f.place rows; next = next; begins = begins; full = f.good.full; good = f.good.good; shows = f.shows }))
 
-  by_rows : (rows : List Fields) → AreRecordsOf bytes (names_of columns ∷ rows) → RowsAnswer columns limits rows → IsAnswered bytes columns limits
-  by_rows rows records (inl good) = inl (some_table bytes columns limits rows records good declared.few declared.differ named small)
+  by_rows : (rows : List Fields) → AreRecordsOf bytes (item_names items ∷ rows) → RowsAnswer items limits rows → IsAnswered bytes items limits
+  by_rows rows records (inl all) = inl (some_table bytes items limits rows records all.full all.good declared.few (names_differ items declared.differ) named small)
   by_rows rows records (inr f) = by_fault rows records f
 
-  by_header : (header : Fields) (rows : List Fields) → AreRecordsOf bytes (header ∷ rows) → Differs header (names_of columns) → IsAnswered bytes columns limits
-  by_header header rows records (inl same) = by_rows rows (subst (λ (h : Fields). AreRecordsOf bytes (h ∷ rows)) same records) (rows_answer columns limits rows)
+  by_header : (header : Fields) (rows : List Fields) → AreRecordsOf bytes (header ∷ rows) → Differs header (item_names items) → IsAnswered bytes items limits
+  by_header header rows records (inl same) = by_rows rows (subst (λ (h : Fields). AreRecordsOf bytes (h ∷ rows)) same records) (rows_answer items limits rows)
   by_header header rows records (inr h) = inr (HeaderDiffers h.0, (λ e. absurd cc), record { header = header; begins = begins_with bytes (header ∷ []) rows records; place = h.1 })
 
-  by_records : (records : List Fields) → AreRecordsOf bytes records → IsAnswered bytes columns limits
+  by_records : (records : List Fields) → AreRecordsOf bytes records → IsAnswered bytes items limits
   by_records [] h = inr (NoHeader, (λ e. absurd cc), h)
-  by_records (header ∷ rows) h = by_header header rows h (differs header (names_of columns))
+  by_records (header ∷ rows) h = by_header header rows h (differs header (item_names items))
 
-  answered : IsAnswered bytes columns limits
+  answered : IsAnswered bytes items limits
   answered = let all = all_records bytes in by_records all.0 all.1
 
 pub has_answer : HasAnswer
-has_answer bytes schema columns limits declared small = answered bytes schema columns limits declared small
+has_answer bytes schema items limits declared small = answered bytes schema items limits declared small

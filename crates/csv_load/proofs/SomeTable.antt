@@ -6,17 +6,19 @@ use Rattle.std.specs.List.Sorted.{IsStrictlySortedBy}
 use Rattle.std.specs.Ordering.{nat_cmp}
 use Rattle.daq_table.specs.ColumnFacts.{IsName}
 use Rattle.daq_table.specs.HeadFacts.{all_differ}
-use Rattle.daq_table.specs.Schemas.{names_of}
+use Rattle.daq_table.specs.Schemas.{columns_in, item_names, names_of}
 use Rattle.daq_table.specs.Tables.{Contents, cells_from}
 use Rattle.daq_table.specs.declared.head.ColumnHead.{ColumnHead}
 use Rattle.daq_table.specs.declared.head.Kind.{Kind}
 use Rattle.daq_table.specs.declared.head.Kind.TheVariants.{Int, Dec, Date, Text}
 use Rattle.daq_table.specs.declared.schema_column.SchemaColumn.{SchemaColumn}
+use Rattle.daq_table.specs.declared.schema_item.SchemaItem.{SchemaItem}
 use Rattle.daq_table.specs.declared.table_head.Head.{Head}
 use Rattle.daq_table.proofs.Dictionaries.{sorted_after}
 use Rattle.daq_table.proofs.Extremes.{cells_stand, least_below}
 use Rattle.daq_table.specs.Extremes.{greatest, least}
 use Rattle.csv_load.specs.Columns.{column_texts, dictionary, present}
+use Rattle.csv_load.specs.Kept.{AreFull, kept_rows}
 use Rattle.csv_load.specs.Records.{AreRecordsOf, Fields}
 use Rattle.csv_load.specs.Rows.{AreGoodRows}
 use Rattle.csv_load.specs.States.{AreFinished, HasRead, IsFinished, IsWhole, State, filled, numbers_in, state_of}
@@ -117,23 +119,25 @@ some_columns (x ∷ columns) (s ∷ states) e f =
       };
     }
 
-pub some_table : (bytes : List ℕ) (columns : List SchemaColumn) (limits : Limits) (rows : List Fields) → AreRecordsOf bytes (names_of columns ∷ rows) → AreGoodRows columns limits rows
-    → length columns ≤ 64 → IsTrue (all_differ (names_of columns)) → ((c : ℕ) (column : SchemaColumn) → slice_get columns c ≡ Some column → IsName column.name) → limits.rows ≤ 16777216
-    → (table : Contents) × IsTableOf bytes columns limits table
-some_table bytes columns limits rows records good few differ named small =
-    let made = some_states columns (λ (c : ℕ). column_texts c rows) in
-    let read : HasRead bytes columns limits (length rows) made.states = record { rows = rows; records = records; good = good; count_is = refl; states_are = record { wide = made.wide; each = made.each } } in
+pub some_table : (bytes : List ℕ) (items : List SchemaItem) (limits : Limits) (rows : List Fields) → AreRecordsOf bytes (item_names items ∷ rows) → AreFull items rows → AreGoodRows (columns_in items) limits (kept_rows items rows)
+    → length (columns_in items) ≤ 64 → IsTrue (all_differ (names_of (columns_in items))) → ((c : ℕ) (column : SchemaColumn) → slice_get (columns_in items) c ≡ Some column → IsName column.name) → limits.rows ≤ 16777216
+    → (table : Contents) × IsTableOf bytes items limits table
+some_table bytes items limits rows records full good few differ named small =
+    let columns = columns_in items in
+    let kept = kept_rows items rows in
+    let made = some_states columns (λ (c : ℕ). column_texts c kept) in
+    let read : HasRead bytes items limits (length rows) made.states = record { rows = rows; records = records; full = full; good = good; count_is = refl; states_are = record { wide = made.wide; each = made.each } } in
     let can : CanFinish columns made.states = λ c column d e.
     subst (λ (s : State). HasFinish s column.name) (sym (made.each c column d e))
-    (finish (state_of column.kind column.nullable (column_texts c rows)) column.name (named c column e) (dictionary_sorted column.kind (present column.nullable (column_texts c rows)))
-    (state_whole column.kind column.nullable (column_texts c rows))) in
+    (finish (state_of column.kind column.nullable (column_texts c kept)) column.name (named c column e) (dictionary_sorted column.kind (present column.nullable (column_texts c kept)))
+    (state_whole column.kind column.nullable (column_texts c kept))) in
     let all = some_columns columns made.states made.wide can in
-    let count = few_rows bytes columns limits (length rows) made.states read in
+    let count = few_rows bytes items limits (length rows) made.states read in
     let head : Head = record {
       rows = length rows;
       columns = all.heads;
-      is_head = is_head columns made.states all.heads all.lists all.marks (length rows) all.are_finished (all_complete bytes columns limits (length rows) made.states read) made.wide (omega (arith, count, small)) few differ;
+      is_head = is_head columns made.states all.heads all.lists all.marks (length rows) all.are_finished (all_complete bytes items limits (length rows) made.states read) made.wide (omega (arith, count, small)) few differ;
     } in
     let table : Contents = record { head = head; cells = cells_from all.lists all.marks } in
     let stored = are_stored columns made.states all.heads all.lists all.marks (subst (λ (n : ℕ). AreFinished columns made.states n all.heads all.lists all.marks) (sym made.wide) all.are_finished) in
-    (table, table_is bytes columns limits (length rows) made.states table read refl stored)
+    (table, table_is bytes items limits (length rows) made.states table read refl stored)

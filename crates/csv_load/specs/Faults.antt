@@ -1,9 +1,11 @@
 -- What each fault says of a CSV: it is the first in the order of the records, and of the cells of one.
 use Rattle.std.specs.Prelude.{◌≡◌, ◌≢◌, ℕ, suc, ◌*◌, ◌<◌, ◌≤◌, ⊤, List, []}
 use Rattle.std.specs.Prelude.{◌∷◌, ◌++◌, length, take, Some, slice_get, slice_index_or, IsFalse}
-use Rattle.daq_table.specs.Schemas.{names_of}
+use Rattle.daq_table.specs.Schemas.{columns_in, item_names}
 use Rattle.daq_table.specs.declared.schema_column.SchemaColumn.{SchemaColumn}
+use Rattle.daq_table.specs.declared.schema_item.SchemaItem.{SchemaItem}
 use Rattle.csv_load.specs.Columns.{IsValue, column_texts, is_null, names_after}
+use Rattle.csv_load.specs.Kept.{AreFull, kept_fields, kept_rows, place_of}
 use Rattle.csv_load.specs.Records.{AreRecordsOf, Begins, Fields}
 use Rattle.csv_load.specs.Rows.{AreGoodBefore, AreGoodRows, HasRoom}
 use Rattle.csv_load.specs.declared.fault.TableFault.{TableFault}
@@ -16,11 +18,11 @@ pub record IsFirstDifference (header names : List (List ℕ)) (place : ℕ) : Ty
   pub same : take place header ≡ take place names
   pub differ : slice_get header place ≢ slice_get names place
 
--- the first record is a header, and differs from the schema's names first at that column
-pub record HasOtherHeader (bytes : List ℕ) (columns : List SchemaColumn) (column : ℕ) : Type 0 where
+-- the first record is a header, and differs from the names of the schema's items first at that place
+pub record HasOtherHeader (bytes : List ℕ) (items : List SchemaItem) (column : ℕ) : Type 0 where
   pub header : Fields
   pub begins : Begins bytes (header ∷ [])
-  pub place : IsFirstDifference header (names_of columns) column
+  pub place : IsFirstDifference header (item_names items) column
 
 -- a row past the limit of rows
 pub record PassesRows (limits : Limits) (rows : List Fields) (limit : ℕ) : Type 0 where
@@ -33,13 +35,13 @@ pub record PassesCells (columns : List SchemaColumn) (limits : Limits) (rows : L
   pub count_is : count ≡ suc (length rows) * length columns
   pub many : limits.cells < count
 
--- a row with another number of fields than the schema
-pub record HasOtherLength (columns : List SchemaColumn) (limits : Limits) (rows : List Fields) (next : Fields)
+-- a row with another number of fields than the schema has items
+pub record HasOtherLength (items : List SchemaItem) (limits : Limits) (rows : List Fields) (next : Fields)
     (entry got want : ℕ) : Type 0 where
-  pub room : HasRoom columns limits rows
+  pub room : HasRoom (columns_in items) limits rows
   pub entry_is : entry ≡ suc (length rows)
   pub got_is : got ≡ length next
-  pub want_is : want ≡ length columns
+  pub want_is : want ≡ length items
   pub differ : got ≢ want
 
 -- a row whose cells before that column are good
@@ -64,32 +66,48 @@ pub record PassesNames (columns : List SchemaColumn) (limits : Limits) (rows : L
   pub value : IsValue reached.column.kind (slice_index_or next place [])
   pub many : limits.names < length (names_after reached.column (column_texts place rows) (slice_index_or next place []))
 
--- what the record after these rows shows
-abbrev pub ShowsFault : List SchemaColumn → Limits → List Fields → Fields → TableFault → Type 0
-ShowsFault columns limits rows next NoHeader = ⊥
-ShowsFault columns limits rows next (HeaderDiffers column) = ⊥
-ShowsFault columns limits rows next (TooManyRows limit) = PassesRows limits rows limit
-ShowsFault columns limits rows next (TooManyCells count) = PassesCells columns limits rows count
-ShowsFault columns limits rows next (UnequalLength entry got want) = HasOtherLength columns limits rows next entry got want
-ShowsFault columns limits rows next (BadCell entry column) = HasBadCell columns limits rows next entry column
-ShowsFault columns limits rows next (TooManyNames column) = PassesNames columns limits rows next column
-ShowsFault columns limits rows next NoMemory = ⊥
+-- a row with a field for each item, of whose kept fields one is such a cell; the fault names its place among all fields
+pub record HasBadField (items : List SchemaItem) (limits : Limits) (rows : List Fields) (next : Fields) (entry place : ℕ) : Type 0 where
+  pub full : length next ≡ length items
+  pub column : ℕ
+  pub place_is : place ≡ place_of items column
+  pub bad : HasBadCell (columns_in items) limits (kept_rows items rows) (kept_fields items next) entry column
 
--- the header is the schema's names, the rows after it are good, and the record after them shows the fault
-pub record HasFaultyRow (bytes : List ℕ) (columns : List SchemaColumn) (limits : Limits) (fault : TableFault) : Type 0 where
+-- the same of a cell that brings a name past the limit
+pub record PassesFieldNames (items : List SchemaItem) (limits : Limits) (rows : List Fields) (next : Fields) (place : ℕ)
+    : Type 0 where
+  pub full : length next ≡ length items
+  pub column : ℕ
+  pub place_is : place ≡ place_of items column
+  pub passed : PassesNames (columns_in items) limits (kept_rows items rows) (kept_fields items next) column
+
+-- what the record after these rows shows
+abbrev pub ShowsFault : List SchemaItem → Limits → List Fields → Fields → TableFault → Type 0
+ShowsFault items limits rows next NoHeader = ⊥
+ShowsFault items limits rows next (HeaderDiffers column) = ⊥
+ShowsFault items limits rows next (TooManyRows limit) = PassesRows limits rows limit
+ShowsFault items limits rows next (TooManyCells count) = PassesCells (columns_in items) limits rows count
+ShowsFault items limits rows next (UnequalLength entry got want) = HasOtherLength items limits rows next entry got want
+ShowsFault items limits rows next (BadCell entry column) = HasBadField items limits rows next entry column
+ShowsFault items limits rows next (TooManyNames column) = PassesFieldNames items limits rows next column
+ShowsFault items limits rows next NoMemory = ⊥
+
+-- the header is the names of the schema's items, the rows after it are good, and the record after them shows the fault
+pub record HasFaultyRow (bytes : List ℕ) (items : List SchemaItem) (limits : Limits) (fault : TableFault) : Type 0 where
   pub rows : List Fields
   pub next : Fields
-  pub begins : Begins bytes (names_of columns ∷ (rows ++ next ∷ []))
-  pub good : AreGoodRows columns limits rows
-  pub shows : ShowsFault columns limits rows next fault
+  pub begins : Begins bytes (item_names items ∷ (rows ++ next ∷ []))
+  pub full : AreFull items rows
+  pub good : AreGoodRows (columns_in items) limits (kept_rows items rows)
+  pub shows : ShowsFault items limits rows next fault
 
 -- what a fault says of a CSV; want of memory says nothing
-abbrev pub Refuses : List ℕ → List SchemaColumn → Limits → TableFault → Type 0
-Refuses bytes columns limits NoHeader = AreRecordsOf bytes []
-Refuses bytes columns limits (HeaderDiffers column) = HasOtherHeader bytes columns column
-Refuses bytes columns limits (TooManyRows limit) = HasFaultyRow bytes columns limits (TooManyRows limit)
-Refuses bytes columns limits (TooManyCells count) = HasFaultyRow bytes columns limits (TooManyCells count)
-Refuses bytes columns limits (UnequalLength entry got want) = HasFaultyRow bytes columns limits (UnequalLength entry got want)
-Refuses bytes columns limits (BadCell entry column) = HasFaultyRow bytes columns limits (BadCell entry column)
-Refuses bytes columns limits (TooManyNames column) = HasFaultyRow bytes columns limits (TooManyNames column)
-Refuses bytes columns limits NoMemory = ⊤
+abbrev pub Refuses : List ℕ → List SchemaItem → Limits → TableFault → Type 0
+Refuses bytes items limits NoHeader = AreRecordsOf bytes []
+Refuses bytes items limits (HeaderDiffers column) = HasOtherHeader bytes items column
+Refuses bytes items limits (TooManyRows limit) = HasFaultyRow bytes items limits (TooManyRows limit)
+Refuses bytes items limits (TooManyCells count) = HasFaultyRow bytes items limits (TooManyCells count)
+Refuses bytes items limits (UnequalLength entry got want) = HasFaultyRow bytes items limits (UnequalLength entry got want)
+Refuses bytes items limits (BadCell entry column) = HasFaultyRow bytes items limits (BadCell entry column)
+Refuses bytes items limits (TooManyNames column) = HasFaultyRow bytes items limits (TooManyNames column)
+Refuses bytes items limits NoMemory = ⊤

@@ -1,4 +1,5 @@
 pub mod Records
+pub mod Kept
 pub mod Columns
 pub mod Lines
 pub mod Numbered

@@ -7,17 +7,19 @@ use Rattle.std.specs.Cmp.Lexicographic.{slice_cmp}
 use Rattle.std.specs.List.{count_by, list_any}
 use Rattle.std.specs.Ordering.{nat_cmp}
 use Rattle.std.specs.Str.{bytes_eq}
-use Rattle.daq_table.specs.Schemas.{names_of}
+use Rattle.daq_table.specs.Schemas.{columns_in, item_names, kept_places}
 use Rattle.daq_table.specs.CellTexts.{cell_number}
 use Rattle.daq_table.specs.Tables.{Cell, Cells, column_from, ends_of, value_of}
 use Rattle.daq_table.specs.declared.head.ColumnHead.{ColumnHead}
 use Rattle.daq_table.specs.declared.head.Kind.{Kind}
 use Rattle.daq_table.specs.declared.head.Kind.TheVariants.{Int}
 use Rattle.daq_table.specs.declared.schema_column.SchemaColumn.{SchemaColumn}
+use Rattle.daq_table.specs.declared.schema_item.SchemaItem.{SchemaItem}
 use Rattle.daq_table.specs.Dictionaries.{rank_of}
 use Rattle.daq_table.specs.Extremes.{greatest, least}
 use Rattle.daq_table.specs.ColumnFacts.{is_text}
 use Rattle.csv_load.specs.Columns.{IsValue, column_texts, dictionary, is_null, present}
+use Rattle.csv_load.specs.Kept.{AreFull, fields_at, kept_fields, kept_rows}
 use Rattle.csv_load.specs.Records.{AreRecordsOf, Fields}
 use Rattle.csv_load.specs.Faults.{IsFirstDifference}
 use Rattle.csv_load.specs.Rows.{AreGoodRows}
@@ -121,12 +123,15 @@ pub record TookBelow (limit : ℕ) (old : List State) (fields : Fields) (new : L
   pub took : (c : ℕ) (d : State) → c < end → slice_index_or new c d ≡ state_with (slice_index_or old c d) (slice_index_or fields c [])
   pub rest : (c : ℕ) (d : State) → end ≤ c → slice_index_or new c d ≡ slice_index_or old c d
 
--- the cell at a place is refused, and those before it are taken
-pub record RefusesAt (limit entry : ℕ) (old : List State) (fields : Fields) (fault : TableFault) : Type 0 where
+-- of the fields at the places of the columns that of one column is refused, and those before it are taken; the fault names its
+-- place among all fields
+pub record RefusesAt (places : List ℕ) (limit entry : ℕ) (old : List State) (fields : Fields) (fault : TableFault) : Type 0 where
   pub place : ℕ
   pub within : place < length old
-  pub before : (c : ℕ) (d : State) → c < place → Takes limit (slice_index_or old c d) (slice_index_or fields c [])
-  pub refused : (d : State) → RefusesCell limit entry place (slice_index_or old place d) (slice_index_or fields place []) fault
+  pub before : (c : ℕ) (d : State) → c < place → Takes limit (slice_index_or old c d) (slice_index_or (fields_at places fields) c [])
+  pub refused : (d : State)
+      → RefusesCell limit entry (slice_index_or places place 0) (slice_index_or old place d)
+      (slice_index_or (fields_at places fields) place []) fault
 
 -- the columns' states after these rows
 pub record AreStates (columns : List SchemaColumn) (rows : List Fields) (states : List State) : Type 0 where
@@ -139,75 +144,80 @@ pub record HasRoomFor (limits : Limits) (rows columns : ℕ) : Type 0 where
   pub row : suc rows ≤ limits.rows
   pub cells : suc rows * columns ≤ limits.cells
 
--- the record is a row, and each column took its field
-pub record TakesRow (limits : Limits) (rows : ℕ) (old : List State) (fields : Fields) (new : List State) : Type 0 where
+-- the record is a row with a field for each item, and each column took its own
+pub record TakesRow (items : List SchemaItem) (limits : Limits) (rows : ℕ) (old : List State) (fields : Fields) (new : List State)
+    : Type 0 where
   pub room : HasRoomFor limits rows (length old)
-  pub full : length fields ≡ length old
-  pub took : TookBelow limits.names old fields new (length old)
+  pub full : length fields ≡ length items
+  pub took : TookBelow limits.names old (kept_fields items fields) new (length old)
 
--- a row whose fields are as many as the columns, and one of them is refused
-pub record RefusesField (limits : Limits) (rows : ℕ) (old : List State) (fields : Fields) (fault : TableFault) : Type 0 where
+-- a row with a field for each item, and that of a column is refused
+pub record RefusesField (items : List SchemaItem) (limits : Limits) (rows : ℕ) (old : List State) (fields : Fields)
+    (fault : TableFault) : Type 0 where
   pub room : HasRoomFor limits rows (length old)
-  pub full : length fields ≡ length old
-  pub field : RefusesAt limits.names (suc rows) old fields fault
+  pub full : length fields ≡ length items
+  pub field : RefusesAt (kept_places items) limits.names (suc rows) old fields fault
 
-pub record RefusesLength (limits : Limits) (rows : ℕ) (old : List State) (fields : Fields) (entry got want : ℕ) : Type 0 where
+pub record RefusesLength (items : List SchemaItem) (limits : Limits) (rows : ℕ) (old : List State) (fields : Fields)
+    (entry got want : ℕ) : Type 0 where
   pub room : HasRoomFor limits rows (length old)
   pub entry_is : entry ≡ suc rows
   pub got_is : got ≡ length fields
-  pub want_is : want ≡ length old
+  pub want_is : want ≡ length items
   pub differ : got ≢ want
 
 -- why the record is no row after so many; memory is wanted only once it fits the limits and has all fields
-abbrev pub RefusesRow : Limits → ℕ → List State → Fields → TableFault → Type 0
-RefusesRow limits rows old fields NoHeader = ⊥
-RefusesRow limits rows old fields (HeaderDiffers place) = ⊥
-RefusesRow limits rows old fields (TooManyRows limit) = (limit ≡ limits.rows) × (limits.rows < suc rows)
-RefusesRow limits rows old fields (TooManyCells count) = (suc rows ≤ limits.rows) × (count ≡ suc rows * length old) × (limits.cells < count)
-RefusesRow limits rows old fields (UnequalLength entry got want) = RefusesLength limits rows old fields entry got want
-RefusesRow limits rows old fields (BadCell entry place) = RefusesField limits rows old fields (BadCell entry place)
-RefusesRow limits rows old fields (TooManyNames place) = RefusesField limits rows old fields (TooManyNames place)
-RefusesRow limits rows old fields NoMemory = RefusesField limits rows old fields NoMemory
+abbrev pub RefusesRow : List SchemaItem → Limits → ℕ → List State → Fields → TableFault → Type 0
+RefusesRow items limits rows old fields NoHeader = ⊥
+RefusesRow items limits rows old fields (HeaderDiffers place) = ⊥
+RefusesRow items limits rows old fields (TooManyRows limit) = (limit ≡ limits.rows) × (limits.rows < suc rows)
+RefusesRow items limits rows old fields (TooManyCells count) = (suc rows ≤ limits.rows) × (count ≡ suc rows * length old) × (limits.cells < count)
+RefusesRow items limits rows old fields (UnequalLength entry got want) = RefusesLength items limits rows old fields entry got want
+RefusesRow items limits rows old fields (BadCell entry place) = RefusesField items limits rows old fields (BadCell entry place)
+RefusesRow items limits rows old fields (TooManyNames place) = RefusesField items limits rows old fields (TooManyNames place)
+RefusesRow items limits rows old fields NoMemory = RefusesField items limits rows old fields NoMemory
 
 -- the first record is the header, and each further one a row
-abbrev pub TakesRecord : List SchemaColumn → Limits → ℕ → List State → Fields → List State → Type 0
-TakesRecord columns limits zero old fields new = (fields ≡ names_of columns) × (new ≡ old)
-TakesRecord columns limits (suc rows) old fields new = TakesRow limits rows old fields new
+abbrev pub TakesRecord : List SchemaItem → Limits → ℕ → List State → Fields → List State → Type 0
+TakesRecord items limits zero old fields new = (fields ≡ item_names items) × (new ≡ old)
+TakesRecord items limits (suc rows) old fields new = TakesRow items limits rows old fields new
 
 -- why the record is no header; to know it takes no memory
-abbrev pub RefusesHeader : List SchemaColumn → Fields → TableFault → Type 0
-RefusesHeader columns fields NoHeader = ⊥
-RefusesHeader columns fields (HeaderDiffers place) = IsFirstDifference fields (names_of columns) place
-RefusesHeader columns fields (TooManyRows limit) = ⊥
-RefusesHeader columns fields (TooManyCells count) = ⊥
-RefusesHeader columns fields (UnequalLength entry got want) = ⊥
-RefusesHeader columns fields (BadCell entry place) = ⊥
-RefusesHeader columns fields (TooManyNames place) = ⊥
-RefusesHeader columns fields NoMemory = ⊥
+abbrev pub RefusesHeader : List SchemaItem → Fields → TableFault → Type 0
+RefusesHeader items fields NoHeader = ⊥
+RefusesHeader items fields (HeaderDiffers place) = IsFirstDifference fields (item_names items) place
+RefusesHeader items fields (TooManyRows limit) = ⊥
+RefusesHeader items fields (TooManyCells count) = ⊥
+RefusesHeader items fields (UnequalLength entry got want) = ⊥
+RefusesHeader items fields (BadCell entry place) = ⊥
+RefusesHeader items fields (TooManyNames place) = ⊥
+RefusesHeader items fields NoMemory = ⊥
 
-abbrev pub RefusesRecord : List SchemaColumn → Limits → ℕ → List State → Fields → TableFault → Type 0
-RefusesRecord columns limits zero old fields fault = RefusesHeader columns fields fault
-RefusesRecord columns limits (suc rows) old fields fault = RefusesRow limits rows old fields fault
+abbrev pub RefusesRecord : List SchemaItem → Limits → ℕ → List State → Fields → TableFault → Type 0
+RefusesRecord items limits zero old fields fault = RefusesHeader items fields fault
+RefusesRecord items limits (suc rows) old fields fault = RefusesRow items limits rows old fields fault
 
 -- after a header, the rows are good and the states are theirs
-pub record HasRows (columns : List SchemaColumn) (limits : Limits) (header : Fields) (rows : List Fields) (states : List State)
+pub record HasRows (items : List SchemaItem) (limits : Limits) (header : Fields) (rows : List Fields) (states : List State)
     : Type 0 where
-  pub header_is : header ≡ names_of columns
-  pub good : AreGoodRows columns limits rows
-  pub states_are : AreStates columns rows states
+  pub header_is : header ≡ item_names items
+  pub full : AreFull items rows
+  pub good : AreGoodRows (columns_in items) limits (kept_rows items rows)
+  pub states_are : AreStates (columns_in items) (kept_rows items rows) states
 
 -- the states after these records, each of which was taken
-abbrev pub HasTaken : List SchemaColumn → Limits → List Fields → List State → Type 0
-HasTaken columns limits [] states = AreStates columns [] states
-HasTaken columns limits (header ∷ rows) states = HasRows columns limits header rows states
+abbrev pub HasTaken : List SchemaItem → Limits → List Fields → List State → Type 0
+HasTaken items limits [] states = AreStates (columns_in items) [] states
+HasTaken items limits (header ∷ rows) states = HasRows items limits header rows states
 
 -- the text was read to its end: its rows, and the columns' states after them
-pub record HasRead (bytes : List ℕ) (columns : List SchemaColumn) (limits : Limits) (count : ℕ) (states : List State) : Type 0 where
+pub record HasRead (bytes : List ℕ) (items : List SchemaItem) (limits : Limits) (count : ℕ) (states : List State) : Type 0 where
   pub rows : List Fields
-  pub records : AreRecordsOf bytes (names_of columns ∷ rows)
-  pub good : AreGoodRows columns limits rows
+  pub records : AreRecordsOf bytes (item_names items ∷ rows)
+  pub full : AreFull items rows
+  pub good : AreGoodRows (columns_in items) limits (kept_rows items rows)
   pub count_is : count ≡ length rows
-  pub states_are : AreStates columns rows states
+  pub states_are : AreStates (columns_in items) (kept_rows items rows) states
 
 -- the numbers of the values that are kept
 abbrev pub numbers_in : Kept → List ℤ

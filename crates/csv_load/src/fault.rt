@@ -6,14 +6,14 @@ ghost use Rattle.csv_load.specs.declared.fault.TableFault.TheVariants.{NoMemory}
 use std::alloc::{AllocError, AllocFailed};
 use thiserror::Error;
 
-/// Why a CSV stands for no table, or that memory ran out. The header is record 0, and columns count from 0. Of several
-/// faults the one of the first record is answered; of one record that which is named first here, its cells in turn.
+/// Why a CSV stands for no table, or that memory ran out. The header is record 0, and columns count from 0, those that are
+/// skipped with them. Of several faults the one of the first record is answered; of one record that which is named first here, its cells in turn.
 #[derive(Debug, PartialEq, Eq, Drop, Error)]
 pub enum TableFault {
     /// There is no record.
     #[error("no header")]
     NoHeader,
-    /// The header and the schema's names differ first at that column.
+    /// The header and the names of the schema's items differ first at that column.
     #[error("header differs at column {column}, counted from 0")]
     HeaderDiffers {
         column: usize,
@@ -23,12 +23,12 @@ pub enum TableFault {
     TooManyRows {
         limit: u64,
     },
-    /// The rows up to the record have so many cells, which is past the limit of cells.
+    /// The rows up to the record have so many cells, which is past the limit of cells. A skipped field makes none.
     #[error("{count} cells")]
     TooManyCells {
         count: u64,
     },
-    /// The record has `got` fields, and the schema `want` columns.
+    /// The record has `got` fields, and the schema `want` items.
     #[error("record {entry}, counted from 0, has {got} fields, not {want}")]
     UnequalLength {
         entry: usize,

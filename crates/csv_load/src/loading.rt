@@ -22,8 +22,8 @@ pub fn load(
     requires rows { limits.now.rows ≤ Limits.PROFILE.rows }
     requires cells { limits.now.cells ≤ Limits.PROFILE.cells }
     requires names { limits.now.names ≤ Limits.PROFILE.names }
-    ensures table { IfOk result (IsTableOf bytes.now schema.now.columns limits.now) }
-    ensures refused { IfErr result (Refuses bytes.now schema.now.columns limits.now) }
+    ensures table { IfOk result (IsTableOf bytes.now schema.now.items limits.now) }
+    ensures refused { IfErr result (Refuses bytes.now schema.now.items limits.now) }
 {
     let (rows, mut columns) = read_columns(alloc, bytes, schema, limits)?;
     let table = table_of(alloc, schema, rows, &mut columns)?;

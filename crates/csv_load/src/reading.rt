@@ -57,8 +57,8 @@ fn read_any(
     limits: &Limits,
 ) -> Result<(usize, Vec<Column>), TableFault>
     requires { limits.now.rows ≤ 16777216 }
-    ensures ok { IfOk result (λ read. HasRead bytes.now schema.now.columns limits.now read.0 read.1.items) }
-    ensures err { IfErr result (Refuses bytes.now schema.now.columns limits.now) }
+    ensures ok { IfOk result (λ read. HasRead bytes.now schema.now.items limits.now read.0 read.1.items) }
+    ensures err { IfErr result (Refuses bytes.now schema.now.items limits.now) }
 {
     let mut columns = empty_columns(alloc, schema.columns.as_slice())?;
     let mut reader = ReaderBuilder::new()
@@ -75,14 +75,7 @@ fn read_any(
             break;
         }
         let fields = listed(alloc, &record)?;
-        take_record(
-            alloc,
-            &mut columns,
-            &fields,
-            schema.columns.as_slice(),
-            limits,
-            records,
-        )?;
+        take_record(alloc, &mut columns, &fields, schema, limits, records)?;
         records += 1;
     }
     if records == 0 {
@@ -99,8 +92,8 @@ fn read_plain(
     limits: &Limits,
 ) -> Result<Option<(usize, Vec<Column>)>, TableFault>
     requires { limits.now.rows ≤ 16777216 }
-    ensures ok { IfOk result (λ read. IfSome read (λ r. HasRead bytes.now schema.now.columns limits.now r.0 r.1.items)) }
-    ensures err { IfErr result (Refuses bytes.now schema.now.columns limits.now) }
+    ensures ok { IfOk result (λ read. IfSome read (λ r. HasRead bytes.now schema.now.items limits.now r.0 r.1.items)) }
+    ensures err { IfErr result (Refuses bytes.now schema.now.items limits.now) }
 {
     let mut columns = empty_columns(alloc, schema.columns.as_slice())?;
     let text = past_marks(bytes);
@@ -113,14 +106,7 @@ fn read_plain(
             Line::Ends(next) => next,
             Line::Other => return Ok(None),
         };
-        take_record(
-            alloc,
-            &mut columns,
-            &fields,
-            schema.columns.as_slice(),
-            limits,
-            records,
-        )?;
+        take_record(alloc, &mut columns, &fields, schema, limits, records)?;
         from = next;
         records += 1;
     }
@@ -138,8 +124,8 @@ pub(crate) fn read_columns(
     limits: &Limits,
 ) -> Result<(usize, Vec<Column>), TableFault>
     requires { limits.now.rows ≤ 16777216 }
-    ensures ok { IfOk result (λ read. HasRead bytes.now schema.now.columns limits.now read.0 read.1.items) }
-    ensures err { IfErr result (Refuses bytes.now schema.now.columns limits.now) }
+    ensures ok { IfOk result (λ read. HasRead bytes.now schema.now.items limits.now read.0 read.1.items) }
+    ensures err { IfErr result (Refuses bytes.now schema.now.items limits.now) }
 {
     match read_plain(alloc, bytes, schema, limits)? {
         Some(read) => Ok(read),

@@ -1,9 +1,10 @@
 //! One record of a CSV: the header, or a row.
 
-ghost use Rattle.std.specs.Prelude.{◌≡◌, ◌↔◌, ◌+◌, ◌*◌, ◌<◌, ◌≤◌};
+ghost use Rattle.std.specs.Prelude.{◌≡◌, ◌↔◌, ◌+◌, ◌*◌, ◌<◌};
 ghost use Rattle.std.specs.Prelude.{◌^◌, length, slice_get, slice_index_or, MatchOption, OnOk, IfErr, IsTrue, Some, []};
-ghost use Rattle.daq_table.specs.Schemas.{names_of};
+ghost use Rattle.daq_table.specs.Schemas.{item_names, kept_places};
 ghost use Rattle.csv_load.specs.Faults.{IsFirstDifference};
+ghost use Rattle.csv_load.specs.Kept.{kept_fields, place_of};
 ghost use Rattle.csv_load.specs.Records.{held};
 ghost use Rattle.csv_load.specs.States.{RefusesAt, RefusesHeader, RefusesRecord, RefusesRow, TakesRecord, TakesRow, TookBelow};
 
@@ -11,7 +12,7 @@ use crate::column::Column;
 use crate::fault::TableFault;
 use crate::limits::Limits;
 use crate::place::Place;
-use daq_table::SchemaColumn;
+use daq_table::{Schema, SchemaItem};
 use std::alloc::Global;
 
 // A field of the record.
@@ -32,32 +33,51 @@ fn has_field(fields: &[&[u8]], place: usize, text: &[u8]) -> bool
     field_at(fields, place) == text
 }
 
-// The first column where the header and the schema's names differ.
-fn first_difference(header: &[&[u8]], columns: &[SchemaColumn]) -> Option<usize>
-    ensures { MatchOption result (held header.now ≡ names_of columns.now)
-        (IsFirstDifference (held header.now) (names_of columns.now)) }
+// The first place where the header and the names of the schema's items differ.
+fn first_difference(header: &[&[u8]], items: &[SchemaItem]) -> Option<usize>
+    ensures { MatchOption result (held header.now ≡ item_names items.now)
+        (IsFirstDifference (held header.now) (item_names items.now)) }
 {
-    for (place, column) in columns.iter().enumerate() {
-        if !has_field(header, place, column.name.as_slice()) {
+    for (place, item) in items.iter().enumerate() {
+        if !has_field(header, place, item.name()) {
             return Some(place);
         }
     }
-    if header.len() > columns.len() {
-        Some(columns.len())
+    if header.len() > items.len() {
+        Some(items.len())
     } else {
         None
     }
 }
 
-// Takes the header, if it is the schema's names.
-fn take_header(header: &[&[u8]], columns: &[SchemaColumn]) -> Result<(), TableFault>
-    ensures ok { OnOk result (held header.now ≡ names_of columns.now) }
-    ensures err { IfErr result (RefusesHeader columns.now (held header.now)) }
+// Takes the header, if it is the names of the schema's items.
+fn take_header(header: &[&[u8]], items: &[SchemaItem]) -> Result<(), TableFault>
+    ensures ok { OnOk result (held header.now ≡ item_names items.now) }
+    ensures err { IfErr result (RefusesHeader items.now (held header.now)) }
 {
-    match first_difference(header, columns) {
+    match first_difference(header, items) {
         Some(column) => Err(TableFault::HeaderDiffers { column }),
         None => Ok(()),
     }
+}
+
+// The place of a column's field.
+fn place_at(schema: &Schema, column: usize) -> usize
+    requires { column < length schema.now.columns }
+    ensures place { result ≡ place_of schema.now.items column }
+    ensures within { result < length schema.now.items }
+{
+    let places = schema.places.as_slice();
+    places[column]
+}
+
+// The field of a column.
+fn field_of<'f>(fields: &'f [&[u8]], schema: &Schema, column: usize) -> &'f [u8]
+    requires column { column < length schema.now.columns }
+    requires full { length (held fields.now) ≡ length schema.now.items }
+    ensures { result.now ≡ slice_index_or (kept_fields schema.now.items (held fields.now)) column [] }
+{
+    field_at(fields, place_at(schema, column))
 }
 
 // Hands each column its field, up to the first that is refused.
@@ -65,22 +85,24 @@ fn take_fields(
     alloc: Global,
     columns: &mut [Column],
     fields: &[&[u8]],
+    schema: &Schema,
     limit: u64,
     entry: usize,
 ) -> Result<(), TableFault>
-    requires { length (held fields.now) ≡ length columns.old }
-    ensures ok { OnOk result (TookBelow limit columns.old (held fields.now) columns.new (length columns.old)) }
-    ensures err { IfErr result (RefusesAt limit entry columns.old (held fields.now)) }
+    requires wide { length columns.old ≡ length schema.now.columns }
+    requires full { length (held fields.now) ≡ length schema.now.items }
+    ensures ok { OnOk result (TookBelow limit columns.old (kept_fields schema.now.items (held fields.now)) columns.new (length columns.old)) }
+    ensures err { IfErr result (RefusesAt (kept_places schema.now.items) limit entry columns.old (held fields.now)) }
 {
-    for (place, column) in columns.iter_mut().enumerate() {
-        let text = field_at(fields, place);
+    for (number, column) in columns.iter_mut().enumerate() {
+        let text = field_of(fields, schema, number);
         column.take(
             alloc,
             text,
             limit,
             Place {
                 entry,
-                column: place,
+                column: place_at(schema, number),
             },
         )?;
     }
@@ -92,13 +114,14 @@ fn take_row(
     alloc: Global,
     columns: &mut [Column],
     fields: &[&[u8]],
+    schema: &Schema,
     limits: &Limits,
     rows: usize,
 ) -> Result<(), TableFault>
     requires small { rows + 1 < 2 ^ 32 }
-    requires few { length columns.old ≤ 64 }
-    ensures ok { OnOk result (TakesRow limits.now rows columns.old (held fields.now) columns.new) }
-    ensures err { IfErr result (RefusesRow limits.now rows columns.old (held fields.now)) }
+    requires wide { length columns.old ≡ length schema.now.columns }
+    ensures ok { OnOk result (TakesRow schema.now.items limits.now rows columns.old (held fields.now) columns.new) }
+    ensures err { IfErr result (RefusesRow schema.now.items limits.now rows columns.old (held fields.now)) }
 {
     let entry = rows + 1;
     if entry as u64 > limits.rows {
@@ -108,14 +131,15 @@ fn take_row(
     if count > limits.cells {
         return Err(TableFault::TooManyCells { count });
     }
-    if fields.len() != columns.len() {
+    let want = schema.items.as_slice().len();
+    if fields.len() != want {
         return Err(TableFault::UnequalLength {
             entry,
             got: fields.len(),
-            want: columns.len(),
+            want,
         });
     }
-    take_fields(alloc, columns, fields, limits.names, entry)
+    take_fields(alloc, columns, fields, schema, limits.names, entry)
 }
 
 /// Takes a record after so many: the header first, and then rows.
@@ -123,18 +147,18 @@ pub(crate) fn take_record(
     alloc: Global,
     columns: &mut [Column],
     fields: &[&[u8]],
-    schema: &[SchemaColumn],
+    schema: &Schema,
     limits: &Limits,
     records: usize,
 ) -> Result<(), TableFault>
     requires small { records < 2 ^ 32 }
-    requires few { length columns.old ≤ 64 }
-    ensures ok { OnOk result (TakesRecord schema.now limits.now records columns.old (held fields.now) columns.new) }
-    ensures err { IfErr result (RefusesRecord schema.now limits.now records columns.old (held fields.now)) }
+    requires wide { length columns.old ≡ length schema.now.columns }
+    ensures ok { OnOk result (TakesRecord schema.now.items limits.now records columns.old (held fields.now) columns.new) }
+    ensures err { IfErr result (RefusesRecord schema.now.items limits.now records columns.old (held fields.now)) }
 {
     if records == 0 {
-        take_header(fields, schema)
+        take_header(fields, schema.items.as_slice())
     } else {
-        take_row(alloc, columns, fields, limits, records - 1)
+        take_row(alloc, columns, fields, schema, limits, records - 1)
     }
 }

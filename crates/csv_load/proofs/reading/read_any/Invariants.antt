@@ -10,7 +10,7 @@ abbrev pub invariant-records : goal.invariant-records
 invariant-records l = (l.reader.trim ≡ trim.None) × Ready l.reader × (l.reader.config ≡ default_config)
     × (y : List ℕ) × (source_of (λ s. Some s.now) l.reader ≡ Some y)
     × (records : List Fields) × Reached default_config st.StartRecord (without_marks l.fn.bytes) records l.reader.state y
-    × (length records ≡ l.records) × HasTaken l.fn.schema.columns l.fn.limits records l.columns.items
+    × (length records ≡ l.records) × HasTaken l.fn.schema.items l.fn.limits records l.columns.items
 
 abbrev pub decreases-records : goal.decreases-records
 decreases-records l = 16777218 - l.records

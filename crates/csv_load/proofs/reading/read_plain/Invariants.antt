@@ -8,7 +8,7 @@ use Rattle.csv_load.proofs.reading.read_plain.Given as goal
 abbrev pub invariant-records : goal.invariant-records
 invariant-records l = (l.from ≤ length l.text)
     × (records : List Fields) × Reached default_config st.StartRecord (without_marks l.fn.bytes) records st.StartRecord (drop l.from l.text)
-    × (length records ≡ l.records) × HasTaken l.fn.schema.columns l.fn.limits records l.columns.items
+    × (length records ≡ l.records) × HasTaken l.fn.schema.items l.fn.limits records l.columns.items
 
 abbrev pub decreases-records : goal.decreases-records
 decreases-records l = 16777218 - l.records
