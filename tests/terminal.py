@@ -43,7 +43,7 @@ TOLD = [
     ("load CSV made price:int,quantity:int,city:text", "table refused: header differs at column 2",
      "the header has \"qty\" there, the schema \"quantity\"; blanks and capitals count"),
     ("load CSV made price:int,qty", "table refused: schema item at 10",
-     "price:int,qty\n            ^\n  a column is its name, a colon, and int, dec0 to dec9, date or text, with ? behind it where fields may be empty"),
+     "price:int,qty\n            ^\n  a column is its name, a colon, and int, dec0 to dec9, date or text, with ? behind it where fields may be empty, or skip"),
     ("session FILE SCRIPT", "query refused: line 2: unknown column at 11",
      "SELECT SUM(cost) FROM t\n             ^\n  no column is named \"cost\"; the columns are price, qty, city"),
     ("info CSV", "file refused: not a plane file", "daq load makes a plane file of a CSV, and daq ask asks a CSV as it is"),

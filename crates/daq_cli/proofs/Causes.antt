@@ -5,7 +5,7 @@ use Rattle.csv_load.specs.Faults as tables
 use Rattle.csv_load.specs.declared.fault.TableFault.{TableFault}
 use Rattle.csv_load.specs.declared.fault.TableFault.TheVariants as t
 use Rattle.daq_table.specs.SchemaFaults as schemas
-use Rattle.daq_table.specs.declared.schema_column.SchemaColumn.{SchemaColumn}
+use Rattle.daq_table.specs.declared.schema_item.SchemaItem.{SchemaItem}
 use Rattle.daq_table.specs.declared.schema_fault.SchemaFault.{SchemaFault}
 use Rattle.daq_table.specs.declared.schema_fault.SchemaFault.TheVariants as s
 use Rattle.sql_text.specs.Answer.{IsFault}
@@ -39,10 +39,12 @@ text_shown text result q.NoMemory why e too_long faulty is =
 pub schema_shown : (text : List ℕ) (fault : SchemaFault) (why : Refusal) → schemas.Refuses text fault → why ≡ of.schema fault → ShowsSchema text why ⊎ (why ≡ NoMemory)
 schema_shown text (s.BadItem at) why faulty is = inl (record { fault = s.BadItem at; shown = λ n. cc; is = is; faulty = faulty })
 schema_shown text (s.TooMany count) why faulty is = inl (record { fault = s.TooMany count; shown = λ n. cc; is = is; faulty = faulty })
+schema_shown text (s.TooManyItems count) why faulty is = inl (record { fault = s.TooManyItems count; shown = λ n. cc; is = is; faulty = faulty })
+schema_shown text s.NoColumn why faulty is = inl (record { fault = s.NoColumn; shown = λ n. cc; is = is; faulty = faulty })
 schema_shown text (s.RepeatedName first second) why faulty is = inl (record { fault = s.RepeatedName first second; shown = λ n. cc; is = is; faulty = faulty })
 schema_shown text s.NoMemory why faulty is = inr is
 
-pub table_shown : (columns : List SchemaColumn) (bytes : List ℕ) (fault : TableFault) (why : Refusal) → length bytes ≤ most_bytes → tables.Refuses bytes columns limits fault → why ≡ of.table fault →
+pub table_shown : (columns : List SchemaItem) (bytes : List ℕ) (fault : TableFault) (why : Refusal) → length bytes ≤ most_bytes → tables.Refuses bytes columns limits fault → why ≡ of.table fault →
     ShowsTable columns bytes why ⊎ (why ≡ NoMemory)
 table_shown columns bytes t.NoHeader why small faulty is = inl (record { small = small; fault = t.NoHeader; shown = λ n. cc; is = is; faulty = faulty })
 table_shown columns bytes (t.HeaderDiffers c) why small faulty is = inl (record { small = small; fault = t.HeaderDiffers c; shown = λ n. cc; is = is; faulty = faulty })

@@ -6,10 +6,10 @@ use Rattle.command_line.specs.Commands as line
 use Rattle.csv_load.specs.Laws as table_laws
 use Rattle.daq_table.specs.SchemaFaults as schemas
 use Rattle.daq_table.specs.SchemaLaws as schema_laws
-use Rattle.daq_table.specs.Schemas.{Declares}
+use Rattle.daq_table.specs.Schemas.{DeclaresItems}
 use Rattle.daq_table.specs.Tables.{Contents}
 use Rattle.daq_table.specs.declared.table_head.Head.{Head}
-use Rattle.daq_table.specs.declared.schema_column.SchemaColumn.{SchemaColumn}
+use Rattle.daq_table.specs.declared.schema_item.SchemaItem.{SchemaItem}
 use Rattle.daq_table.specs.declared.schema_fault.SchemaFault.{SchemaFault}
 use Rattle.daq_table.specs.declared.schema_fault.SchemaFault.TheVariants as s
 use Rattle.plane_file.specs.Bytes.{AreBytes}
@@ -75,11 +75,11 @@ module _ (law : Laws) where
   schema_complete : (text : List ℕ) → IsComplete (schema_step text)
   schema_complete text = by (law.schemas text)
     where
-      by : ((columns : List SchemaColumn) × Declares text columns) ⊎ ((fault : SchemaFault) × (fault ≢ s.NoMemory) × schemas.Refuses text fault) → IsComplete (schema_step text)
+      by : ((columns : List SchemaItem) × DeclaresItems text columns) ⊎ ((fault : SchemaFault) × (fault ≢ s.NoMemory) × schemas.Refuses text fault) → IsComplete (schema_step text)
       by (inl (columns, declared)) = inl (columns, declared)
       by (inr (fault, shown, faulty)) = inr (Schema fault, record { fault = fault; shown = shown; is = refl; faulty = faulty })
 
-  table_complete : (schema : List ℕ) (columns : List SchemaColumn) (bytes : List ℕ) → Declares schema columns → IsComplete (table_step columns bytes)
+  table_complete : (schema : List ℕ) (columns : List SchemaItem) (bytes : List ℕ) → DeclaresItems schema columns → IsComplete (table_step columns bytes)
   table_complete schema columns bytes declared = elim (cases_lt most_bytes (length bytes)) [
     | inl long ↦ inr (TooLong most_bytes, inl (record { longer = long; is = refl }))
     | inr small ↦ by small (law.tables bytes schema columns limits declared (lit≤ tt))

@@ -6,7 +6,7 @@ use Rattle.csv_load.specs.Laws as table_laws
 use Rattle.daq_table.specs.SchemaLaws as schema_laws
 use Rattle.daq_table.specs.Tables.{Contents}
 use Rattle.daq_table.specs.declared.table_head.Head.{Head}
-use Rattle.daq_table.specs.declared.schema_column.SchemaColumn.{SchemaColumn}
+use Rattle.daq_table.specs.declared.schema_item.SchemaItem.{SchemaItem}
 use Rattle.plane_file.specs.Laws as file_laws
 use Rattle.plane_reads.specs.Reads as reads_laws
 use Rattle.plane_reads.specs.Reads.{IsAnswer}
@@ -131,7 +131,7 @@ schema_exact law text = record {
 
 -- ---- the table of the input
 
-module _ (law : Laws) (columns : List SchemaColumn) (bytes : List ℕ) where
+module _ (law : Laws) (columns : List SchemaItem) (bytes : List ℕ) where
   table_same : (x y : Refusal) → (table_step columns bytes).shows x → (table_step columns bytes).shows y → x ≡ y
   table_same x y (inl p) (inl r) = p.is ∙ sym r.is
   table_same x y (inl p) (inr r) = let long = p.longer in let few = r.small in absurd (omega (arith, long, few))

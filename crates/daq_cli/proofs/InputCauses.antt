@@ -1,9 +1,9 @@
 -- Why each step of reading a table stops it.
 use Rattle.std.proofs.Common.{◌≡◌, ◌∙◌, ℕ, List, [], refl, sym, ap, subst, arith, inl, inr, ◌⊎◌, Option, Some, None}
 use Rattle.std.specs.Io.KnownBytes.{Consumes}
-use Rattle.daq_table.specs.Schemas.{Declares}
+use Rattle.daq_table.specs.Schemas.{DeclaresItems}
 use Rattle.daq_table.specs.Tables.{Contents}
-use Rattle.daq_table.specs.declared.schema_column.SchemaColumn.{SchemaColumn}
+use Rattle.daq_table.specs.declared.schema_item.SchemaItem.{SchemaItem}
 use Rattle.outer_world.specs.Device.{SourceState}
 use Rattle.outer_world.specs.Whole.{ReadsToEnd, StopsReading, Takes}
 use Rattle.outer_world.specs.declared.whole.ReadAllFault.{ReadAllFault}
@@ -30,7 +30,7 @@ module _ (schema : List ℕ) where
   stops_at_schema input why (inl p) = at_schema p refl
   stops_at_schema input why (inr e) = subst (InputCause schema input input) (sym e) (no_memory (nothing_taken input))
 
-  module _ (columns : List SchemaColumn) (declared : Declares schema columns) (input input' : SourceState) where
+  module _ (columns : List SchemaItem) (declared : DeclaresItems schema columns) (input input' : SourceState) where
     -- the input
     pub stops_reading : (fault : ReadAllFault) (why : Refusal) → StopsReading input input' most_bytes fault → why ≡ of.input fault → InputCause schema input input' why
     stops_reading all.Fault why stop e = subst (InputCause schema input input') (sym e) (read_fault (columns, declared) stop.rose stop.within)

@@ -1,12 +1,11 @@
 -- The table of a CSV under a schema can be spelled as a file of planes.
-use Rattle.std.proofs.Common.{◌≡◌, ℕ, zero, suc, ◌+◌, ◌*◌, ◌≤◌, ◌<◌, ℤ, pos, negsuc, neg_ℤ, ◌≤ℤ◌, ◌==◌, int_le, int_lt, FitsSigned, w64, nat_le, Bool, true, false, not, cond, IsTrue, IsFalse, is_some, All, Option, Some, None, List, [], ◌∷◌, ◌++◌, fold, slice_get, length, get_or, take, refl, sym, ap, subst, ◌∙◌, append-nil, inl, inr, arith}
+use Rattle.std.proofs.Common.{◌≡◌, ℕ, zero, suc, ◌+◌, ◌*◌, ◌≤◌, ◌<◌, ℤ, pos, negsuc, neg_ℤ, ◌≤ℤ◌, ◌==◌, int_le, int_lt, FitsSigned, w64, nat_le, Bool, true, false, not, cond, IsTrue, IsFalse, All, Option, Some, None, List, [], ◌∷◌, ◌++◌, fold, slice_get, length, get_or, take, refl, sym, ap, subst, ◌∙◌, append-nil, inl, inr, arith}
 use Rattle.std.proofs.Math.Seq.{take-length, take-suc}
 use Rattle.std.proofs.lemmas.Bool.{and_from, and_parts}
 use Rattle.std.proofs.lemmas.Bool.Decides.{Decides-int_eq, nat_tests}
 use Rattle.std.proofs.lemmas.Int.{ints}
 use Rattle.std.proofs.lemmas.List.{length-take-le, map-append}
 use Rattle.std.proofs.lemmas.List.Elements.{All-append, All-cons, All-head, All-map, All-nil, All-tail, filter-append}
-use Rattle.std.proofs.lemmas.List.Splits.{length-slice_split}
 use Rattle.std.proofs.lemmas.List.Sums.{AllPass-from_list_all, list_all-from_AllPass}
 use Rattle.std.proofs.lemmas.Map.Views.{All-insert_key}
 use Rattle.std.proofs.lemmas.Option.{slice_get-get_or, slice_get_cases, slice_get_within}
@@ -17,18 +16,22 @@ use Rattle.std.specs.List.{after_first, before_first, cons_option, list_all}
 use Rattle.std.specs.Ordering.{int_eq, nat_cmp}
 use Rattle.std.specs.Str.{is_utf8}
 use Rattle.daq_table.proofs.Items.{scales_fit}
+use Rattle.daq_table.proofs.Kept.{columns_declared}
 use Rattle.daq_table.specs.CellTexts.{dec_value, int_value}
 use Rattle.daq_table.specs.ColumnFacts.{are_ranks, fits_names}
-use Rattle.daq_table.specs.Schemas.{Declares, bad_place, column_named, column_of, columns_of, fits_scale, is_nullable_word, is_schema_name, items_of, kind_of, kind_word}
+use Rattle.daq_table.specs.Schemas.{DeclaresItems, column_named, column_of, columns_in, columns_of, fits_scale, is_nullable_word, is_schema_name, items_of, kind_of, kind_word}
 use Rattle.daq_table.specs.Tables.{Cell, Contents}
 use Rattle.daq_table.specs.ValueTexts.{HasText, HasTexts, IsDay}
 use Rattle.daq_table.specs.declared.head.ColumnHead.{ColumnHead}
 use Rattle.daq_table.specs.declared.head.Kind.{Kind}
 use Rattle.daq_table.specs.declared.head.Kind.TheVariants.{Int, Dec, Date, Text}
 use Rattle.daq_table.specs.declared.schema_column.SchemaColumn.{SchemaColumn}
+use Rattle.daq_table.specs.declared.schema_item.SchemaItem.{SchemaItem}
 use Rattle.csv_load.proofs.EndFacts.{greatest_has, least_has}
 use Rattle.csv_load.proofs.HeadTexts.{have_texts}
+use Rattle.csv_load.proofs.KeptRows.{rows_count}
 use Rattle.csv_load.specs.Columns.{IsShortText, IsValue, column_texts, dictionary, greatest, is_null, least, names_after, numbers_of, present}
+use Rattle.csv_load.specs.Kept.{kept_rows}
 use Rattle.csv_load.specs.Records.{Fields}
 use Rattle.csv_load.specs.Rows.{AreGoodRows}
 use Rattle.csv_load.specs.TableOf.{IsColumnOf, IsTableOf}
@@ -66,14 +69,6 @@ good_step (Some column) columns h rest = All-cons IsGood column columns h rest
 names_good : (items : List (List ℕ)) → All IsGood (columns_of items)
 names_good [] = All-nil IsGood
 names_good (item ∷ items) = good_step (column_of item) (columns_of items) (item_good item) (names_good items)
-
-some_step : (c : Option SchemaColumn) (at : ℕ) (rest : Option ℕ) (columns : List SchemaColumn) → cond (is_some c) rest (Some at) ≡ None → 1 ≤ length (cons_option c columns)
-some_step None at rest columns e = absurd cc
-some_step (Some column) at rest columns e = omega arith
-
-some_columns : (items : List (List ℕ)) (n : ℕ) → length items ≡ n + 1 → bad_place 0 items ≡ None → 1 ≤ length (columns_of items)
-some_columns [] n long good = absurd (omega (arith, long))
-some_columns (item ∷ items) n long good = some_step (column_of item) 0 (bad_place (0 + length item + 1) items) (columns_of items) good
 
 -- ---- the names of a column
 
@@ -234,29 +229,28 @@ few_cells columns rows (suc n) good e =
     let long : length (take n rows) ≡ n = length-take-le n rows (omega (arith, e)) in
     subst (λ m. suc m * length columns ≤ 134217728) long room
 
-pub can_be_spelled : (schema bytes : List ℕ) (columns : List SchemaColumn) (table : Contents) → Declares schema columns → IsTableOf bytes columns limits table → CanBeSpelled table.head
-can_be_spelled schema bytes columns table declared t =
-    let items = items_of schema in
-    let is_all : columns ≡ columns_of items = declared.items.columns_are in
-    let some : 1 ≤ length columns = rw is_all (some_columns items _ (length-slice_split (λ c. c == 44) schema) declared.items.good) in
-    let named : All IsGood columns = rw is_all (names_good items) in
-    let scales : All (λ (x : SchemaColumn). fits_scale x.kind ≡ true) columns = rw is_all (AllPass-from_list_all (λ (x : SchemaColumn). fits_scale x.kind) (columns_of items) (scales_fit items)) in
+pub can_be_spelled : (schema bytes : List ℕ) (items : List SchemaItem) (table : Contents) → DeclaresItems schema items → IsTableOf bytes items limits table → CanBeSpelled table.head
+can_be_spelled schema bytes items table declared t =
+    let texts = items_of schema in
+    let is_all : columns_in items ≡ columns_of texts = ap columns_in declared.all.items_are ∙ columns_declared texts in
+    let named : All IsGood (columns_in items) = rw is_all (names_good texts) in
+    let scales : All (λ (x : SchemaColumn). fits_scale x.kind ≡ true) (columns_in items) = rw is_all (AllPass-from_list_all (λ (x : SchemaColumn). fits_scale x.kind) (columns_of texts) (scales_fit texts)) in
     let heads = t.heads in
     record {
-      some = omega (arith, some, heads);
-      cells = rw (t.count, t.heads) (few_cells columns t.rows (length t.rows) t.good refl);
-      each = λ c head e. each_spelled c head e some named scales;
+      some = omega (arith, declared.some, heads);
+      cells = rw (t.count, t.heads) (few_cells (columns_in items) (kept_rows items t.rows) (length t.rows) t.good (rows_count items t.rows));
+      each = λ c head e. each_spelled c head e named scales;
     }
   where
-    each_spelled : (c : ℕ) (head : ColumnHead) → slice_get table.head.columns c ≡ Some head → 1 ≤ length columns → All IsGood columns → All (λ (x : SchemaColumn). fits_scale x.kind ≡ true) columns → CanBeSpelledColumn head
-    each_spelled c head e some named scales =
+    each_spelled : (c : ℕ) (head : ColumnHead) → slice_get table.head.columns c ≡ Some head → All IsGood (columns_in items) → All (λ (x : SchemaColumn). fits_scale x.kind ≡ true) (columns_in items) → CanBeSpelledColumn head
+    each_spelled c head e named scales =
         let lt = slice_get_within table.head.columns c head e in
         let cells = get_or table.cells c [] in
         let cells_are : slice_get table.cells c ≡ Some cells = slice_get-get_or table.cells c [] (omega (arith, lt, t.heads, t.lists)) in
-        elim (slice_get_cases columns c).1 [
+        elim (slice_get_cases (columns_in items) c).1 [
           | inl found ↦
-              column_spelled columns t.rows t.good c found.0 found.2
+              column_spelled (columns_in items) (kept_rows items t.rows) t.good c found.0 found.2
               (subst IsGood found.3 (named c found.0 found.1)) (subst (λ (x : SchemaColumn). fits_scale x.kind ≡ true) found.3 (scales c found.0 found.1))
-              head cells (t.each c found.0 head cells found.2 e cells_are) (have_texts bytes columns limits table t c head e)
+              head cells (t.each c found.0 head cells found.2 e cells_are) (have_texts bytes items limits table t c head e)
           | inr past ↦ absurd (omega (arith, lt, past.0, t.heads))
         ]

@@ -7,9 +7,9 @@ use Rattle.csv_load.specs.declared.fault.TableFault.{TableFault}
 use Rattle.csv_load.specs.declared.fault.TableFault.TheVariants as t
 use Rattle.csv_load.specs.declared.limits.Limits.{Limits}
 use Rattle.daq_table.specs.SchemaFaults as schemas
-use Rattle.daq_table.specs.Schemas.{Declares}
+use Rattle.daq_table.specs.Schemas.{DeclaresItems}
 use Rattle.daq_table.specs.Tables.{Contents}
-use Rattle.daq_table.specs.declared.schema_column.SchemaColumn.{SchemaColumn}
+use Rattle.daq_table.specs.declared.schema_item.SchemaItem.{SchemaItem}
 use Rattle.daq_table.specs.declared.schema_fault.SchemaFault.{SchemaFault}
 use Rattle.daq_table.specs.declared.schema_fault.SchemaFault.TheVariants as s
 use Rattle.outer_world.specs.Device.{Rose, SourceState}
@@ -28,20 +28,20 @@ limits = record { rows = 16777216; cells = 134217728; names = 65536 }
 
 -- ---- the steps
 
--- the text declares no columns
+-- the text declares nothing
 pub record ShowsSchema (text : List ℕ) (why : Refusal) : Type 0 where
   pub fault : SchemaFault
   pub shown : fault ≢ s.NoMemory
   pub is : why ≡ Schema fault
   pub faulty : schemas.Refuses text fault
 
-abbrev pub schema_step : List ℕ → Step (List SchemaColumn)
-schema_step text = record { accepts = Declares text; shows = ShowsSchema text }
+abbrev pub schema_step : List ℕ → Step (List SchemaItem)
+schema_step text = record { accepts = DeclaresItems text; shows = ShowsSchema text }
 
 -- the bytes are few enough, and stand for the table
-pub record IsTableText (columns : List SchemaColumn) (bytes : List ℕ) (table : Contents) : Type 0 where
+pub record IsTableText (items : List SchemaItem) (bytes : List ℕ) (table : Contents) : Type 0 where
   pub small : length bytes ≤ most_bytes
-  pub is_table : IsTableOf bytes columns limits table
+  pub is_table : IsTableOf bytes items limits table
 
 -- they are too many
 pub record ShowsLength (bytes : List ℕ) (why : Refusal) : Type 0 where
@@ -49,25 +49,25 @@ pub record ShowsLength (bytes : List ℕ) (why : Refusal) : Type 0 where
   pub is : why ≡ TooLong most_bytes
 
 -- they stand for no table
-pub record ShowsTable (columns : List SchemaColumn) (bytes : List ℕ) (why : Refusal) : Type 0 where
+pub record ShowsTable (items : List SchemaItem) (bytes : List ℕ) (why : Refusal) : Type 0 where
   pub small : length bytes ≤ most_bytes
   pub fault : TableFault
   pub shown : fault ≢ t.NoMemory
   pub is : why ≡ Table fault
-  pub faulty : tables.Refuses bytes columns limits fault
+  pub faulty : tables.Refuses bytes items limits fault
 
-abbrev pub table_step : List SchemaColumn → List ℕ → Step Contents
-table_step columns bytes =
-    record { accepts = IsTableText columns bytes; shows = λ why. ShowsLength bytes why ⊎ ShowsTable columns bytes why }
+abbrev pub table_step : List SchemaItem → List ℕ → Step Contents
+table_step items bytes =
+    record { accepts = IsTableText items bytes; shows = λ why. ShowsLength bytes why ⊎ ShowsTable items bytes why }
 
 -- the schema, and then the table of these bytes
 abbrev pub input_step : List ℕ → List ℕ → Step Contents
-input_step schema bytes = then (schema_step schema) (λ columns. table_step columns bytes)
+input_step schema bytes = then (schema_step schema) (λ items. table_step items bytes)
 
 -- ---- what becomes of an input
 
 abbrev pub IsSchema : List ℕ → Type 0
-IsSchema text = (columns : List SchemaColumn) × Declares text columns
+IsSchema text = (items : List SchemaItem) × DeclaresItems text items
 
 -- the input was read to its end, and its bytes stand for the table under the schema
 pub record ReadsTable (schema : List ℕ) (input input' : SourceState) (table : Contents) : Type 0 where

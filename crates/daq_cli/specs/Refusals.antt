@@ -38,6 +38,9 @@ text_fault_text text.NoMemory = codes "no memory"
 abbrev pub schema_fault_text : SchemaFault → List ℕ
 schema_fault_text (schema.BadItem at) = codes "table refused: schema item at " ++ signed_decimal (pos at)
 schema_fault_text (schema.TooMany count) = codes "table refused: " ++ signed_decimal (pos count) ++ codes " schema items"
+schema_fault_text (schema.TooManyItems count) =
+    codes "table refused: " ++ signed_decimal (pos count) ++ codes " schema items with those skipped"
+schema_fault_text schema.NoColumn = codes "table refused: all schema items are skipped"
 schema_fault_text (schema.RepeatedName first second) =
     codes "table refused: schema items " ++ signed_decimal (pos (first + 1)) ++ codes " and " ++ signed_decimal (pos (second + 1))
     ++ codes " have one name"

@@ -114,6 +114,12 @@ pub(crate) fn written_schema_fault(fault: &SchemaFault) -> TextBuf
         SchemaFault::TooMany { count } => {
             with_number(b"table refused: ", counted(*count), b" schema items")
         }
+        SchemaFault::TooManyItems { count } => with_number(
+            b"table refused: ",
+            counted(*count),
+            b" schema items with those skipped",
+        ),
+        SchemaFault::NoColumn => plain(b"table refused: all schema items are skipped"),
         SchemaFault::RepeatedName { first, second } => {
             let front = with_number(b"table refused: schema items ", after(*first), b" and ");
             with_number(front.bytes(), after(*second), b" have one name")

@@ -37,21 +37,28 @@ pub(crate) fn column_number(schema: &str, number: usize) -> Option<Column<'_>> {
     Some(column_of(item))
 }
 
-// The column with this name.
+// The column of a table with this name: one that is not skipped.
 pub(crate) fn column_named<'a>(schema: &'a str, name: &str) -> Option<Column<'a>> {
     for item in schema.split(',') {
         let column = column_of(item);
-        if column.name == name {
+        if column.name == name && column.kind != "skip" {
             return Some(column);
         }
     }
     None
 }
 
-// Appends the names of the columns.
-pub(crate) fn push_names(out: &mut String, schema: &str) -> Result<(), AllocError> {
+// Appends the names of the columns, of all or of those that are not skipped.
+pub(crate) fn push_names(
+    out: &mut String,
+    schema: &str,
+    only_kept: bool,
+) -> Result<(), AllocError> {
     let mut count = 0usize;
     for item in schema.split(',') {
+        if only_kept && column_of(item).kind == "skip" {
+            continue;
+        }
         if count == MOST_LISTED {
             return out.push_str(", ..");
         }

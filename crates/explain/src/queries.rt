@@ -61,7 +61,7 @@ fn push_unknown(out: &mut String, placed: &Placed<'_>) -> Result<(), AllocError>
         return Ok(());
     }
     out.push_str("; the columns are ")?;
-    push_names(out, placed.schema)
+    push_names(out, placed.schema, true)
 }
 
 // Appends what types go together.

@@ -19,13 +19,17 @@ fn schema_of<'a>(scene: &Scene<'a>) -> &'a str {
 // The sentence on a limit of schemas and tables, or nothing.
 fn limit_sentence(why: &str) -> &'static str {
     if why.ends_with(" schema items") {
-        "a table has at most 64 columns"
+        "a table has at most 64 columns: skip some"
+    } else if why.ends_with(" schema items with those skipped") {
+        "a schema has at most 1024 columns, those that are skipped with them"
+    } else if why == "all schema items are skipped" {
+        "a table has at least one column"
     } else if why.starts_with("longer than ") {
         "a CSV has at most 1073741824 bytes: load it in parts"
     } else if why.starts_with("more than ") {
         "a table has at most 16777216 rows"
     } else if why.ends_with(" cells") {
-        "rows times columns come to at most 134217728: leave columns out, or load it in parts"
+        "rows times columns come to at most 134217728: skip columns, or load it in parts"
     } else if why == "no header" {
         "the first line of a CSV names its columns"
     } else {
@@ -122,7 +126,7 @@ fn explain_header(
         }
         (None, _) => {
             out.push_str("  the header ends before; the schema has the columns ")?;
-            push_names(out, schema_of(scene))?;
+            push_names(out, schema_of(scene), false)?;
             out.push_str("\n")
         }
     }
@@ -132,7 +136,7 @@ fn explain_header(
 fn explain_item(out: &mut String, schema: &str, at: usize) -> Result<(), AllocError> {
     push_caret(out, schema, at)?;
     out.push_str(
-        "  a column is its name, a colon, and int, dec0 to dec9, date or text, with ? behind it where fields may be empty\n",
+        "  a column is its name, a colon, and int, dec0 to dec9, date or text, with ? behind it where fields may be empty, or skip\n",
     )
 }
 
@@ -152,7 +156,7 @@ fn explain_columns(out: &mut String, schema: &str, why: &str) -> Result<(), Allo
             let name = column_number(schema, number).map_or("", |column| column.name);
             out.push_str("  ")?;
             push_quoted(out, name)?;
-            out.push_str(" has more than 65536 different texts: leave it out of the CSV\n")
+            out.push_str(" has more than 65536 different texts: its type may be skip\n")
         }
         None => Ok(()),
     }

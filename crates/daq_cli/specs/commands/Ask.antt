@@ -2,7 +2,7 @@
 use Rattle.std.specs.Prelude.{◌≡◌, ◌⊎◌, ℕ, ◌≤◌, List, length, Some}
 use Rattle.std.specs.declared.option.Option.{Option}
 use Rattle.command_line.specs.Commands.{Ask}
-use Rattle.daq_table.specs.declared.schema_column.SchemaColumn.{SchemaColumn}
+use Rattle.daq_table.specs.declared.schema_item.SchemaItem.{SchemaItem}
 use Rattle.outer_world.specs.Device.{Rose, SourceState, SinkState}
 use Rattle.outer_world.specs.Whole.{ReadsToEnd, Takes}
 use Rattle.daq_cli.specs.Inputs.{StopsAtInput, most_bytes, schema_step, table_step}
@@ -15,18 +15,18 @@ use Rattle.daq_cli.specs.declared.refusal.Refusal.TheVariants.{ReadFault, WriteF
 -- ---- the steps
 
 -- the words alone: the SQL is judged before the schema
-abbrev pub words_step : Ask → Step (List SchemaColumn)
+abbrev pub words_step : Ask → Step (List SchemaItem)
 words_step ask = then (sql_step ask.sql) (λ query. schema_step ask.schema)
 
 -- and where the input has these bytes: then its table, and the question to it
 abbrev pub ask_step : Ask → List ℕ → Step Question
 ask_step ask bytes =
-    then (sql_step ask.sql) (λ query. then (schema_step ask.schema) (λ columns.
-    then (table_step columns bytes) (λ table. question_step query ask.options table)))
+    then (sql_step ask.sql) (λ query. then (schema_step ask.schema) (λ items.
+    then (table_step items bytes) (λ table. question_step query ask.options table)))
 
 -- the words are not refused
 abbrev pub AcceptsWords : Ask → Type 0
-AcceptsWords ask = (columns : List SchemaColumn) × (words_step ask).accepts columns
+AcceptsWords ask = (items : List SchemaItem) × (words_step ask).accepts items
 
 -- what the words show, or with them an input that tells its bytes
 abbrev pub AskShows : Ask → Option (List ℕ) → Refusal → Type 0

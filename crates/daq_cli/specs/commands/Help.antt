@@ -20,7 +20,7 @@ help_text =
     ++ (codes "  --list            with ORDER BY, also shows the rows that may be among the first\n"
     ++ (codes "  --clip            shows the interval of a sum or an extreme whose column the condition clips\n"
     ++ (codes "  --exact-avg       shows the exact extremes of an average\n\n"
-    ++ (codes "A schema names each column of the CSV with its type: int, dec0 to dec9, date or text, and ? where it may be empty:\n\n"
+    ++ (codes "A schema names each column of the CSV with its type: int, dec0 to dec9, date or text, ? where it may be empty, or skip:\n\n"
     ++ (codes "  daq ask shop.csv price:int,qty:int?,city:text 'SELECT city, SUM(price) FROM t WHERE qty > 2 GROUP BY city'\n\n"
     ++ (codes "The table is always t. A query has at most 16 columns, 16 aggregates, 64 values in an IN, and 1,000 rows behind LIMIT.\n"
     ++ (codes "A session has at most 16 queries, which name 16 columns together. The manual: man daq\n"))))))))))))))))))))

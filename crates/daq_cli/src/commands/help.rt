@@ -34,7 +34,7 @@ fn write_help<K: Sink>(out: &mut K) -> Result<(), Failed>
             b"  --list            with ORDER BY, also shows the rows that may be among the first\n",
             b"  --clip            shows the interval of a sum or an extreme whose column the condition clips\n",
             b"  --exact-avg       shows the exact extremes of an average\n\n",
-            b"A schema names each column of the CSV with its type: int, dec0 to dec9, date or text, and ? where it may be empty:\n\n",
+            b"A schema names each column of the CSV with its type: int, dec0 to dec9, date or text, ? where it may be empty, or skip:\n\n",
             b"  daq ask shop.csv price:int,qty:int?,city:text 'SELECT city, SUM(price) FROM t WHERE qty > 2 GROUP BY city'\n\n",
             b"The table is always t. A query has at most 16 columns, 16 aggregates, 64 values in an IN, and 1,000 rows behind LIMIT.\n",
             b"A session has at most 16 queries, which name 16 columns together. The manual: man daq\n",
