@@ -21,6 +21,7 @@ LIMITS = {
     "bytes of a CSV": ("daq_cli/src/inputs.rt", r"MOST_BYTES: usize = "),
     "rows, of a CSV": ("csv_load/src/limits.rt", r"rows: "),
     "columns |": ("daq_table/src/schema.rt", r"columns\.len\(\) > "),
+    "columns of a CSV": ("daq_table/src/schema.rt", r"items\.len\(\) > "),
     "cells: rows times columns": ("csv_load/src/limits.rt", r"cells: "),
     "different texts in a column": ("csv_load/src/limits.rt", r"names: "),
     "bytes of a text |": ("csv_load/src/values.rt", r"bytes\.len\(\) <= "),
