@@ -1,4 +1,4 @@
-"""Guesses the schema of a CSV: for each column the narrowest type that all its fields have; and says what would be refused."""
+"""Guesses the schema of a CSV: for each column the narrowest type that all its fields have, or skip where it would be refused."""
 from __future__ import annotations
 
 import csv
@@ -7,7 +7,7 @@ import re
 from dataclasses import dataclass, field as default_of
 from decimal import Decimal
 from fractions import Fraction
-from typing import Iterable, Iterator, Optional, Sequence
+from typing import Callable, Iterable, Iterator, Optional, Sequence
 
 from .errors import FileError, TableError
 
@@ -81,17 +81,21 @@ class Guess:
         """The type of all that is not for nothing, where it is not text."""
         return self.number_type() or ("date" if self.any and self.dates else None)
 
-    def type(self) -> str:
+    def kind(self) -> str:
+        """The narrowest type that all fields have."""
         kind = "text" if self.nothings else self.narrow_type() or "text"
         return kind + "?" * self.empty
 
-    def refusals(self) -> Iterator[str]:
-        """Why a column of this type would be refused, and what to do."""
-        if self.type().startswith("text"):
+    def type(self) -> str:
+        return "skip" if any(self.skips()) else self.kind()
+
+    def skips(self) -> Iterator[str]:
+        """Why a column of this type would be refused, and so is skipped."""
+        if self.kind().startswith("text"):
             if len(self.texts) > MOST_TEXTS:
-                yield "it has more than 65,536 different texts: leave it out, by skip in daq.load"
+                yield "it has more than 65,536 different texts: skipped"
             if self.longest > MOST_BYTES:
-                yield "a text has more than 255 bytes: leave the column out, or make its texts shorter"
+                yield "a text has more than 255 bytes: skipped; make its texts shorter to keep it"
 
     def advice(self) -> Iterator[str]:
         """What another type would take."""
@@ -101,7 +105,7 @@ class Guess:
             yield "all but %s is %s: where that stands for nothing, leave the field empty and write %s?" % (told, narrow, narrow)
         if self.any and self.numbers and self.scale > 9:
             yield "its numbers have %d decimals, and a column has at most 9: round them for a dec9" % self.scale
-        if self.type().startswith("int") and self.zeros:
+        if self.kind().startswith("int") and self.zeros:
             yield "its numbers have zeros in front, which int drops: text keeps them"
 
 
@@ -120,21 +124,32 @@ def name_fault(name: str, before: Sequence[str]) -> str:
 
 
 class Guesses:
-    """The columns of a CSV by name, with what their fields are."""
+    """The columns of a CSV by name, with what their fields are. Of those that are to be skipped nothing is asked."""
 
-    def __init__(self, records: Iterable[list[str]]) -> None:
+    def __init__(self, records: Iterable[list[str]], skip: Sequence[str] = ()) -> None:
         rest = iter(records)
         names = next(rest, None)
         if names is None:
             raise TableError("no header", hint="The first record of a CSV names its columns.")
-        self.names, self.columns = names, [Guess() for _ in names]
+        check_names(names, skip)
+        self.names, self.columns = names, [None if name in skip else Guess() for name in names]
+        kept = [(place, column) for place, column in enumerate(self.columns) if column]
         for record in rest:
-            for column, field in zip(self.columns, record):
-                column.take(field)
+            for place, column in kept:
+                if place < len(record):
+                    column.take(record[place])
+
+    @property
+    def types(self) -> list[str]:
+        return [column.type() if column else "skip" for column in self.columns]
 
     @property
     def schema(self) -> str:
-        return ",".join("%s:%s" % (name, column.type()) for name, column in zip(self.names, self.columns))
+        return ",".join("%s:%s" % item for item in zip(self.names, self.types))
+
+    def notes_of(self, told: Callable[[Guess], Iterable[str]]) -> list[tuple[int, str]]:
+        """What is told of columns, by number."""
+        return [(number, why) for number, column in enumerate(self.columns, 1) if column for why in told(column)]
 
     def name_faults(self) -> Iterator[tuple[int, str]]:
         """The columns, by number, whose names stand in no schema, and why."""
@@ -144,13 +159,17 @@ class Guesses:
                 yield number, fault
 
     def refusals(self) -> list[tuple[int, str]]:
-        """The columns, by number, that would be refused, and what to do."""
-        more = [(MOST_COLUMNS + 1, "a CSV has at most 64 columns: leave some out, by skip in daq.load")] if len(self.names) > MOST_COLUMNS else []
-        found = [*more, *self.name_faults(), *((number, why) for number, column in enumerate(self.columns, 1) for why in column.refusals())]
-        return sorted(found)
+        """The columns, by number, that would be refused although some are skipped, and what to do."""
+        kept = [number for number, kind in enumerate(self.types, 1) if kind != "skip"]
+        more = [(kept[MOST_COLUMNS], "a table has at most 64 columns: skip some")] if len(kept) > MOST_COLUMNS else []
+        none = [] if kept else [(len(self.names), "a table has at least one column, and all of these are skipped")]
+        return sorted([*more, *none, *self.name_faults()])
+
+    def skipped(self) -> list[tuple[int, str]]:
+        return self.notes_of(Guess.skips)
 
     def advice(self) -> list[tuple[int, str]]:
-        return [(number, why) for number, column in enumerate(self.columns, 1) for why in column.advice()]
+        return self.notes_of(Guess.advice)
 
 
 def records_of(path: str, delimiter: str = ",") -> Iterator[list[str]]:
@@ -167,9 +186,29 @@ def records_of(path: str, delimiter: str = ",") -> Iterator[list[str]]:
         raise TableError("no CSV: %s" % error) from error
 
 
-def guess_schema(path: str) -> str:
-    """The schema of the CSV at the path, as price:dec2,city:text?."""
-    guesses = Guesses(records_of(path))
+def check_names(names: Sequence[str], skip: Sequence[str]) -> None:
+    unknown = next((name for name in skip if name not in names), None)
+    if unknown is not None:
+        raise TableError("no column has the name %s" % unknown, hint="The columns are %s." % ", ".join(names))
+
+
+def can_skip(path: str, skip: Sequence[str]) -> bool:
+    """Whether a schema can skip these columns: all names of the header can stand in one."""
+    names = next(records_of(path), [])
+    check_names(names, skip)
+    return not any(name_fault(name, names[:place]) for place, name in enumerate(names))
+
+
+def with_skips(path: str, skip: Sequence[str], schema: str) -> str:
+    """The schema of the columns that are left, with those that are skipped."""
+    left = iter(schema.split(","))
+    items = ("%s:skip" % name if name in skip else next(left, None) for name in next(records_of(path), []))
+    return ",".join([item for item in items if item is not None] + [*left])
+
+
+def guess_schema(path: str, skip: Sequence[str] = ()) -> str:
+    """The schema of the CSV at the path, as price:dec2,city:text?,comment:skip."""
+    guesses = Guesses(records_of(path), skip)
     for number, fault in guesses.name_faults():
         cause = "the name of column %d cannot stand in a schema: %r" % (number, guesses.names[number - 1][:80])
         raise TableError(cause, column=number, hint=fault[:1].upper() + fault[1:] + ".")

@@ -27,12 +27,14 @@ _QUERY = (
     (r"read .* past", "reads asks for more planes than the column has: see columns."),
 )
 _TABLE = (
-    (r"schema item at", "A column of a schema is a name, a colon, and int, dec0 to dec9, date or text, and ? where it may be empty."),
+    (r"schema item at", "A column of a schema is a name, a colon, and int, dec0 to dec9, date or text, and ? where it may be empty, or skip."),
     (r"schema items .* one name", "Give one of the columns another name, in the header too."),
     (r"header differs", "The schema names all columns in the order of the header; blanks and capitals count."),
     (r"has \d+ fields", "Each record has as many fields as the header; a field with a comma stands in double quotes."),
-    (r"has too many names", "A text column has at most 65,536 different texts: leave it out of the CSV."),
+    (r"has too many names", "A text column has at most 65,536 different texts: its type in the schema may be skip."),
     (r"no header", "The first record of a CSV names its columns."),
+    (r"items with those skipped", "A schema has at most 1,024 items."),
+    (r"items are skipped", "A table has at least one column."),
     (r"longer than|rows|cells|schema items", "A CSV has at most 2^30 bytes, 64 columns, 2^24 rows and 2^27 cells."),
 )
 

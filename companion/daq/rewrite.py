@@ -6,7 +6,7 @@ from dataclasses import dataclass
 from typing import Iterator, Sequence, Union
 
 from .errors import FileError, TableError
-from .guess import records_of
+from .guess import check_names, records_of
 
 
 @dataclass(frozen=True)
@@ -27,7 +27,8 @@ class Rewriting:
 
     @property
     def changes(self) -> bool:
-        return bool(self.skip or self.null or self.delimiter != ",")
+        """Whether more is changed than that columns are left out."""
+        return bool(self.null or self.delimiter != ",")
 
 
 def rewrite(given: str, made: str, rewriting: Rewriting) -> None:
@@ -42,9 +43,7 @@ def rewrite(given: str, made: str, rewriting: Rewriting) -> None:
 def _records(given: str, rewriting: Rewriting) -> Iterator[list[str]]:
     records = records_of(given, rewriting.delimiter)
     names = next(records, [])
-    unknown = next((name for name in rewriting.skip if name not in names), None)
-    if unknown is not None:
-        raise TableError("no column has the name %s" % unknown, hint="The columns are %s." % ", ".join(names))
+    check_names(names, rewriting.skip)
     kept = [place for place, name in enumerate(names) if name not in rewriting.skip]
     yield [names[place] for place in kept]
     for number, record in enumerate(records, 2):

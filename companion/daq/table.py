@@ -9,7 +9,7 @@ from typing import Callable, Iterator, Optional, Sequence, Union
 
 from .errors import CutError, FileError, QueryError, ReportError
 from .goal import Goal, Within
-from .guess import guess_schema
+from .guess import can_skip, guess_schema, with_skips
 from .program import Failed, Run, file_error, find_program, load_error, output_of, query_error
 from .report import Block, Report
 from .result import Result
@@ -159,9 +159,9 @@ def load(csv: Union[str, os.PathLike], file: Union[str, os.PathLike], schema: Op
          null: Union[str, Sequence[str], None] = None, delimiter: str = ",", program: Optional[str] = None) -> Table:
     """Writes the table of a CSV as a plane file, and opens it. A schema that is not given is guessed.
 
-    `skip` names columns that are left out, `null` the texts that stand for nothing, and `delimiter` what separates fields: for these the CSV
-    is written anew, beside the file, before it is loaded; a schema then names the columns that are left. What stood at the path of the file
-    stands there until the new file is whole.
+    `skip` names columns that are left out: a schema then names those that are left. `null` are the texts that stand for nothing, and
+    `delimiter` is what separates fields: for these, or to skip a column whose name cannot stand in a schema, the CSV is written anew, beside
+    the file, before it is loaded. What stood at the path of the file stands there until the new file is whole.
     """
     csv, file = os.fspath(csv), os.fspath(file)
     check_target(csv, file)
@@ -170,10 +170,11 @@ def load(csv: Union[str, os.PathLike], file: Union[str, os.PathLike], schema: Op
     target = os.path.realpath(file)
     rewriting = Rewriting.of(skip, null, delimiter)
     with temporary(target, "csv") as clean, temporary(target, "part") as part:
-        if rewriting.changes:
+        given, left_out = csv, rewriting.skip
+        if rewriting.changes or left_out and not can_skip(csv, left_out):
             rewrite(csv, clean, rewriting)
-        given = clean if rewriting.changes else csv
-        schema = guess_schema(given) if schema is None else schema
+            given, left_out = clean, ()
+        schema = guess_schema(given, left_out) if schema is None else with_skips(given, left_out, schema) if left_out else schema
         try:
             lines = output_of(found, ["load", given, part, schema])
         except Failed as failed:

@@ -166,11 +166,11 @@ def picture_of(given: argparse.Namespace) -> Picture:
 
 
 def schema(given: argparse.Namespace) -> int:
-    """Prints the guessed schema, and on standard error each column that would be refused, and advice."""
+    """Prints the guessed schema, and on standard error each column that is skipped or would be refused, and advice."""
     guesses = Guesses(records_of(given.csv, given.delimiter))
     print(guesses.schema)
     refusals = guesses.refusals()
-    for number, why in refusals + guesses.advice():
+    for number, why in sorted(refusals + guesses.skipped()) + guesses.advice():
         name = guesses.names[number - 1] if number <= len(guesses.names) else ""
         print("daq-view: column %d%s: %s" % (number, name and " " + name, why), file=sys.stderr)
     return SCHEMA_REFUSED if refusals else 0

@@ -11,7 +11,7 @@ SCHEMAS = (
     ("a\n1\n2\n", "a:int"), ("a,b\n1.50,\n2,x\n", "a:dec1,b:text?"), ("a\n2024-02-29\n2024-02-30\n", "a:text"), ("a\n0001-01-01\n", "a:date"),
     ("a,b\n,\n,1\n", "a:text?,b:int?"), ("a\n+.5\n-1.\n.\n", "a:text"), ("a\n1.0000000001\n", "a:text"), ("a\n9223372036854775807\n", "a:int"),
     ("a\n9223372036854775808\n", "a:text"), ("a\n922337203685477580.71\n", "a:text"), ('a,b\n"1,5",2\n\n3,4\n', "a:text,b:int"),
-    ("a\n00012\n1" + "0" * 60 + "\n", "a:text"), ("a\n\u0663\n", "a:text"), ("\ufeffa\n1.10\n-2.00\n", "a:dec1"), ("a\n" + "9" * 5000 + "\n", "a:text"),
+    ("a\n00012\n1" + "0" * 60 + "\n", "a:text"), ("a\n\u0663\n", "a:text"), ("\ufeffa\n1.10\n-2.00\n", "a:dec1"), ("a\n" + "9" * 5000 + "\n", "a:skip"),
     ("a,b\n1,2024-02-29\nNA,NULL\n", "a:text,b:text"), ("a\nNA\n", "a:text"), ("a\n007\n", "a:int"))
 EXAMPLES = {
     "clocks": "area:text,city:text,day:date,ahead:int,step:int", "gaps": "v:int?,w:int?", "p": "price:int", "shop": "price:int,qty:int,city:text",
@@ -38,14 +38,25 @@ class Schemas(unittest.TestCase):
                 self.assertEqual(guess_schema(TOP / "examples" / (name + ".csv")), schema)
 
     def test_what_would_be_refused(self):
-        many = "a,b\n" + "".join("%d,x%d\n" % (number, number) for number in range(65_537))
-        for text, number, told in ((many, 2, "more than 65,536"), ("a\n" + "x" * 256 + "\n", 1, "more than 255 bytes"), ("a:b\n1\n", 1, "a name has"),
-                                   ("a,a\n1,2\n", 2, "has this name"), (",".join("c%d" % place for place in range(65)) + "\n", 65, "at most 64")):
+        long = "a\n" + "x" * 256 + "\n"
+        for text, number, told in ((long, 1, "at least one"), ("a:b\n1\n", 1, "a name has"), ("a,a\n1,2\n", 2, "has this name"),
+                                   (",".join("c%d" % place for place in range(65)) + "\n", 65, "at most 64")):
             with self.subTest(text[:20]):
                 (found, why), = self.guesses(text).refusals()
                 self.assertEqual(found, number)
                 self.assertIn(told, why)
         self.assertEqual(self.guesses("a\n" + "\u20ac" * 85 + "\n").refusals(), [])
+
+    def test_what_is_skipped(self):
+        many = "a,b\n" + "".join("%d,x%d\n" % (number, number) for number in range(65_537))
+        for text, schema, told in ((many, "a:int,b:skip", "more than 65,536"), ("b,a\n1," + "x" * 256 + "\n", "b:int,a:skip", "more than 255 bytes")):
+            with self.subTest(text[:20]):
+                guesses = self.guesses(text)
+                (found, why), = guesses.skipped()
+                self.assertEqual((guesses.schema, found, guesses.refusals()), (schema, 2, []))
+                self.assertIn(told, why)
+        asked = Guesses([["a", "b"], ["1", "NA"], ["2", "3"]], ["b"])
+        self.assertEqual((asked.schema, asked.advice(), asked.skipped()), ("a:int,b:skip", [], []))
 
     def test_advice(self):
         for text, told in (("a\n1\nNA\n", "all but NA is int"), ("a\n2024-02-29\nNULL\n", "all but NULL is date"), ("a\n1.0000000001\n", "10 decimals"),
