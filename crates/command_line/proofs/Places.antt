@@ -1,8 +1,9 @@
 -- Where words that are no command go wrong.
 use Rattle.std.proofs.Common.{◌≡◌, ℕ, zero, suc, ◌+◌, ◌≤◌, Option, Some, None, Ok, Err, List, [], ◌∷◌, ◌++◌, length, take, option_map, refl, sym, ap, ◌∙◌, codes, arith, rules}
 use Rattle.std.specs.Option.{option_map_or}
-use Rattle.command_line.specs.Commands.{IsNumber, Command, GoesWrong, widest, options_given}
+use Rattle.command_line.specs.Commands.{IsNumber, Command, GoesWrong, options_given}
 use Rattle.command_line.specs.Reading.{Next, name, word, number, policy, option, done, after, after_ask, answer, at_end}
+use Rattle.plane_schedule.specs.declared.policies.FixedPolicy.TheVariants.{Widest}
 use Rattle.command_line.proofs.Numbers.{number_some}
 use Rattle.command_line.proofs.Steps.{answer-none, answer-step}
 use Rattle.command_line.proofs.Whole.{command_whole, policy_some, after_name_ask}
@@ -35,8 +36,8 @@ completes name at =
 completes (word k) at = completes_more (word k) (k []) at [] refl (completes (k []) (at + 1))
 completes (number limit k) at = completes_more (number limit k) (k 0) at (codes "0")
     (ap (option_map k) (number_some limit (codes "0") 0 (zero_is limit))) (completes (k 0) (at + 1))
-completes (policy k) at = completes_more (policy k) (k widest) at (codes "widest")
-    (ap (option_map k) (policy_some (codes "widest") widest refl)) (completes (k widest) (at + 1))
+completes (policy k) at = completes_more (policy k) (k Widest) at (codes "widest")
+    (ap (option_map k) (policy_some (codes "widest") Widest refl)) (completes (k Widest) (at + 1))
 completes (option by_name g k) at = record { rest = []; command = k (options_given g); whole = answer-none (option by_name g k) at }
 completes (done c) at = record { rest = []; command = c; whole = answer-none (done c) at }
 

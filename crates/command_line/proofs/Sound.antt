@@ -5,8 +5,12 @@ use Rattle.std.proofs.Common.{◌≡◌, ◌≢◌, ℕ, zero, suc, ◌+◌, ◌
 use Rattle.std.specs.Option.{option_map_or}
 use Rattle.std.specs.Str.{bytes_eq}
 use Rattle.std.proofs.lemmas.Slice.Eq.{bytes_eq-Decides}
-use Rattle.command_line.specs.Commands.{ReadOrder, widest, in_order, filter_first, balanced, reads, IsPolicy, IsNumber, Given, Gives, no_more, more_width, more_rounds, more_policy, more_reads, more_list, more_clip, more_exact, Options, Command, ask, query, session, load, info, upgrade, demo, help, version, IsCommand, IsHelp, IsVersion, AreOptions, nothing_given, options_given, most_seed, most_rows, most_width, most_rounds}
-use Rattle.command_line.specs.Reading.{Next, name, word, number, policy, option, done, after, after_ask, after_query, after_session, after_load, after_info, after_upgrade, after_demo, after_name, after_flag, behind, is_free, flag_of, flag_text, at_end, answer, lone_command, number_of, policy_of}
+use Rattle.command_line.specs.Commands.{ReadOrder, fixed, reads, IsPolicy, IsNumber, Given, Gives, no_more, more_width, more_rounds, more_policy, more_reads, more_list, more_clip, more_exact, Options, Command, ask, query, session, load, info, upgrade, demo, help, version, IsCommand, IsHelp, IsVersion, AreOptions, nothing_given, options_given, most_seed, most_rows, most_width, most_rounds}
+use Rattle.command_line.specs.Reading.{Next, name, word, number, policy, option, done, after, after_ask, after_query, after_session, after_load, after_info, after_upgrade, after_demo, after_name, after_flag, behind, is_free, flag_of, flag_text, at_end, answer, lone_command, number_of}
+use Rattle.plane_schedule.specs.Choices.{policy_named}
+use Rattle.plane_schedule.specs.declared.policies.FixedPolicy.{FixedPolicy}
+use Rattle.plane_schedule.specs.declared.policies.FixedPolicy.TheVariants.{Widest}
+use Rattle.plane_schedule.proofs.One.{named_word}
 use Rattle.command_line.proofs.Numbers.{number_is, both}
 use Rattle.command_line.proofs.Steps.{Allowed}
 
@@ -89,29 +93,16 @@ read_number limit k at ws c e =
       whole = ap (λ n. answer n (at + 1) s.tail) (sym same) ∙ s.whole;
     }
 
-policy_is : (w : List ℕ) (p : ReadOrder) → policy_of w ≡ Some p → IsPolicy w p
-unfolding policy_of
-policy_is w p e =
-    let P : Option ReadOrder → Type 0 = λ o. o ≡ Some p → IsPolicy w p in
-    if_cases P (bytes_eq w (codes "widest")) _ _ (λ t s. subst (IsPolicy w) (some_same widest p s) (same_bytes w _ t))
-    (if_cases P (bytes_eq w (codes "order")) _ _ (λ t s. subst (IsPolicy w) (some_same in_order p s) (same_bytes w _ t))
-    (if_cases P (bytes_eq w (codes "filter")) _ _ (λ t s. subst (IsPolicy w) (some_same filter_first p s) (same_bytes w _ t))
-    (if_cases P (bytes_eq w (codes "balanced")) _ _ (λ t s. subst (IsPolicy w) (some_same balanced p s) (same_bytes w _ t))
-    (λ s. cc)))) e
-  where
-    some_same : (a b : ReadOrder) → Some a ≡ Some b → a ≡ b
-    some_same a b s = cc
-
-read_policy : (k : ReadOrder → Next) (at : ℕ) (ws : List (List ℕ)) (c : Command) → answer (policy k) at ws ≡ Ok c → Reads k IsPolicy at ws c
+read_policy : (k : FixedPolicy → Next) (at : ℕ) (ws : List (List ℕ)) (c : Command) → answer (policy k) at ws ≡ Ok c → Reads k IsPolicy at ws c
 read_policy k at ws c e =
     let s = steps (policy k) at ws c refl e in
-    let (p, is, same) = some_map k (policy_of s.first) s.behind s.leads in
+    let (p, is, same) = some_map k (policy_named s.first) s.behind s.leads in
     record {
       first = s.first;
       tail = s.tail;
       said = p;
       words = s.words;
-      meant = policy_is s.first p is;
+      meant = named_word s.first p is;
       whole = ap (λ n. answer n (at + 1) s.tail) (sym same) ∙ s.whole;
     }
 
@@ -161,12 +152,8 @@ moved : (g h : Given) (w flag first : List ℕ) (ws tail : List (List ℕ)) → 
 moved g h w flag first ws tail a b gives = rw (a, b) gives
 
 -- a policy is no list of names
-policy_allowed : (by_name : Bool) (g : Given) (w : List ℕ) (p : ReadOrder) → IsPolicy w p → Allowed by_name (record g { order = Some p })
-policy_allowed by_name g w widest is names e = cc
-policy_allowed by_name g w in_order is names e = cc
-policy_allowed by_name g w filter_first is names e = cc
-policy_allowed by_name g w balanced is names e = cc
-policy_allowed by_name g w (reads listed) is names e = absurd is
+policy_allowed : (by_name : Bool) (g : Given) (p : FixedPolicy) → Allowed by_name (record g { order = Some (fixed p) })
+policy_allowed by_name g p names e = cc
 
 read_flag : (by_name : Bool) (n : ℕ) (k : Options → Command) → ReadBelow by_name n k →
     (g : Given) (at : ℕ) (w : List ℕ) (ws : List (List ℕ)) (c : Command) (flag : Flag) → length (w ∷ ws) ≤ suc n →
@@ -195,7 +182,7 @@ read_flag by_name n k ih g at w ws c f.Policy h same free e =
     record {
       end = b.end;
       gives = moved g b.end w _ r.first ws r.tail same r.words (more_policy (unset g.order free) r.meant b.gives);
-      allowed = λ a. b.allowed (policy_allowed by_name g r.first r.said r.meant);
+      allowed = λ a. b.allowed (policy_allowed by_name g r.said);
       same = b.same;
     }
 read_flag by_name n k ih g at w ws c f.Reads h same free e =
@@ -317,7 +304,7 @@ query_is ws c e =
 
 -- an order that may not be a list of names is none
 no_names : (order : Option ReadOrder) → ((names : List ℕ) → order ≡ Some (reads names) → false ≡ true) → (names : List ℕ) →
-    unwrap_or order widest ≢ reads names
+    unwrap_or order (fixed Widest) ≢ reads names
 no_names None allowed names e = cc
 no_names (Some p) allowed names e = let never = allowed names (ap Some e) in cc
 

@@ -1,18 +1,17 @@
 -- Each command of the grammar is read whole.
 use Rattle.command_line.specs.declared.reader.Flag.TheVariants as f
 use Rattle.std.proofs.Common.{◌≡◌, ◌≢◌, ℕ, ◌+◌, Bool, true, false, ◌&&◌, Option, None, Some, Ok, List, [], ◌∷◌, option_map, unwrap_or, refl, sym, ap, inl, inr, ◌∙◌, codes}
-use Rattle.command_line.specs.Commands.{ReadOrder, widest, in_order, filter_first, balanced, reads, IsPolicy, Given, Gives, no_more, more_width, more_rounds, more_policy, more_reads, more_list, more_clip, more_exact, Options, Command, ask, query, session, load, info, upgrade, demo, help, version, IsCommand, options_given, most_seed, most_rows, most_width, most_rounds}
-use Rattle.command_line.specs.Reading.{name, option, done, after_ask, after_query, after_session, after_load, after_info, after_upgrade, after_demo, after_name, answer, lone_command, policy_of}
+use Rattle.command_line.specs.Commands.{ReadOrder, fixed, reads, IsPolicy, Given, Gives, no_more, more_width, more_rounds, more_policy, more_reads, more_list, more_clip, more_exact, Options, Command, ask, query, session, load, info, upgrade, demo, help, version, IsCommand, options_given, most_seed, most_rows, most_width, most_rounds}
+use Rattle.command_line.specs.Reading.{name, option, done, after_ask, after_query, after_session, after_load, after_info, after_upgrade, after_demo, after_name, answer, lone_command}
+use Rattle.plane_schedule.specs.Choices.{policy_named}
+use Rattle.plane_schedule.specs.declared.policies.FixedPolicy.{FixedPolicy}
+use Rattle.plane_schedule.specs.declared.policies.FixedPolicy.TheVariants.{Widest}
+use Rattle.plane_schedule.proofs.One.{word_named}
 use Rattle.command_line.proofs.Numbers.{number_some}
 use Rattle.command_line.proofs.Steps.{answer-none, answer-step, after_free, is_none_at, not_at, Allowed}
 
-pub policy_some : (w : List ℕ) (p : ReadOrder) → IsPolicy w p → policy_of w ≡ Some p
-unfolding policy_of
-policy_some w widest e = rw e refl
-policy_some w in_order e = rw e refl
-policy_some w filter_first e = rw e refl
-policy_some w balanced e = rw e refl
-policy_some w (reads names) e = absurd e
+pub policy_some : (w : List ℕ) (p : FixedPolicy) → IsPolicy w p → policy_named w ≡ Some p
+policy_some w p e = ap policy_named e ∙ word_named p
 
 taken : {A B : Type 0} (o : Option A) (x : A) → o ≡ None → o ≡ Some x → B
 taken o x none some = let e : None ≡ Some x = sym none ∙ some in cc
@@ -113,7 +112,7 @@ lone_whole words w c spelled named =
 
 -- options whose order is no list of names
 no_names : (g : Given) (o : Options) → o ≡ options_given g → ((names : List ℕ) → o.order ≢ reads names) → Allowed false g
-no_names g o say by_policy names e = absurd (by_policy names (ap (λ o. o.order) say ∙ ap (λ order. unwrap_or order widest) e))
+no_names g o say by_policy names e = absurd (by_policy names (ap (λ o. o.order) say ∙ ap (λ order. unwrap_or order (fixed Widest)) e))
 
 -- a command is what its words are read as
 pub command_whole : (words : List (List ℕ)) (c : Command) → IsCommand words c → answer name 0 words ≡ Ok c

@@ -2,15 +2,15 @@
 use Rattle.std.specs.Prelude.{◌≡◌, ◌≢◌, ◌⊎◌, ℕ, ◌+◌, ◌-◌, ◌^◌, ◌≤◌, Bool, true, false}
 use Rattle.std.specs.Prelude.{Option, Some, None, unwrap_or, List, [], ◌∷◌, ◌++◌, length, take, codes}
 use Rattle.std.specs.Str.Parse.{IsNumeral, digits_value}
+use Rattle.plane_schedule.specs.Choices.{policy_word}
+use Rattle.plane_schedule.specs.declared.policies.FixedPolicy.{FixedPolicy}
+use Rattle.plane_schedule.specs.declared.policies.FixedPolicy.TheVariants.{Widest}
 
 -- ---- what a command says
 
 -- how the columns of a query are read: by a policy, or as a list of names says
 pub data ReadOrder : Type 0 where
-  widest : ReadOrder
-  in_order : ReadOrder
-  filter_first : ReadOrder
-  balanced : ReadOrder
+  fixed : FixedPolicy → ReadOrder
   reads : List ℕ → ReadOrder
 
 pub record Options : Type 0 where
@@ -95,13 +95,9 @@ pub record IsNumber (limit : ℕ) (word : List ℕ) (number : ℕ) : Type 0 wher
 
 -- ---- options
 
--- policy = "widest" | "order" | "filter" | "balanced"
-abbrev pub IsPolicy : List ℕ → ReadOrder → Type 0
-IsPolicy word widest = word ≡ codes "widest"
-IsPolicy word in_order = word ≡ codes "order"
-IsPolicy word filter_first = word ≡ codes "filter"
-IsPolicy word balanced = word ≡ codes "balanced"
-IsPolicy word (reads names) = ⊥
+-- policy = the word of one
+abbrev pub IsPolicy : List ℕ → FixedPolicy → Type 0
+IsPolicy word policy = word ≡ policy_word policy
 
 -- what options say, where each says it once
 pub record Given : Type 0 where
@@ -119,8 +115,8 @@ pub data Gives : Given → List (List ℕ) → Given → Type 0 where
       Gives (record g { width = Some number }) words h → Gives g (codes "--width" ∷ word ∷ words) h
   more_rounds : {g h : Given} {word : List ℕ} {words : List (List ℕ)} {number : ℕ} → g.rounds ≡ None → IsNumber most_rounds word number →
       Gives (record g { rounds = Some number }) words h → Gives g (codes "--rounds" ∷ word ∷ words) h
-  more_policy : {g h : Given} {word : List ℕ} {words : List (List ℕ)} {policy : ReadOrder} → g.order ≡ None → IsPolicy word policy →
-      Gives (record g { order = Some policy }) words h → Gives g (codes "--policy" ∷ word ∷ words) h
+  more_policy : {g h : Given} {word : List ℕ} {words : List (List ℕ)} {policy : FixedPolicy} → g.order ≡ None → IsPolicy word policy →
+      Gives (record g { order = Some (fixed policy) }) words h → Gives g (codes "--policy" ∷ word ∷ words) h
   more_reads : {g h : Given} {names : List ℕ} {words : List (List ℕ)} → g.order ≡ None →
       Gives (record g { order = Some (reads names) }) words h → Gives g (codes "--reads" ∷ names ∷ words) h
   more_list : {g h : Given} {words : List (List ℕ)} → g.list ≡ false →
@@ -138,7 +134,7 @@ abbrev pub options_given : Given → Options
 options_given g = record {
   width = unwrap_or g.width 0;
   rounds = g.rounds;
-  order = unwrap_or g.order widest;
+  order = unwrap_or g.order (fixed Widest);
   list = g.list;
   clip = g.clip;
   exact = g.exact;

@@ -6,9 +6,11 @@ use Rattle.std.specs.Char.{is_ascii_digit}
 use Rattle.std.specs.List.{list_all}
 use Rattle.std.specs.Str.{bytes_eq}
 use Rattle.std.specs.Str.Parse.{digits_value}
+use Rattle.plane_schedule.specs.Choices.{policy_named}
+use Rattle.plane_schedule.specs.declared.policies.FixedPolicy.{FixedPolicy}
 use Rattle.command_line.specs.declared.reader.Flag.{Flag}
 use Rattle.command_line.specs.declared.reader.Flag.TheVariants as f
-use Rattle.command_line.specs.Commands.{ReadOrder, widest, in_order, filter_first, balanced, reads, Given, Options}
+use Rattle.command_line.specs.Commands.{fixed, reads, Given, Options}
 use Rattle.command_line.specs.Commands.{Command, ask, query, session, load, info, upgrade, demo, help, version, nothing_given}
 use Rattle.command_line.specs.Commands.{options_given, most_seed, most_rows, most_width, most_rounds}
 
@@ -17,7 +19,7 @@ pub data Next : Type 0 where
   name : Next
   word : (List ℕ → Next) → Next
   number : ℕ → (ℕ → Next) → Next
-  policy : (ReadOrder → Next) → Next
+  policy : (FixedPolicy → Next) → Next
   option : Bool → Given → (Options → Command) → Next
   done : Command → Next
 
@@ -25,13 +27,6 @@ pub data Next : Type 0 where
 unfoldable pub number_of : ℕ → List ℕ → Option ℕ
 number_of limit w =
     if list_all is_ascii_digit w && nat_le 1 (length w) && nat_le (digits_value 10 w) limit then Some (digits_value 10 w) else None
-
-unfoldable pub policy_of : List ℕ → Option ReadOrder
-policy_of w =
-    if bytes_eq w (codes "widest") then Some widest
-    else (if bytes_eq w (codes "order") then Some in_order
-    else (if bytes_eq w (codes "filter") then Some filter_first
-    else (if bytes_eq w (codes "balanced") then Some balanced else None)))
 
 abbrev pub options : (Options → Command) → Next
 options k = option true nothing_given k
@@ -115,7 +110,7 @@ is_free by_name f.Exact g = not g.exact
 abbrev pub behind : Bool → Flag → Given → (Options → Command) → Next
 behind by_name f.Width g k = number most_width (λ n. option by_name (record g { width = Some n }) k)
 behind by_name f.Rounds g k = number most_rounds (λ n. option by_name (record g { rounds = Some n }) k)
-behind by_name f.Policy g k = policy (λ p. option by_name (record g { order = Some p }) k)
+behind by_name f.Policy g k = policy (λ p. option by_name (record g { order = Some (fixed p) }) k)
 behind by_name f.Reads g k = word (λ names. option by_name (record g { order = Some (reads names) }) k)
 behind by_name f.List g k = option by_name (record g { list = true }) k
 behind by_name f.Clip g k = option by_name (record g { clip = true }) k
@@ -131,7 +126,7 @@ abbrev pub after : Next → List ℕ → Option Next
 after name w = after_name w
 after (word k) w = Some (k w)
 after (number limit k) w = option_map k (number_of limit w)
-after (policy k) w = option_map k (policy_of w)
+after (policy k) w = option_map k (policy_named w)
 after (option by_name g k) w = after_flag by_name g k (flag_of w)
 after (done c) w = None
 

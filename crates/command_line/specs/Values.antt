@@ -2,7 +2,7 @@
 use Rattle.std.specs.Prelude.{option_map}
 use Rattle.command_line.specs.Commands as spec
 use Rattle.command_line.specs.declared.command.ReadOrder.{ReadOrder}
-use Rattle.command_line.specs.declared.command.ReadOrder.TheVariants.{Widest, InOrder, FilterFirst, Balanced, Reads}
+use Rattle.command_line.specs.declared.command.ReadOrder.TheVariants.{By, Reads}
 use Rattle.command_line.specs.declared.command.Options.{Options}
 use Rattle.command_line.specs.declared.command.Ask.{Ask}
 use Rattle.command_line.specs.declared.command.Demo.{Demo}
@@ -16,10 +16,7 @@ use Rattle.command_line.specs.declared.command.Command.TheVariants as c
 use Rattle.command_line.specs.declared.reader.Given.{Given}
 
 abbrev pub order_of : ReadOrder → spec.ReadOrder
-order_of Widest = spec.widest
-order_of InOrder = spec.in_order
-order_of FilterFirst = spec.filter_first
-order_of Balanced = spec.balanced
+order_of (By policy) = spec.fixed policy
 order_of (Reads names) = spec.reads names.now
 
 abbrev pub options_of : Options → spec.Options

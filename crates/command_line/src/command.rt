@@ -7,18 +7,13 @@ ghost use Rattle.command_line.specs.Values.{command_of};
 
 use crate::reader::{Reader, lone_command};
 use crate::words::Words;
+use plane_schedule::FixedPolicy;
 
 /// How the columns of a query are read: by a policy, or as a list of names says.
 #[derive(Clone, Copy, Debug, PartialEq, Eq)]
 pub enum ReadOrder<'a> {
-    /// The column with the most unread planes first.
-    Widest,
-    /// The columns in their order.
-    InOrder,
-    /// The columns of the condition first.
-    FilterFirst,
-    /// The columns in which most is open first.
-    Balanced,
+    /// By the policy that the word behind `--policy` names.
+    By(FixedPolicy),
     /// The names that the word behind `--reads` lists.
     Reads(&'a str),
 }

@@ -9,14 +9,15 @@ ghost use Rattle.std.specs.Str.Parse.{IsNumeral, digits_value};
 ghost use Rattle.command_line.specs.Commands.{ask, demo, info, load, nothing_given, options_given, query, session, upgrade};
 ghost use Rattle.command_line.specs.Reading.{Adds, Fails, HasMore, Lacks, LeadsTo, Names, Says, StopsAt, Takes};
 ghost use Rattle.command_line.specs.Reading.{after_ask, after_demo, after_info, after_load, after_query, after_session};
-ghost use Rattle.command_line.specs.Reading.{after_upgrade, answers, flag_of, is_free, lone_command, number, policy, policy_of};
+ghost use Rattle.command_line.specs.Reading.{after_upgrade, answers, flag_of, is_free, lone_command, number, policy};
 ghost use Rattle.command_line.specs.Values.{ask_of, command_of, demo_of, given_of, info_of, load_of};
-ghost use Rattle.command_line.specs.Values.{options_of, order_of, query_of, session_of, upgrade_of};
+ghost use Rattle.command_line.specs.Values.{options_of, query_of, session_of, upgrade_of};
 
 use crate::command::{
     Ask, Command, Demo, Info, Load, Options, Query, ReadOrder, Session, Upgrade, Usage,
 };
 use crate::words::Words;
+use plane_schedule::FixedPolicy;
 use std::marker::Model;
 
 // The greatest width.
@@ -97,20 +98,6 @@ fn flag_of(word: &str) -> Option<Flag>
     }
 }
 
-// The policy that the word names.
-#[tactic(auto, unfolding(crate::specs::Reading::policy_of))]
-fn policy_of<'a>(word: &str) -> Option<ReadOrder<'a>>
-    ensures { option_map order_of result ≡ policy_of word.now }
-{
-    match word {
-        "widest" => Some(ReadOrder::Widest),
-        "order" => Some(ReadOrder::InOrder),
-        "filter" => Some(ReadOrder::FilterFirst),
-        "balanced" => Some(ReadOrder::Balanced),
-        _ => None,
-    }
-}
-
 // The command that the word is by itself.
 #[tactic(auto, unfolding(crate::specs::Reading::lone_command))]
 pub(crate) fn lone_command<'a>(word: &str) -> Option<Command<'a>>
@@ -159,7 +146,7 @@ impl<'a> Given<'a> {
         Options {
             width: self.width.unwrap_or(0),
             rounds: self.rounds,
-            order: self.order.unwrap_or(ReadOrder::Widest),
+            order: self.order.unwrap_or(ReadOrder::By(FixedPolicy::Widest)),
             list: self.list,
             clip: self.clip,
             exact: self.exact,
@@ -229,13 +216,13 @@ impl<'a> Reader<'a> {
     }
 
     // The name of a policy.
-    fn policy(&mut self) -> Result<ReadOrder<'a>, Usage>
-        ensures ok { IfOk result (λ order. LeadsTo policy self.old (order_of order) self.new) }
+    fn policy(&mut self) -> Result<FixedPolicy, Usage>
+        ensures ok { IfOk result (λ named. LeadsTo policy self.old named self.new) }
         ensures shorter { OnOk result (length self.new.words < length self.old.words) }
         ensures err { IfErr result (λ usage. StopsAt policy self.old usage.place) }
     {
         let refusal = self.refusal();
-        match policy_of(self.word()?) {
+        match FixedPolicy::named(self.word()?) {
             Some(policy) => Ok(policy),
             None => Err(refusal),
         }
@@ -265,7 +252,7 @@ impl<'a> Reader<'a> {
         match self.flag(given, by_name)? {
             Flag::Width => given.width = Some(self.number(MOST_WIDTH)?),
             Flag::Rounds => given.rounds = Some(self.number(u32::MAX as u64)? as u32),
-            Flag::Policy => given.order = Some(self.policy()?),
+            Flag::Policy => given.order = Some(ReadOrder::By(self.policy()?)),
             Flag::Reads => given.order = Some(ReadOrder::Reads(self.word()?)),
             Flag::List => given.list = true,
             Flag::Clip => given.clip = true,

@@ -1,7 +1,7 @@
 -- Each step of a command accepts something or shows a refusal.
 use Rattle.std.proofs.Common.{◌≢◌, ℕ, ◌≤◌, List, Ok, Err, Result, length, refl, inl, inr, ◌⊎◌, lit≤, subst, sym}
 use Rattle.std.proofs.lemmas.Bool.{cases_lt}
-use Rattle.command_line.specs.Commands.{Options, ReadOrder, widest, in_order, filter_first, balanced, reads}
+use Rattle.command_line.specs.Commands.{Options, ReadOrder, fixed, reads}
 use Rattle.command_line.specs.Commands as line
 use Rattle.csv_load.specs.Laws as table_laws
 use Rattle.daq_table.specs.SchemaFaults as schemas
@@ -107,10 +107,7 @@ module _ (law : Laws) where
     Ordered order = ((policy : Policy) × IsPolicyOf order typed head policy) ⊎ ((fault : ReadsFault) × (fault ≢ r.NoMemory) × RefusesOrder order typed head fault)
 
     ordered : (order : ReadOrder) → Ordered order
-    ordered widest = inl (p.Widest, refl)
-    ordered in_order = inl (p.InOrder, refl)
-    ordered filter_first = inl (p.FilterFirst, refl)
-    ordered balanced = inl (p.Balanced, refl)
+    ordered (fixed named) = inl (p.By named, refl)
     ordered (reads names) = by (law.reads names typed head (law.valid query head typed is_typed))
       where
         by : (answer : Result (List ℕ) ReadsFault) × IsAnswer names typed head answer → Ordered (reads names)

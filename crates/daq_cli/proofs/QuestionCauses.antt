@@ -1,6 +1,6 @@
 -- What the faults of a question's typing and of its reads show.
 use Rattle.std.proofs.Common.{◌≡◌, ◌≢◌, ◌∙◌, refl, sym, subst, inl, inr}
-use Rattle.command_line.specs.Commands.{ReadOrder, widest, in_order, filter_first, balanced, reads}
+use Rattle.command_line.specs.Commands.{ReadOrder, fixed, reads}
 use Rattle.daq_table.specs.Tables.{frame_of}
 use Rattle.daq_table.specs.declared.table_head.Head.{Head}
 use Rattle.outer_world.specs.Device.{SinkState}
@@ -55,8 +55,5 @@ stops_question question out why (inr e) = subst (QuestionCause question out out)
 
 -- the policy of a plan can be followed to its end
 pub readable_of : (order : ReadOrder) (typed : TypedQuery) (head : Head) (policy : Policy) → IsPolicyOf order typed head policy → IsReadable policy (projected_frame typed (frame_of head))
-readable_of widest typed head policy is = subst (λ p. IsReadable p (projected_frame typed (frame_of head))) (sym is) tt
-readable_of in_order typed head policy is = subst (λ p. IsReadable p (projected_frame typed (frame_of head))) (sym is) tt
-readable_of filter_first typed head policy is = subst (λ p. IsReadable p (projected_frame typed (frame_of head))) (sym is) tt
-readable_of balanced typed head policy is = subst (λ p. IsReadable p (projected_frame typed (frame_of head))) (sym is) tt
+readable_of (fixed named) typed head policy is = subst (λ p. IsReadable p (projected_frame typed (frame_of head))) (sym is) tt
 readable_of (reads names) typed head policy (list, is, all) = subst (λ p. IsReadable p (projected_frame typed (frame_of head))) (sym is) all.first.readable

@@ -1,6 +1,6 @@
 -- A question has one report.
 use Rattle.std.proofs.Common.{◌≡◌, ℕ, List, Ok, Result, refl, sym, ap, ◌∙◌, subst}
-use Rattle.command_line.specs.Commands.{Options, ReadOrder, widest, in_order, filter_first, balanced, reads}
+use Rattle.command_line.specs.Commands.{Options, ReadOrder, fixed, reads}
 use Rattle.daq_table.specs.Tables.{frame_of}
 use Rattle.daq_table.specs.declared.table_head.Head.{Head}
 use Rattle.outer_world.specs.Device.{SinkState}
@@ -31,10 +31,7 @@ listed_once e = cc
 
 module _ (lists : reads_laws.AnswersAreOne) (options : Options) (head : Head) (typed : TypedQuery) (valid : IsValid head typed) where
   one_policy : (order : ReadOrder) (a b : Policy) → IsPolicyOf order typed head a → IsPolicyOf order typed head b → a ≡ b
-  one_policy widest a b p r = p ∙ sym r
-  one_policy in_order a b p r = p ∙ sym r
-  one_policy filter_first a b p r = p ∙ sym r
-  one_policy balanced a b p r = p ∙ sym r
+  one_policy (fixed named) a b p r = p ∙ sym r
   one_policy (reads names) a b (list, is, all) (other, is_too, all_too) =
       is ∙ ap Listed (listed_once (lists names typed head (Ok list) (Ok other) valid all all_too)) ∙ sym is_too
 

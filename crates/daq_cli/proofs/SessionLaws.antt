@@ -98,10 +98,7 @@ limits_exact asked = record {
 -- ---- the plan
 
 one_policy : (order : ReadOrder) (a b : Policy) → IsPolicyFor order a → IsPolicyFor order b → a ≡ b
-one_policy line.widest a b e f = e ∙ sym f
-one_policy line.in_order a b e f = e ∙ sym f
-one_policy line.filter_first a b e f = e ∙ sym f
-one_policy line.balanced a b e f = e ∙ sym f
+one_policy (line.fixed named) a b e f = e ∙ sym f
 one_policy (line.reads names) a b e f = absurd e
 
 one_plan : (options : Options) (a b : Plan) → IsSessionPlan options a → IsSessionPlan options b → a ≡ b
@@ -114,10 +111,7 @@ one_plan options a b e f =
     λ i. record { policy = policy i; width = width i; most = most i; list = list i; extras = extras i }
 
 pub unlisted_policy : (order : ReadOrder) (policy : Policy) → IsPolicyFor order policy → IsUnlisted policy
-unlisted_policy line.widest policy is = subst IsUnlisted (sym is) tt
-unlisted_policy line.in_order policy is = subst IsUnlisted (sym is) tt
-unlisted_policy line.filter_first policy is = subst IsUnlisted (sym is) tt
-unlisted_policy line.balanced policy is = subst IsUnlisted (sym is) tt
+unlisted_policy (line.fixed named) policy is = subst IsUnlisted (sym is) tt
 unlisted_policy (line.reads names) policy is = absurd is
 
 -- ---- the planes that can be read
@@ -207,10 +201,7 @@ pub record GoOn : Type 0 where
   pub taken : TakenIsKnowledge
 
 policy_for : (order : ReadOrder) → ((names : List ℕ) → order ≢ line.reads names) → (policy : Policy) × IsPolicyFor order policy
-policy_for line.widest by_policy = (p.Widest, refl)
-policy_for line.in_order by_policy = (p.InOrder, refl)
-policy_for line.filter_first by_policy = (p.FilterFirst, refl)
-policy_for line.balanced by_policy = (p.Balanced, refl)
+policy_for (line.fixed named) by_policy = (p.By named, refl)
 policy_for (line.reads names) by_policy = absurd (by_policy names refl)
 
 -- each query is valid as it is typed

@@ -1,6 +1,6 @@
 -- A question: a query over a table, with its options. What it shows where it is refused, and its report where it is answered.
 use Rattle.std.specs.Prelude.{◌≡◌, ◌≢◌, ◌⊎◌, ℕ, List}
-use Rattle.command_line.specs.Commands.{Options, ReadOrder, widest, in_order, filter_first, balanced, reads}
+use Rattle.command_line.specs.Commands.{Options, ReadOrder, fixed, reads}
 use Rattle.daq_table.specs.Tables.{Contents, frame_of}
 use Rattle.daq_table.specs.declared.table_head.Head.{Head}
 use Rattle.outer_world.specs.Device.{SinkState}
@@ -68,10 +68,7 @@ sql_step text = record { accepts = IsText text; shows = ShowsText text }
 
 -- the policy of this order, where the query is typed so on tables with the head
 abbrev pub IsPolicyOf : ReadOrder → TypedQuery → Head → Policy → Type 0
-IsPolicyOf widest typed head policy = policy ≡ p.Widest
-IsPolicyOf in_order typed head policy = policy ≡ p.InOrder
-IsPolicyOf filter_first typed head policy = policy ≡ p.FilterFirst
-IsPolicyOf balanced typed head policy = policy ≡ p.Balanced
+IsPolicyOf (fixed named) typed head policy = policy ≡ p.By named
 IsPolicyOf (reads names) typed head policy = (list : List ℕ) × (policy ≡ p.Listed list) × AreAllReads names typed head list
 
 -- the order is a list of names, which is refused

@@ -16,9 +16,7 @@ use daq_table::Head;
 use outer_world::{Failed, Sink, write_whole};
 use plane_course::{PlaneSource, Running, read_next};
 use plane_kernels::Plane;
-use plane_schedule::{
-    Chooser, Ending, Plan, Policy, Progress, balanced, filter_first, in_order, listed, widest,
-};
+use plane_schedule::{Chooser, Ending, Plan, Policy, Progress, choose, listed};
 
 /// What runs over the planes of a table and is shown by blocks.
 pub(crate) trait Shows: Running {
@@ -143,20 +141,9 @@ pub(crate) fn write_rounds<R: Shows, S: PlaneSource, K: Sink>(
     let running = &mut begun.running;
     let plane = &mut begun.plane;
     match &plan.policy {
-        Policy::Widest => {
-            let chooser = Chooser::new(|p: &Progress| widest(p));
-            write_course(plan, running, source, &chooser, plane, out)
-        }
-        Policy::InOrder => {
-            let chooser = Chooser::new(|p: &Progress| in_order(p));
-            write_course(plan, running, source, &chooser, plane, out)
-        }
-        Policy::FilterFirst => {
-            let chooser = Chooser::new(|p: &Progress| filter_first(p));
-            write_course(plan, running, source, &chooser, plane, out)
-        }
-        Policy::Balanced => {
-            let chooser = Chooser::new(|p: &Progress| balanced(p));
+        Policy::By(policy) => {
+            let policy = *policy;
+            let chooser = Chooser::new(|p: &Progress| choose(policy, p));
             write_course(plan, running, source, &chooser, plane, out)
         }
         Policy::Listed(list) => {

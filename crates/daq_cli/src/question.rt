@@ -56,10 +56,7 @@ fn policy_of(
     ensures refused { IfErr result (λ fault. RefusesOrder (order_of order.now) typed.now head.now fault) }
 {
     match order {
-        ReadOrder::Widest => Ok(Policy::Widest),
-        ReadOrder::InOrder => Ok(Policy::InOrder),
-        ReadOrder::FilterFirst => Ok(Policy::FilterFirst),
-        ReadOrder::Balanced => Ok(Policy::Balanced),
+        ReadOrder::By(policy) => Ok(Policy::By(*policy)),
         ReadOrder::Reads(names) => {
             let list = check_reads(alloc, names.as_bytes(), typed, head)?;
             Ok(Policy::Listed(list))

@@ -83,10 +83,7 @@ fn policy_of(order: &ReadOrder) -> Policy
     ensures unlisted { IsUnlisted result }
 {
     match order {
-        ReadOrder::Widest => Policy::Widest,
-        ReadOrder::InOrder => Policy::InOrder,
-        ReadOrder::FilterFirst => Policy::FilterFirst,
-        ReadOrder::Balanced => Policy::Balanced,
+        ReadOrder::By(policy) => Policy::By(*policy),
         ReadOrder::Reads(_) => unreachable!(),
     }
 }

@@ -3,6 +3,7 @@ use Rattle.std.proofs.Common.{◌≡◌, ◌≢◌, ◌⊎◌, ℕ, zero, suc, �
 use Rattle.std.proofs.lemmas.Bool.{cases_Bool, cases_lt, cases_eq, false≢true}
 use Rattle.std.specs.declared.option.Option.{Option}
 use Rattle.std.specs.declared.option.Option.TheVariants.{Some, None}
+use Rattle.plane_schedule.specs.declared.policies.FixedPolicy.TheVariants.{Widest, InOrder, FilterFirst, Balanced}
 use Rattle.plane_schedule.specs.declared.progress.Role.{Role}
 use Rattle.plane_schedule.specs.declared.progress.Role.TheVariants.{Filter, Group, Value}
 use Rattle.plane_schedule.specs.Choices.{HasLeftFor, HasRole, HasUnread, HasUnreadOf, IsBalanced, IsFilterFirst, IsFirst, IsLeastTakenOf, IsLessParted, IsOf, IsReadFor, IsUnread, IsWidestOf, Outlook, PartsRows}
@@ -281,4 +282,7 @@ module _ (o : Outlook) where
       by (inr no_filter) (inr no_group) (inr no_value) less = absurd (no_value (some_left e u no_filter no_group))
 
 pub policies_choose : PoliciesChoose
-policies_choose o some = (widest_of_all o some, in_order o some, filter_first o some, balanced o some)
+policies_choose o some Widest = widest_of_all o some
+policies_choose o some InOrder = in_order o some
+policies_choose o some FilterFirst = filter_first o some
+policies_choose o some Balanced = balanced o some

@@ -1,11 +1,15 @@
--- A policy chooses one column at most.
-use Rattle.std.proofs.Common.{◌≡◌, ◌≢◌, ◌⊎◌, ℕ, ◌<◌, ◌≤◌, sym, ◌∙◌, arith, inl, inr, slice_get}
+-- A policy chooses one column at most, and a word names the policy that has it.
+use Rattle.std.proofs.Common.{◌≡◌, ◌≢◌, ◌⊎◌, ℕ, ◌<◌, ◌≤◌, Bool, true, false, if◌then◌else◌, List, refl, sym, subst, ◌∙◌, arith, inl, inr, slice_get}
+use Rattle.std.specs.Str.{bytes_eq}
+use Rattle.std.proofs.lemmas.Slice.Eq.{bytes_eq-Decides}
 use Rattle.std.proofs.lemmas.Bool.{cases_lt, cases_eq}
 use Rattle.std.specs.declared.option.Option.{Option}
 use Rattle.std.specs.declared.option.Option.TheVariants.{Some, None}
-use Rattle.plane_schedule.specs.declared.policy.Policy.TheVariants.{Widest, InOrder, FilterFirst, Balanced, Listed}
+use Rattle.plane_schedule.specs.declared.policies.FixedPolicy.{FixedPolicy}
+use Rattle.plane_schedule.specs.declared.policies.FixedPolicy.TheVariants.{Widest, InOrder, FilterFirst, Balanced}
+use Rattle.plane_schedule.specs.declared.policy.Policy.TheVariants.{By, Listed}
 use Rattle.plane_schedule.specs.declared.progress.Role.TheVariants.{Filter, Group, Value}
-use Rattle.plane_schedule.specs.Choices.{HasLeftFor, HasRole, HasUnreadOf, IsBalanced, IsFilterFirst, IsFirst, IsLeastTakenOf, IsOf, IsReadFor, IsWidestOf, Outlook, PartsRows}
+use Rattle.plane_schedule.specs.Choices.{HasLeftFor, HasRole, HasUnreadOf, IsBalanced, IsFilterFirst, IsFirst, IsLeastTakenOf, IsOf, IsReadFor, IsWidestOf, Outlook, PartsRows, policy_named, policy_word}
 use Rattle.plane_schedule.specs.Laws.{ChoicesAreOne}
 
 only_widest : (IsOfSort : ℕ → Type 0) (o : Outlook) (c d : ℕ) → IsWidestOf IsOfSort o c → IsWidestOf IsOfSort o d → c ≡ d
@@ -60,8 +64,38 @@ same_some c d r a b = by (sym a ∙ b)
     by e = cc
 
 pub choices_are_one : ChoicesAreOne
-choices_are_one Widest o c d a b = only_widest (IsOf o None) o c d a b
-choices_are_one InOrder o c d a b = only_first o c d a b
-choices_are_one FilterFirst o c d a b = only_filter_first o c d a b
-choices_are_one Balanced o c d a b = only_balanced o c d a b
+choices_are_one (By Widest) o c d a b = only_widest (IsOf o None) o c d a b
+choices_are_one (By InOrder) o c d a b = only_first o c d a b
+choices_are_one (By FilterFirst) o c d a b = only_filter_first o c d a b
+choices_are_one (By Balanced) o c d a b = only_balanced o c d a b
 choices_are_one (Listed list) o c d a b = same_some c d (slice_get list o.read) a.next b.next
+
+-- ---- words
+
+pub word_named : (policy : FixedPolicy) → policy_named (policy_word policy) ≡ Some policy
+unfolding policy_named
+word_named Widest = refl
+word_named InOrder = refl
+word_named FilterFirst = refl
+word_named Balanced = refl
+
+same_word : (w v : List ℕ) → bytes_eq w v ≡ true → w ≡ v
+same_word w v e = (bytes_eq-Decides w v).0 e
+
+same_policy : (p q : FixedPolicy) → Some p ≡ Some q → p ≡ q
+same_policy p q e = cc
+
+-- a word is that of the policy, or it names what other words do
+module _ (w : List ℕ) (p : FixedPolicy) where
+  or_else : (q : FixedPolicy) (rest : Option FixedPolicy) (is : Bool) → bytes_eq w (policy_word q) ≡ is → (rest ≡ Some p → w ≡ policy_word p) →
+      (if is then Some q else rest) ≡ Some p → w ≡ policy_word p
+  or_else q rest true is other e = same_word w (policy_word q) is ∙ sym (subst (λ r. policy_word p ≡ policy_word r) (sym (same_policy q p e)) refl)
+  or_else q rest false is other e = other e
+
+pub named_word : (w : List ℕ) (p : FixedPolicy) → policy_named w ≡ Some p → w ≡ policy_word p
+unfolding policy_named
+named_word w p =
+    or_else w p Widest _ _ refl
+    (or_else w p InOrder _ _ refl
+    (or_else w p FilterFirst _ _ refl
+    (or_else w p Balanced _ _ refl (λ e. cc))))

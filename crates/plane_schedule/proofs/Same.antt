@@ -2,7 +2,8 @@
 use Rattle.std.proofs.Common.{◌≡◌, ◌⊎◌, ℕ, ◌*◌, ◌^◌, ◌<◌, ◌≤◌, sym, ◌∙◌, subst, arith, inl, inr, slice_get}
 use Rattle.std.specs.declared.option.Option.TheVariants.{Some, None}
 use Rattle.plane_schedule.specs.declared.policy.Policy.{Policy}
-use Rattle.plane_schedule.specs.declared.policy.Policy.TheVariants.{Widest, InOrder, FilterFirst, Balanced, Listed}
+use Rattle.plane_schedule.specs.declared.policies.FixedPolicy.TheVariants.{Widest, InOrder, FilterFirst, Balanced}
+use Rattle.plane_schedule.specs.declared.policy.Policy.TheVariants.{By, Listed}
 use Rattle.plane_schedule.specs.declared.progress.Role.{Role}
 use Rattle.plane_schedule.specs.declared.progress.Role.TheVariants.{Filter, Group, Value}
 use Rattle.plane_schedule.specs.Choices.{Chooses, HasLeftFor, HasRole, HasUnreadOf, IsBalanced, IsFilterFirst, IsFirst, IsLeastTakenOf, IsLessParted, IsOf, IsReadFor, IsUnread, IsWidestOf, Outlook, PartsRows}
@@ -162,16 +163,16 @@ balanced_there a b same c is = record {
     no_parts none parts = none (parts_there a b same parts)
 
 pub same_choice : (policy : Policy) (a b : Outlook) → AreSame a b → (c : ℕ) → Chooses policy a c → Chooses policy b c
-same_choice Widest a b same c is = widest_there a b same (IsOf a None) (IsOf b None) (λ d h x. tt) (λ d h x. tt) c is
-same_choice InOrder a b same c is = first_there a b same c is
-same_choice FilterFirst a b same c is = filter_first_there a b same c is
-same_choice Balanced a b same c is = balanced_there a b same c is
+same_choice (By Widest) a b same c is = widest_there a b same (IsOf a None) (IsOf b None) (λ d h x. tt) (λ d h x. tt) c is
+same_choice (By InOrder) a b same c is = first_there a b same c is
+same_choice (By FilterFirst) a b same c is = filter_first_there a b same c is
+same_choice (By Balanced) a b same c is = balanced_there a b same c is
 same_choice (Listed list) a b same c is = record { next = subst (λ n. slice_get list n ≡ Some c) same.read is.next; unread = unread_there a b same c is.unread }
 
 -- what is chosen has an unread plane
 pub choice_is_unread : (policy : Policy) (o : Outlook) (c : ℕ) → Chooses policy o c → IsUnread o c
-choice_is_unread Widest o c is = is.unread
-choice_is_unread InOrder o c is = is.unread
-choice_is_unread FilterFirst o c is = is.unread
-choice_is_unread Balanced o c is = is.unread
+choice_is_unread (By Widest) o c is = is.unread
+choice_is_unread (By InOrder) o c is = is.unread
+choice_is_unread (By FilterFirst) o c is = is.unread
+choice_is_unread (By Balanced) o c is = is.unread
 choice_is_unread (Listed list) o c is = is.unread

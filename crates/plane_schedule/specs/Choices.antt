@@ -1,9 +1,12 @@
--- The column that is read next, by each policy.
-use Rattle.std.specs.Prelude.{◌≡◌, ◌⊎◌, ℕ, ◌*◌, ◌^◌, ◌<◌, ◌≤◌, true, min, List, length, slice_index, slice_get, Bool}
+-- The policies: their words, and the column that each reads next.
+use Rattle.std.specs.Prelude.{◌≡◌, ◌⊎◌, ℕ, ◌*◌, ◌^◌, ◌<◌, ◌≤◌, true, min, List, length, slice_index, slice_get, codes, Bool, if◌then◌else◌}
+use Rattle.std.specs.Str.{bytes_eq}
 use Rattle.std.specs.declared.option.Option.{Option}
 use Rattle.std.specs.declared.option.Option.TheVariants.{Some, None}
+use Rattle.plane_schedule.specs.declared.policies.FixedPolicy.{FixedPolicy}
+use Rattle.plane_schedule.specs.declared.policies.FixedPolicy.TheVariants.{Widest, InOrder, FilterFirst, Balanced}
 use Rattle.plane_schedule.specs.declared.policy.Policy.{Policy}
-use Rattle.plane_schedule.specs.declared.policy.Policy.TheVariants.{Widest, InOrder, FilterFirst, Balanced, Listed}
+use Rattle.plane_schedule.specs.declared.policy.Policy.TheVariants.{By, Listed}
 use Rattle.plane_schedule.specs.declared.progress.Progress.{Progress}
 use Rattle.plane_schedule.specs.declared.progress.Role.{Role}
 use Rattle.plane_schedule.specs.declared.progress.Role.TheVariants.{Filter, Group, Value}
@@ -131,12 +134,37 @@ pub record IsNextListed (list : List ℕ) (o : Outlook) (c : ℕ) : Type 0 where
   pub next : slice_get list o.read ≡ Some c
   pub unread : IsUnread o c
 
+-- ---- all policies
+
+-- the word of a policy
+abbrev pub policy_word : FixedPolicy → List ℕ
+policy_word Widest = codes "widest"
+policy_word InOrder = codes "order"
+policy_word FilterFirst = codes "filter"
+policy_word Balanced = codes "balanced"
+
+-- the policy that the word names
+unfoldable pub policy_named : List ℕ → Option FixedPolicy
+policy_named w =
+    if bytes_eq w (codes "widest") then Some Widest
+    else (if bytes_eq w (codes "order") then Some InOrder
+    else (if bytes_eq w (codes "filter") then Some FilterFirst
+    else (if bytes_eq w (codes "balanced") then Some Balanced else None)))
+
+-- the words of all, as a person is told them
+unfoldable pub policy_words : List ℕ
+policy_words = codes "widest (the default), order, filter, or balanced"
+
+-- the column that a policy with a word reads next
+abbrev pub Picks : FixedPolicy → Outlook → ℕ → Type 0
+Picks Widest o c = IsWidest o c
+Picks InOrder o c = IsFirst o c
+Picks FilterFirst o c = IsFilterFirst o c
+Picks Balanced o c = IsBalanced o c
+
 -- the column that the policy reads next
 abbrev pub Chooses : Policy → Outlook → ℕ → Type 0
-Chooses Widest o c = IsWidest o c
-Chooses InOrder o c = IsFirst o c
-Chooses FilterFirst o c = IsFilterFirst o c
-Chooses Balanced o c = IsBalanced o c
+Chooses (By policy) o c = Picks policy o c
 Chooses (Listed list) o c = IsNextListed list o c
 
 -- there is one

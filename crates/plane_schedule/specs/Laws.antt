@@ -1,7 +1,8 @@
 -- The laws of policies, as statements. A public function with an empty body has each as its contract.
 use Rattle.std.specs.Prelude.{◌≡◌, ℕ}
+use Rattle.plane_schedule.specs.declared.policies.FixedPolicy.{FixedPolicy}
 use Rattle.plane_schedule.specs.declared.policy.Policy.{Policy}
-use Rattle.plane_schedule.specs.declared.policy.Policy.TheVariants.{Widest, InOrder, FilterFirst, Balanced}
+use Rattle.plane_schedule.specs.declared.policy.Policy.TheVariants.{By}
 use Rattle.plane_schedule.specs.Choices.{Chooses, HasChoice, HasUnread, Outlook}
 
 -- a policy chooses one column at most
@@ -10,4 +11,4 @@ ChoicesAreOne = (policy : Policy) (o : Outlook) (c d : ℕ) → Chooses policy o
 
 -- where a plane is unread, each policy but a list chooses one
 abbrev pub PoliciesChoose : Type 0
-PoliciesChoose = (o : Outlook) → HasUnread o → HasChoice Widest o × HasChoice InOrder o × HasChoice FilterFirst o × HasChoice Balanced o
+PoliciesChoose = (o : Outlook) → HasUnread o → (policy : FixedPolicy) → HasChoice (By policy) o

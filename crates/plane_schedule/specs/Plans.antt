@@ -9,7 +9,8 @@ use Rattle.plane_schedule.specs.declared.policy.Ending.TheVariants.{Narrow, Roun
 use Rattle.plane_schedule.specs.declared.policy.Extras.{Extras}
 use Rattle.plane_schedule.specs.declared.policy.Plan.{Plan}
 use Rattle.plane_schedule.specs.declared.policy.Policy.{Policy}
-use Rattle.plane_schedule.specs.declared.policy.Policy.TheVariants.{Widest, InOrder, FilterFirst, Balanced, Listed}
+use Rattle.plane_schedule.specs.declared.policies.FixedPolicy.TheVariants.{Widest}
+use Rattle.plane_schedule.specs.declared.policy.Policy.TheVariants.{By, Listed}
 
 -- each number of the list is a column, and no column stands in it more often than it has planes
 pub record IsReadableList (list : List ℕ) (frame : Frame) : Type 0 where
@@ -18,10 +19,7 @@ pub record IsReadableList (list : List ℕ) (frame : Frame) : Type 0 where
 
 -- the policy can be followed to its end: this asks something of a list alone
 abbrev pub IsReadable : Policy → Frame → Type 0
-IsReadable Widest frame = Unit {0}
-IsReadable InOrder frame = Unit {0}
-IsReadable FilterFirst frame = Unit {0}
-IsReadable Balanced frame = Unit {0}
+IsReadable (By policy) frame = Unit {0}
 IsReadable (Listed list) frame = IsReadableList list frame
 
 -- the round with this number is the last that is wanted
@@ -31,10 +29,7 @@ is_most (Some most) round = round == most
 
 -- after the round with this number the list of columns is at its end
 abbrev pub is_list_end : Policy → ℕ → Bool
-is_list_end Widest round = false
-is_list_end InOrder round = false
-is_list_end FilterFirst round = false
-is_list_end Balanced round = false
+is_list_end (By policy) round = false
 is_list_end (Listed list) round = round == length list
 
 abbrev pub first_ending : Bool → Bool → Bool → Option Ending
@@ -54,4 +49,4 @@ no_extras = record { clip = false; exact = false }
 
 -- each time the widest column, until each answer is one number
 abbrev pub widest_plan : Plan
-widest_plan = record { policy = Widest; width = 0; most = None; list = false; extras = no_extras }
+widest_plan = record { policy = By Widest; width = 0; most = None; list = false; extras = no_extras }

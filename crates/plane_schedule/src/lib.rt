@@ -9,6 +9,6 @@ mod progress;
 
 pub use chooser::Chooser;
 pub use laws::{choices_are_one, policies_choose};
-pub use policies::{balanced, filter_first, in_order, listed, widest};
+pub use policies::{FixedPolicy, balanced, choose, filter_first, in_order, listed, widest};
 pub use policy::{Ending, Extras, Plan, Policy};
 pub use progress::{Progress, Role};

@@ -1,18 +1,57 @@
-//! The policies by which the next column is chosen.
+//! The policies: their words, and the column that each chooses next.
 
 ghost use Rattle.std.specs.Prelude.{◌≡◌, ◌≤◌, ◌<◌, ◌*◌, ◌^◌, ℕ, slice_index, ◌↔◌, IsTrue, IfSome, IfNone};
-ghost use Rattle.plane_schedule.specs.declared.policy.Policy.TheVariants.{Widest, InOrder, FilterFirst, Balanced, Listed};
+ghost use Rattle.plane_schedule.specs.declared.policies.FixedPolicy.TheVariants.{Widest, InOrder, FilterFirst, Balanced};
+ghost use Rattle.plane_schedule.specs.declared.policy.Policy.TheVariants.{By, Listed};
 ghost use Rattle.plane_schedule.specs.declared.progress.Role.TheVariants.{Filter};
 ghost use Rattle.plane_schedule.specs.Choices.{Chooses, HasChoice, HasRole, HasUnread, HasUnreadOf, IsOf, IsUnread, IsWidestOf, outlook_of};
-ghost use Rattle.plane_schedule.specs.Choices.{HasLeftFor, IsLeastTakenOf, IsLessParted, IsReadFor, PartsRows};
+ghost use Rattle.plane_schedule.specs.Choices.{HasLeftFor, IsLeastTakenOf, IsLessParted, IsReadFor, PartsRows, policy_named, policy_words};
 
 use crate::progress::{Progress, Role};
 use query_model::Columns;
 
+/// A policy that has a word, and goes by what is open alone. A column is wider the more unread planes it has.
+#[derive(Clone, Copy, Debug, PartialEq, Eq)]
+pub enum FixedPolicy {
+    /// The widest column, of equals the least number.
+    Widest,
+    /// The least number with an unread plane.
+    InOrder,
+    /// The columns of the condition while it is unknown at some row, next those of the groups, then all; of each the widest.
+    FilterFirst,
+    /// The columns of the condition while as large a share of the rows that may pass is unknown as of a value is unread; next those of the
+    /// groups, then those that give values; of each the one of which the fewest planes are read.
+    Balanced,
+}
+
+impl FixedPolicy {
+    /// The policy that the word names.
+    #[tactic(auto, unfolding(crate::specs::Choices::policy_named))]
+    pub fn named(word: &str) -> Option<FixedPolicy>
+        ensures { result ≡ policy_named word.now }
+    {
+        match word {
+            "widest" => Some(FixedPolicy::Widest),
+            "order" => Some(FixedPolicy::InOrder),
+            "filter" => Some(FixedPolicy::FilterFirst),
+            "balanced" => Some(FixedPolicy::Balanced),
+            _ => None,
+        }
+    }
+
+    /// The words of all, as a person is told them.
+    #[tactic(auto, unfolding(crate::specs::Choices::policy_words))]
+    pub fn words() -> &'static [u8]
+        ensures { result.now ≡ policy_words }
+    {
+        b"widest (the default), order, filter, or balanced"
+    }
+}
+
 /// The least column with an unread plane.
 pub fn in_order(progress: &Progress) -> usize
     requires { HasUnread (outlook_of progress.now) }
-    ensures { Chooses InOrder (outlook_of progress.now) result }
+    ensures { Chooses (By InOrder) (outlook_of progress.now) result }
 {
     for column in 0..16usize {
         if column < progress.columns as usize && progress.unread[column] > 0 {
@@ -60,7 +99,7 @@ fn widest_of(role: Option<Role>, progress: &Progress) -> Option<usize>
 /// The column with the most unread planes, of equals the least.
 pub fn widest(progress: &Progress) -> usize
     requires { HasUnread (outlook_of progress.now) }
-    ensures { Chooses Widest (outlook_of progress.now) result }
+    ensures { Chooses (By Widest) (outlook_of progress.now) result }
 {
     match widest_of(None, progress) {
         Some(column) => column,
@@ -84,7 +123,7 @@ fn widest_of_filter(progress: &Progress) -> Option<usize>
 /// widest of those of the groups; else the widest of all.
 pub fn filter_first(progress: &Progress) -> usize
     requires { HasUnread (outlook_of progress.now) }
-    ensures { Chooses FilterFirst (outlook_of progress.now) result }
+    ensures { Chooses (By FilterFirst) (outlook_of progress.now) result }
 {
     if let Some(column) = widest_of_filter(progress) {
         return column;
@@ -200,7 +239,7 @@ fn parting(progress: &Progress) -> Option<usize>
 /// then one of values: of each the one of which the fewest planes are read, of equals the least.
 pub fn balanced(progress: &Progress) -> usize
     requires { HasUnread (outlook_of progress.now) }
-    ensures { Chooses Balanced (outlook_of progress.now) result }
+    ensures { Chooses (By Balanced) (outlook_of progress.now) result }
 {
     if let Some(column) = parting(progress) {
         return column;
@@ -214,12 +253,26 @@ pub fn balanced(progress: &Progress) -> usize
     }
 }
 
+/// The column that the policy reads next.
+pub fn choose(policy: FixedPolicy, progress: &Progress) -> usize
+    requires { HasUnread (outlook_of progress.now) }
+    ensures chosen { Chooses (By policy) (outlook_of progress.now) result }
+    ensures unread { IsUnread (outlook_of progress.now) result }
+{
+    match policy {
+        FixedPolicy::Widest => widest(progress),
+        FixedPolicy::InOrder => in_order(progress),
+        FixedPolicy::FilterFirst => filter_first(progress),
+        FixedPolicy::Balanced => balanced(progress),
+    }
+}
+
 /// The list's column for the next round, where it has an unread plane; else the widest.
 pub fn listed(list: &Columns, progress: &Progress) -> usize
     requires { HasUnread (outlook_of progress.now) }
     ensures unread { IsUnread (outlook_of progress.now) result }
     ensures listed { HasChoice (Listed list.now) (outlook_of progress.now) → Chooses (Listed list.now) (outlook_of progress.now) result }
-    ensures rest { ¬ HasChoice (Listed list.now) (outlook_of progress.now) → Chooses Widest (outlook_of progress.now) result }
+    ensures rest { ¬ HasChoice (Listed list.now) (outlook_of progress.now) → Chooses (By Widest) (outlook_of progress.now) result }
 {
     if let Some(column) = list.as_slice().get(progress.done as usize) {
         let column = *column as usize;

@@ -3,20 +3,14 @@
 ghost use Rattle.std.specs.Prelude.{◌≡◌};
 ghost use Rattle.plane_schedule.specs.Plans.{ending_of, is_list_end, is_most, no_extras, widest_plan};
 
+use crate::policies::FixedPolicy;
 use query_model::Columns;
 
-/// The policy by which the next column is chosen. A column is wider the more unread planes it has.
+/// The policy by which the next column is chosen.
 #[derive(Drop, Debug)]
 pub enum Policy {
-    /// The widest column, of equals the least number.
-    Widest,
-    /// The least number with an unread plane.
-    InOrder,
-    /// The columns of the condition while it is unknown at some row, next those of the groups, then all; of each the widest.
-    FilterFirst,
-    /// The columns of the condition while as large a share of the rows that may pass is unknown as of a value is unread; next those of the
-    /// groups, then those that give values; of each the one of which the fewest planes are read.
-    Balanced,
+    /// That of a word.
+    By(FixedPolicy),
     /// These columns of the query, one for each round.
     Listed(Columns),
 }
@@ -53,7 +47,7 @@ impl Policy {
         ensures { result ≡ is_list_end self.now round }
     {
         match self {
-            Policy::Widest | Policy::InOrder | Policy::FilterFirst | Policy::Balanced => false,
+            Policy::By(_) => false,
             Policy::Listed(list) => round as usize == list.as_slice().len(),
         }
     }
@@ -77,7 +71,7 @@ impl Plan {
         ensures { result ≡ widest_plan }
     {
         Plan {
-            policy: Policy::Widest,
+            policy: Policy::By(FixedPolicy::Widest),
             width: 0,
             most: None,
             list: false,

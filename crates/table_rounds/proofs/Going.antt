@@ -14,7 +14,7 @@ use Rattle.plane_schedule.specs.Laws.{ChoicesAreOne, PoliciesChoose}
 use Rattle.plane_schedule.specs.Plans.{IsReadable, IsReadableList, is_list_end, is_most}
 use Rattle.plane_schedule.specs.declared.policy.Plan.{Plan}
 use Rattle.plane_schedule.specs.declared.policy.Policy.{Policy}
-use Rattle.plane_schedule.specs.declared.policy.Policy.TheVariants.{Widest, InOrder, FilterFirst, Balanced, Listed}
+use Rattle.plane_schedule.specs.declared.policy.Policy.TheVariants.{By, Listed}
 use Rattle.query_model.specs.Knowledge.{CanTake, ColumnKnowledge, IsKnowledge, IsLegal, is_legal, known_at, longer, longer_column, taken}
 use Rattle.query_model.specs.Laws.{TakenIsKnowledge}
 use Rattle.query_model.specs.Worlds.{NamesColumns}
@@ -213,10 +213,7 @@ module _ (plan : Plan) (query : TypedQuery) (frame : Frame) (bits : Planes) wher
       stage_unread = have plan (stage_after query frame bits reads (length reads)) (rounds.legal (length reads) (omega arith)) going
 
       by : (p : Policy) → plan.policy ≡ p → IsReadable p (part_of query frame) → HasChoice p (outlook_at (stage_after query frame bits reads (length reads)))
-      by Widest e able = (choose (outlook_at (stage_after query frame bits reads (length reads))) stage_unread).0
-      by InOrder e able = (choose (outlook_at (stage_after query frame bits reads (length reads))) stage_unread).1
-      by FilterFirst e able = (choose (outlook_at (stage_after query frame bits reads (length reads))) stage_unread).2
-      by Balanced e able = (choose (outlook_at (stage_after query frame bits reads (length reads))) stage_unread).3
+      by (By fixed) e able = choose (outlook_at (stage_after query frame bits reads (length reads))) stage_unread fixed
       by (Listed list) e able =
           let stage = stage_after query frame bits reads (length reads) in
           let round = planes_read stage.known in

@@ -12,7 +12,8 @@ use Rattle.plane_schedule.specs.Laws.{PoliciesChoose}
 use Rattle.plane_schedule.specs.Plans.{first_ending, no_extras}
 use Rattle.plane_schedule.specs.declared.policy.Plan.{Plan}
 use Rattle.plane_schedule.specs.declared.policy.Policy.{Policy}
-use Rattle.plane_schedule.specs.declared.policy.Policy.TheVariants.{Widest, InOrder, FilterFirst, Balanced, Listed}
+use Rattle.plane_schedule.specs.declared.policies.FixedPolicy.TheVariants.{Widest}
+use Rattle.plane_schedule.specs.declared.policy.Policy.TheVariants.{By, Listed}
 use Rattle.plane_schedule.specs.declared.progress.Progress.{Progress}
 use Rattle.query_model.specs.Knowledge.{IsKnowledge}
 use Rattle.query_model.specs.Validity.{no_repeats}
@@ -42,10 +43,7 @@ tells s p is = tells_of (session_outlook s) p is.sound (same_outlook s p is)
 
 -- a policy that is no list chooses a column where a plane is unread
 pub choice_of : PoliciesChoose → (policy : Policy) (s : Session) → IsUnlisted policy → HasUnread (session_outlook s) → HasChoice policy (session_outlook s)
-choice_of choose Widest s is unread = (choose (session_outlook s) unread).0
-choice_of choose InOrder s is unread = (choose (session_outlook s) unread).1
-choice_of choose FilterFirst s is unread = (choose (session_outlook s) unread).2
-choice_of choose Balanced s is unread = (choose (session_outlook s) unread).3
+choice_of choose (By fixed) s is unread = choose (session_outlook s) unread fixed
 choice_of choose (Listed list) s is unread = absurd is
 
 -- ---- a query that is not finished awaits a plane
@@ -76,7 +74,7 @@ pub awaits_some : RoundsHavePlanes → (s : Session) (k : ℕ) (stage : Stage) �
     slice_get s.stages k ≡ Some stage → IsFalse (is_narrow s.width stage) → IsKnowledge stage.frame stage.known → IsTrue (no_repeats stage.query.columns) →
     length stage.frame.columns ≡ length stage.query.columns → HasUnread (session_outlook s)
 awaits_some have s k stage alike named there wide known once long =
-    let plan : Plan = record { policy = Widest; width = s.width; most = None; list = false; extras = no_extras } in
+    let plan : Plan = record { policy = By Widest; width = s.width; most = None; list = false; extras = no_extras } in
     let (c, unread) = have plan stage known (none_yet (is_narrow s.width stage) wide) in
     let inside : c < length stage.query.columns = subst (λ n. c < n) long unread.column in
     let place = get_or stage.query.columns c 0 in

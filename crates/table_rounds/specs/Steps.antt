@@ -14,7 +14,7 @@ use Rattle.plane_schedule.specs.Plans.{ending_of}
 use Rattle.plane_schedule.specs.declared.policy.Ending.{Ending}
 use Rattle.plane_schedule.specs.declared.policy.Plan.{Plan}
 use Rattle.plane_schedule.specs.declared.policy.Policy.{Policy}
-use Rattle.plane_schedule.specs.declared.policy.Policy.TheVariants.{Widest, InOrder, FilterFirst, Balanced, Listed}
+use Rattle.plane_schedule.specs.declared.policy.Policy.TheVariants.{By, Listed}
 use Rattle.query_model.specs.Knowledge.{IsKnowledge, known_at}
 use Rattle.query_model.specs.Queries.{Query}
 use Rattle.query_model.specs.Validity.{FitsHead}
@@ -83,10 +83,7 @@ pub record IsWide (s : Session) (query : ℕ) : Type 0 where
 
 -- no list of columns: a session reads by a policy
 abbrev pub IsUnlisted : Policy → Type 0
-IsUnlisted Widest = Unit {0}
-IsUnlisted InOrder = Unit {0}
-IsUnlisted FilterFirst = Unit {0}
-IsUnlisted Balanced = Unit {0}
+IsUnlisted (By fixed) = Unit {0}
 IsUnlisted (Listed list) = ⊥
 
 -- the unread planes of all queries, each of a query counted by itself

@@ -5,8 +5,7 @@ ghost use Rattle.plane_schedule.specs.Choices.{HasUnread, IsSound, outlook_of};
 ghost use Rattle.plane_schedule.specs.Keeping.{Follows, Keeps};
 
 use plane_schedule::{
-    Chooser, Ending, Extras, Plan, Policy, Progress, Role, balanced, filter_first, in_order,
-    listed, widest,
+    Chooser, Ending, Extras, FixedPolicy, Plan, Policy, Progress, Role, choose, listed,
 };
 use query_model::Columns;
 use std::alloc::AllocError;
@@ -46,7 +45,7 @@ fn next_balanced(progress: &Progress) -> Option<usize> {
     if !has_unread(progress) {
         return None;
     }
-    Some(balanced(progress))
+    Some(choose(FixedPolicy::Balanced, progress))
 }
 
 // The columns that the three policies choose, in their order: widest, in order, filter first.
@@ -54,7 +53,11 @@ fn choices(progress: &Progress) -> Option<[usize; 3]> {
     if !has_unread(progress) {
         return None;
     }
-    Some([widest(progress), in_order(progress), filter_first(progress)])
+    Some([
+        choose(FixedPolicy::Widest, progress),
+        choose(FixedPolicy::InOrder, progress),
+        choose(FixedPolicy::FilterFirst, progress),
+    ])
 }
 
 #[test]
@@ -127,10 +130,14 @@ fn rounds_of(policy: &Policy, start: Progress) -> [u8; 16]
     requires sound { IsSound start }
 {
     match policy {
-        Policy::Widest => rounds(policy, &Chooser::new(|p: &Progress| widest(p)), start),
-        Policy::InOrder => rounds(policy, &Chooser::new(|p: &Progress| in_order(p)), start),
-        Policy::FilterFirst => rounds(policy, &Chooser::new(|p: &Progress| filter_first(p)), start),
-        Policy::Balanced => rounds(policy, &Chooser::new(|p: &Progress| balanced(p)), start),
+        Policy::By(by) => {
+            let by = *by;
+            rounds(
+                policy,
+                &Chooser::new(|p: &Progress| choose(by, p)),
+                start,
+            )
+        }
         Policy::Listed(list) => rounds(
             policy,
             &Chooser::new(|p: &Progress| listed(list, p)),
@@ -164,10 +171,10 @@ fn all_is_read(rt: HostRuntime) -> Result<(), AllocError> {
     all[1] = 3;
     let list = Columns::new(vec![in rt.alloc(); 1, 0, 7, 1]?);
     for policy in [
-        Policy::Widest,
-        Policy::InOrder,
-        Policy::FilterFirst,
-        Policy::Balanced,
+        Policy::By(FixedPolicy::Widest),
+        Policy::By(FixedPolicy::InOrder),
+        Policy::By(FixedPolicy::FilterFirst),
+        Policy::By(FixedPolicy::Balanced),
         Policy::Listed(list),
     ] {
         assert_eq!(rt; rounds_of(&policy, two_columns(0)), all);

@@ -3,6 +3,7 @@
 use command_line::{
     Ask, Command, Demo, Info, Load, Options, Query, ReadOrder, Session, Upgrade, Usage, Words,
 };
+use plane_schedule::FixedPolicy;
 use std::alloc::{AllocError, Global};
 use std::test::Fail;
 
@@ -108,7 +109,7 @@ fn a_query_over_a_generated_table(rt: HostRuntime) -> Result<(), Fail> {
     let options = Options {
         width: 0,
         rounds: None,
-        order: ReadOrder::FilterFirst,
+        order: ReadOrder::By(FixedPolicy::FilterFirst),
         list: true,
         clip: false,
         exact: true,
@@ -128,7 +129,7 @@ fn questions_to_plane_files(rt: HostRuntime) -> Result<(), Fail> {
     let options = Options {
         width: 0,
         rounds: Some(3),
-        order: ReadOrder::Widest,
+        order: ReadOrder::By(FixedPolicy::Widest),
         list: false,
         clip: true,
         exact: true,

@@ -1,5 +1,6 @@
 -- `help`: what the commands are, their options, and what they take.
 use Rattle.std.specs.Prelude.{ℕ, List, ◌++◌, codes}
+use Rattle.plane_schedule.specs.Choices.{policy_words}
 
 unfoldable pub help_text : List ℕ
 help_text =
@@ -15,7 +16,9 @@ help_text =
     ++ (codes "  daq --version                        prints the version, as does daq -V\n\n"
     ++ (codes "  --width NUMBER    ends once each interval is this narrow, in units of the last digit shown\n"
     ++ (codes "  --rounds NUMBER   ends after so many planes\n"
-    ++ (codes "  --policy POLICY   which column is read next: widest (the default), order, filter, or balanced\n"
+    ++ (codes "  --policy POLICY   which column is read next: "
+    ++ (policy_words
+    ++ (codes "\n"
     ++ (codes "  --reads NAME,..   reads these columns, a plane each, in this order; not in a session\n"
     ++ (codes "  --list            with ORDER BY, also shows the rows that may be among the first\n"
     ++ (codes "  --clip            shows the interval of a sum or an extreme whose column the condition clips\n"
@@ -23,4 +26,4 @@ help_text =
     ++ (codes "A schema names each column of the CSV with its type: int, dec0 to dec9, date or text, ? where it may be empty, or skip:\n\n"
     ++ (codes "  daq ask shop.csv price:int,qty:int?,city:text 'SELECT city, SUM(price) FROM t WHERE qty > 2 GROUP BY city'\n\n"
     ++ (codes "The table is always t. A query has at most 16 columns, 16 aggregates, 64 values in an IN, and 1,000 rows behind LIMIT.\n"
-    ++ (codes "A session has at most 16 queries, which name 16 columns together. The manual: man daq\n"))))))))))))))))))))
+    ++ (codes "A session has at most 16 queries, which name 16 columns together. The manual: man daq\n"))))))))))))))))))))))

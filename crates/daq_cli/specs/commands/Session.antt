@@ -80,10 +80,7 @@ session_step script bytes = then (queries_step script) (λ queries. then (file_s
 
 -- the policy of this order, which is no list
 abbrev pub IsPolicyFor : ReadOrder → Policy → Type 0
-IsPolicyFor line.widest policy = policy ≡ p.Widest
-IsPolicyFor line.in_order policy = policy ≡ p.InOrder
-IsPolicyFor line.filter_first policy = policy ≡ p.FilterFirst
-IsPolicyFor line.balanced policy = policy ≡ p.Balanced
+IsPolicyFor (line.fixed named) policy = policy ≡ p.By named
 IsPolicyFor (line.reads names) policy = ⊥
 
 -- the plan of the options, which is that of all queries

@@ -8,6 +8,7 @@ ghost use Rattle.daq_cli.specs.commands.Help.{help_text};
 
 use crate::refusal::Refusal;
 use outer_world::{Failed, Sink, write_pieces};
+use plane_schedule::FixedPolicy;
 
 // Writes what the program is, each command and each option, what holds of schemas, and the limits of queries.
 #[tactic(auto, unfolding(crate::specs::commands::Help::help_text))]
@@ -29,7 +30,9 @@ fn write_help<K: Sink>(out: &mut K) -> Result<(), Failed>
             b"  daq --version                        prints the version, as does daq -V\n\n",
             b"  --width NUMBER    ends once each interval is this narrow, in units of the last digit shown\n",
             b"  --rounds NUMBER   ends after so many planes\n",
-            b"  --policy POLICY   which column is read next: widest (the default), order, filter, or balanced\n",
+            b"  --policy POLICY   which column is read next: ",
+            FixedPolicy::words(),
+            b"\n",
             b"  --reads NAME,..   reads these columns, a plane each, in this order; not in a session\n",
             b"  --list            with ORDER BY, also shows the rows that may be among the first\n",
             b"  --clip            shows the interval of a sum or an extreme whose column the condition clips\n",

@@ -1,4 +1,4 @@
-use Rattle.std.proofs.Common.{◌≡◌, ◌≤◌, ◌*◌, ◌^◌, refl, arith}
+use Rattle.std.proofs.Common.{◌≤◌, ◌*◌, ◌^◌, refl, arith}
 use Rattle.std.proofs.Math.Nat.{mul-le-mul}
 use Rattle.std.proofs.Math.Pow.{pow_mono}
 use Rattle.plane_schedule.proofs.policies.is_share_unknown.Goals as goal
