@@ -158,24 +158,6 @@ fn write_rows<K: Sink>(
     write_cut(head, query, face, limit, rows.cut, out)
 }
 
-// Writes the line of the rows that an end takes.
-fn write_taken<K: Sink>(
-    head: &Head,
-    query: &TypedQuery,
-    number: u64,
-    face: Face,
-    end: &[u8],
-    limit: &[u8],
-    rows: TakenRows,
-    out: &mut K,
-) -> Result<(), Failed>
-    requires { CanShowAny head.now query.now face }
-    ensures { Writes result (K.state out.old) (K.state out.new) (taken_line head.now query.now number face end.now limit.now rows) }
-{
-    write_front(number, end, out)?;
-    write_rows(head, query, face, limit, rows, out)
-}
-
 // The rows that the low end takes.
 fn low_rows(exact: &Exact) -> TakenRows
     ensures { result ≡ low_rows (exact_average_of exact.now) }
@@ -198,6 +180,40 @@ fn high_rows(exact: &Exact) -> TakenRows
     }
 }
 
+// Writes the line of the rows that the low end takes.
+fn write_low_taken<K: Sink>(
+    head: &Head,
+    query: &TypedQuery,
+    number: u64,
+    face: Face,
+    exact: &Exact,
+    out: &mut K,
+) -> Result<(), Failed>
+    requires { CanShowAny head.now query.now face }
+    ensures { Writes result (K.state out.old) (K.state out.new)
+        (taken_line head.now query.now number face (codes " low takes ") (codes " at most ") (low_rows (exact_average_of exact.now))) }
+{
+    write_front(number, b" low takes ", out)?;
+    write_rows(head, query, face, b" at most ", low_rows(exact), out)
+}
+
+// Writes the line of the rows that the high end takes.
+fn write_high_taken<K: Sink>(
+    head: &Head,
+    query: &TypedQuery,
+    number: u64,
+    face: Face,
+    exact: &Exact,
+    out: &mut K,
+) -> Result<(), Failed>
+    requires { CanShowAny head.now query.now face }
+    ensures { Writes result (K.state out.old) (K.state out.new)
+        (taken_line head.now query.now number face (codes " high takes ") (codes " at least ") (high_rows (exact_average_of exact.now))) }
+{
+    write_front(number, b" high takes ", out)?;
+    write_rows(head, query, face, b" at least ", high_rows(exact), out)
+}
+
 // Writes the lines of the rows that both ends take.
 fn write_both_taken<K: Sink>(
     head: &Head,
@@ -210,27 +226,8 @@ fn write_both_taken<K: Sink>(
     requires { CanShowAny head.now query.now face }
     ensures { Writes result (K.state out.old) (K.state out.new) (taken_lines head.now query.now number face (exact_average_of exact.now)) }
 {
-    let (low, high) = (low_rows(exact), high_rows(exact));
-    write_taken(
-        head,
-        query,
-        number,
-        face,
-        b" low takes ",
-        b" at most ",
-        low,
-        out,
-    )?;
-    write_taken(
-        head,
-        query,
-        number,
-        face,
-        b" high takes ",
-        b" at least ",
-        high,
-        out,
-    )
+    write_low_taken(head, query, number, face, exact, out)?;
+    write_high_taken(head, query, number, face, exact, out)
 }
 
 // The same, where there may be an answer.
