@@ -1,6 +1,6 @@
 //! A query over the planes of a table: it runs on the course of its rounds.
 
-ghost use Rattle.std.specs.Prelude.{◌≡◌, ◌<◌, ◌^◌, ℕ, length, slice_index, IfNone};
+ghost use Rattle.std.specs.Prelude.{◌≡◌, ◌<◌, ◌^◌, length, slice_index, IfNone};
 ghost use Rattle.daq_table.specs.Tables.{ends_at, frame_of, planes};
 ghost use Rattle.plane_schedule.specs.Choices.{HasUnread};
 ghost use Rattle.plane_schedule.specs.Plans.{IsReadable};
