@@ -33,6 +33,26 @@ bit_there test ps block i small below =
 pub long_block : {A : Type 0} (xs : List A) (block n : ℕ) → length xs ≡ n → length (take 512 (drop (512 * block) xs)) ≡ min 512 (n - 512 * block)
 long_block xs block n e = length-take 512 (drop (512 * block) xs) ∙ ap (min 512) (length-drop (512 * block) xs ∙ ap (λ k. k - 512 * block) e)
 
+-- ---- one digit more, and an end as a sum, times a number
+
+pub further : (n m : ℕ) (t : Bool) (p : ℤ) → m ≡ 2 * n + cond t 1 0 → pos m *ℤ p ≡ ((pos n *ℤ p) *ℤ pos 2) +ℤ cond t p (pos 0)
+further n m true p e = ap (λ k. pos k *ℤ p) e ∙ omega (arith, ints)
+further n m false p e = ap (λ k. pos k *ℤ p) e ∙ omega (arith, ints)
+
+pub twice : (z : ℤ) → z *ℤ pos 2 ≡ pos 2 *ℤ z
+twice z = omega (arith, ints)
+
+taken : (d n a t p : ℤ) → (((d *ℤ n) +ℤ a) -ℤ t) *ℤ p ≡ ((d *ℤ (n *ℤ p)) +ℤ (a *ℤ p)) -ℤ (t *ℤ p)
+taken d n a t p =
+    difference_times ((d *ℤ n) +ℤ a) t p ∙ ap (λ z. z -ℤ (t *ℤ p)) (sum_times (d *ℤ n) a p ∙ ap (λ z. z +ℤ (a *ℤ p)) (product_times d n p))
+
+kept : (d n a t p : ℤ) → (((d *ℤ n) +ℤ a) -ℤ pos 0) *ℤ p ≡ ((d *ℤ (n *ℤ p)) +ℤ (a *ℤ p)) -ℤ (t *ℤ pos 0)
+kept d n a t p = taken d n a (pos 0) p ∙ ap (λ z. ((d *ℤ (n *ℤ p)) +ℤ (a *ℤ p)) -ℤ z) (zero-*ℤ p ∙ sym (*ℤ-zero t))
+
+pub spread_out : (d n a t p : ℤ) (b : Bool) → (((d *ℤ n) +ℤ a) -ℤ cond b t (pos 0)) *ℤ p ≡ ((d *ℤ (n *ℤ p)) +ℤ (a *ℤ p)) -ℤ (t *ℤ cond b p (pos 0))
+spread_out d n a t p true = taken d n a t p
+spread_out d n a t p false = kept d n a t p
+
 -- what the digits make but for so many at the end, times the product of other factors, added up
 abbrev pub first_digits : KnownTable → ℕ → List Bool → List Factor → ℕ → ℕ → ℤ
 first_digits table block rows rest c k = sum_over rows (λ i. pos (number_at (column_at table c) (512 * block + i) / 2 ^ k) *ℤ product_at table rest (512 * block + i))
@@ -85,13 +105,6 @@ module _ (table : KnownTable) (block : ℕ) (rows : List Bool) (rest : List Fact
       nothing : (z : ℤ) → pos 0 *ℤ z ≡ pos 0
       nothing z = omega (arith, ints)
 
-  further : (n m : ℕ) (t : Bool) (p : ℤ) → m ≡ 2 * n + cond t 1 0 → pos m *ℤ p ≡ ((pos n *ℤ p) *ℤ pos 2) +ℤ cond t p (pos 0)
-  further n m true p e = ap (λ k. pos k *ℤ p) e ∙ omega (arith, ints)
-  further n m false p e = ap (λ k. pos k *ℤ p) e ∙ omega (arith, ints)
-
-  twice : (z : ℤ) → z *ℤ pos 2 ≡ pos 2 *ℤ z
-  twice z = omega (arith, ints)
-
   pub digits_next : (j : ℕ) → first_plane (ends_at table.frame c) read ≤ j → j < read →
       digits_but (read - (j + 1)) ≡ (digits_but (read - j) *ℤ pos 2) +ℤ sum_of_products table block (zip2 (λ a b. a && b) rows (take 512 (drop (512 * block) (map (digit_of read j) prefixes)))) rest
   digits_next j from below =
@@ -111,17 +124,6 @@ module _ (table : KnownTable) (block : ℕ) (rows : List Bool) (rest : List Fact
   digits_last k none = ap digits_but none ∙ over_same rows (λ i. pos (number i / 2 ^ 0) *ℤ product i) (λ i. pos (number i) *ℤ product i) (λ i has. ap (λ n. pos n *ℤ product i) (div-one (number i)))
 
   -- ---- an end of the column
-
-  taken : (d n a t p : ℤ) → (((d *ℤ n) +ℤ a) -ℤ t) *ℤ p ≡ ((d *ℤ (n *ℤ p)) +ℤ (a *ℤ p)) -ℤ (t *ℤ p)
-  taken d n a t p =
-      difference_times ((d *ℤ n) +ℤ a) t p ∙ ap (λ z. z -ℤ (t *ℤ p)) (sum_times (d *ℤ n) a p ∙ ap (λ z. z +ℤ (a *ℤ p)) (product_times d n p))
-
-  kept : (d n a t p : ℤ) → (((d *ℤ n) +ℤ a) -ℤ pos 0) *ℤ p ≡ ((d *ℤ (n *ℤ p)) +ℤ (a *ℤ p)) -ℤ (t *ℤ pos 0)
-  kept d n a t p = taken d n a (pos 0) p ∙ ap (λ z. ((d *ℤ (n *ℤ p)) +ℤ (a *ℤ p)) -ℤ z) (zero-*ℤ p ∙ sym (*ℤ-zero t))
-
-  spread_out : (d n a t p : ℤ) (b : Bool) → (((d *ℤ n) +ℤ a) -ℤ cond b t (pos 0)) *ℤ p ≡ ((d *ℤ (n *ℤ p)) +ℤ (a *ℤ p)) -ℤ (t *ℤ cond b p (pos 0))
-  spread_out d n a t p true = taken d n a t p
-  spread_out d n a t p false = kept d n a t p
 
   pub column_sum : (e : End) → ((i : ℕ) → IsTrue (has_row rows i) → HasValue table (Column c) (512 * block + i)) →
       sum_over rows (λ i. term_end table e (Column c) (512 * block + i) *ℤ product i)

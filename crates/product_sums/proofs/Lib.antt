@@ -8,4 +8,5 @@ pub mod Tallies
 pub mod MaskSums
 pub mod Hulls
 pub mod Distributing
+pub mod Fetching
 pub mod Firsts

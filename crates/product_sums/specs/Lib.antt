@@ -1,2 +1,3 @@
 pub mod ColumnEnds
+pub mod Fetched
 pub mod Products

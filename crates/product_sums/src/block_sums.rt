@@ -2,21 +2,24 @@
 //! the sum of a product with it is one of products without it, each over the rows that have the digit; that of no factor is how many rows
 //! there are. All of it is done in 128 bits that wrap around: only what the sum comes to has to fit.
 
-ghost use Rattle.std.specs.Prelude.{◌≡◌, ◌<◌, ◌+◌, ◌*◌, ◌∷◌, ℕ, pos, ◌*ℤ◌, length, IsTrue};
+ghost use Rattle.std.specs.Prelude.{◌≡◌, ◌<◌, ◌+◌, ◌*◌, ◌∷◌, ℕ, pos, ◌*ℤ◌, length, IfSome, IsTrue};
 ghost use Rattle.std.specs.Int.{int_wrap, w128};
 ghost use Rattle.aggregates.specs.ExtremeRows.{number_at};
 ghost use Rattle.aggregates.specs.Selections.{has_row};
 ghost use Rattle.known_column.specs.KnownTables.{column_at};
 ghost use Rattle.query_model.specs.Queries.{Column, Mul, term_of};
 ghost use Rattle.query_model.specs.Truths.{span_of};
+ghost use Rattle.product_sums.specs.Fetched.{IsLone};
 ghost use Rattle.product_sums.specs.Products.{sum_of_products, sum_over, product_at, term_end, CanMultiply, HasValue};
 
 use crate::column_ends::{weight_of_all, weight_of_digits, weight_of_top};
 use crate::factors::{Factor, is_longer, joined, other};
+use crate::fetched::{Fetched, fetch_lone};
+use crate::fetched_sums::sum_fetched;
+use crate::rows::Rows;
 use crate::wrapping::{minus, plus, times};
 use aggregates::{End, number_planes};
 use known_column::LentColumns;
-use plane_kernels::Block;
 use query_model::Expr;
 
 // The product of some factors, added up over rows of a block.
@@ -24,7 +27,7 @@ use query_model::Expr;
 pub(crate) fn sum_products<'a>(
     columns: &LentColumns<'_>,
     block: usize,
-    rows: &Block,
+    rows: &Rows,
     factors: &[Factor<'a>],
 ) -> i128
     requires { CanMultiply columns.now block rows.now factors.now }
@@ -41,7 +44,7 @@ pub(crate) fn sum_products<'a>(
 fn sum_times<'a>(
     columns: &LentColumns<'_>,
     block: usize,
-    rows: &Block,
+    rows: &Rows,
     factors: &[Factor<'a>],
     number: i128,
 ) -> i128
@@ -51,7 +54,29 @@ fn sum_times<'a>(
     if number == 0 {
         return 0;
     }
+    if rows.count() == 0 {
+        return 0;
+    }
     times(number, sum_products(columns, block, rows, factors))
+}
+
+// The product of some factors, added up: in words that are fetched, where these are of the only factor.
+#[cycle(sum)]
+fn sum_rest<'a>(
+    columns: &LentColumns<'_>,
+    block: usize,
+    rows: &Rows,
+    rest: &[Factor<'a>],
+    fetched: &Option<Fetched>,
+) -> i128
+    requires rest { CanMultiply columns.now block rows.now rest.now }
+    requires fetched { IfSome fetched.now (IsLone columns.now block rest.now) }
+    ensures { result ≡ int_wrap w128 (sum_of_products columns.now block rows.now rest.now) }
+{
+    match fetched {
+        Some(words) => sum_fetched(columns, block, rows, words),
+        None => sum_products(columns, block, rows, rest),
+    }
 }
 
 // The product of the number that a column's digits make and of some factors, added up.
@@ -59,7 +84,7 @@ fn sum_times<'a>(
 fn sum_digits<'a>(
     columns: &LentColumns<'_>,
     block: usize,
-    rows: &Block,
+    rows: &Rows,
     column: u8,
     rest: &[Factor<'a>],
 ) -> i128
@@ -70,10 +95,14 @@ fn sum_digits<'a>(
 {
     let known = columns.column(usize::from(column));
     let (from, to) = number_planes(known);
+    let fetched = fetch_lone(columns, block, rest);
     let mut sum: i128 = 0;
     for j in from..to {
-        let ones = rows.and(&Block::of_plane(known.plane(j), block));
-        sum = plus(times(sum, 2), sum_products(columns, block, &ones, rest));
+        let ones = rows.and(&Rows::of_plane(known.plane(j), block));
+        sum = plus(
+            times(sum, 2),
+            sum_rest(columns, block, &ones, rest, &fetched),
+        );
     }
     sum
 }
@@ -83,7 +112,7 @@ fn sum_digits<'a>(
 fn sum_column<'a>(
     columns: &LentColumns<'_>,
     block: usize,
-    rows: &Block,
+    rows: &Rows,
     column: u8,
     end: End,
     rest: &[Factor<'a>],
@@ -100,7 +129,7 @@ fn sum_column<'a>(
         sum_digits(columns, block, rows, column, rest),
     );
     let all = sum_times(columns, block, rows, rest, weight_of_all(end, known));
-    let tops = rows.and(&Block::of_mask(known.at_top(), block));
+    let tops = rows.and(&Rows::of_mask(known.at_top(), block));
     let less = sum_times(columns, block, &tops, rest, weight_of_top(end, known));
     minus(plus(digits, all), less)
 }
@@ -110,7 +139,7 @@ fn sum_column<'a>(
 fn sum_both<'a>(
     columns: &LentColumns<'_>,
     block: usize,
-    rows: &Block,
+    rows: &Rows,
     first: Factor<'a>,
     second: Factor<'a>,
     rest: &[Factor<'a>],
@@ -127,7 +156,7 @@ fn sum_both<'a>(
 fn sum_first<'a>(
     columns: &LentColumns<'_>,
     block: usize,
-    rows: &Block,
+    rows: &Rows,
     first: Factor<'a>,
     rest: &[Factor<'a>],
 ) -> i128

@@ -11,10 +11,11 @@ ghost use Rattle.product_sums.specs.Products.{sum_over, term_end, HasValues, IsP
 
 use crate::block_sums::sum_products;
 use crate::factors::Factor;
+use crate::rows::Rows;
 use crate::wrapping::plus;
 use aggregates::End;
 use known_column::LentColumns;
-use plane_kernels::{Block, Mask};
+use plane_kernels::Mask;
 use query_model::Expr;
 
 // The ends at the mask's rows of a block, added up.
@@ -27,7 +28,7 @@ fn sum_block(end: End, arg: &Expr, columns: &LentColumns<'_>, mask: &Mask, block
         (λ i. term_end columns.now end (term_of arg.now) (512 * block + i))) }
 {
     let _rows = columns.rows();
-    let rows = Block::of_mask(mask, block);
+    let rows = Rows::of_mask(mask, block);
     if rows.count() == 0 {
         return 0;
     }

@@ -1,19 +1,22 @@
-use Rattle.std.proofs.Common.{rules, ◌≡◌, ◌-◌, ◌*◌, min, cond, pos, ◌*ℤ◌, ◌&&◌, length, map, take, drop, count_by, FitsSigned, to_z, of_z, refl, ap, sym, subst, ◌∙◌, arith}
+use Rattle.std.proofs.Common.{rules, ◌≡◌, ◌+◌, ◌-◌, ◌*◌, min, cond, pos, ◌*ℤ◌, ◌&&◌, length, map, IfSome, take, drop, count_by, FitsSigned, to_z, of_z, refl, ap, sym, subst, ◌∙◌, arith}
 use Rattle.std.specs.Int.{int_wrap, w128}
 use Rattle.std.specs.Simd.Lanes.{zip2}
+use Rattle.std.proofs.Math.IntN.{*ℤ-zero}
 use Rattle.std.proofs.lemmas.Int.{ints, int_wrap_fits}
 use Rattle.daq_table.specs.Tables.{ends_at}
 use Rattle.aggregates.proofs.NumberRows.{first_plane}
 use Rattle.known_column.specs.Columns.{KnownColumn, digit_of, is_at_top}
 use Rattle.known_column.specs.KnownTables.{column_at}
 use Rattle.query_model.specs.Knowledge.{known_at}
-use Rattle.query_model.specs.Queries.{term_of}
+use Rattle.query_model.specs.Queries.{Column, term_of}
 use Rattle.product_sums.specs.ColumnEnds.{weight_of_all, weight_of_digits, weight_of_top}
-use Rattle.product_sums.specs.Products.{CanMultiply, sum_of_products}
+use Rattle.product_sums.specs.Fetched.{IsLone}
+use Rattle.product_sums.specs.Products.{CanMultiply, product_at, sum_of_products, term_end}
 use Rattle.product_sums.proofs.DigitSums.{column_sum, digits_first, digits_last, digits_next, first_digits, tested_length}
 use Rattle.product_sums.proofs.Firsts.{add_sum, empty_sum, literal_sum, mul_sum, mul_turned, sub_sum}
 use Rattle.product_sums.proofs.Multiplying.{few_of_degree, fewer_rows, some_degree}
 use Rattle.product_sums.proofs.Residues.{minus_is, plus_is, times_is, times_wrapped, wrapped}
+use Rattle.product_sums.proofs.RowSums.{over_none, over_same}
 use Rattle.product_sums.proofs.block_sums.+sum.Goals as goal
 
 pub sum_both-joined-factors-requires : goal.sum_both-joined-factors-requires
@@ -77,15 +80,15 @@ sum_digits-and-ones-requires t c =
     ap length (c.of_plane.ensures ∙ ap (λ l. take 512 (drop (512 * c.args.block) l)) (c.plane.ensures ∙ ap (λ (k : KnownColumn). map (digit_of k.known.read c.loop-j.j) k.known.prefixes) is))
     ∙ tested_length table c.args.block c.args.rows.now c.args.rest.now c.requires.rest c.args.column c.requires.column (digit_of (known_at table.known c.args.column).read c.loop-j.j)
 
-pub sum_digits-sum_products-requires : goal.sum_digits-sum_products-requires
-sum_digits-sum_products-requires t c =
+pub sum_digits-sum_rest-requires : goal.sum_digits-sum_rest-requires
+sum_digits-sum_rest-requires t c =
     let table = c.args.columns.now in
     let is : c.column-known.result.now ≡ column_at table c.args.column = c.column-known.ensures.column ∙ ap (column_at table) c.from.ensures in
     let same : length c.of_plane.result ≡ length c.args.rows.now =
     ap length (c.of_plane.ensures ∙ ap (λ l. take 512 (drop (512 * c.args.block) l)) (c.plane.ensures ∙ ap (λ (k : KnownColumn). map (digit_of k.known.read c.loop-j.j) k.known.prefixes) is))
     ∙ tested_length table c.args.block c.args.rows.now c.args.rest.now c.requires.rest c.args.column c.requires.column (digit_of (known_at table.known c.args.column).read c.loop-j.j) in (
       search (rules, arith),
-      subst (λ r. CanMultiply table c.args.block r c.args.rest.now) (sym c.and-ones.ensures) (fewer_rows table c.args.block c.args.rows.now c.of_plane.result c.args.rest.now same c.requires.rest),
+      (subst (λ r. CanMultiply table c.args.block r c.args.rest.now) (sym c.and-ones.ensures) (fewer_rows table c.args.block c.args.rows.now c.of_plane.result c.args.rest.now same c.requires.rest), c.fetch_lone-fetched.ensures),
     )
 
 pub sum_digits-loop-j-preserved : goal.sum_digits-loop-j-preserved
@@ -103,7 +106,7 @@ sum_digits-loop-j-preserved t c =
     let before = first_digits table c.args.block c.args.rows.now rest c.args.column ((known_at table.known c.args.column).read - c.loop-j.j) in
     let twice = c.times.ensures ∙ ap (λ z. wrapped (z *ℤ pos 2)) c.loop-j.invariant ∙ times_wrapped before (pos 2) in
     whole
-    ∙ plus_is c.plus-sum.result c.times.result c.sum_products.result _ _ c.plus-sum.ensures (omega (arith, ints)) (omega (arith, ints)) twice (c.sum_products.ensures ∙ ap (λ r. wrapped (sum_of_products table c.args.block r rest)) ones)
+    ∙ plus_is c.plus-sum.result c.times.result c.sum_rest.result _ _ c.plus-sum.ensures (omega (arith, ints)) (omega (arith, ints)) twice (c.sum_rest.ensures ∙ ap (λ r. wrapped (sum_of_products table c.args.block r rest)) ones)
     ∙ ap wrapped (sym (digits_next table c.args.block c.args.rows.now rest c.requires.rest c.args.column c.requires.column c.loop-j.j (omega (arith, from, c.loop-j.auto)) (omega (arith, to, c.loop-j-test.true))))
 
 pub sum_digits-returns : goal.sum_digits-returns
@@ -157,6 +160,23 @@ sum_products-returns-in-empty t c =
     let few : FitsSigned w128 (pos (count_by (λ b. b) c.args.rows.now)) = record { sfits = omega (arith, c.count.type_inv, c.count.ensures) } in
     whole ∙ c.from.ensures ∙ ap pos c.count.ensures ∙ sym (int_wrap_fits w128 (pos (count_by (λ b. b) c.args.rows.now)) few)
     ∙ ap wrapped (sym (empty_sum c.args.columns.now c.args.block c.args.rows.now c.args.factors.now (omega (arith, c.in-empty.len_below))))
+
+pub sum_rest-returns-in-Some : goal.sum_rest-returns-in-Some
+sum_rest-returns-in-Some t c =
+    let table = c.args.columns.now in
+    let rest = c.args.rest.now in
+    let words = c.in-Some.words in
+    let lone = subst (λ o. IfSome o (IsLone table c.args.block rest)) c.in-Some.is c.requires.fetched in
+    let whole : to_z w128 (of_z w128 c.sum_fetched.result) ≡ c.sum_fetched.result = omega (arith, ints) in
+    whole ∙ c.sum_fetched.ensures
+    ∙ ap wrapped (over_same c.args.rows.now (λ i. term_end table words.end (Column words.column) (512 * c.args.block + i) *ℤ pos 1) (λ i. product_at table rest (512 * c.args.block + i)) (λ i has. sym (lone.product (512 * c.args.block + i))))
+
+pub sum_times-returns-then-count-eq0 : goal.sum_times-returns-then-count-eq0
+sum_times-returns-then-count-eq0 t c =
+    let table = c.args.columns.now in
+    let none = over_none c.args.rows.now (λ i. product_at table c.args.factors.now (512 * c.args.block + i)) (omega (arith, c.count.ensures, c.if-count-eq0.true)) in
+    let fits : FitsSigned w128 (pos 0) = record { sfits = omega arith } in
+    sym (ap (λ z. wrapped (c.args.number *ℤ z)) none ∙ ap wrapped (*ℤ-zero c.args.number) ∙ int_wrap_fits w128 (pos 0) fits)
 
 pub sum_times-returns : goal.sum_times-returns
 sum_times-returns t c =

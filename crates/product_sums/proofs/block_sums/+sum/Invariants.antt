@@ -19,6 +19,9 @@ decreases-sum_products l = 6 * sizes l.factors.now + 1
 abbrev pub decreases-sum_times : goal.decreases-sum_times
 decreases-sum_times l = 6 * sizes l.factors.now + 2
 
+abbrev pub decreases-sum_rest : goal.decreases-sum_rest
+decreases-sum_rest l = 6 * sizes l.rest.now + 2
+
 abbrev pub decreases-sum_digits : goal.decreases-sum_digits
 decreases-sum_digits l = 6 * sizes l.rest.now + 3
 

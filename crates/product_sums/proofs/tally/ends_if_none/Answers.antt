@@ -1,4 +1,4 @@
-use Rattle.std.proofs.Common.{◌≡◌, count_by, refl, ap, sym, ◌∙◌, arith}
+use Rattle.std.proofs.Common.{◌≡◌, count_by, refl, ◌∙◌, arith}
 use Rattle.aggregates.specs.declared.ends.End.TheVariants.{Low, High}
 use Rattle.query_model.specs.declared.query.ItemKind.TheVariants.{Max, Min}
 use Rattle.query_model.specs.Queries.{term_of}

@@ -1,0 +1,81 @@
+//! Words of a block of a column's planes, fetched once for all rows that are counted in it.
+
+ghost use Rattle.std.specs.Prelude.{◌≡◌, ◌≤◌, ◌<◌, ◌+◌, ◌*◌, length, IfSome, IsTrue};
+ghost use Rattle.known_column.specs.Columns.{rows_of_column};
+ghost use Rattle.product_sums.specs.Fetched.{first_digit, AreFetchedBelow, IsFetched, IsLone};
+ghost use Rattle.product_sums.specs.Products.{AreFactors};
+
+use crate::factors::Factor;
+use aggregates::{End, number_planes};
+use known_column::{Known, LentColumns};
+use query_model::Expr;
+
+// An end of a column: the words of the planes that hold digits, from the first on, and those of the rows at top's prefix.
+#[derive(Drop)]
+pub(crate) struct Fetched {
+    pub(crate) column: u8,
+    pub(crate) end: End,
+    pub(crate) planes: [[u64; 8]; 32],
+    pub(crate) tops: [u64; 8],
+}
+
+// Whether there is room for a column's planes.
+fn has_room(known: &Known) -> bool
+    ensures { IsTrue result → known.now.known.read ≤ first_digit known.now + 32 }
+{
+    let (from, to) = number_planes(known);
+    to - from <= 32
+}
+
+// The words of the planes that hold digits.
+fn fetch_planes(known: &Known, block: usize) -> [[u64; 8]; 32]
+    requires block { 512 * block < rows_of_column known.now }
+    requires few { known.now.known.read ≤ first_digit known.now + 32 }
+    ensures { AreFetchedBelow known.now block result known.now.known.read }
+{
+    let (from, to) = number_planes(known);
+    let mut planes = [[0; 8]; 32];
+    for j in from..to {
+        planes[usize::from(j - from)] = known.plane(j).block(block);
+    }
+    planes
+}
+
+// Fetches a block of a column.
+fn fetch(known: &Known, column: u8, end: End, block: usize) -> Fetched
+    requires block { 512 * block < rows_of_column known.now }
+    requires few { known.now.known.read ≤ first_digit known.now + 32 }
+    ensures words { IsFetched known.now block result }
+    ensures column { result.column ≡ column }
+    ensures end { result.end ≡ end }
+{
+    Fetched {
+        column,
+        end,
+        planes: fetch_planes(known, block),
+        tops: known.at_top().block(block),
+    }
+}
+
+// Fetches a block of the only factor, where that is a column of few planes.
+pub(crate) fn fetch_lone<'a>(
+    columns: &LentColumns<'_>,
+    block: usize,
+    factors: &[Factor<'a>],
+) -> Option<Fetched>
+    requires block { 512 * block < columns.now.frame.rows }
+    requires factors { AreFactors columns.now.frame factors.now }
+    ensures { IfSome result (IsLone columns.now block factors.now) }
+{
+    if factors.len() != 1 {
+        return None;
+    }
+    let only = factors[0];
+    match only.term {
+        Expr::Column(column) if has_room(columns.column(usize::from(*column))) => {
+            let known = columns.column(usize::from(*column));
+            Some(fetch(known, *column, only.end, block))
+        }
+        _ => None,
+    }
+}
