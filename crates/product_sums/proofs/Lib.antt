@@ -5,6 +5,10 @@ pub mod Multiplying
 pub mod TermEnds
 pub mod DigitSums
 pub mod Tallies
+pub mod KeptProducts
+pub mod KeptEnds
+pub mod ProductParts
+pub mod StaysKept
 pub mod MaskSums
 pub mod Hulls
 pub mod Distributing

@@ -1,8 +1,8 @@
 -- The ends of an expression at a mask's rows, added up block by block.
 use Rattle.std.proofs.Common.{◌≡◌, ℕ, ◌+◌, ◌*◌, ◌<◌, ◌≤◌, ℤ, pos, ◌+ℤ◌, ◌*ℤ◌, ◌≤ℤ◌, Bool, false, List, length, map, take, drop, IsTrue, FitsSigned, ap, sym, subst, ◌∙◌, arith}
-use Rattle.std.specs.Int.{int_min, int_max, w128}
+use Rattle.std.specs.Int.{int_min, int_max, int_wrap, w128}
 use Rattle.std.proofs.Math.Seq.{take-add}
-use Rattle.std.proofs.lemmas.Int.{ints, clamps}
+use Rattle.std.proofs.lemmas.Int.{ints, clamps, int_wrap_fits}
 use Rattle.std.proofs.lemmas.List.{get_or-drop, get_or-take, length-take, take_all}
 use Rattle.interval_calc.proofs.LeastSpans.{between_fits}
 use Rattle.aggregates.specs.declared.ends.End.{End}
@@ -35,8 +35,8 @@ next_block mask f block within =
     ap (λ n. sum_over (take n mask) f) next ∙ ap (λ l. sum_over l f) (take-add at 512 mask) ∙ over_parts (take at mask) (block_of block mask) f
     ∙ ap (λ n. sum_over (take at mask) f +ℤ sum_over (block_of block mask) (λ i. f (n + i))) long
 
-pub all_blocks : (mask : List Bool) (f : ℕ → ℤ) (block : ℕ) → length mask ≤ 512 * block → sum_over (take (512 * block) mask) f ≡ total (map f (rows_in mask))
-all_blocks mask f block past = ap (λ l. sum_over l f) (take_all (512 * block) mask past) ∙ sym (over_rows f mask)
+pub whole_mask : (mask : List Bool) (f : ℕ → ℤ) (block : ℕ) → length mask ≤ 512 * block → sum_over (take (512 * block) mask) f ≡ sum_over mask f
+whole_mask mask f block past = ap (λ l. sum_over l f) (take_all (512 * block) mask past)
 
 -- the sum fits where that of all rows does
 pub sum_fits : (table : KnownTable) (known : IsKnownTable table) (e : End) (t : Term) (mask : List Bool) → length mask ≡ table.frame.rows → FitsSum table.frame.rows (span_of t (declared_ranges table.frame)) →
@@ -57,3 +57,9 @@ sum_fits table known e t mask long fits =
     at_row : (e : End) (r : ℕ) → r < table.frame.rows → (int_min (span_of t (declared_ranges table.frame)).low (pos 0) ≤ℤ term_end table e t r) × (term_end table e t r ≤ℤ int_max (span_of t (declared_ranges table.frame)).high (pos 0))
     at_row Low r below = (let s = smaller table known r below t in inside (term_end table Low t r) (term_end table High t r) _ _ _ s.inside.low (omega (arith, ints)) s.ordered s.inside.high)
     at_row High r below = (let s = smaller table known r below t in inside (term_end table Low t r) (term_end table High t r) _ _ _ s.inside.low s.ordered (omega (arith, ints)) s.inside.high)
+
+-- so 128 bits hold it, though they may wrap around on the way
+pub wrapped_fits : (table : KnownTable) → IsKnownTable table → (e : End) (t : Term) (mask : List Bool) → length mask ≡ table.frame.rows → FitsSum table.frame.rows (span_of t (declared_ranges table.frame)) →
+    (sum : ℤ) → sum ≡ int_wrap w128 (sum_over mask (term_end table e t)) → sum ≡ total (map (term_end table e t) (rows_in mask))
+wrapped_fits table known e t mask long fits sum is =
+    is ∙ ap (int_wrap w128) (sym (over_rows (term_end table e t) mask)) ∙ int_wrap_fits w128 _ (sum_fits table known e t mask long fits)

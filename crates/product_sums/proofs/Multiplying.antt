@@ -98,7 +98,7 @@ module _ (table : KnownTable) (block : ℕ) where
       )
 
   -- fewer rows
-  among : (rows bits : List Bool) (i : ℕ) → length bits ≡ length rows → IsTrue (has_row (zip2 (λ a b. a && b) rows bits) i) → IsTrue (has_row rows i)
+  pub among : (rows bits : List Bool) (i : ℕ) → length bits ≡ length rows → IsTrue (has_row (zip2 (λ a b. a && b) rows bits) i) → IsTrue (has_row rows i)
   among rows bits i same has =
       let long : length (zip2 (λ a b. a && b) rows bits) ≡ length rows = length-zip2 (λ a b. a && b) rows bits (sym same) in
       let below : i < length rows = omega (arith, row_within (zip2 (λ a b. a && b) rows bits) i has, long) in

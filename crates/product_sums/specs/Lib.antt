@@ -1,3 +1,4 @@
 pub mod ColumnEnds
 pub mod Fetched
+pub mod KeptProducts
 pub mod Products

@@ -81,7 +81,7 @@ fn sum_rest<'a>(
 
 // The product of the number that a column's digits make and of some factors, added up.
 #[cycle(sum)]
-fn sum_digits<'a>(
+pub(crate) fn sum_digits<'a>(
     columns: &LentColumns<'_>,
     block: usize,
     rows: &Rows,
@@ -95,7 +95,7 @@ fn sum_digits<'a>(
 {
     let known = columns.column(usize::from(column));
     let (from, to) = number_planes(known);
-    let fetched = fetch_lone(columns, block, rest);
+    let fetched = fetch_lone(columns, block, rest, to - from);
     let mut sum: i128 = 0;
     for j in from..to {
         let ones = rows.and(&Rows::of_plane(known.plane(j), block));

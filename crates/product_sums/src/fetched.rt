@@ -57,16 +57,20 @@ fn fetch(known: &Known, column: u8, end: End, block: usize) -> Fetched
     }
 }
 
-// Fetches a block of the only factor, where that is a column of few planes.
+// Fetches a block of the only factor, where that is a column of few planes, and is counted more than once.
 pub(crate) fn fetch_lone<'a>(
     columns: &LentColumns<'_>,
     block: usize,
     factors: &[Factor<'a>],
+    counted: u8,
 ) -> Option<Fetched>
     requires block { 512 * block < columns.now.frame.rows }
     requires factors { AreFactors columns.now.frame factors.now }
     ensures { IfSome result (IsLone columns.now block factors.now) }
 {
+    if counted <= 1 {
+        return None;
+    }
     if factors.len() != 1 {
         return None;
     }

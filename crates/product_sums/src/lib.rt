@@ -7,12 +7,17 @@ mod extremes;
 mod factors;
 mod fetched;
 mod fetched_sums;
+mod kept_column;
+mod kept_end;
+mod kept_product;
+mod number_sums;
 mod rows;
 mod signs;
 mod sums;
 mod tally;
 mod wrapping;
 
+pub use kept_product::KeptProduct;
 pub use signs::{count_of_counts, is_never_negative, is_product_sum};
 pub use sums::sum_ends;
-pub use tally::sum_tally;
+pub use tally::{kept_tally, sum_tally};

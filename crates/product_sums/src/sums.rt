@@ -35,6 +35,21 @@ fn sum_block(end: End, arg: &Expr, columns: &LentColumns<'_>, mask: &Mask, block
     sum_products(columns, block, &rows, &[Factor { term: arg, end }])
 }
 
+// The ends at all of the mask's rows, added up in 128 bits that wrap around.
+pub(crate) fn sum_wrapped(end: End, arg: &Expr, columns: &LentColumns<'_>, mask: &Mask) -> i128
+    requires sums { IsProductSum columns.now.frame (term_of arg.now) }
+    requires rows { length mask.now ≡ columns.now.frame.rows }
+    requires values { HasValues columns.now (term_of arg.now) mask.now }
+    ensures { result ≡ int_wrap w128 (sum_over mask.now (term_end columns.now end (term_of arg.now))) }
+{
+    let _rows = columns.rows();
+    let mut sum: i128 = 0;
+    for block in 0..mask.rows().div_ceil(512) {
+        sum = plus(sum, sum_block(end, arg, columns, mask, block));
+    }
+    sum
+}
+
 /// The low or the high ends of an expression at the mask's rows, added up. It costs counts of rows alone: one for each combination of the
 /// digits that were read of the columns in a product.
 pub fn sum_ends(end: End, arg: &Expr, columns: &LentColumns<'_>, mask: &Mask) -> i128
@@ -45,9 +60,5 @@ pub fn sum_ends(end: End, arg: &Expr, columns: &LentColumns<'_>, mask: &Mask) ->
     ensures { result ≡ total (map (term_end columns.now end (term_of arg.now)) (rows_in mask.now)) }
 {
     let _rows = columns.rows();
-    let mut sum: i128 = 0;
-    for block in 0..mask.rows().div_ceil(512) {
-        sum = plus(sum, sum_block(end, arg, columns, mask, block));
-    }
-    sum
+    sum_wrapped(end, arg, columns, mask)
 }

@@ -5,14 +5,16 @@ ghost use Rattle.aggregates.specs.declared.ends.End.TheVariants.{Low, High};
 ghost use Rattle.aggregates.specs.Selections.{rows_in, IsPartOf};
 ghost use Rattle.aggregates.specs.Tallies.{tally_of};
 ghost use Rattle.query_model.specs.declared.query.ItemKind.TheVariants.{Max, Min};
-ghost use Rattle.query_model.specs.Answers.{answer};
+ghost use Rattle.query_model.specs.Answers.{answer, total};
 ghost use Rattle.query_model.specs.Meaning.{ReadsBelow};
 ghost use Rattle.query_model.specs.Queries.{term_of};
 ghost use Rattle.query_model.specs.Truths.{span_of};
 ghost use Rattle.query_model.specs.Validity.{declared_ranges, FitsSum, FitsWide, IsSumKind};
+ghost use Rattle.product_sums.specs.KeptProducts.{IsKeptProduct};
 ghost use Rattle.product_sums.specs.Products.{is_never_negative, pairs_of, term_end, HasValues, IsProductSum};
 
 use crate::extremes::outer_ends;
+use crate::kept_product::KeptProduct;
 use crate::sums::sum_ends;
 use aggregates::{End, ExtremeSpan, Tally};
 use known_column::LentColumns;
@@ -59,8 +61,87 @@ fn ends_if_none(
     })
 }
 
+// The low ends at the mask's rows, added up, from what is kept of them where it is.
+fn low_sum(
+    arg: &Expr,
+    columns: &LentColumns<'_>,
+    mask: &Mask,
+    kept: &mut Option<KeptProduct>,
+) -> i128
+    requires sums { IsProductSum columns.now.frame (term_of arg.now) }
+    requires fits { FitsSum columns.now.frame.rows (span_of (term_of arg.now) (declared_ranges columns.now.frame)) }
+    requires rows { length mask.now ≡ columns.now.frame.rows }
+    requires values { HasValues columns.now (term_of arg.now) mask.now }
+    requires kept { IfSome kept.old (IsKeptProduct columns.now (term_of arg.now)) }
+    ensures kept { IfSome kept.new (IsKeptProduct columns.now (term_of arg.now)) }
+    ensures sum { result ≡ total (map (term_end columns.now Low (term_of arg.now)) (rows_in mask.now)) }
+{
+    match kept {
+        Some(product) => product.low_sum(arg, columns, mask),
+        None => sum_ends(End::Low, arg, columns, mask),
+    }
+}
+
+// The high ends.
+fn high_sum(
+    arg: &Expr,
+    columns: &LentColumns<'_>,
+    mask: &Mask,
+    kept: &mut Option<KeptProduct>,
+) -> i128
+    requires sums { IsProductSum columns.now.frame (term_of arg.now) }
+    requires fits { FitsSum columns.now.frame.rows (span_of (term_of arg.now) (declared_ranges columns.now.frame)) }
+    requires rows { length mask.now ≡ columns.now.frame.rows }
+    requires values { HasValues columns.now (term_of arg.now) mask.now }
+    requires kept { IfSome kept.old (IsKeptProduct columns.now (term_of arg.now)) }
+    ensures kept { IfSome kept.new (IsKeptProduct columns.now (term_of arg.now)) }
+    ensures sum { result ≡ total (map (term_end columns.now High (term_of arg.now)) (rows_in mask.now)) }
+{
+    match kept {
+        Some(product) => product.high_sum(arg, columns, mask),
+        None => sum_ends(End::High, arg, columns, mask),
+    }
+}
+
 /// What a sum or an average of an expression that is never below 0 keeps of the rows of a mask, of which another has those that surely
-/// count. There is none where no row surely counts and the outermost ends are not quickly found.
+/// count. There is none where no row surely counts and the outermost ends are not quickly found. Where sums of the expression are kept,
+/// they are followed to these rows, and planes that were read already are not counted again while the rows stay.
+pub fn kept_tally(
+    kind: ItemKind,
+    arg: &Expr,
+    columns: &LentColumns<'_>,
+    may: &Mask,
+    must: &Mask,
+    kept: &mut Option<KeptProduct>,
+) -> Option<Tally>
+    requires kind { IsSumKind kind }
+    requires sums { IsProductSum columns.now.frame (term_of arg.now) }
+    requires never { is_never_negative columns.now.frame (term_of arg.now) ≡ true }
+    requires wide { FitsWide (term_of arg.now) (declared_ranges columns.now.frame) }
+    requires fits { FitsSum columns.now.frame.rows (span_of (term_of arg.now) (declared_ranges columns.now.frame)) }
+    requires rows { length may.now ≡ columns.now.frame.rows }
+    requires must { IsPartOf must.now may.now }
+    requires values { HasValues columns.now (term_of arg.now) may.now }
+    requires kept { IfSome kept.old (IsKeptProduct columns.now (term_of arg.now)) }
+    ensures kept { IfSome kept.new (IsKeptProduct columns.now (term_of arg.now)) }
+    ensures tally { IfSome result (λ tally. tally ≡ tally_of kind (pairs_of columns.now (term_of arg.now) may.now must.now)) }
+{
+    let _rows = columns.rows();
+    let certain = must.count();
+    let ends = ends_if_none(certain, arg, columns, may)?;
+    Some(Tally {
+        certain,
+        all: may.count(),
+        least_low: ends.low,
+        greatest_high: ends.high,
+        least_certain_high: None,
+        greatest_certain_low: None,
+        low_sum: low_sum(arg, columns, must, kept),
+        high_sum: high_sum(arg, columns, may, kept),
+    })
+}
+
+/// The same where no sums are kept.
 pub fn sum_tally(
     kind: ItemKind,
     arg: &Expr,
@@ -78,17 +159,5 @@ pub fn sum_tally(
     requires values { HasValues columns.now (term_of arg.now) may.now }
     ensures { IfSome result (λ tally. tally ≡ tally_of kind (pairs_of columns.now (term_of arg.now) may.now must.now)) }
 {
-    let _rows = columns.rows();
-    let certain = must.count();
-    let ends = ends_if_none(certain, arg, columns, may)?;
-    Some(Tally {
-        certain,
-        all: may.count(),
-        least_low: ends.low,
-        greatest_high: ends.high,
-        least_certain_high: None,
-        greatest_certain_low: None,
-        low_sum: sum_ends(End::Low, arg, columns, must),
-        high_sum: sum_ends(End::High, arg, columns, may),
-    })
+    kept_tally(kind, arg, columns, may, must, &mut None)
 }
