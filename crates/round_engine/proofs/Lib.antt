@@ -15,6 +15,7 @@ pub mod Unmoved
 pub mod Covers
 pub mod Walks
 pub mod KeptSums
+pub mod KeptProducts
 pub mod Masked
 pub mod Rows
 pub mod SumEnds

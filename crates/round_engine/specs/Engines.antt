@@ -11,7 +11,8 @@ use Rattle.round_engine.specs.declared.answers.Answers.{Answers}
 use Rattle.round_engine.specs.declared.answers.Answers.TheVariants.{Totals, Groups, Ranking}
 use Rattle.round_engine.specs.declared.state.State.{State}
 use Rattle.round_engine.specs.CellAnswers.{AreGroups, AreSomeGroups, HoldGroups}
-use Rattle.round_engine.specs.KeptSums.{AreKept}
+use Rattle.round_engine.specs.KeptProducts.{AreKeptProducts}
+use Rattle.round_engine.specs.KeptSums.{AreKept, columns_of}
 use Rattle.round_engine.specs.Progresses.{gives_values, role_of}
 use Rattle.round_engine.specs.Rankings.{HoldsOrder, IsRanking}
 use Rattle.round_engine.specs.Selected.{HaveRows}
@@ -27,6 +28,7 @@ abbrev pub AreAnswers : Stage → Answers → Type 0
 AreAnswers stage (Totals totals) =
     (stage.query.shape ≡ Plain) × AreTotals stage totals.bounds.items × HaveRoom stage.query.items totals.runnings.items
     × HaveRows stage.frame.rows totals.masks × AreKept stage totals.kept.items
+    × AreKeptProducts (columns_of stage) stage.query.items totals.products.items
 AreAnswers stage (Groups groups) = AreGroups stage groups
 AreAnswers stage (Ranking ranking) = IsRanking stage ranking
 
@@ -35,6 +37,7 @@ abbrev pub HoldAnswers : Stage → Answers → Type 0
 HoldAnswers stage (Totals totals) =
     (stage.query.shape ≡ Plain) × (length totals.bounds.items ≡ length stage.query.items) × HaveRoom stage.query.items totals.runnings.items
     × HaveRows stage.frame.rows totals.masks × AreKept stage totals.kept.items
+    × AreKeptProducts (columns_of stage) stage.query.items totals.products.items
 HoldAnswers stage (Groups groups) = HoldGroups stage groups
 HoldAnswers stage (Ranking ranking) = HoldsOrder stage ranking
 

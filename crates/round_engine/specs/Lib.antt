@@ -10,6 +10,7 @@ pub mod SumEnds
 pub mod CountedSums
 pub mod Totals
 pub mod KeptSums
+pub mod KeptProducts
 pub mod OneCell
 pub mod CellAnswers
 pub mod Rankings

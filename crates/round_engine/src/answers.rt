@@ -9,6 +9,7 @@ ghost use Rattle.round_engine.specs.Narrowness.{is_narrow};
 ghost use Rattle.round_engine.specs.Stages.{IsOpenStage, Stage};
 
 use crate::groups::Groups;
+use crate::kept_products::open_products;
 use crate::moved::moved_items;
 use crate::ranking::Ranking;
 use crate::totals::Totals;
@@ -43,7 +44,8 @@ impl Answers {
         match &query.shape {
             Shape::Plain => {
                 let items = query.items.as_slice();
-                Ok(Answers::Totals(Totals::open(alloc, items, rows)?))
+                let products = open_products(alloc, query, columns)?;
+                Ok(Answers::Totals(Totals::open(alloc, items, rows, products)?))
             }
             Shape::Grouped(_) => Ok(Answers::Groups(Groups::open(alloc, query, columns)?)),
             Shape::Top { key, down, limit } => {

@@ -1,8 +1,9 @@
 //! Sums and averages of expressions that counts of rows tell.
 
-ghost use Rattle.std.specs.Prelude.{◌≡◌, ◌<◌, ◌≤◌, ◌&&◌, ℕ, not, length, map, IsTrue};
+ghost use Rattle.std.specs.Prelude.{◌≡◌, ◌<◌, ◌≤◌, ◌&&◌, ℕ, not, length, map, IfSome, IsTrue};
 ghost use Rattle.aggregates.specs.Selections.{has_row};
 ghost use Rattle.kleene_filter.specs.Filters.{is_certain, is_possible, truths_under};
+ghost use Rattle.product_sums.specs.KeptProducts.{IsKeptProduct};
 ghost use Rattle.query_model.specs.declared.query.Shape.TheVariants.{Plain};
 ghost use Rattle.query_model.specs.Knowledge.{ranges_of};
 ghost use Rattle.query_model.specs.Meaning.{ReadsBelow};
@@ -10,6 +11,7 @@ ghost use Rattle.query_model.specs.Queries.{term_of};
 ghost use Rattle.query_model.specs.Truths.{may_be_null, may_be_number, null_of};
 ghost use Rattle.round_engine.specs.CountedSums.{is_untold, AreTold, IsByCounts, IsSetTo, IsTold};
 ghost use Rattle.round_engine.specs.Engines.{stage_of};
+ghost use Rattle.round_engine.specs.KeptProducts.{AreKeptProducts};
 ghost use Rattle.round_engine.specs.Selected.{HasRows};
 ghost use Rattle.round_engine.specs.Stages.{IsOpenItem, IsOpenStage};
 
@@ -17,7 +19,7 @@ use crate::selection::Selection;
 use aggregates::{Running, Tally};
 use kleene_filter::Filter;
 use known_column::LentColumns;
-use product_sums::{count_of_counts, is_never_negative, is_product_sum, sum_tally};
+use product_sums::{KeptProduct, count_of_counts, is_never_negative, is_product_sum, kept_tally};
 use query_model::{Expr, Item, ItemKind, TypedQuery};
 
 // So many counts of rows a block of 512 cost about what its rows cost one by one. It affects speed alone.
@@ -81,13 +83,16 @@ impl Selection {
         item: &Item,
         columns: &LentColumns<'_>,
         filter: &Filter,
+        kept: &mut Option<KeptProduct>,
     ) -> Option<Tally>
         requires open_stage { IsOpenStage (stage_of query.now columns.now) }
         requires plain { query.now.shape ≡ Plain }
         requires open_item { IsOpenItem columns.now.frame item.now }
         requires judged { filter.now.truths ≡ truths_under query.now.pred columns.now }
         requires room { HasRows columns.now.frame.rows self.old }
+        requires kept { IfSome kept.old (IsKeptProduct columns.now item.now.arg) }
         ensures room { HasRows columns.now.frame.rows self.new }
+        ensures kept { IfSome kept.new (IsKeptProduct columns.now item.now.arg) }
         ensures told { IsTold (stage_of query.now columns.now) item.now result }
     {
         if !is_by_counts(item, columns, 1) {
@@ -95,7 +100,7 @@ impl Selection {
         }
         self.select_passing(filter);
         self.keep_valued(&item.arg, columns);
-        sum_tally(item.kind, &item.arg, columns, &self.may, &self.must)
+        kept_tally(item.kind, &item.arg, columns, &self.may, &self.must, kept)
     }
 }
 
@@ -116,19 +121,22 @@ pub(crate) fn told_sums(
     filter: &Filter,
     marks: &[bool; 16],
     selection: &mut Selection,
+    kept: &mut [Option<KeptProduct>],
 ) -> [Option<Tally>; 16]
     requires open_stage { IsOpenStage (stage_of query.now columns.now) }
     requires plain { query.now.shape ≡ Plain }
     requires judged { filter.now.truths ≡ truths_under query.now.pred columns.now }
     requires room { HasRows columns.now.frame.rows selection.old }
+    requires kept { AreKeptProducts columns.now query.now.items kept.old }
     ensures room { HasRows columns.now.frame.rows selection.new }
+    ensures kept { AreKeptProducts columns.now query.now.items kept.new }
     ensures told { AreTold (stage_of query.now columns.now) result }
 {
     let items = query.items.as_slice();
     let mut told = [None; 16];
     for i in 0..items.len() {
         if marks[i] {
-            told[i] = selection.counted(query, &items[i], columns, filter);
+            told[i] = selection.counted(query, &items[i], columns, filter, &mut kept[i]);
         }
     }
     told

@@ -19,6 +19,7 @@ mod follower;
 mod group_columns;
 mod groups;
 mod item_bound;
+mod kept_products;
 mod kept_sums;
 mod laws;
 mod lent;

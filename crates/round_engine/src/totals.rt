@@ -9,6 +9,7 @@ ghost use Rattle.query_model.specs.Queries.{term_of};
 ghost use Rattle.round_engine.specs.declared.item_bound.ItemBound.TheVariants.{Fractions, Numbers};
 ghost use Rattle.round_engine.specs.CountedSums.{AreTold};
 ghost use Rattle.round_engine.specs.Engines.{stage_of};
+ghost use Rattle.round_engine.specs.KeptProducts.{AreKeptProducts};
 ghost use Rattle.round_engine.specs.KeptSums.{AreKept, HoldSums, IsKeptOf};
 ghost use Rattle.round_engine.specs.Narrowness.{is_narrow};
 ghost use Rattle.round_engine.specs.Moves.{is_marked};
@@ -26,17 +27,20 @@ use crate::row_masks::RowMasks;
 use aggregates::{KeptSum, Running, Tally};
 use kleene_filter::Filter;
 use known_column::{LentColumns, RowBlock};
+use product_sums::KeptProduct;
 use query_model::{AverageBound, Bound, Expr, Item, ItemKind, Nullity, TypedQuery, pairs_are_few};
 use row_values::BlockValues;
 use std::alloc::{AllocError, Global};
 
-// The bound of each item, room to add its rows one by one or to tell it by masks, and what is kept of its sum.
+// The bound of each item, room to add its rows one by one or to tell it by masks, and what is kept of its sum: that of a bare column, or
+// that of a product.
 #[derive(Drop)]
 pub(crate) struct Totals {
     bounds: Vec<ItemBound>,
     runnings: Vec<Running>,
     masks: RowMasks,
     kept: Vec<Option<KeptSum>>,
+    products: Vec<Option<KeptProduct>>,
 }
 
 // Leaves room for the rows of each item, of which none is added.
@@ -313,11 +317,17 @@ fn tell_each(
 
 impl Totals {
     // Room for a total of each item over so many rows. So far they are those of no rows.
-    pub(crate) fn open(alloc: Global, items: &[Item], rows: usize) -> Result<Totals, AllocError>
+    pub(crate) fn open(
+        alloc: Global,
+        items: &[Item],
+        rows: usize,
+        products: Vec<Option<KeptProduct>>,
+    ) -> Result<Totals, AllocError>
         ensures count { IfOk result (λ totals. length totals.bounds.items ≡ length items.now) }
         ensures room { IfOk result (λ totals. HaveRoom items.now totals.runnings.items) }
         ensures masks { IfOk result (λ totals. HaveRows rows totals.masks) }
         ensures kept { IfOk result (λ totals. HoldSums rows items.now totals.kept.items) }
+        ensures products { IfOk result (λ totals. totals.products ≡ products) }
     {
         let none = Bound {
             null: Nullity::Always,
@@ -336,6 +346,7 @@ impl Totals {
             runnings,
             masks,
             kept,
+            products,
         })
     }
 
@@ -355,16 +366,25 @@ impl Totals {
         requires room { HaveRoom query.now.items self.old.runnings.items }
         requires masks { HaveRows columns.now.frame.rows self.old.masks }
         requires kept { AreKept (stage_of query.now columns.now) self.old.kept.items }
+        requires products { AreKeptProducts columns.now query.now.items self.old.products.items }
         requires same { block.old.frame.columns ≡ columns.now.frame.columns }
         ensures same { block.new.frame.columns ≡ columns.now.frame.columns }
         ensures totals { AreTotals (stage_of query.now columns.now) self.new.bounds.items }
         ensures room { HaveRoom query.now.items self.new.runnings.items }
         ensures masks { HaveRows columns.now.frame.rows self.new.masks }
         ensures kept { AreKept (stage_of query.now columns.now) self.new.kept.items }
+        ensures products { AreKeptProducts columns.now query.now.items self.new.products.items }
     {
         begin_each(query, &mut self.runnings);
         let asked = asked_items(query, columns, marks);
-        let told = told_sums(query, columns, filter, &asked, &mut self.masks.selection);
+        let told = told_sums(
+            query,
+            columns,
+            filter,
+            &asked,
+            &mut self.masks.selection,
+            &mut self.products,
+        );
         add_each(
             query,
             columns,

@@ -20,4 +20,5 @@ returns-in_ok-open-in-Plain c =
       subst (λ n. HaveRows n totals.masks) rows opened.masks,
       held_sums (stage_of query c.args.columns.now) totals.kept.items c.requires.open_stage
           (subst (λ n. HoldSums n query.items totals.kept.items) rows (subst (λ is. HoldSums c.rows-rows.result is totals.kept.items) items opened.kept)),
+      rw opened.products c.in_ok-products-in-Plain.ensures,
     )

@@ -21,22 +21,22 @@ keep_valued-requires-clause-room c =
     let long : length truths ≡ c.args.columns.now.frame.rows = ap length c.requires.judged ∙ length-map-range_with_len (truth_at c.args.query.now.pred c.args.columns.now) 0 c.args.columns.now.frame.rows in
     record { may = ap length c.select_passing.ensures.may ∙ length-map truths is_possible ∙ long; must = ap length c.select_passing.ensures.must ∙ length-map truths is_certain ∙ long }
 
-pub sum_tally-requires-clause-fits : goal.sum_tally-requires-clause-fits
-sum_tally-requires-clause-fits c =
+pub kept_tally-requires-clause-fits : goal.kept_tally-requires-clause-fits
+kept_tally-requires-clause-fits c =
     let by = c.is_by_counts.ensures c.if-not-is_by_counts.false in
     subst (λ t. FitsSum c.args.columns.now.frame.rows (span_of t (declared_ranges c.args.columns.now.frame))) (sym (ap (λ (i : Aggregate). i.arg) c.item.view_is)) (fits_sum c.args.item.now.kind c.args.columns.now.frame.rows _ by.kind c.requires.open_item.fits.1)
 
-pub sum_tally-requires-clause-must : goal.sum_tally-requires-clause-must
-sum_tally-requires-clause-must c =
+pub kept_tally-requires-clause-must : goal.kept_tally-requires-clause-must
+kept_tally-requires-clause-must c =
     kept_part c.args.query.now c.args.item.now c.args.columns.now c.requires.plain c.args.filter.now.truths c.requires.judged _ _ (ap (λ (i : Aggregate). i.kind) c.item.view_is) (ap (λ (i : Aggregate). i.arg) c.item.view_is)
     c.select_passing.new.self c.keep_valued.new.self c.keep_valued.ensures.room c.select_passing.ensures.may c.select_passing.ensures.must c.keep_valued.ensures.may c.keep_valued.ensures.must
 
-pub sum_tally-requires-clause-values : goal.sum_tally-requires-clause-values
-sum_tally-requires-clause-values c =
+pub kept_tally-requires-clause-values : goal.kept_tally-requires-clause-values
+kept_tally-requires-clause-values c =
     kept_values c.args.query.now c.args.item.now c.args.columns.now c.requires.plain c.args.filter.now.truths c.requires.judged _ _ (ap (λ (i : Aggregate). i.kind) c.item.view_is) (ap (λ (i : Aggregate). i.arg) c.item.view_is)
     c.select_passing.new.self c.keep_valued.new.self c.keep_valued.ensures.room c.select_passing.ensures.may c.select_passing.ensures.must c.keep_valued.ensures.may c.keep_valued.ensures.must
 
 pub returns-clause-told : goal.returns-clause-told
 returns-clause-told c =
     kept_told c.args.query.now c.args.item.now c.args.columns.now c.requires.plain c.args.filter.now.truths c.requires.judged _ _ (ap (λ (i : Aggregate). i.kind) c.item.view_is) (ap (λ (i : Aggregate). i.arg) c.item.view_is)
-    c.select_passing.new.self c.keep_valued.new.self c.keep_valued.ensures.room c.select_passing.ensures.may c.select_passing.ensures.must c.keep_valued.ensures.may c.keep_valued.ensures.must c.sum_tally.result c.sum_tally.ensures
+    c.select_passing.new.self c.keep_valued.new.self c.keep_valued.ensures.room c.select_passing.ensures.may c.select_passing.ensures.must c.keep_valued.ensures.may c.keep_valued.ensures.must c.kept_tally.result c.kept_tally.ensures.tally
