@@ -1,4 +1,5 @@
 pub mod BlockRows
+pub mod BlockSums
 pub mod NumberRanges
 pub mod NullRows
 pub mod ShortNumbers

@@ -28,7 +28,7 @@ where_bit test column mask word block r is e few =
 least : (a b : ℕ) → a < 2 → b < 2 → (min a b == 1) ≡ ((a == 1) && (b == 1))
 least a b h k = grind (arith, nat_tests)
 
-digit-and : (r a b : ℕ) → digit_at r (bit_and a b) ≡ (digit_at r a && digit_at r b)
+pub digit-and : (r a b : ℕ) → digit_at r (bit_and a b) ≡ (digit_at r a && digit_at r b)
 digit-and r a b = ap (λ n. n == 1) (bit_at_and a b r) ∙ least (bit_at a r) (bit_at b r) (bit_at-lt a r) (bit_at-lt b r)
 
 pub digit-ones : (r : ℕ) → r < 64 → digit_at r (2 ^ 64 - 1) ≡ true

@@ -1,2 +1,3 @@
+pub mod BlockSums
 pub mod BlockValues
 pub mod ShortSpans

@@ -1,0 +1,42 @@
+use Rattle.std.proofs.Common.{◌≡◌, [], ◌∷◌, ◌++◌, append-nil, Some, slice_get, get_or, pos, None, if◌then◌else◌, ap, sym, ◌∙◌, arith}
+use Rattle.std.proofs.lemmas.Int.{ints}
+use Rattle.std.proofs.lemmas.Option.{slice_get-get_or}
+use Rattle.interval_calc.specs.Intervals.{Interval}
+use Rattle.plane_kernels.specs.Rows.{digit_at}
+use Rattle.query_model.specs.declared.query.ItemKind.TheVariants.{Max}
+use Rattle.query_model.specs.Answers.{answer}
+use Rattle.query_model.specs.Bounds.{highs}
+use Rattle.row_values.specs.declared.short.ShortInterval.{ShortInterval}
+use Rattle.row_values.specs.BlockSums.{given, pair_if}
+use Rattle.row_values.specs.ShortSpans.{interval_of}
+use Rattle.row_values.proofs.BlockSums.{high_counts, passed_by}
+use Rattle.row_values.proofs.row_ends.greatest_high.Goals as goal
+use Rattle.row_values.proofs.row_ends.greatest_high.Goals.{then-has_bit, else-has_bit}
+
+pub loop-i-init : goal.loop-i-init
+loop-i-init c = λ give must gives xs e. e ∙ ap (answer Max) (sym (append-nil xs))
+
+pub loop-i-preserved : goal.loop-i-preserved
+loop-i-preserved c =
+    let i = c.loop-i.i in
+    elim c.if-has_bit.branch [
+      | then-has_bit w ↦ λ give must gives xs e.
+          (let span = w.index-spans-i.result in
+          let at : slice_get c.args.spans.now i ≡ Some span = slice_get-get_or c.args.spans.now i span (omega arith) ∙ ap Some (sym w.index-spans-i.is) in
+          let is = gives i span (omega arith) at ∙ ap (λ b. pair_if b (digit_at i must) (interval_of span)) (sym c.has_bit.ensures) in
+          let number : w.widened.result.hi ≡ span.hi = ap (λ (i : Interval). i.high) (w.widened.ensures ∙ ap interval_of (sym w.index-spans-i.is)) in
+          rw w.greatest-is (w.greater-greatest.ensures (xs ++ highs (given give i)) (c.loop-i.invariant give must gives xs e)
+          ∙ ap (λ n. answer Max ((xs ++ highs (given give i)) ++ n ∷ [])) number ∙ ap (answer Max) (high_counts give i (digit_at i must) (interval_of span) c.has_bit.result xs w.if-has_bit.true is)))
+      | else-has_bit w ↦ λ give must gives xs e.
+          (let zero : ShortInterval = record { lo = pos 0; hi = pos 0; ordered = omega (arith, ints) } in
+          let span = get_or c.args.spans.now i zero in
+          let at : slice_get c.args.spans.now i ≡ Some span = slice_get-get_or c.args.spans.now i zero (omega arith) in
+          let is = gives i span (omega arith) at ∙ ap (λ b. pair_if b (digit_at i must) (interval_of span)) (sym c.has_bit.ensures) in
+          rw w.greatest-is (c.loop-i.invariant give must gives xs e ∙ ap (λ ps. answer Max (xs ++ highs ps)) (passed_by give i (digit_at i must) (interval_of span) c.has_bit.result w.if-has_bit.false is)))
+    ]
+
+pub returns : goal.returns
+returns c = λ give must gives xs e.
+    let end : c.loop-i.i ≡ c.args.count = omega arith in
+    c.loop-i.invariant give must gives xs (e c.if-not-kept.false) ∙ ap (λ n. answer Max (xs ++ highs (given give n))) end
+    ∙ ap (λ b. if b then answer Max (xs ++ highs (given give c.args.count)) else None) (sym c.if-not-kept.false)

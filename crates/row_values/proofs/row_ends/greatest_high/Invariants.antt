@@ -1,0 +1,10 @@
+use Rattle.std.proofs.Common.{◌≡◌, ℕ, ℤ, List, ◌++◌}
+use Rattle.std.specs.declared.option.Option.{Option}
+use Rattle.query_model.specs.declared.query.ItemKind.TheVariants.{Max}
+use Rattle.query_model.specs.Answers.{answer}
+use Rattle.query_model.specs.Bounds.{highs, Pair}
+use Rattle.row_values.specs.BlockSums.{given, Give}
+use Rattle.row_values.proofs.row_ends.greatest_high.Given as goal
+
+abbrev pub invariant-loop-i : goal.invariant-loop-i
+invariant-loop-i l = (give : ℕ → Option Pair) (must : ℕ) → Give give l.may must l.count l.spans → (xs : List ℤ) → l.fn.earlier ≡ answer Max xs → l.greatest ≡ answer Max (xs ++ highs (given give l.i))
