@@ -37,7 +37,7 @@ use Rattle.round_engine.proofs.RowPairs.{bit_at_row, pair_impossible, plain_pair
 -- ---- lists of what rows give
 
 -- what two functions give of rows, one by one
-given_alike : (f g : ℕ → Option Pair) (a b n : ℕ) → ((r : ℕ) → r < n → f (a + r) ≡ g (b + r)) → filter_map f (range_with_len a n) ≡ filter_map g (range_with_len b n)
+pub given_alike : (f g : ℕ → Option Pair) (a b n : ℕ) → ((r : ℕ) → r < n → f (a + r) ≡ g (b + r)) → filter_map f (range_with_len a n) ≡ filter_map g (range_with_len b n)
 given_alike f g a b zero same = refl
 given_alike f g a b (suc n) same = by_first (f a) (g b) refl refl first (given_alike f g (a + 1) (b + 1) n (λ r below. ap f (next a r) ∙ same (suc r) (omega arith) ∙ ap g (sym (next b r))))
   where

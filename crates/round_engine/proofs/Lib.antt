@@ -17,6 +17,7 @@ pub mod Walks
 pub mod KeptSums
 pub mod KeptProducts
 pub mod Masked
+pub mod RowSums
 pub mod Rows
 pub mod SumEnds
 pub mod SelectedPairs

@@ -15,6 +15,7 @@ ghost use Rattle.round_engine.specs.KeptProducts.{AreKeptProducts};
 ghost use Rattle.round_engine.specs.Selected.{HasRows};
 ghost use Rattle.round_engine.specs.Stages.{IsOpenItem, IsOpenStage};
 
+use crate::row_sums::row_sum;
 use crate::selection::Selection;
 use aggregates::{Running, Tally};
 use kleene_filter::Filter;
@@ -114,7 +115,34 @@ pub(crate) fn is_untold(told: &Option<Tally>) -> bool
     }
 }
 
-// The tally of each marked item that counts tell.
+// What an item keeps of its rows, where counts or numbers of 64 bits tell it.
+fn told_sum(
+    query: &TypedQuery,
+    item: &Item,
+    columns: &LentColumns<'_>,
+    filter: &Filter,
+    selection: &mut Selection,
+    kept: &mut Option<KeptProduct>,
+) -> Option<Tally>
+    requires open_stage { IsOpenStage (stage_of query.now columns.now) }
+    requires plain { query.now.shape ≡ Plain }
+    requires open_item { IsOpenItem columns.now.frame item.now }
+    requires judged { filter.now.truths ≡ truths_under query.now.pred columns.now }
+    requires room { HasRows columns.now.frame.rows selection.old }
+    requires kept { IfSome kept.old (IsKeptProduct columns.now item.now.arg) }
+    ensures room { HasRows columns.now.frame.rows selection.new }
+    ensures kept { IfSome kept.new (IsKeptProduct columns.now item.now.arg) }
+    ensures told { IsTold (stage_of query.now columns.now) item.now result }
+{
+    let counted = selection.counted(query, item, columns, filter, kept);
+    if is_untold(&counted) {
+        row_sum(query, item, columns, filter)
+    } else {
+        counted
+    }
+}
+
+// The tally of each marked item that is told.
 pub(crate) fn told_sums(
     query: &TypedQuery,
     columns: &LentColumns<'_>,
@@ -136,7 +164,7 @@ pub(crate) fn told_sums(
     let mut told = [None; 16];
     for i in 0..items.len() {
         if marks[i] {
-            told[i] = selection.counted(query, &items[i], columns, filter, &mut kept[i]);
+            told[i] = told_sum(query, &items[i], columns, filter, selection, &mut kept[i]);
         }
     }
     told

@@ -33,6 +33,7 @@ mod rankings;
 mod readers;
 mod roles;
 mod row_masks;
+mod row_sums;
 mod selection;
 mod state;
 mod sum_ends;

@@ -11,8 +11,8 @@ use Rattle.round_engine.proofs.counted_sums.told_sums.Goals.{then-marks-i, else-
 pub loop-i-init : goal.loop-i-init
 loop-i-init c = record { room = c.requires.room; count = omega arith; told = none_told (stage_of c.args.query.now c.args.columns.now) 16; kept = walk_start _ _ c.args.query.now.items c.args.kept.now c.requires.kept }
 
-pub counted-requires-clause-kept : goal.counted-requires-clause-kept
-counted-requires-clause-kept c =
+pub told_sum-requires-clause-kept : goal.told_sum-requires-clause-kept
+told_sum-requires-clause-kept c =
     let kept = c.loop-i.invariant.kept in
     let i = c.loop-i.i in
     let items = c.args.query.now.items in
@@ -35,10 +35,10 @@ loop-i-preserved c =
           (let item = w.index-items-i.result in
           let there : slice_get items i ≡ Some item = read_there items c.as_slice-items.result.now i item inside read w.index-items-i.is in
           rw (w.told-is, w.selection-is, w.kept-is) (record {
-            room = w.counted.ensures.room;
-            count = length-set c.loop-i.told i w.counted.result ∙ before.count;
-            told = told_more (stage_of c.args.query.now c.args.columns.now) c.loop-i.told i item w.counted.result (omega (arith, before.count, few, inside)) there w.counted.ensures.told before.told;
-            kept = walk_set _ _ items c.loop-i.kept i item w.counted.new.kept there w.counted.ensures.kept before.kept;
+            room = w.told_sum.ensures.room;
+            count = length-set c.loop-i.told i w.told_sum.result ∙ before.count;
+            told = told_more (stage_of c.args.query.now c.args.columns.now) c.loop-i.told i item w.told_sum.result (omega (arith, before.count, few, inside)) there w.told_sum.ensures.told before.told;
+            kept = walk_set _ _ items c.loop-i.kept i item w.told_sum.new.kept there w.told_sum.ensures.kept before.kept;
           }))
       | else-marks-i w ↦
           rw (w.told-is, w.selection-is, w.kept-is) (record {
