@@ -1,5 +1,6 @@
 -- What a sum keeps of the rows of a block of 64.
-use Rattle.std.specs.Prelude.{◌≡◌, ℕ, ◌+◌, ◌*◌, ◌<◌, ◌≤◌, pos, negsuc, ◌-ℤ◌, ◌≤ℤ◌, not, Bool, ◌&&◌, List, length, map, slice_get, if◌then◌else◌}
+use Rattle.std.specs.Prelude.{◌≡◌, ℕ, ◌+◌, ◌*◌, ◌<◌, ◌≤◌, pos, negsuc, ◌-ℤ◌, ◌≤ℤ◌, not}
+use Rattle.std.specs.Prelude.{Bool, ◌&&◌, List, length, map, slice_get, if◌then◌else◌}
 use Rattle.std.specs.declared.option.Option.{Option}
 use Rattle.std.specs.declared.option.Option.TheVariants.{None, Some}
 use Rattle.std.specs.List.{filter_map, range_with_len}
@@ -54,7 +55,8 @@ row_pairs term table block may must = given (row_pair term table block may must)
 -- each of the first rows gives what these words and spans say
 abbrev pub Give : (ℕ → Option Pair) → ℕ → ℕ → ℕ → List ShortInterval → Type 0
 Give give may must count spans =
-    (r : ℕ) (span : ShortInterval) → r < count → slice_get spans r ≡ Some span → give r ≡ pair_if (digit_at r may) (digit_at r must) (interval_of span)
+    (r : ℕ) (span : ShortInterval) → r < count → slice_get spans r ≡ Some span →
+    give r ≡ pair_if (digit_at r may) (digit_at r must) (interval_of span)
 
 -- each of the first spans is small
 abbrev pub AreSmall : ℕ → List ShortInterval → Type 0

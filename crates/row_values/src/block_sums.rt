@@ -32,9 +32,9 @@ pub fn fits_small(expr: &Expr, columns: &LentColumns<'_>) -> bool
     }
 }
 
-/// Adds the rows of a block, from row 64 * number on, to what a sum keeps of the rows before. Bit r of a word is that of row r of the block:
-/// it may count where its bit in the first is 1 and the expression may have a value, and surely counts where besides its bit in the second
-/// is 1 and the expression surely has one.
+/// Adds the rows of a block, from row 64 * number on, to what a sum keeps of the rows before. Bit r of a word is that of row r of the
+/// block: it may count where its bit in the first is 1 and the expression may have a value, and surely counts where besides its bit in the
+/// second is 1 and the expression surely has one.
 pub fn add_rows(
     expr: &Expr,
     columns: &LentColumns<'_>,

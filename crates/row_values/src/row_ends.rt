@@ -32,8 +32,8 @@ fn greater(earlier: Option<i128>, span: Interval) -> Option<i128>
     }
 }
 
-// The least low end of earlier rows and a block's first ones, if it is still kept. Bit i of the word is that of row i, which counts where it
-// is 1.
+// The least low end of earlier rows and a block's first ones, if it is still kept. Bit i of the word is that of row i, which counts where
+// it is 1.
 pub(crate) fn least_low(
     kept: bool,
     earlier: Option<i128>,
@@ -42,7 +42,8 @@ pub(crate) fn least_low(
     spans: &[ShortInterval; 64],
 ) -> Option<i128>
     requires few { count ≤ 64 }
-    ensures { (give : ℕ → Option Pair) (must : ℕ) → Give give may must count spans.now → (xs : List ℤ) → (kept ≡ true → earlier ≡ answer Min xs)
+    ensures { (give : ℕ → Option Pair) (must : ℕ) → Give give may must count spans.now → (xs : List ℤ)
+        → (kept ≡ true → earlier ≡ answer Min xs)
         → result ≡ (if kept then answer Min (xs ++ lows (given give count)) else None) }
 {
     if !kept {
@@ -66,7 +67,8 @@ pub(crate) fn greatest_high(
     spans: &[ShortInterval; 64],
 ) -> Option<i128>
     requires few { count ≤ 64 }
-    ensures { (give : ℕ → Option Pair) (must : ℕ) → Give give may must count spans.now → (xs : List ℤ) → (kept ≡ true → earlier ≡ answer Max xs)
+    ensures { (give : ℕ → Option Pair) (must : ℕ) → Give give may must count spans.now → (xs : List ℤ)
+        → (kept ≡ true → earlier ≡ answer Max xs)
         → result ≡ (if kept then answer Max (xs ++ highs (given give count)) else None) }
 {
     if !kept {
