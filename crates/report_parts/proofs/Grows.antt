@@ -20,7 +20,7 @@ keeps query kinds round told later (goes from line next last h k) has =
     record { has = behind.has; same = behind.same ∙ now.same }
 
 -- so do all
-all_keep : (query : List ℕ) (kinds : List ItemKind) (round : ℕ) (parts laters : List Told) → AllReach query kinds parts laters →
+pub all_keep : (query : List ℕ) (kinds : List ItemKind) (round : ℕ) (parts laters : List Told) → AllReach query kinds parts laters →
     list_all (has_block round) parts ≡ true → list_all (has_block round) laters ≡ true
 all_keep query kinds round [] [] h has = refl
 all_keep query kinds round [] (later ∷ laters) h has = absurd h
@@ -42,13 +42,13 @@ same_answers query kinds round item (part ∷ parts) (later ∷ laters) h has =
     rw (same, same_answers query kinds round item parts laters h.1 each.1) refl
 
 -- and with them the answers over all
-same_over : (query : List ℕ) (kinds some : List ItemKind) (round item : ℕ) (parts laters : List Told) → AllReach query kinds parts laters →
+pub same_over : (query : List ℕ) (kinds some : List ItemKind) (round item : ℕ) (parts laters : List Told) → AllReach query kinds parts laters →
     list_all (has_block round) parts ≡ true → answers_over round item some laters ≡ answers_over round item some parts
 same_over query kinds [] round item parts laters h has = refl
 same_over query kinds (kind ∷ some) round item parts laters h has =
     rw (same_answers query kinds round item parts laters h has, same_over query kinds some round (item + 1) parts laters h has) refl
 
-same_block : (query : List ℕ) (kinds : List ItemKind) (round : ℕ) (parts laters : List Told) → AllReach query kinds parts laters →
+pub same_block : (query : List ℕ) (kinds : List ItemKind) (round : ℕ) (parts laters : List Told) → AllReach query kinds parts laters →
     list_all (has_block round) parts ≡ true → block_text round kinds laters ≡ block_text round kinds parts
 same_block query kinds round parts laters h has = rw (same_over query kinds kinds round 0 parts laters h has) refl
 

@@ -1,4 +1,6 @@
 pub mod Certain
 pub mod Grows
+pub mod Kept
+pub mod Ordered
 pub mod Stays
 pub mod Turns

@@ -16,10 +16,10 @@ moved : (told next : Told) (place : Place) → next ≡ at_place told place → 
 moved told next place e = record { more = []; blocks = ap (λ (t : Told). t.blocks) e ∙ sym (append-nil told.blocks) }
 
 abbrev whole : (told : Told) (answer : Answer) → Told
-whole told answer = record { blocks = told.blocks ++ (told.current ++ answer ∷ []) ∷ []; current = []; place = Round }
+whole told answer = record { tag = told.tag; blocks = told.blocks ++ (told.current ++ answer ∷ []) ∷ []; current = []; place = Round }
 
 abbrev begun : (told : Told) (answer : Answer) → Told
-begun told answer = record { blocks = told.blocks; current = told.current ++ answer ∷ []; place = Items }
+begun told answer = record { tag = told.tag; blocks = told.blocks; current = told.current ++ answer ∷ []; place = Items }
 
 answered : (last : Bool) (told next : Told) (answer : Answer) → next ≡ (if last then whole told answer else begun told answer) → GoesBehind told next
 answered true told next answer e = record { more = (told.current ++ answer ∷ []) ∷ []; blocks = ap (λ (t : Told). t.blocks) e }
@@ -40,7 +40,7 @@ only_add query kinds told line next h = adds_at told.place query kinds told line
 
 -- ---- a told block stays
 
-none_behind : (place : Place) (query : List ℕ) (kinds : List ItemKind) (told : Told) (line : List ℕ) (next : Told) →
+pub none_behind : (place : Place) (query : List ℕ) (kinds : List ItemKind) (told : Told) (line : List ℕ) (next : Told) →
     TakesAt place query kinds told line next → is_ended place ≡ false
 none_behind Query query kinds told line next h = refl
 none_behind Opened query kinds told line next h = refl

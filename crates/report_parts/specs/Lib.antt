@@ -4,4 +4,6 @@ pub mod Laws
 pub mod Narrowness
 pub mod Reports
 pub mod Rounds
+pub mod Tags
 pub mod Told
+pub mod Written

@@ -9,25 +9,27 @@ use Rattle.report_text.specs.declared.lines.ReportEnd.{ReportEnd}
 use Rattle.report_parts.specs.declared.part.Place.{Place}
 use Rattle.report_parts.specs.declared.part.Place.TheVariants.{Query, Opened, Round, Items, Ended}
 
--- the whole blocks, each with an answer for each item; the answers of a block that is not whole yet; and what comes next
+-- the tag of the part; the whole blocks, each with an answer for each item; the answers of a block that is not whole yet; and what comes
+-- next
 pub record Told : Type 0 where
+  pub tag : List ℕ
   pub blocks : List (List Answer)
   pub current : List Answer
   pub place : Place
 
 -- before the first line
-abbrev pub nothing_told : Told
-nothing_told = record { blocks = []; current = []; place = Query }
+abbrev pub nothing_told : List ℕ → Told
+nothing_told tag = record { tag = tag; blocks = []; current = []; place = Query }
 
 abbrev pub at_place : Told → Place → Told
-at_place told place = record { blocks = told.blocks; current = told.current; place = place }
+at_place told place = record { tag = told.tag; blocks = told.blocks; current = told.current; place = place }
 
 -- with one answer more: a block with an answer for each of so many items is whole
 abbrev pub with_answer : ℕ → Told → Answer → Told
 with_answer items told answer =
     if length told.current + 1 == items
-    then record { blocks = told.blocks ++ (told.current ++ answer ∷ []) ∷ []; current = []; place = Round }
-    else record { blocks = told.blocks; current = told.current ++ answer ∷ []; place = Items }
+    then record { tag = told.tag; blocks = told.blocks ++ (told.current ++ answer ∷ []) ∷ []; current = []; place = Round }
+    else record { tag = told.tag; blocks = told.blocks; current = told.current ++ answer ∷ []; place = Items }
 
 -- ---- the line that comes next, and what is told with it
 

@@ -1,7 +1,8 @@
-//! Why a line of a part is refused, and why answers are not combined.
+//! Why a line is refused, and why answers are not combined.
 
 ghost use Rattle.std.specs.Prelude.{◌≡◌};
 ghost use Rattle.report_parts.specs.declared.fault.CombineFault.TheVariants.{NoMemory};
+ghost use Rattle.report_parts.specs.declared.fault.InputFault.TheVariants.{Line};
 ghost use Rattle.report_parts.specs.declared.fault.LineFault.TheVariants.{NoMemory as NoRoom};
 
 use std::alloc::{AllocError, AllocFailed};
@@ -10,6 +11,9 @@ use thiserror::Error;
 /// Why a line is not taken.
 #[derive(Debug, PartialEq, Eq, Drop, Error)]
 pub enum LineFault {
+    /// The line is not that of the query.
+    #[error("another query")]
+    OtherQuery,
     /// At its place no report of the query has this line.
     #[error("no line of a report")]
     OtherLine,
@@ -31,6 +35,47 @@ impl<T: Drop> From<AllocFailed<T>> for LineFault {
 
     fn from(_: AllocFailed<T>) -> Self {
         LineFault::NoMemory
+    }
+}
+
+/// Why a line of the input is refused. Of several faults that which is named first here is answered.
+#[derive(Debug, PartialEq, Eq, Drop, Error)]
+pub enum InputFault {
+    /// No tab stands in it.
+    #[error("no tab")]
+    NoTab,
+    /// Before the tab stands no byte, or more than 255.
+    #[error("no tag")]
+    NoTag,
+    /// It is of one part more than there are.
+    #[error("another part")]
+    OtherPart,
+    /// The part does not take the line.
+    #[error("{0}")]
+    Line(LineFault),
+}
+
+impl From<LineFault> for InputFault {
+    ghost from_gives = { λ why e. e ≡ Line why };
+
+    fn from(why: LineFault) -> Self {
+        InputFault::Line(why)
+    }
+}
+
+impl From<AllocError> for InputFault {
+    ghost from_gives = { λ _ e. e ≡ Line NoRoom };
+
+    fn from(_: AllocError) -> Self {
+        InputFault::Line(LineFault::NoMemory)
+    }
+}
+
+impl<T: Drop> From<AllocFailed<T>> for InputFault {
+    ghost from_gives = { λ _ e. e ≡ Line NoRoom };
+
+    fn from(_: AllocFailed<T>) -> Self {
+        InputFault::Line(LineFault::NoMemory)
     }
 }
 

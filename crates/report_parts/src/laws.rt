@@ -1,6 +1,7 @@
 //! What holds of the lines of parts. Each law stands on a function that does nothing.
 
 ghost use Rattle.report_parts.specs.Laws.{AnswersContain, AnswersNest, AnswersTell, AveragesContain, LinesOnlyAdd, ReportsOnlyGrow, ToldBlocksStay};
+ghost use Rattle.report_parts.specs.Written.{WrittenStays};
 
 use shard_bounds::{
     combinations_contain, combinations_nest, combinations_report_averages, combinations_tell,
@@ -20,6 +21,11 @@ pub fn told_blocks_stay()
 /// of all lines begins with what was told before.
 pub fn reports_only_grow()
     ensures { ReportsOnlyGrow }
+{}
+
+/// What was written begins what is written when more lines have come, of whichever parts and in whatever order.
+pub fn written_stays()
+    ensures { WrittenStays }
 {}
 
 /// Where what each part says contains the part's answer, what is combined contains the answer over all parts.

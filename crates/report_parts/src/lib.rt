@@ -2,6 +2,7 @@
 #![tactic(auto)]
 
 mod averages;
+mod blocks;
 mod combined;
 mod decimals;
 mod ends;
@@ -9,16 +10,20 @@ mod fault;
 mod laws;
 mod narrowness;
 mod part;
+mod parts;
 mod rounds;
+mod tags;
 mod values;
 
+pub use blocks::written_block;
 pub use combined::combine_item;
 pub use ends::end_behind;
-pub use fault::{CombineFault, LineFault};
+pub use fault::{CombineFault, InputFault, LineFault};
 pub use laws::{
     answers_contain, answers_nest, answers_tell, averages_contain, lines_only_add,
-    reports_only_grow, told_blocks_stay,
+    reports_only_grow, told_blocks_stay, written_stays,
 };
 pub use narrowness::is_narrow;
 pub use part::{Block, Part, Place};
+pub use parts::{Asked, Parts};
 pub use rounds::{all_have_block, have_all_ended};

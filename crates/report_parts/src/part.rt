@@ -1,10 +1,10 @@
 //! The report of a part, read line by line.
 
-ghost use Rattle.std.specs.Prelude.{◌≡◌, ◌+◌, ◌==◌, ◌<◌, ◌++◌, [], ◌∷◌, Err, MatchBool, MatchOption, OnOk, slice_get, length, if◌then◌else◌};
+ghost use Rattle.std.specs.Prelude.{◌≡◌, ◌≢◌, ◌+◌, ◌==◌, ◌<◌, ◌++◌, [], ◌∷◌, Err, MatchBool, MatchOption, OnOk, slice_get, length, if◌then◌else◌};
 ghost use Rattle.query_model.specs.declared.query.ItemKind.{ItemKind};
 ghost use Rattle.report_text.specs.declared.answers.Answer.{Answer};
 ghost use Rattle.report_parts.specs.Told.{Answers, BeginsRound, Ends, GoesOn, IsNextAnswer, IsOpened, Opens, Refuses, Takes, TellsParts, Told, at_place, nothing_told, with_answer};
-ghost use Rattle.report_parts.specs.declared.part.Place.TheVariants.{Items, Opened, Round};
+ghost use Rattle.report_parts.specs.declared.part.Place.TheVariants.{Items, Opened, Query, Round};
 
 use crate::fault::LineFault;
 use daq_table::Listed;
@@ -35,6 +35,7 @@ pub type Block = Listed<Answer>;
 /// The report of a part, as far as it was read.
 #[derive(Drop)]
 pub struct Part {
+    tag: Vec<u8>,
     blocks: Vec<Block>,
     current: Vec<Answer>,
     place: Place,
@@ -45,7 +46,7 @@ impl Model for Part {
 
     ghost Value = { Told };
 
-    ghost view = { λ p. record { blocks = p.blocks.items; current = p.current.items; place = p.place } };
+    ghost view = { λ p. record { tag = p.tag.items; blocks = p.blocks.items; current = p.current.items; place = p.place } };
 }
 
 // The kind of an item.
@@ -56,15 +57,23 @@ fn kind_at(kinds: &[ItemKind], item: usize) -> Option<ItemKind>
 }
 
 impl Part {
-    /// A part of which no line was read.
-    pub fn new(alloc: Global) -> Part
-        ensures { result ≡ nothing_told }
+    /// The part with that tag, of which no line was read.
+    pub fn new(alloc: Global, tag: Vec<u8>) -> Part
+        ensures { result ≡ nothing_told tag.items }
     {
         Part {
+            tag,
             blocks: Vec::new(alloc),
             current: Vec::new(alloc),
             place: Place::Query,
         }
+    }
+
+    /// Its tag.
+    pub fn tag(&self) -> &[u8]
+        ensures { result.now ≡ self.now.tag }
+    {
+        &self.tag
     }
 
     /// The whole blocks.
@@ -90,7 +99,8 @@ impl Part {
 
     // Takes the line of the query.
     fn take_query(&mut self, query: &[u8], line: &[u8]) -> bool
-        ensures { MatchBool result
+        ensures tag { self.new.tag ≡ self.old.tag }
+        ensures taken { MatchBool result
             (Opens query.now self.old line.now self.new)
             (Refuses (Opens query.now self.old line.now) self.old self.new) }
     {
@@ -103,7 +113,8 @@ impl Part {
 
     // Takes how many parts a combined report is of.
     fn take_parts(&mut self, line: &[u8]) -> bool
-        ensures { MatchBool result
+        ensures tag { self.new.tag ≡ self.old.tag }
+        ensures taken { MatchBool result
             (TellsParts self.old line.now self.new)
             (Refuses (TellsParts self.old line.now) self.old self.new) }
     {
@@ -116,7 +127,8 @@ impl Part {
 
     // Takes the line of the next round.
     fn take_round(&mut self, line: &[u8]) -> bool
-        ensures { MatchBool result
+        ensures tag { self.new.tag ≡ self.old.tag }
+        ensures taken { MatchBool result
             (BeginsRound self.old line.now self.new)
             (Refuses (BeginsRound self.old line.now) self.old self.new) }
     {
@@ -129,7 +141,8 @@ impl Part {
 
     // Takes the end.
     fn take_end(&mut self, line: &[u8]) -> bool
-        ensures { MatchBool result
+        ensures tag { self.new.tag ≡ self.old.tag }
+        ensures taken { MatchBool result
             (Ends self.old line.now self.new)
             (Refuses (Ends self.old line.now) self.old self.new) }
     {
@@ -147,7 +160,8 @@ impl Part {
 
     // Takes how many parts a combined report is of, or the first round.
     fn take_opened(&mut self, line: &[u8]) -> bool
-        ensures { MatchBool result
+        ensures tag { self.new.tag ≡ self.old.tag }
+        ensures taken { MatchBool result
             (IsOpened self.old line.now self.new)
             (Refuses (IsOpened self.old line.now) self.old self.new) }
     {
@@ -160,7 +174,8 @@ impl Part {
 
     // Takes the next round, or the end.
     fn take_next(&mut self, line: &[u8]) -> bool
-        ensures { MatchBool result
+        ensures tag { self.new.tag ≡ self.old.tag }
+        ensures taken { MatchBool result
             (GoesOn self.old line.now self.new)
             (Refuses (GoesOn self.old line.now) self.old self.new) }
     {
@@ -173,7 +188,8 @@ impl Part {
 
     // Puts an answer behind the others. A block with an answer for each of so many items is whole.
     fn put(&mut self, alloc: Global, items: usize, answer: Answer) -> Result<(), AllocError>
-        ensures { OnOk result (self.new ≡ with_answer items self.old answer) }
+        ensures tag { self.new.tag ≡ self.old.tag }
+        ensures put { OnOk result (self.new ≡ with_answer items self.old answer) }
     {
         self.current.push(answer)?;
         if self.current.len() == items {
@@ -197,8 +213,8 @@ impl Part {
         read_item(kind, item as u64 + 1, line)
     }
 
-    /// Takes the next line of the report of that query, which asks for items of these kinds. A line that no such report has at this place is
-    /// refused, and changes nothing.
+    /// Takes the next line of the report of that query, which asks for items of these kinds. A line that no such report has at this place
+    /// is refused, and changes nothing.
     pub fn take(
         &mut self,
         alloc: Global,
@@ -206,12 +222,15 @@ impl Part {
         kinds: &[ItemKind],
         line: &[u8],
     ) -> Result<(), LineFault>
+        ensures tag { self.new.tag ≡ self.old.tag }
         ensures taken { OnOk result (Takes query.now kinds.now self.old line.now self.new) }
+        ensures query { result ≡ Err LineFault.OtherQuery
+            → (self.old.place ≡ Query) × Refuses (Takes query.now kinds.now self.old line.now) self.old self.new }
         ensures other { result ≡ Err LineFault.OtherLine
             → Refuses (Takes query.now kinds.now self.old line.now) self.old self.new }
     {
         let taken = match self.place {
-            Place::Query => self.take_query(query, line),
+            Place::Query => return self.take_opening(query, line),
             Place::Opened => self.take_opened(line),
             Place::Round => self.take_next(line),
             Place::Items => return self.take_item(alloc, kinds, line),
@@ -224,10 +243,26 @@ impl Part {
         }
     }
 
+    // Takes the first line.
+    fn take_opening(&mut self, query: &[u8], line: &[u8]) -> Result<(), LineFault>
+        ensures tag { self.new.tag ≡ self.old.tag }
+        ensures taken { OnOk result (Opens query.now self.old line.now self.new) }
+        ensures query { result ≡ Err LineFault.OtherQuery → Refuses (Opens query.now self.old line.now) self.old self.new }
+        ensures other { result ≢ Err LineFault.OtherLine }
+    {
+        if self.take_query(query, line) {
+            Ok(())
+        } else {
+            Err(LineFault::OtherQuery)
+        }
+    }
+
     // Takes the answer of the next item.
     fn take_item(&mut self, alloc: Global, kinds: &[ItemKind], line: &[u8]) -> Result<(), LineFault>
+        ensures tag { self.new.tag ≡ self.old.tag }
         ensures taken { OnOk result (Answers kinds.now self.old line.now self.new) }
         ensures other { result ≡ Err LineFault.OtherLine → Refuses (Answers kinds.now self.old line.now) self.old self.new }
+        ensures query { result ≢ Err LineFault.OtherQuery }
     {
         match self.next_answer(kinds, line) {
             Some(answer) => match self.put(alloc, kinds.len(), answer) {

@@ -2,18 +2,18 @@
 
 use query_model::{Bound, ItemKind, Nullity};
 use report_parts::{
-    CombineFault, LineFault, Part, all_have_block, combine_item, end_behind, have_all_ended,
-    is_narrow,
+    Asked, CombineFault, InputFault, LineFault, Part, Parts, all_have_block, combine_item,
+    end_behind, have_all_ended, is_narrow, written_block,
 };
 use report_text::{Answer, Number, Ratio, ReportEnd, ShownAverage, ShownBound};
-use std::alloc::Global;
+use std::alloc::{AllocError, Global};
 
 const QUERY: &[u8] = b"query SELECT SUM(price), COUNT(*) FROM t";
 
 const KINDS: [ItemKind; 2] = [ItemKind::Sum, ItemKind::Count];
 
 fn part_of(alloc: Global, lines: &[&[u8]]) -> Result<Part, LineFault> {
-    let mut part = Part::new(alloc);
+    let mut part = Part::new(alloc, Vec::new(alloc));
     for line in lines {
         part.take(alloc, QUERY, &KINDS, line)?;
     }
@@ -170,4 +170,93 @@ fn an_answer_is_narrow_by_its_width(rt: HostRuntime) {
     for answer in far {
         assert!(rt; !is_narrow(2, &answer));
     }
+}
+
+fn asked(alloc: Global) -> Result<Asked, AllocError> {
+    Ok(Asked {
+        query: Vec::from_slice(alloc, QUERY)?,
+        kinds: Vec::from_slice(alloc, &KINDS)?,
+    })
+}
+
+// The parts after these lines of the input, of at most two parts.
+fn parts_of(alloc: Global, lines: &[&[u8]]) -> Result<Parts, InputFault> {
+    let asked = asked(alloc)?;
+    let mut parts = Parts::new(alloc);
+    for line in lines {
+        parts.take(alloc, &asked, 2, line)?;
+    }
+    Ok(parts)
+}
+
+#[test]
+fn parts_stand_in_the_order_of_their_tags(rt: HostRuntime) {
+    let alloc = rt.alloc();
+    let orders: [[&[u8]; 8]; 2] = [
+        [
+            b"b\tquery SELECT SUM(price), COUNT(*) FROM t",
+            b"b\tround 0",
+            b"b\t1 [3, 24]",
+            b"a\tquery SELECT SUM(price), COUNT(*) FROM t",
+            b"b\t2 2",
+            b"a\tround 0",
+            b"a\t1 5 or null",
+            b"a\t2 [0, 1]",
+        ],
+        [
+            b"a\tquery SELECT SUM(price), COUNT(*) FROM t",
+            b"a\tround 0",
+            b"a\t1 5 or null",
+            b"a\t2 [0, 1]",
+            b"b\tquery SELECT SUM(price), COUNT(*) FROM t",
+            b"b\tround 0",
+            b"b\t1 [3, 24]",
+            b"b\t2 2",
+        ],
+    ];
+    for lines in &orders {
+        let Ok(parts) = parts_of(alloc, lines) else {
+            panic!(rt; "a line is refused");
+        };
+        let parts = parts.as_slice();
+        assert_eq!(rt; parts.len(), 2);
+        assert!(rt; parts[0].tag() == b"a".as_slice());
+        assert!(rt; parts[1].tag() == b"b".as_slice());
+        let Ok(text) = written_block(alloc, 0, &KINDS, parts) else {
+            panic!(rt; "no block");
+        };
+        assert!(rt; text.as_slice() == b"round 0\n1 [3, 29]\n2 [2, 3]\n".as_slice());
+    }
+}
+
+// Why the last of the lines is refused.
+fn refusal(alloc: Global, lines: &[&[u8]]) -> Option<InputFault> {
+    match parts_of(alloc, lines) {
+        Ok(_) => None,
+        Err(why) => Some(why),
+    }
+}
+
+#[test]
+fn each_refusal_of_a_line(rt: HostRuntime) {
+    let alloc = rt.alloc();
+    let opened: &[u8] = b"a\tquery SELECT SUM(price), COUNT(*) FROM t";
+    let second: &[u8] = b"b\tquery SELECT SUM(price), COUNT(*) FROM t";
+    let third: &[u8] = b"c\tquery SELECT SUM(price), COUNT(*) FROM t";
+    let other = Some(InputFault::Line(LineFault::OtherQuery));
+    assert_eq!(rt; refusal(alloc, &[b"round 0"]), Some(InputFault::NoTab));
+    assert_eq!(rt; refusal(alloc, &[b"\tround 0"]), Some(InputFault::NoTag));
+    assert_eq!(rt;
+        refusal(alloc, &[opened, second, third]),
+        Some(InputFault::OtherPart)
+    );
+    assert_eq!(rt;
+        refusal(alloc, &[opened, b"b\tquery SELECT COUNT(*) FROM t"]),
+        other
+    );
+    assert_eq!(rt;
+        refusal(alloc, &[opened, second, b"a\tround 1"]),
+        Some(InputFault::Line(LineFault::OtherLine))
+    );
+    assert_eq!(rt; refusal(alloc, &[opened, second, b"a\tround 0"]), None);
 }

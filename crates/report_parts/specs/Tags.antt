@@ -1,0 +1,109 @@
+-- The lines of the input, each of a part by its tag, and what they tell of all parts.
+use Rattle.std.specs.Prelude.{◌≡◌, ℕ, ◌<◌, ◌≤◌, ◌==◌, List, [], ◌∷◌, length, map, position, slice_index_or, set}
+use Rattle.std.specs.declared.option.Option.TheVariants.{Some}
+use Rattle.std.specs.Cmp.Lexicographic.{slice_cmp}
+use Rattle.std.specs.List.{after_first, before_first, insert}
+use Rattle.std.specs.List.Sorted.{IsStrictlySortedBy}
+use Rattle.std.specs.Ordering.{nat_cmp}
+use Rattle.std.specs.declared.cmp.Ordering.{Ordering}
+use Rattle.std.specs.declared.cmp.Ordering.TheVariants.{Less, Equal, Greater}
+use Rattle.query_model.specs.declared.query.ItemKind.{ItemKind}
+use Rattle.report_parts.specs.Told.{Takes, Told, nothing_told}
+use Rattle.report_parts.specs.declared.fault.InputFault.{InputFault}
+use Rattle.report_parts.specs.declared.fault.InputFault.TheVariants.{Line, NoTab, NoTag, OtherPart}
+use Rattle.report_parts.specs.declared.fault.LineFault.{LineFault}
+use Rattle.report_parts.specs.declared.fault.LineFault.TheVariants.{NoMemory, OtherLine, OtherQuery}
+use Rattle.report_parts.specs.declared.part.Place.TheVariants.{Query}
+
+-- ---- a tag, a tab and a line of a report
+
+abbrev pub HasTab : List ℕ → Type 0
+HasTab line = (place : ℕ) × (position (λ c. c == 9) line ≡ Some place)
+
+abbrev pub tag_of : List ℕ → List ℕ
+tag_of line = before_first (λ c. c == 9) line
+
+abbrev pub behind_tag : List ℕ → List ℕ
+behind_tag line = after_first (λ c. c == 9) line
+
+abbrev pub IsTag : List ℕ → Type 0
+IsTag tag = (0 < length tag) × (length tag ≤ 255)
+
+-- ---- the parts, in the order of their tags
+
+abbrev pub AreInOrder : List Told → Type 0
+AreInOrder parts = IsStrictlySortedBy (slice_cmp nat_cmp) (map (λ part. part.tag) parts)
+
+-- how the tag of a part stands to another
+abbrev pub against : List ℕ → Told → Ordering
+against tag part = slice_cmp nat_cmp part.tag tag
+
+abbrev pub by_order : {X : Type 0} → Ordering → X → X → X → X
+by_order Less less equal greater = less
+by_order Equal less equal greater = equal
+by_order Greater less equal greater = greater
+
+-- what is told of the part with that tag
+abbrev pub told_of : List ℕ → List Told → Told
+told_of tag [] = nothing_told tag
+told_of tag (part ∷ parts) = by_order (against tag part) (told_of tag parts) part (nothing_told tag)
+
+-- the parts with this in place of what was told of the part with its tag
+abbrev pub with_part : Told → List Told → List Told
+with_part told [] = told ∷ []
+with_part told (part ∷ parts) = by_order (against told.tag part) (part ∷ with_part told parts) (told ∷ parts) (told ∷ part ∷ parts)
+
+-- the part of the line's tag takes the line
+pub record TakesTagged (query : List ℕ) (kinds : List ItemKind) (parts : List Told) (line : List ℕ) (next : List Told) : Type 0 where
+  pub told : Told
+  pub is_tag : IsTag (tag_of line)
+  pub taken : Takes query kinds (told_of (tag_of line) parts) (behind_tag line) told
+  pub put : next ≡ with_part told parts
+
+-- ---- where a part stands
+
+abbrev pub part_at : ℕ → List Told → Told
+part_at place parts = slice_index_or parts place (nothing_told [])
+
+-- the part with the tag stands there
+pub record StandsAt (tag : List ℕ) (parts : List Told) (place : ℕ) : Type 0 where
+  pub within : place < length parts
+  pub told : told_of tag parts ≡ part_at place parts
+  pub tagged : (part_at place parts).tag ≡ tag
+  pub put : (told : Told) → told.tag ≡ tag → with_part told parts ≡ set parts place told
+
+-- no part has the tag, and one that has it belongs there
+pub record BelongsAt (tag : List ℕ) (parts : List Told) (place : ℕ) : Type 0 where
+  pub within : place ≤ length parts
+  pub none : told_of tag parts ≡ nothing_told tag
+  pub put : (told : Told) → told.tag ≡ tag → with_part told parts ≡ insert parts place told
+
+-- ---- why a line is refused
+
+-- the part's report does not go on so
+abbrev pub CannotTake : List ℕ → List ItemKind → Told → List ℕ → Type 0
+CannotTake query kinds told line = (next : Told) → Takes query kinds told line next → ⊥
+
+abbrev pub IsLineRefused : LineFault → List ℕ → List ItemKind → Told → List ℕ → Type 0
+IsLineRefused OtherQuery query kinds told line = (told.place ≡ Query) × CannotTake query kinds told line
+IsLineRefused OtherLine query kinds told line = CannotTake query kinds told line
+IsLineRefused NoMemory query kinds told line = Unit {0}
+
+-- so many parts are wanted at most
+abbrev pub IsRefused : InputFault → List ℕ → List ItemKind → ℕ → List Told → List ℕ → Type 0
+IsRefused NoTab query kinds most parts line = ¬ HasTab line
+IsRefused NoTag query kinds most parts line = ¬ IsTag (tag_of line)
+IsRefused OtherPart query kinds most parts line = (most ≤ length parts) × (told_of (tag_of line) parts ≡ nothing_told (tag_of line))
+IsRefused (Line why) query kinds most parts line = IsLineRefused why query kinds (told_of (tag_of line) parts) (behind_tag line)
+
+-- what is refused changes nothing
+abbrev pub IsKept : {X : Type 0} → LineFault → X → X → Type 0
+IsKept OtherQuery old new = new ≡ old
+IsKept OtherLine old new = new ≡ old
+IsKept NoMemory old new = Unit {0}
+
+abbrev pub AreKept : InputFault → List Told → List Told → Type 0
+AreKept NoTab old new = new ≡ old
+AreKept NoTag old new = new ≡ old
+AreKept OtherPart old new = new ≡ old
+AreKept (Line why) old new = IsKept why old new

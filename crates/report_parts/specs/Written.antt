@@ -1,0 +1,44 @@
+-- The combined report from a round on, as far as the parts tell it.
+use Rattle.std.specs.Prelude.{◌≡◌, ℕ, ◌+◌, Bool, true, false, List, [], ◌++◌, codes}
+use Rattle.std.specs.declared.option.Option.{Option}
+use Rattle.std.specs.declared.option.Option.TheVariants.{Some, None}
+use Rattle.std.specs.List.{list_all}
+use Rattle.query_model.specs.declared.query.ItemKind.{ItemKind}
+use Rattle.report_text.specs.Lines.{end_line}
+use Rattle.report_text.specs.declared.answers.Answer.{Answer}
+use Rattle.report_text.specs.declared.lines.ReportEnd.{ReportEnd}
+use Rattle.report_parts.specs.Ends.{end_behind}
+use Rattle.report_parts.specs.Laws.{AllReach}
+use Rattle.report_parts.specs.Reports.{answers_over, block_text}
+use Rattle.report_parts.specs.Rounds.{has_block}
+use Rattle.report_parts.specs.Told.{Told}
+
+-- what is asked for: the kinds of the items, which answers are narrow, and which round is the last that is wanted
+pub record Wanted : Type 0 where
+  pub kinds : List ItemKind
+  pub narrow : List Answer → Bool
+  pub last : ℕ → Bool
+
+-- how the report ends behind the block of that round, if it does
+abbrev pub end_at : Wanted → ℕ → List Told → Option ReportEnd
+end_at wanted round parts = end_behind (wanted.narrow (answers_over round 0 wanted.kinds parts)) (wanted.last round) round parts
+
+-- the text of the rounds from that one on: a block as soon as all parts have told theirs, up to the first that is narrow, is the last
+-- wanted, or behind which no part goes on
+pub data Writes (wanted : Wanted) (parts : List Told) : ℕ → List ℕ → Type 0 where
+  waits : (round : ℕ) → list_all (has_block round) parts ≡ false → Writes wanted parts round []
+  ends : (round : ℕ) (end : ReportEnd) → list_all (has_block round) parts ≡ true → end_at wanted round parts ≡ Some end →
+      Writes wanted parts round (block_text round wanted.kinds parts ++ (end_line end ++ codes "\n"))
+  goes : (round : ℕ) (rest : List ℕ) → list_all (has_block round) parts ≡ true → end_at wanted round parts ≡ None →
+      Writes wanted parts (round + 1) rest → Writes wanted parts round (block_text round wanted.kinds parts ++ rest)
+
+-- the one text begins the other
+pub record Begins (text longer : List ℕ) : Type 0 where
+  pub more : List ℕ
+  pub split : longer ≡ text ++ more
+
+-- whatever lines come behind, of whichever parts and in whatever order, what was written begins what is written then
+abbrev pub WrittenStays : Type 0
+WrittenStays =
+    (query : List ℕ) (wanted : Wanted) (parts laters : List Told) (round : ℕ) (text longer : List ℕ) →
+    AllReach query wanted.kinds parts laters → Writes wanted parts round text → Writes wanted laters round longer → Begins text longer
