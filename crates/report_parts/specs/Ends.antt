@@ -1,12 +1,14 @@
 -- How a combined report ends.
-use Rattle.std.specs.Prelude.{ℕ, Bool, true, false, List, if◌then◌else◌}
+use Rattle.std.specs.Prelude.{◌≡◌, ◌≢◌, ℕ, Bool, true, false, not, List, length, position, if◌then◌else◌}
 use Rattle.std.specs.declared.option.Option.{Option}
 use Rattle.std.specs.declared.option.Option.TheVariants.{Some, None}
 use Rattle.std.specs.List.{list_all}
 use Rattle.report_text.specs.declared.lines.ReportEnd.{ReportEnd}
 use Rattle.report_text.specs.declared.lines.ReportEnd.TheVariants.{Narrow, Reads, Rounds}
-use Rattle.report_parts.specs.Rounds.{is_over}
+use Rattle.report_parts.specs.Rounds.{is_ended, is_over}
 use Rattle.report_parts.specs.Told.{Told}
+use Rattle.report_parts.specs.declared.fault.EndFault.{EndFault}
+use Rattle.report_parts.specs.declared.fault.EndFault.TheVariants.{EndsEarly, OtherCount}
 use Rattle.report_parts.specs.declared.part.Place.{Place}
 use Rattle.report_parts.specs.declared.part.Place.TheVariants.{Query, Opened, Round, Items, Ended}
 
@@ -34,3 +36,13 @@ end_behind narrow last round parts =
     else if last then Some Rounds
     else if list_all (is_over round) parts then Some (end_of_all parts)
     else None
+
+-- ---- where the input ends
+
+-- the first part whose report has not ended
+abbrev pub first_open : List Told → Option ℕ
+first_open parts = position (λ part. not (is_ended part.place)) parts
+
+abbrev pub IsEndFault : EndFault → ℕ → List Told → Type 0
+IsEndFault (EndsEarly place) wanted parts = first_open parts ≡ Some place
+IsEndFault (OtherCount count) wanted parts = (first_open parts ≡ None) × (length parts ≡ count) × (count ≢ wanted)

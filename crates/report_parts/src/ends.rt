@@ -1,11 +1,12 @@
 //! How a combined report ends.
 
-ghost use Rattle.std.specs.Prelude.{◌≡◌, ◌<◌, ◌^◌};
+ghost use Rattle.std.specs.Prelude.{◌≡◌, ◌<◌, ◌^◌, IfErr, None, OnOk, length};
 ghost use Rattle.std.specs.List.{list_all};
-ghost use Rattle.report_parts.specs.Ends.{end_behind, end_of_all, ends_narrow};
+ghost use Rattle.report_parts.specs.Ends.{IsEndFault, end_behind, end_of_all, ends_narrow, first_open};
 
+use crate::fault::EndFault;
 use crate::part::{Part, Place};
-use crate::rounds::have_all_ended;
+use crate::rounds::{have_all_ended, is_ended};
 use report_text::ReportEnd;
 
 // Whether the report has ended narrow.
@@ -58,4 +59,25 @@ pub fn end_behind(narrow: bool, last: bool, round: usize, parts: &[Part]) -> Opt
         return Some(end_of_all(parts));
     }
     None
+}
+
+// The place of the first part whose report has not ended.
+fn first_open(parts: &[Part]) -> Option<usize>
+    ensures { result ≡ first_open parts.now }
+{
+    parts.iter().position(|part| !is_ended(part.place()))
+}
+
+/// Whether the input may end where these are its parts: there are as many as are wanted, and the report of each has ended.
+pub fn may_end(wanted: usize, parts: &[Part]) -> Result<(), EndFault>
+    ensures ended { OnOk result ((first_open parts.now ≡ None) × (length parts.now ≡ wanted)) }
+    ensures fault { IfErr result (λ why. IsEndFault why wanted parts.now) }
+{
+    if let Some(place) = first_open(parts) {
+        return Err(EndFault::EndsEarly(place));
+    }
+    if parts.len() != wanted {
+        return Err(EndFault::OtherCount(parts.len()));
+    }
+    Ok(())
 }

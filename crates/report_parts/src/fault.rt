@@ -79,6 +79,17 @@ impl<T: Drop> From<AllocFailed<T>> for InputFault {
     }
 }
 
+/// Why the input may not end. Of both faults that which is named first is answered.
+#[derive(Clone, Copy, Debug, PartialEq, Eq, Drop, Error)]
+pub enum EndFault {
+    /// The report of the part at that place ends early, and no earlier part's.
+    #[error("part {0} ends early")]
+    EndsEarly(usize),
+    /// There are so many parts, and not as many as are wanted.
+    #[error("{0} parts")]
+    OtherCount(usize),
+}
+
 /// Why the answers of parts are not combined. Of several faults that which is named first here is answered.
 #[derive(Debug, PartialEq, Eq, Drop, Error)]
 pub enum CombineFault {

@@ -10,7 +10,7 @@ use report_text::{Answer, ShownBound};
 use std::alloc::{AllocError, Global};
 
 // Whether the report has ended.
-fn is_ended(place: Place) -> bool
+pub(crate) fn is_ended(place: Place) -> bool
     ensures { result ≡ is_ended place }
 {
     match place {

@@ -2,8 +2,8 @@
 
 use query_model::{Bound, ItemKind, Nullity};
 use report_parts::{
-    Asked, CombineFault, InputFault, LineFault, Part, Parts, all_have_block, combine_item,
-    end_behind, have_all_ended, is_narrow, written_block,
+    Asked, CombineFault, EndFault, InputFault, LineFault, Part, Parts, all_have_block,
+    combine_item, end_behind, have_all_ended, is_narrow, may_end, written_block,
 };
 use report_text::{Answer, Number, Ratio, ReportEnd, ShownAverage, ShownBound};
 use std::alloc::{AllocError, Global};
@@ -65,6 +65,8 @@ fn a_part_that_has_ended_stands_by_its_last_block(rt: HostRuntime) {
     assert!(rt; all_have_block(1, &parts));
     assert!(rt; !have_all_ended(0, &parts));
     assert!(rt; have_all_ended(1, &parts));
+    assert_eq!(rt; may_end(2, &parts), Ok(()));
+    assert_eq!(rt; may_end(3, &parts), Err(EndFault::OtherCount(2)));
     assert_eq!(rt; end_behind(false, false, 0, &parts), None);
     assert_eq!(rt; end_behind(false, true, 0, &parts), Some(ReportEnd::Rounds));
     assert_eq!(rt; end_behind(true, true, 0, &parts), Some(ReportEnd::Narrow));
@@ -129,6 +131,7 @@ fn other_decimals_are_refused(rt: HostRuntime) {
         combine_item(alloc, ItemKind::Count, 0, 1, &parts),
         value(Nullity::Never, 2, 2)
     );
+    assert_eq!(rt; may_end(2, &parts), Err(EndFault::EndsEarly(0)));
 }
 
 fn ratio(end: (i128, u64)) -> Ratio {
