@@ -1,12 +1,15 @@
 -- The text of a combined report, by what its parts have told.
-use Rattle.std.specs.Prelude.{◌≡◌, ℕ, zero, suc, ◌+◌, ◌<◌, true, List, [], ◌∷◌, ◌++◌, codes}
+use Rattle.std.specs.Prelude.{◌≡◌, slice_get, ℕ, zero, suc, ◌+◌, ◌<◌, true, List, [], ◌∷◌, ◌++◌, codes}
 use Rattle.std.specs.List.{list_all}
+use Rattle.std.specs.declared.option.Option.TheVariants.{Some}
 use Rattle.query_model.specs.declared.query.ItemKind.{ItemKind}
 use Rattle.report_text.specs.Lines.{item_line, parts_line, round_words}
 use Rattle.report_text.specs.declared.answers.Answer.{Answer}
-use Rattle.report_parts.specs.Combined.{answer_over}
+use Rattle.report_parts.specs.Combined.{AreAlike, FitsOver, answer_over}
 use Rattle.report_parts.specs.Rounds.{answers_in, has_block}
 use Rattle.report_parts.specs.Told.{Told}
+use Rattle.report_parts.specs.declared.fault.BlockFault.{BlockFault}
+use Rattle.report_parts.specs.declared.fault.BlockFault.TheVariants.{NoMemory, OtherDecimals, TooWide}
 
 -- the answers over all parts in a round, of the items from that one on
 abbrev pub answers_over : ℕ → ℕ → List ItemKind → List Told → List Answer
@@ -35,3 +38,17 @@ report_text query count rounds kinds parts =
 -- all parts tell what they know in each of so many rounds
 abbrev pub AreTold : ℕ → List Told → Type 0
 AreTold rounds parts = (round : ℕ) → round < rounds → list_all (has_block round) parts ≡ true
+
+-- ---- why a block is not written
+
+-- the item has that kind, its answers have the same decimals, and the answer over all parts does not fit
+pub record IsTooWide (round item : ℕ) (kinds : List ItemKind) (parts : List Told) : Type 0 where
+  pub kind : ItemKind
+  pub there : slice_get kinds item ≡ Some kind
+  pub alike : AreAlike (answers_in round item parts)
+  pub wide : ¬ FitsOver kind (answers_in round item parts)
+
+abbrev pub IsBlockFault : BlockFault → ℕ → List ItemKind → List Told → Type 0
+IsBlockFault (OtherDecimals item) round kinds parts = ¬ AreAlike (answers_in round item parts)
+IsBlockFault (TooWide item) round kinds parts = IsTooWide round item kinds parts
+IsBlockFault NoMemory round kinds parts = Unit {0}

@@ -1,32 +1,56 @@
 //! The text of a block.
 
-ghost use Rattle.std.specs.Prelude.{◌≡◌, ◌≤◌, ◌++◌, IfOk, OnOk, codes, decimal, length};
+ghost use Rattle.std.specs.Prelude.{◌≡◌, ◌≤◌, ◌++◌, IfErr, IfOk, List, OnOk, Some, codes, decimal, length, slice_get};
 ghost use Rattle.std.specs.List.{All};
-ghost use Rattle.report_parts.specs.Reports.{answers_over, block_text, item_lines};
+ghost use Rattle.query_model.specs.declared.query.ItemKind.{ItemKind};
+ghost use Rattle.report_parts.specs.Combined.{answer_over};
+ghost use Rattle.report_parts.specs.Reports.{IsBlockFault, answers_over, block_text, item_lines};
+ghost use Rattle.report_parts.specs.Rounds.{answers_in};
 ghost use Rattle.report_text.specs.Answers.{HasFewDecimals};
 ghost use Rattle.report_text.specs.Lines.{round_words};
 
 use crate::combined::combine_item;
-use crate::fault::CombineFault;
+use crate::fault::{BlockFault, CombineFault};
 use crate::part::Part;
 use daq_table::{TextBuf, written_number};
 use query_model::ItemKind;
 use report_text::{Answer, written_item};
 use std::alloc::{AllocError, Global};
 
+// The answer over all parts in a round, of the item of that kind.
+fn item_over(
+    alloc: Global,
+    kind: ItemKind,
+    round: usize,
+    item: usize,
+    parts: &[Part],
+) -> Result<Answer, BlockFault>
+    ensures few { IfOk result HasFewDecimals }
+    ensures answer { IfOk result (λ answer. answer ≡ answer_over kind (answers_in round item parts.now)) }
+    ensures fault { IfErr result (λ why. (kinds : List ItemKind) → slice_get kinds item ≡ Some kind → IsBlockFault why round kinds parts.now) }
+{
+    match combine_item(alloc, kind, round, item, parts) {
+        Ok(answer) => Ok(answer),
+        Err(CombineFault::OtherDecimals) => Err(BlockFault::OtherDecimals(item)),
+        Err(CombineFault::TooWide) => Err(BlockFault::TooWide(item)),
+        Err(CombineFault::NoMemory) => Err(BlockFault::NoMemory),
+    }
+}
+
 // The answers over all parts in a round, of each item.
-fn answers_over(
+pub(crate) fn answers_over(
     alloc: Global,
     round: usize,
     kinds: &[ItemKind],
     parts: &[Part],
-) -> Result<Vec<Answer>, CombineFault>
+) -> Result<Vec<Answer>, BlockFault>
     ensures answers { IfOk result (λ answers. answers.items ≡ answers_over round 0 kinds.now parts.now) }
     ensures few { IfOk result (λ answers. All HasFewDecimals answers.items) }
+    ensures fault { IfErr result (λ why. IsBlockFault why round kinds.now parts.now) }
 {
     let mut answers = Vec::with_capacity(alloc, kinds.len())?;
     for kind in kinds {
-        let answer = combine_item(alloc, *kind, round, answers.len(), parts)?;
+        let answer = item_over(alloc, *kind, round, answers.len(), parts)?;
         answers.push(answer)?;
     }
     Ok(answers)
@@ -77,8 +101,9 @@ pub fn written_block(
     round: usize,
     kinds: &[ItemKind],
     parts: &[Part],
-) -> Result<Vec<u8>, CombineFault>
-    ensures { IfOk result (λ text. text.items ≡ block_text round kinds.now parts.now) }
+) -> Result<Vec<u8>, BlockFault>
+    ensures text { IfOk result (λ text. text.items ≡ block_text round kinds.now parts.now) }
+    ensures fault { IfErr result (λ why. IsBlockFault why round kinds.now parts.now) }
 {
     let answers = answers_over(alloc, round, kinds, parts)?;
     let mut text = Vec::new(alloc);

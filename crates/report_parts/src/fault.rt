@@ -1,6 +1,7 @@
 //! Why a line is refused, and why answers are not combined.
 
 ghost use Rattle.std.specs.Prelude.{◌≡◌};
+ghost use Rattle.report_parts.specs.declared.fault.BlockFault.TheVariants.{NoMemory as NoBlock};
 ghost use Rattle.report_parts.specs.declared.fault.CombineFault.TheVariants.{NoMemory};
 ghost use Rattle.report_parts.specs.declared.fault.InputFault.TheVariants.{Line};
 ghost use Rattle.report_parts.specs.declared.fault.LineFault.TheVariants.{NoMemory as NoRoom};
@@ -88,6 +89,36 @@ pub enum EndFault {
     /// There are so many parts, and not as many as are wanted.
     #[error("{0} parts")]
     OtherCount(usize),
+}
+
+/// Why a block is not written: at which item, of those from 0.
+#[derive(Clone, Copy, Debug, PartialEq, Eq, Drop, Error)]
+pub enum BlockFault {
+    /// The numbers of two parts have other decimals.
+    #[error("item {0}: other decimals")]
+    OtherDecimals(usize),
+    /// An end has more than 128 bits, or a number of rows more than 64.
+    #[error("item {0}: too wide")]
+    TooWide(usize),
+    /// Memory ran out.
+    #[error("no memory")]
+    NoMemory,
+}
+
+impl From<AllocError> for BlockFault {
+    ghost from_gives = { λ _ e. e ≡ NoBlock };
+
+    fn from(_: AllocError) -> Self {
+        BlockFault::NoMemory
+    }
+}
+
+impl<T: Drop> From<AllocFailed<T>> for BlockFault {
+    ghost from_gives = { λ _ e. e ≡ NoBlock };
+
+    fn from(_: AllocFailed<T>) -> Self {
+        BlockFault::NoMemory
+    }
 }
 
 /// Why the answers of parts are not combined. Of several faults that which is named first here is answered.

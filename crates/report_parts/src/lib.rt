@@ -18,7 +18,7 @@ mod values;
 pub use blocks::written_block;
 pub use combined::combine_item;
 pub use ends::{end_behind, may_end};
-pub use fault::{CombineFault, EndFault, InputFault, LineFault};
+pub use fault::{BlockFault, CombineFault, EndFault, InputFault, LineFault};
 pub use laws::{
     answers_contain, answers_nest, answers_tell, averages_contain, lines_only_add,
     reports_only_grow, told_blocks_stay, written_stays,

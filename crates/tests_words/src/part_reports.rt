@@ -2,7 +2,7 @@
 
 use query_model::{Bound, ItemKind, Nullity};
 use report_parts::{
-    Asked, CombineFault, EndFault, InputFault, LineFault, Part, Parts, all_have_block,
+    Asked, BlockFault, CombineFault, EndFault, InputFault, LineFault, Part, Parts, all_have_block,
     combine_item, end_behind, have_all_ended, is_narrow, may_end, written_block,
 };
 use report_text::{Answer, Number, Ratio, ReportEnd, ShownAverage, ShownBound};
@@ -131,6 +131,10 @@ fn other_decimals_are_refused(rt: HostRuntime) {
         combine_item(alloc, ItemKind::Count, 0, 1, &parts),
         value(Nullity::Never, 2, 2)
     );
+    let Err(why) = written_block(alloc, 0, &KINDS, &parts) else {
+        panic!(rt; "a block is written");
+    };
+    assert_eq!(rt; why, BlockFault::OtherDecimals(0));
     assert_eq!(rt; may_end(2, &parts), Err(EndFault::EndsEarly(0)));
 }
 

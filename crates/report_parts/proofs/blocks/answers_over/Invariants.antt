@@ -8,3 +8,4 @@ abbrev pub invariant-loop-kind : goal.invariant-loop-kind
 invariant-loop-kind l =
     (l.answers.items ++ answers_over l.round (length l.answers.items) (drop l.kind-index l.kinds) l.parts ≡ answers_over l.round 0 l.kinds l.parts)
     × All HasFewDecimals l.answers.items
+    × (length l.answers.items ≡ l.kind-index)
