@@ -14,7 +14,7 @@ use shard_bounds::combine_averages;
 use std::alloc::{AllocError, Global};
 
 // A sum over a number of rows.
-fn fraction_of(ratio: Ratio) -> Fraction
+pub(crate) fn fraction_of(ratio: Ratio) -> Fraction
     ensures num { result.num ≡ ratio.sum.units }
     ensures den { result.den ≡ max ratio.rows 1 }
 {

@@ -9,6 +9,7 @@ mod ends;
 mod fault;
 mod laws;
 mod narrowness;
+mod near;
 mod part;
 mod parts;
 mod rounds;

@@ -6,7 +6,7 @@ use Rattle.query_model.proofs.Integers.{times_pos}
 use Rattle.interval_calc.specs.Intervals.{Fraction}
 use Rattle.shard_bounds.specs.Averages.{lesser, greater}
 
-spread : (a : ℤ) (x y : ℕ) → a *ℤ pos (x + y) ≡ (a *ℤ pos x) +ℤ (a *ℤ pos y)
+pub spread : (a : ℤ) (x y : ℕ) → a *ℤ pos (x + y) ≡ (a *ℤ pos x) +ℤ (a *ℤ pos y)
 spread a x y = omega (arith, ints)
 
 next : (a : ℤ) (n : ℕ) → a *ℤ pos (suc n) ≡ (a *ℤ pos n) +ℤ a
@@ -15,7 +15,7 @@ next a n =
     let one : a *ℤ pos 1 ≡ a = omega (arith, ints) in
     ap (λ m. a *ℤ m) e ∙ spread a n 1 ∙ ap (λ m. (a *ℤ pos n) +ℤ m) one
 
-spread_left : (a b : ℤ) (n : ℕ) → (a +ℤ b) *ℤ pos n ≡ (a *ℤ pos n) +ℤ (b *ℤ pos n)
+pub spread_left : (a b : ℤ) (n : ℕ) → (a +ℤ b) *ℤ pos n ≡ (a *ℤ pos n) +ℤ (b *ℤ pos n)
 spread_left a b zero = omega (arith, ints)
 spread_left a b (suc n) =
     let rest = spread_left a b n in
@@ -24,7 +24,7 @@ spread_left a b (suc n) =
     let g = next b n in
     omega (arith, ints)
 
-twice : (a : ℤ) (m n : ℕ) → (a *ℤ pos m) *ℤ pos n ≡ a *ℤ pos (m * n)
+pub twice : (a : ℤ) (m n : ℕ) → (a *ℤ pos m) *ℤ pos n ≡ a *ℤ pos (m * n)
 twice a m zero = omega (arith, ints)
 twice a m (suc n) =
     let rest = twice a m n in
