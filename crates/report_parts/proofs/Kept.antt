@@ -1,12 +1,12 @@
 -- That what was written begins what is written when more lines have come.
-use Rattle.std.proofs.Common.{◌≡◌, ℕ, ◌+◌, ◌≤◌, nat_le, nat_lt, Bool, true, false, ◌&&◌, if◌then◌else◌, Some, None, List, [], ◌∷◌, ◌++◌, codes, length, refl, sym, ap, subst, ◌∙◌, arith, append-nil, length-append}
+use Rattle.std.proofs.Common.{◌≡◌, ℕ, ◌+◌, ◌≤◌, nat_le, nat_lt, Bool, true, false, ◌&&◌, if◌then◌else◌, Option, Some, None, List, [], ◌∷◌, ◌++◌, length, refl, sym, ap, subst, ◌∙◌, arith, append-nil, length-append}
 use Rattle.std.proofs.lemmas.Bool.{and_parts, false≢true}
 use Rattle.std.proofs.lemmas.Bool.Decides.{nat_tests}
 use Rattle.std.proofs.lemmas.List.{append_assoc}
 use Rattle.std.proofs.lemmas.Option.{none-some}
 use Rattle.std.specs.List.{list_all}
 use Rattle.query_model.specs.declared.query.ItemKind.{ItemKind}
-use Rattle.report_text.specs.Lines.{end_line}
+use Rattle.report_text.specs.declared.answers.Answer.{Answer}
 use Rattle.report_text.specs.declared.lines.ReportEnd.{ReportEnd}
 use Rattle.report_parts.proofs.Grows.{all_keep, same_block, same_over}
 use Rattle.report_parts.proofs.Stays.{none_behind, only_add}
@@ -16,7 +16,7 @@ use Rattle.report_parts.specs.Laws.Reaches.{goes as reaches, stays as rests}
 use Rattle.report_parts.specs.Reports.{answers_over, block_text}
 use Rattle.report_parts.specs.Rounds.{has_block, is_ended, is_over}
 use Rattle.report_parts.specs.Told.{Told}
-use Rattle.report_parts.specs.Written.{Wanted, Writes, WrittenStays, end_at}
+use Rattle.report_parts.specs.Written.{Wanted, Writes, WrittenStays, end_at, end_text, is_narrow_at}
 use Rattle.report_parts.specs.Written.Writes.{ends, goes, waits}
 
 -- ---- a report that has ended
@@ -95,7 +95,7 @@ not_first query kinds round part later parts false e h over fails others =
     (not_yet query kinds round part later (is_ended part.place) refl h over e)
 
 -- where all end behind the round now, and did not before, not all had a block behind it
-not_all_yet : (query : List ℕ) (kinds : List ItemKind) (round : ℕ) (parts laters : List Told) → AllReach query kinds parts laters →
+pub not_all_yet : (query : List ℕ) (kinds : List ItemKind) (round : ℕ) (parts laters : List Told) → AllReach query kinds parts laters →
     list_all (is_over round) laters ≡ true → list_all (is_over round) parts ≡ false → list_all (has_block (round + 1)) parts ≡ false
 not_all_yet query kinds round [] [] h over fails = absurd (false≢true (sym fails))
 not_all_yet query kinds round [] (later ∷ laters) h over fails = absurd h
@@ -119,17 +119,18 @@ none_behind_yet query kinds false false false true round parts laters end o n h 
 
 -- ---- what is written
 
-nothing_yet : (wanted : Wanted) (parts : List Told) (round : ℕ) (text : List ℕ) → Writes wanted parts round text →
+nothing_yet : (wanted : Wanted) (parts : List Told) (round : ℕ) (text : List ℕ) (end : Option ReportEnd) → Writes wanted parts round text end →
     list_all (has_block round) parts ≡ false → text ≡ []
-nothing_yet wanted parts round text (waits r h) fails = refl
-nothing_yet wanted parts round text (ends r end has e) fails = absurd (false≢true (sym fails ∙ has))
-nothing_yet wanted parts round text (goes r rest has e k) fails = absurd (false≢true (sym fails ∙ has))
+nothing_yet wanted parts round text end (waits r h) fails = refl
+nothing_yet wanted parts round text end (ends r e has there) fails = absurd (false≢true (sym fails ∙ has))
+nothing_yet wanted parts round text end (goes r rest e has there k) fails = absurd (false≢true (sym fails ∙ has))
 
 -- whether the block is narrow does not change
 same_end : (query : List ℕ) (wanted : Wanted) (round : ℕ) (parts laters : List Told) → AllReach query wanted.kinds parts laters →
     list_all (has_block round) parts ≡ true →
     end_at wanted round laters ≡ end_behind (wanted.narrow (answers_over round 0 wanted.kinds parts)) (wanted.last round) round laters
-same_end query wanted round parts laters h has = rw (same_over query wanted.kinds wanted.kinds round 0 parts laters h has) refl
+same_end query wanted round parts laters h has =
+    ap (λ (answers : List Answer). end_behind (wanted.narrow answers) (wanted.last round) round laters) (same_over query wanted.kinds wanted.kinds round 0 parts laters h has)
 
 end_stays : (query : List ℕ) (wanted : Wanted) (round : ℕ) (parts laters : List Told) (end : ReportEnd) → AllReach query wanted.kinds parts laters →
     list_all (has_block round) parts ≡ true → end_at wanted round parts ≡ Some end → end_at wanted round laters ≡ Some end
@@ -142,29 +143,29 @@ some_same : (a b : ReportEnd) → Some a ≡ Some b → a ≡ b
 some_same a b e = cc
 
 pub written_stays : WrittenStays
-written_stays query wanted parts laters round text longer h (waits r fails) now = record { more = longer; split = refl }
-written_stays query wanted parts laters round text longer h (ends r end has e) (waits s fails) =
+written_stays query wanted parts laters round text longer end later h (waits r fails) now = record { more = longer; split = refl }
+written_stays query wanted parts laters round text longer end later h (ends r e has there) (waits s fails) =
     absurd (false≢true (sym fails ∙ all_keep query wanted.kinds round parts laters h has))
-written_stays query wanted parts laters round text longer h (ends r end has e) (ends s other now f) =
-    let same : other ≡ end = some_same other end (sym f ∙ end_stays query wanted round parts laters end h has e) in
+written_stays query wanted parts laters round text longer end later h (ends r e has there) (ends s other now f) =
+    let same : other ≡ e = some_same other e (sym f ∙ end_stays query wanted round parts laters e h has there) in
     record {
       more = [];
       split =
-          ap (λ (e : ReportEnd). block_text round wanted.kinds laters ++ (end_line e ++ codes "\n")) same
-          ∙ ap (λ (block : List ℕ). block ++ (end_line end ++ codes "\n")) (same_block query wanted.kinds round parts laters h has)
-          ∙ sym (append-nil (block_text round wanted.kinds parts ++ (end_line end ++ codes "\n")));
+          ap (λ (e : ReportEnd). block_text round wanted.kinds laters ++ end_text e) same
+          ∙ ap (λ (block : List ℕ). block ++ end_text e) (same_block query wanted.kinds round parts laters h has)
+          ∙ sym (append-nil (block_text round wanted.kinds parts ++ end_text e));
     }
-written_stays query wanted parts laters round text longer h (ends r end has e) (goes s rest now none k) =
-    absurd (none-some end (sym none ∙ end_stays query wanted round parts laters end h has e))
-written_stays query wanted parts laters round text longer h (goes r rest has none k) (waits s fails) =
+written_stays query wanted parts laters round text longer end later h (ends r e has there) (goes s rest behind now none k) =
+    absurd (none-some e (sym none ∙ end_stays query wanted round parts laters e h has there))
+written_stays query wanted parts laters round text longer end later h (goes r rest behind has none k) (waits s fails) =
     absurd (false≢true (sym fails ∙ all_keep query wanted.kinds round parts laters h has))
-written_stays query wanted parts laters round text longer h (goes r rest has none k) (ends s end now f) =
-    let narrow = wanted.narrow (answers_over round 0 wanted.kinds parts) in
+written_stays query wanted parts laters round text longer end later h (goes r rest behind has none k) (ends s e now f) =
+    let narrow = is_narrow_at wanted round parts in
     let nothing : rest ≡ [] =
-    nothing_yet wanted parts (round + 1) rest k
-    (none_behind_yet query wanted.kinds narrow (wanted.last round) (list_all (is_over round) parts) (list_all (is_over round) laters) round parts laters end
+    nothing_yet wanted parts (round + 1) rest behind k
+    (none_behind_yet query wanted.kinds narrow (wanted.last round) (list_all (is_over round) parts) (list_all (is_over round) laters) round parts laters e
     refl refl h none (sym (same_end query wanted round parts laters h has) ∙ f)) in
-    let tail = end_line end ++ codes "\n" in
+    let tail = end_text e in
     record {
       more = tail;
       split =
@@ -172,12 +173,12 @@ written_stays query wanted parts laters round text longer h (goes r rest has non
           ∙ ap (λ (block : List ℕ). block ++ tail) (sym (append-nil (block_text round wanted.kinds parts)))
           ∙ ap (λ (behind : List ℕ). (block_text round wanted.kinds parts ++ behind) ++ tail) (sym nothing);
     }
-written_stays query wanted parts laters round text longer h (goes r rest has none k) (goes s rest_now now none_now k_now) =
-    let behind = written_stays query wanted parts laters (round + 1) rest rest_now h k k_now in
+written_stays query wanted parts laters round text longer end later h (goes r rest behind has none k) (goes s rest_now behind_now now none_now k_now) =
+    let after = written_stays query wanted parts laters (round + 1) rest rest_now behind behind_now h k k_now in
     record {
-      more = behind.more;
+      more = after.more;
       split =
           ap (λ (block : List ℕ). block ++ rest_now) (same_block query wanted.kinds round parts laters h has)
-          ∙ ap (λ (rest : List ℕ). block_text round wanted.kinds parts ++ rest) behind.split
-          ∙ sym (append_assoc (block_text round wanted.kinds parts) rest behind.more);
+          ∙ ap (λ (rest : List ℕ). block_text round wanted.kinds parts ++ rest) after.split
+          ∙ sym (append_assoc (block_text round wanted.kinds parts) rest after.more);
     }

@@ -1,5 +1,8 @@
 pub mod Certain
+pub mod Courses
+pub mod FromRounds
 pub mod Grows
+pub mod Headlines
 pub mod Kept
 pub mod Ordered
 pub mod Splits

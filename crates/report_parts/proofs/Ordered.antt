@@ -22,7 +22,7 @@ use Rattle.report_parts.specs.Told.{Told, nothing_told}
 equal_is : (a b : List ℕ) → slice_cmp nat_cmp a b ≡ Equal → a ≡ b
 equal_is a b e = (bytes_eq-Decides a b).0 (sym (is_eq-slice_cmp a b) ∙ ap is_eq e)
 
-tag_is : (tag : List ℕ) (part : Told) → against tag part ≡ Equal → part.tag ≡ tag
+pub tag_is : (tag : List ℕ) (part : Told) → against tag part ≡ Equal → part.tag ≡ tag
 tag_is tag part e = equal_is part.tag tag e
 
 tags_rise : (parts : List Told) (i j : ℕ) (d : Told) → AreInOrder parts → i < j → j < length parts →

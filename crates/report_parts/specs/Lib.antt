@@ -1,7 +1,10 @@
 pub mod Combined
+pub mod Course
 pub mod Ends
+pub mod Headline
 pub mod Laws
 pub mod Narrowness
+pub mod Passed
 pub mod Reports
 pub mod Rounds
 pub mod Tags

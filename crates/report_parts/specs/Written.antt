@@ -19,18 +19,25 @@ pub record Wanted : Type 0 where
   pub narrow : List Answer → Bool
   pub last : ℕ → Bool
 
+-- the block of the round is narrow
+abbrev pub is_narrow_at : Wanted → ℕ → List Told → Bool
+is_narrow_at wanted round parts = wanted.narrow (answers_over round 0 wanted.kinds parts)
+
 -- how the report ends behind the block of that round, if it does
 abbrev pub end_at : Wanted → ℕ → List Told → Option ReportEnd
-end_at wanted round parts = end_behind (wanted.narrow (answers_over round 0 wanted.kinds parts)) (wanted.last round) round parts
+end_at wanted round parts = end_behind (is_narrow_at wanted round parts) (wanted.last round) round parts
 
--- the text of the rounds from that one on: a block as soon as all parts have told theirs, up to the first that is narrow, is the last
--- wanted, or behind which no part goes on
-pub data Writes (wanted : Wanted) (parts : List Told) : ℕ → List ℕ → Type 0 where
-  waits : (round : ℕ) → list_all (has_block round) parts ≡ false → Writes wanted parts round []
+abbrev pub end_text : ReportEnd → List ℕ
+end_text end = end_line end ++ codes "\n"
+
+-- the text of the rounds from that one on, and how it ends, if it does: a block as soon as all parts have told theirs, up to the first
+-- that is narrow, is the last wanted, or behind which no part goes on
+pub data Writes (wanted : Wanted) (parts : List Told) : ℕ → List ℕ → Option ReportEnd → Type 0 where
+  waits : (round : ℕ) → list_all (has_block round) parts ≡ false → Writes wanted parts round [] None
   ends : (round : ℕ) (end : ReportEnd) → list_all (has_block round) parts ≡ true → end_at wanted round parts ≡ Some end →
-      Writes wanted parts round (block_text round wanted.kinds parts ++ (end_line end ++ codes "\n"))
-  goes : (round : ℕ) (rest : List ℕ) → list_all (has_block round) parts ≡ true → end_at wanted round parts ≡ None →
-      Writes wanted parts (round + 1) rest → Writes wanted parts round (block_text round wanted.kinds parts ++ rest)
+      Writes wanted parts round (block_text round wanted.kinds parts ++ end_text end) (Some end)
+  goes : (round : ℕ) (rest : List ℕ) (end : Option ReportEnd) → list_all (has_block round) parts ≡ true → end_at wanted round parts ≡ None →
+      Writes wanted parts (round + 1) rest end → Writes wanted parts round (block_text round wanted.kinds parts ++ rest) end
 
 -- the one text begins the other
 pub record Begins (text longer : List ℕ) : Type 0 where
@@ -40,5 +47,5 @@ pub record Begins (text longer : List ℕ) : Type 0 where
 -- whatever lines come behind, of whichever parts and in whatever order, what was written begins what is written then
 abbrev pub WrittenStays : Type 0
 WrittenStays =
-    (query : List ℕ) (wanted : Wanted) (parts laters : List Told) (round : ℕ) (text longer : List ℕ) →
-    AllReach query wanted.kinds parts laters → Writes wanted parts round text → Writes wanted laters round longer → Begins text longer
+    (query : List ℕ) (wanted : Wanted) (parts laters : List Told) (round : ℕ) (text longer : List ℕ) (end later : Option ReportEnd) →
+    AllReach query wanted.kinds parts laters → Writes wanted parts round text end → Writes wanted laters round longer later → Begins text longer

@@ -1,5 +1,7 @@
 //! What holds of the lines of parts. Each law stands on a function that does nothing.
 
+ghost use Rattle.report_parts.specs.Course.{StandsIsCombined};
+ghost use Rattle.report_parts.specs.Headline.{CombinedAveragesAreCertain, CombinedIsCertain};
 ghost use Rattle.report_parts.specs.Laws.{AnswersContain, AnswersNest, AnswersTell, AveragesContain, LinesOnlyAdd, ReportsOnlyGrow, ToldBlocksStay};
 ghost use Rattle.report_parts.specs.Written.{WrittenStays};
 
@@ -28,6 +30,11 @@ pub fn written_stays()
     ensures { WrittenStays }
 {}
 
+/// Where a combination stands, what was written is the combined report of the lines that were taken, as far as they tell it.
+pub fn stands_are_combined()
+    ensures { StandsIsCombined }
+{}
+
 /// Where what each part says contains the part's answer, what is combined contains the answer over all parts.
 pub fn answers_contain()
     ensures { AnswersContain }
@@ -47,6 +54,23 @@ pub fn answers_tell()
     ensures { AnswersTell }
 {
     combinations_tell();
+}
+
+/// Where the report of each part is certain of its rows, each block of the combined report is certain of all rows together: what it prints
+/// of an item contains the answer, lies within what the block before prints, and is the answer where each part says its own.
+pub fn combined_is_certain()
+    ensures { CombinedIsCertain }
+{
+    combinations_contain();
+    combinations_nest();
+    combinations_tell();
+}
+
+/// The same of averages: what is printed contains the average over the rows of all parts.
+pub fn combined_averages_are_certain()
+    ensures { CombinedAveragesAreCertain }
+{
+    combinations_report_averages();
 }
 
 /// Where what each part says contains the part's average, and one fraction alone is its sum over its number of values, what is combined

@@ -21,8 +21,9 @@ pub use combined::combine_item;
 pub use ends::{end_behind, may_end};
 pub use fault::{BlockFault, CombineFault, EndFault, InputFault, LineFault};
 pub use laws::{
-    answers_contain, answers_nest, answers_tell, averages_contain, lines_only_add,
-    reports_only_grow, told_blocks_stay, written_stays,
+    answers_contain, answers_nest, answers_tell, averages_contain, combined_averages_are_certain,
+    combined_is_certain, lines_only_add, reports_only_grow, stands_are_combined, told_blocks_stay,
+    written_stays,
 };
 pub use narrowness::is_narrow;
 pub use part::{Block, Part, Place};

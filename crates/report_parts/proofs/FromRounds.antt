@@ -1,0 +1,413 @@
+-- That a part of which the passed blocks are forgotten goes on as the whole report does, and says the same in each round behind them.
+use Rattle.std.proofs.Common.{◌≡◌, ◌⊎◌, ℕ, zero, suc, ◌+◌, ◌-◌, ◌<◌, ◌≤◌, ◌==◌, min, Bool, true, false, Some, slice_get, List, [], ◌∷◌, ◌++◌, length, map, set, remove, get_or, if◌then◌else◌, refl, sym, ap, subst, ◌∙◌, inl, inr, arith, replicate, length-append}
+use Rattle.std.proofs.Math.Seq.{get_or-append_seam}
+use Rattle.std.proofs.Math.ListN.{get_or-eq_default}
+use Rattle.std.proofs.lemmas.List.{get_or-append_right, get_or-replicate, get_or_append_left, length-replicate}
+use Rattle.std.specs.Cmp.Lexicographic.{slice_cmp}
+use Rattle.std.specs.List.{list_all}
+use Rattle.std.specs.Ordering.{nat_cmp}
+use Rattle.std.specs.declared.cmp.Ordering.{Ordering}
+use Rattle.std.specs.declared.cmp.Ordering.TheVariants.{Less, Equal, Greater}
+use Rattle.query_model.specs.declared.query.ItemKind.{ItemKind}
+use Rattle.report_text.specs.Lines.{IsRoundLine, item_line}
+use Rattle.report_text.specs.declared.answers.Answer.{Answer}
+use Rattle.report_parts.specs.Ends.{end_of_all, ends_narrow}
+use Rattle.report_parts.specs.Passed.{AllTellFrom, TellsFrom}
+use Rattle.report_parts.specs.Combined.{AreAlike, FitsOver}
+use Rattle.report_parts.specs.Reports.{IsBlockFault, answers_over}
+use Rattle.report_parts.specs.Rounds.{answer_in, answers_in, has_block, is_over, no_answer}
+use Rattle.report_parts.specs.Tags.{CannotTake, IsLineRefused, IsRefused, TakesTagged, against, behind_tag, by_order, tag_of, told_of, with_part}
+use Rattle.report_parts.specs.Told.{Takes, TakesAt, Told, at_place, nothing_told, with_answer}
+use Rattle.report_parts.specs.declared.fault.BlockFault.{BlockFault}
+use Rattle.report_parts.specs.declared.fault.BlockFault.TheVariants.{NoMemory as NoBlock, OtherDecimals, TooWide}
+use Rattle.report_parts.specs.declared.fault.InputFault.{InputFault}
+use Rattle.report_parts.specs.declared.fault.InputFault.TheVariants.{Line, NoTab, NoTag, OtherPart}
+use Rattle.report_parts.specs.declared.fault.LineFault.{LineFault}
+use Rattle.report_parts.specs.declared.fault.LineFault.TheVariants.{NoMemory, OtherLine, OtherQuery}
+use Rattle.report_parts.specs.declared.part.Place.{Place}
+use Rattle.report_parts.specs.declared.part.Place.TheVariants.{Query, Opened, Round, Items, Ended}
+
+-- ---- the same from a round on
+
+pub tells_here : (round : ℕ) (told : Told) → TellsFrom round told told
+tells_here round told = record { tag = refl; current = refl; place = refl; count = refl; same = λ later from. refl }
+
+pub tells_back : (round : ℕ) (whole told : Told) → TellsFrom round whole told → TellsFrom round told whole
+tells_back round whole told h =
+    record { tag = sym h.tag; current = sym h.current; place = sym h.place; count = sym h.count; same = λ later from. sym (h.same later from) }
+
+pub tells_both : (from to : ℕ) (whole told next : Told) → from ≤ to → TellsFrom from whole told → TellsFrom to told next → TellsFrom to whole next
+tells_both from to whole told next le h k = record {
+  tag = k.tag ∙ h.tag;
+  current = k.current ∙ h.current;
+  place = k.place ∙ h.place;
+  count = k.count ∙ h.count;
+  same = λ later there. k.same later there ∙ h.same later (omega (arith, le, there));
+}
+
+pub all_both : (from to : ℕ) (wholes parts nexts : List Told) → from ≤ to → AllTellFrom from wholes parts → AllTellFrom to parts nexts → AllTellFrom to wholes nexts
+all_both from to [] [] [] le h k = tt
+all_both from to [] [] (next ∷ nexts) le h k = absurd k
+all_both from to [] (part ∷ parts) nexts le h k = absurd h
+all_both from to (whole ∷ wholes) [] nexts le h k = absurd h
+all_both from to (whole ∷ wholes) (part ∷ parts) [] le h k = absurd k
+all_both from to (whole ∷ wholes) (part ∷ parts) (next ∷ nexts) le h k =
+    (tells_both from to whole part next le h.0 k.0, all_both from to wholes parts nexts le h.1 k.1)
+
+pub all_back : (round : ℕ) (wholes parts : List Told) → AllTellFrom round wholes parts → AllTellFrom round parts wholes
+all_back round [] [] h = tt
+all_back round [] (part ∷ parts) h = absurd h
+all_back round (whole ∷ wholes) [] h = absurd h
+all_back round (whole ∷ wholes) (part ∷ parts) h = (tells_back round whole part h.0, all_back round wholes parts h.1)
+
+pub same_count : (round : ℕ) (wholes parts : List Told) → AllTellFrom round wholes parts → length parts ≡ length wholes
+same_count round [] [] h = refl
+same_count round [] (part ∷ parts) h = absurd h
+same_count round (whole ∷ wholes) [] h = absurd h
+same_count round (whole ∷ wholes) (part ∷ parts) h = let rest = same_count round wholes parts h.1 in omega (arith, rest)
+
+-- ---- what they say in a round
+
+pub same_has : (from round : ℕ) (wholes parts : List Told) → AllTellFrom from wholes parts → list_all (has_block round) parts ≡ list_all (has_block round) wholes
+same_has from round [] [] h = refl
+same_has from round [] (part ∷ parts) h = absurd h
+same_has from round (whole ∷ wholes) [] h = absurd h
+same_has from round (whole ∷ wholes) (part ∷ parts) h = rw (h.0.place, h.0.count, same_has from round wholes parts h.1) refl
+
+pub same_over_all : (from round : ℕ) (wholes parts : List Told) → AllTellFrom from wholes parts → list_all (is_over round) parts ≡ list_all (is_over round) wholes
+same_over_all from round [] [] h = refl
+same_over_all from round [] (part ∷ parts) h = absurd h
+same_over_all from round (whole ∷ wholes) [] h = absurd h
+same_over_all from round (whole ∷ wholes) (part ∷ parts) h = rw (h.0.place, h.0.count, same_over_all from round wholes parts h.1) refl
+
+same_narrow : (from : ℕ) (wholes parts : List Told) → AllTellFrom from wholes parts →
+    list_all (λ (part : Told). ends_narrow part.place) parts ≡ list_all (λ (part : Told). ends_narrow part.place) wholes
+same_narrow from [] [] h = refl
+same_narrow from [] (part ∷ parts) h = absurd h
+same_narrow from (whole ∷ wholes) [] h = absurd h
+same_narrow from (whole ∷ wholes) (part ∷ parts) h = rw (h.0.place, same_narrow from wholes parts h.1) refl
+
+pub same_end_of_all : (from : ℕ) (wholes parts : List Told) → AllTellFrom from wholes parts → end_of_all parts ≡ end_of_all wholes
+same_end_of_all from wholes parts h = rw (same_narrow from wholes parts h) refl
+
+same_in : (from round item : ℕ) (wholes parts : List Told) → from ≤ round → AllTellFrom from wholes parts → answers_in round item parts ≡ answers_in round item wholes
+same_in from round item [] [] le h = refl
+same_in from round item [] (part ∷ parts) le h = absurd h
+same_in from round item (whole ∷ wholes) [] le h = absurd h
+same_in from round item (whole ∷ wholes) (part ∷ parts) le h =
+    let one : answer_in round item part ≡ answer_in round item whole = ap (λ (block : List Answer). get_or block item no_answer) (h.0.same round le) in
+    rw (one, same_in from round item wholes parts le h.1) refl
+
+pub same_answers_over : (from round item : ℕ) (kinds : List ItemKind) (wholes parts : List Told) → from ≤ round → AllTellFrom from wholes parts →
+    answers_over round item kinds parts ≡ answers_over round item kinds wholes
+same_answers_over from round item [] wholes parts le h = refl
+same_answers_over from round item (kind ∷ kinds) wholes parts le h =
+    rw (same_in from round item wholes parts le h, same_answers_over from round (item + 1) kinds wholes parts le h) refl
+
+-- ---- a line more
+
+moved_too : (round : ℕ) (whole told next : Told) (place : Place) → TellsFrom round whole told → next ≡ at_place told place →
+    TellsFrom round (at_place whole place) next
+moved_too round whole told next place h e =
+    subst (λ (t : Told). TellsFrom round (at_place whole place) t) (sym e)
+    (record { tag = h.tag; current = h.current; place = refl; count = h.count; same = h.same })
+
+cases_lt : (a b : ℕ) → (a < b) ⊎ (b ≤ a)
+cases_lt a b = grind arith
+
+-- the block for a round once there is one more
+last_or : (round later : ℕ) (whole told : List (List Answer)) (block : List Answer) → length told ≡ length whole → round ≤ later →
+    ((there : ℕ) → round ≤ there → get_or told (min there (length told - 1)) [] ≡ get_or whole (min there (length whole - 1)) []) →
+    get_or (told ++ block ∷ []) (min later (length (told ++ block ∷ []) - 1)) [] ≡ get_or (whole ++ block ∷ []) (min later (length (whole ++ block ∷ []) - 1)) []
+last_or round later whole told block count le same =
+    let longer : length (told ++ block ∷ []) ≡ length told + 1 = length-append told (block ∷ []) in
+    let wholly : length (whole ++ block ∷ []) ≡ length whole + 1 = length-append whole (block ∷ []) in
+    elim (cases_lt later (length told)) [
+      | inl below ↦
+          let a : min later (length (told ++ block ∷ []) - 1) ≡ later = omega (arith, below, longer) in
+          let b : min later (length (whole ++ block ∷ []) - 1) ≡ later = omega (arith, below, wholly, count) in
+          let c : min later (length told - 1) ≡ later = omega (arith, below) in
+          let d : min later (length whole - 1) ≡ later = omega (arith, below, count) in
+          ap (λ (k : ℕ). get_or (told ++ block ∷ []) k []) a
+          ∙ get_or_append_left told (block ∷ []) [] later below
+          ∙ sym (ap (λ (k : ℕ). get_or told k []) c)
+          ∙ same later le
+          ∙ ap (λ (k : ℕ). get_or whole k []) d
+          ∙ sym (get_or_append_left whole (block ∷ []) [] later (omega (arith, below, count)))
+          ∙ sym (ap (λ (k : ℕ). get_or (whole ++ block ∷ []) k []) b)
+      | inr above ↦
+          let a : min later (length (told ++ block ∷ []) - 1) ≡ length told = omega (arith, above, longer) in
+          let b : min later (length (whole ++ block ∷ []) - 1) ≡ length whole = omega (arith, above, wholly, count) in
+          ap (λ (k : ℕ). get_or (told ++ block ∷ []) k []) a
+          ∙ get_or-append_seam told block [] []
+          ∙ sym (get_or-append_seam whole block [] [])
+          ∙ sym (ap (λ (k : ℕ). get_or (whole ++ block ∷ []) k []) b)
+    ]
+
+abbrev answered : Bool → Told → List Answer → Told
+answered last told current =
+    if last
+    then record { tag = told.tag; blocks = told.blocks ++ current ∷ []; current = []; place = Round }
+    else record { tag = told.tag; blocks = told.blocks; current = current; place = Items }
+
+answered_too : (round : ℕ) (last : Bool) (whole told : Told) (current : List Answer) → TellsFrom round whole told →
+    TellsFrom round (answered last whole current) (answered last told current)
+answered_too round true whole told current h = record {
+  tag = h.tag;
+  current = refl;
+  place = refl;
+  count = length-append told.blocks (current ∷ []) ∙ ap (λ (n : ℕ). n + 1) h.count ∙ sym (length-append whole.blocks (current ∷ []));
+  same = λ later le. last_or round later whole.blocks told.blocks current h.count le h.same;
+}
+answered_too round false whole told current h = record { tag = h.tag; current = refl; place = refl; count = h.count; same = h.same }
+
+with_answer_too : (round items : ℕ) (whole told : Told) (answer : Answer) → TellsFrom round whole told →
+    TellsFrom round (with_answer items whole answer) (with_answer items told answer)
+with_answer_too round items whole told answer h =
+    subst (λ (current : List Answer). TellsFrom round (answered (length current + 1 == items) whole (current ++ answer ∷ []))
+    (answered (length told.current + 1 == items) told (told.current ++ answer ∷ []))) h.current
+    (answered_too round (length told.current + 1 == items) whole told (told.current ++ answer ∷ []) h)
+
+-- the whole report takes the line, and tells the same from the round on
+pub record TakesToo (place : Place) (query : List ℕ) (kinds : List ItemKind) (round : ℕ) (whole : Told) (line : List ℕ) (next : Told) : Type 0 where
+  pub wholly : Told
+  pub taken : TakesAt place query kinds whole line wholly
+  pub tells : TellsFrom round wholly next
+
+takes_at : (place : Place) (query : List ℕ) (kinds : List ItemKind) (round : ℕ) (whole told : Told) (line : List ℕ) (next : Told) →
+    TellsFrom round whole told → TakesAt place query kinds told line next → TakesToo place query kinds round whole line next
+takes_at Query query kinds round whole told line next h k = record {
+  wholly = at_place whole Opened;
+  taken = record { is_query = k.is_query; opened = refl };
+  tells = moved_too round whole told next Opened h k.opened;
+}
+takes_at Opened query kinds round whole told line next h (inl k) = record {
+  wholly = at_place whole Round;
+  taken = inl (record { parts = k.parts; few = k.few; is_line = k.is_line; passed = refl });
+  tells = moved_too round whole told next Round h k.passed;
+}
+takes_at Opened query kinds round whole told line next h (inr k) = record {
+  wholly = at_place whole Items;
+  taken = inr (record { is_round = subst (λ (n : ℕ). IsRoundLine n line) h.count k.is_round; begun = refl });
+  tells = moved_too round whole told next Items h k.begun;
+}
+takes_at Round query kinds round whole told line next h (inl k) = record {
+  wholly = at_place whole Items;
+  taken = inl (record { is_round = subst (λ (n : ℕ). IsRoundLine n line) h.count k.is_round; begun = refl });
+  tells = moved_too round whole told next Items h k.begun;
+}
+takes_at Round query kinds round whole told line next h (inr k) = record {
+  wholly = at_place whole (Ended k.end);
+  taken = inr (record { end = k.end; some = subst (λ (n : ℕ). 0 < n) h.count k.some; is_line = k.is_line; ended = refl });
+  tells = moved_too round whole told next (Ended k.end) h k.ended;
+}
+takes_at Items query kinds round whole told line next h k = record {
+  wholly = with_answer (length kinds) whole k.answer;
+  taken = record {
+    kind = k.kind;
+    answer = k.answer;
+    is_next = record {
+      there = subst (λ (current : List Answer). slice_get kinds (length current) ≡ Some k.kind) h.current k.is_next.there;
+      of_kind = k.is_next.of_kind;
+      is_line = subst (λ (current : List Answer). item_line (length current + 1) k.answer ≡ line) h.current k.is_next.is_line;
+    };
+    told_so = refl;
+  };
+  tells = subst (λ (t : Told). TellsFrom round (with_answer (length kinds) whole k.answer) t) (sym k.told_so)
+      (with_answer_too round (length kinds) whole told k.answer h);
+}
+takes_at (Ended end) query kinds round whole told line next h k = absurd k
+
+pub takes_too : (query : List ℕ) (kinds : List ItemKind) (round : ℕ) (whole told : Told) (line : List ℕ) (next : Told) →
+    TellsFrom round whole told → Takes query kinds told line next → TakesToo whole.place query kinds round whole line next
+takes_too query kinds round whole told line next h k =
+    subst (λ (place : Place). TakesToo place query kinds round whole line next) h.place
+    (takes_at told.place query kinds round whole told line next h k)
+
+-- ---- a line of the input more
+
+same_against : (round : ℕ) (tag : List ℕ) (whole part : Told) → TellsFrom round whole part → against tag part ≡ against tag whole
+same_against round tag whole part h = ap (λ (t : List ℕ). slice_cmp nat_cmp t tag) h.tag
+
+by_each : (P : Ordering → Type 0) (o : Ordering) → P Less → P Equal → P Greater → P o
+by_each P Less a b c = a
+by_each P Equal a b c = b
+by_each P Greater a b c = c
+
+pub told_of_too : (round : ℕ) (tag : List ℕ) (wholes parts : List Told) → AllTellFrom round wholes parts → TellsFrom round (told_of tag wholes) (told_of tag parts)
+told_of_too round tag [] [] h = tells_here round (nothing_told tag)
+told_of_too round tag [] (part ∷ parts) h = absurd h
+told_of_too round tag (whole ∷ wholes) [] h = absurd h
+told_of_too round tag (whole ∷ wholes) (part ∷ parts) h =
+    subst (λ (o : Ordering). TellsFrom round (told_of tag (whole ∷ wholes)) (by_order o (told_of tag parts) part (nothing_told tag)))
+    (sym (same_against round tag whole part h.0))
+    (by_each (λ (o : Ordering). TellsFrom round (by_order o (told_of tag wholes) whole (nothing_told tag)) (by_order o (told_of tag parts) part (nothing_told tag)))
+    (against tag whole) (told_of_too round tag wholes parts h.1) h.0 (tells_here round (nothing_told tag)))
+
+with_part_too : (round : ℕ) (wholly told : Told) (wholes parts : List Told) → TellsFrom round wholly told → AllTellFrom round wholes parts →
+    AllTellFrom round (with_part wholly wholes) (with_part told parts)
+with_part_too round wholly told [] [] h k = (h, tt)
+with_part_too round wholly told [] (part ∷ parts) h k = absurd k
+with_part_too round wholly told (whole ∷ wholes) [] h k = absurd k
+with_part_too round wholly told (whole ∷ wholes) (part ∷ parts) h k =
+    let same : against told.tag part ≡ against wholly.tag whole = ap (λ (t : List ℕ). against t part) h.tag ∙ same_against round wholly.tag whole part k.0 in
+    subst (λ (o : Ordering). AllTellFrom round (with_part wholly (whole ∷ wholes)) (by_order o (part ∷ with_part told parts) (told ∷ parts) (told ∷ part ∷ parts)))
+    (sym same)
+    (by_each (λ (o : Ordering). AllTellFrom round (by_order o (whole ∷ with_part wholly wholes) (wholly ∷ wholes) (wholly ∷ whole ∷ wholes))
+    (by_order o (part ∷ with_part told parts) (told ∷ parts) (told ∷ part ∷ parts)))
+    (against wholly.tag whole) (k.0, with_part_too round wholly told wholes parts h k.1) (h, k.1) (h, k))
+
+pub record TakesTaggedToo (query : List ℕ) (kinds : List ItemKind) (round : ℕ) (wholes : List Told) (line : List ℕ) (next : List Told) : Type 0 where
+  pub wholly : List Told
+  pub taken : TakesTagged query kinds wholes line wholly
+  pub tells : AllTellFrom round wholly next
+
+pub takes_tagged_too : (query : List ℕ) (kinds : List ItemKind) (round : ℕ) (wholes parts : List Told) (line : List ℕ) (next : List Told) →
+    AllTellFrom round wholes parts → TakesTagged query kinds parts line next → TakesTaggedToo query kinds round wholes line next
+takes_tagged_too query kinds round wholes parts line next h k =
+    let one = takes_too query kinds round (told_of (tag_of line) wholes) (told_of (tag_of line) parts) (behind_tag line) k.told
+    (told_of_too round (tag_of line) wholes parts h) k.taken in
+    record {
+      wholly = with_part one.wholly wholes;
+      taken = record { told = one.wholly; is_tag = k.is_tag; taken = one.taken; put = refl };
+      tells = subst (λ (ps : List Told). AllTellFrom round (with_part one.wholly wholes) ps) (sym k.put)
+          (with_part_too round one.wholly k.told wholes parts one.tells h);
+    }
+
+-- ---- a block is forgotten
+
+forgotten : (n : ℕ) (block : List Answer) (blocks : List (List Answer)) (i : ℕ) → n + 1 ≤ i →
+    get_or (replicate (n + 1) [] ++ blocks) i [] ≡ get_or (replicate n [] ++ block ∷ blocks) i []
+forgotten n block blocks i le =
+    let next : i - n ≡ suc (i - (n + 1)) = omega (arith, le) in
+    get_or-append_right (replicate (n + 1) []) blocks (n + 1) i [] (length-replicate (n + 1) []) le
+    ∙ sym (ap (λ (k : ℕ). get_or (block ∷ blocks) k []) next)
+    ∙ sym (get_or-append_right (replicate n []) (block ∷ blocks) n i [] (length-replicate n []) (omega (arith, le)))
+
+-- where it is before the round, and not the last
+pub passed_on : (tag : List ℕ) (n round : ℕ) (blocks : List (List Answer)) (current : List Answer) (place : Place) → n < round → 1 < length blocks →
+    TellsFrom round (record { tag = tag; blocks = replicate n [] ++ blocks; current = current; place = place })
+    (record { tag = tag; blocks = replicate (n + 1) [] ++ remove blocks 0; current = current; place = place })
+passed_on tag n round [] current place less some = absurd (omega (arith, some))
+passed_on tag n round (block ∷ blocks) current place less some =
+    let before : length (replicate n [] ++ block ∷ blocks) ≡ n + suc (length blocks) =
+    length-append (replicate n []) (block ∷ blocks) ∙ ap (λ (k : ℕ). k + suc (length blocks)) (length-replicate n []) in
+    let behind : length (replicate (n + 1) [] ++ blocks) ≡ n + 1 + length blocks =
+    length-append (replicate (n + 1) []) blocks ∙ ap (λ (k : ℕ). k + length blocks) (length-replicate (n + 1) []) in
+    record {
+      tag = refl;
+      current = refl;
+      place = refl;
+      count = omega (arith, before, behind);
+      same = λ later le.
+          let there : min later (length (replicate (n + 1) [] ++ blocks) - 1) ≡ min later (length (replicate n [] ++ block ∷ blocks) - 1) =
+          ap (λ (k : ℕ). min later (k - 1)) (let e : length (replicate (n + 1) [] ++ blocks) ≡ length (replicate n [] ++ block ∷ blocks) = omega (arith, before, behind) in e) in
+          ap (λ (k : ℕ). get_or (replicate (n + 1) [] ++ blocks) k []) there
+          ∙ forgotten n block blocks (min later (length (replicate n [] ++ block ∷ blocks) - 1)) (omega (arith, before, less, le, some));
+    }
+
+pub all_here : (round : ℕ) (parts : List Told) → AllTellFrom round parts parts
+all_here round [] = tt
+all_here round (part ∷ parts) = (tells_here round part, all_here round parts)
+
+-- one part forgets a block
+pub set_passed : (round : ℕ) (wholes parts : List Told) (place : ℕ) (next d : Told) → AllTellFrom round wholes parts → place < length parts →
+    TellsFrom round (get_or parts place d) next → AllTellFrom round wholes (set parts place next)
+set_passed round [] [] place next d h lt k = absurd (omega (arith, lt))
+set_passed round [] (part ∷ parts) place next d h lt k = absurd h
+set_passed round (whole ∷ wholes) [] place next d h lt k = absurd h
+set_passed round (whole ∷ wholes) (part ∷ parts) zero next d h lt k = (tells_both round round whole part next (omega arith) h.0 k, h.1)
+set_passed round (whole ∷ wholes) (part ∷ parts) (suc place) next d h lt k =
+    (h.0, set_passed round wholes parts place next d h.1 (omega (arith, lt)) k)
+
+pub same_tags : (round : ℕ) (wholes parts : List Told) → AllTellFrom round wholes parts →
+    map (λ (part : Told). part.tag) wholes ≡ map (λ (part : Told). part.tag) parts
+same_tags round [] [] h = refl
+same_tags round [] (part ∷ parts) h = absurd h
+same_tags round (whole ∷ wholes) [] h = absurd h
+same_tags round (whole ∷ wholes) (part ∷ parts) h = rw (h.0.tag, same_tags round wholes parts h.1) refl
+
+-- ---- what is refused
+
+empty_list : (blocks : List (List Answer)) → 0 ≡ length blocks → blocks ≡ []
+empty_list [] e = refl
+empty_list (block ∷ blocks) e = absurd (omega (arith, e))
+
+-- a part that has told nothing
+nothing_is : (round : ℕ) (tag : List ℕ) (whole : Told) → TellsFrom round whole (nothing_told tag) → whole ≡ nothing_told tag
+nothing_is round tag whole h =
+    subst (λ (t : List ℕ). whole ≡ record { tag = t; blocks = []; current = []; place = Query }) (sym h.tag)
+    (subst (λ (b : List (List Answer)). whole ≡ record { tag = whole.tag; blocks = b; current = []; place = Query }) (empty_list whole.blocks h.count)
+    (subst (λ (c : List Answer). whole ≡ record { tag = whole.tag; blocks = whole.blocks; current = c; place = Query }) (sym h.current)
+    (subst (λ (p : Place). whole ≡ record { tag = whole.tag; blocks = whole.blocks; current = whole.current; place = p }) (sym h.place) refl)))
+
+cannot_too : (query : List ℕ) (kinds : List ItemKind) (round : ℕ) (whole told : Told) (line : List ℕ) → TellsFrom round whole told →
+    CannotTake query kinds told line → CannotTake query kinds whole line
+cannot_too query kinds round whole told line h cannot next taken =
+    let back = takes_too query kinds round told whole line next (tells_back round whole told h) taken in
+    cannot back.wholly back.taken
+
+line_refused_too : (why : LineFault) (query : List ℕ) (kinds : List ItemKind) (round : ℕ) (whole told : Told) (line : List ℕ) → TellsFrom round whole told →
+    IsLineRefused why query kinds told line → IsLineRefused why query kinds whole line
+line_refused_too OtherQuery query kinds round whole told line h refused = (sym h.place ∙ refused.0, cannot_too query kinds round whole told line h refused.1)
+line_refused_too OtherLine query kinds round whole told line h refused = cannot_too query kinds round whole told line h refused
+line_refused_too NoMemory query kinds round whole told line h refused = tt
+
+pub refused_too : (why : InputFault) (query : List ℕ) (kinds : List ItemKind) (most round : ℕ) (wholes parts : List Told) (line : List ℕ) →
+    AllTellFrom round wholes parts → IsRefused why query kinds most parts line → IsRefused why query kinds most wholes line
+refused_too NoTab query kinds most round wholes parts line h refused = refused
+refused_too NoTag query kinds most round wholes parts line h refused = refused
+refused_too OtherPart query kinds most round wholes parts line h refused =
+    let count = same_count round wholes parts h in (
+      omega (arith, count, refused.0),
+      nothing_is round (tag_of line) (told_of (tag_of line) wholes)
+          (subst (λ (t : Told). TellsFrom round (told_of (tag_of line) wholes) t) refused.1 (told_of_too round (tag_of line) wholes parts h)),
+    )
+refused_too (Line why) query kinds most round wholes parts line h refused =
+    line_refused_too why query kinds round (told_of (tag_of line) wholes) (told_of (tag_of line) parts) (behind_tag line)
+    (told_of_too round (tag_of line) wholes parts h) refused
+
+-- a block that is not written
+pub block_fault_too : (why : BlockFault) (round : ℕ) (kinds : List ItemKind) (wholes parts : List Told) → AllTellFrom round wholes parts →
+    IsBlockFault why round kinds parts → IsBlockFault why round kinds wholes
+block_fault_too (OtherDecimals item) round kinds wholes parts h refused =
+    subst (λ (answers : List Answer). ¬ AreAlike answers) (same_in round round item wholes parts (omega arith) h) refused
+block_fault_too (TooWide item) round kinds wholes parts h refused = record {
+  kind = refused.kind;
+  there = refused.there;
+  alike = subst (λ (answers : List Answer). AreAlike answers) (same_in round round item wholes parts (omega arith) h) refused.alike;
+  wide = subst (λ (answers : List Answer). ¬ FitsOver refused.kind answers) (same_in round round item wholes parts (omega arith) h) refused.wide;
+}
+block_fault_too NoBlock round kinds wholes parts h refused = tt
+
+-- ---- a block among those that are kept
+
+kept_count : (n : ℕ) (blocks : List (List Answer)) → length (replicate n [] ++ blocks) ≡ n + length blocks
+kept_count n blocks = length-append (replicate n []) blocks ∙ ap (λ (k : ℕ). k + length blocks) (length-replicate n [])
+
+pub count_is : (count n : ℕ) (blocks : List (List Answer)) → count ≡ n + length blocks → count ≡ length (replicate n [] ++ blocks)
+count_is count n blocks e = e ∙ sym (kept_count n blocks)
+
+last_is : (count n round : ℕ) (blocks : List (List Answer)) → count ≡ length (replicate n [] ++ blocks) →
+    min round (length (replicate n [] ++ blocks) - 1) ≡ min round (count - 1)
+last_is count n round blocks e = ap (λ (k : ℕ). min round (k - 1)) (sym e)
+
+pub none_kept : (count n round : ℕ) (blocks : List (List Answer)) → count ≡ length (replicate n [] ++ blocks) → count ≡ 0 →
+    [] ≡ get_or (replicate n [] ++ blocks) (min round (length (replicate n [] ++ blocks) - 1)) []
+none_kept count n round blocks e none = sym (get_or-eq_default (replicate n [] ++ blocks) [] (let nothing : length (replicate n [] ++ blocks) ≤ min round (length (replicate n [] ++ blocks) - 1) = omega (arith, e, none) in nothing))
+
+long : (n k : ℕ) → k < n → k < length (replicate {A = List Answer} n [])
+long n k less = subst (λ (m : ℕ). k < m) (sym (length-replicate n [])) less
+
+pub block_forgotten : (count n round : ℕ) (blocks : List (List Answer)) → count ≡ length (replicate n [] ++ blocks) → min round (count - 1) < n →
+    [] ≡ get_or (replicate n [] ++ blocks) (min round (length (replicate n [] ++ blocks) - 1)) []
+block_forgotten count n round blocks e less =
+    sym (ap (λ (k : ℕ). get_or (replicate n [] ++ blocks) k []) (last_is count n round blocks e)
+    ∙ get_or_append_left (replicate n []) blocks [] (min round (count - 1)) (long n (min round (count - 1)) less)
+    ∙ get_or-replicate n (min round (count - 1)) [] [] less)
+
+pub block_kept : (count n round : ℕ) (blocks : List (List Answer)) → count ≡ length (replicate n [] ++ blocks) → n ≤ min round (count - 1) →
+    get_or blocks (min round (count - 1) - n) [] ≡ get_or (replicate n [] ++ blocks) (min round (length (replicate n [] ++ blocks) - 1)) []
+block_kept count n round blocks e le =
+    sym (ap (λ (k : ℕ). get_or (replicate n [] ++ blocks) k []) (last_is count n round blocks e)
+    ∙ get_or-append_right (replicate n []) blocks n (min round (count - 1)) [] (length-replicate n []) le)
