@@ -39,7 +39,7 @@ kept_by : (last : Bool) (told : Told) (a b : Told) → a.tag ≡ told.tag → b.
 kept_by true told a b e f = e
 kept_by false told a b e f = f
 
-tag_stays : (place : Place) (query : List ℕ) (kinds : List ItemKind) (told : Told) (line : List ℕ) (next : Told) →
+pub tag_stays : (place : Place) (query : List ℕ) (kinds : List ItemKind) (told : Told) (line : List ℕ) (next : Told) →
     TakesAt place query kinds told line next → next.tag ≡ told.tag
 tag_stays Query query kinds told line next h = ap (λ (t : Told). t.tag) h.opened
 tag_stays Opened query kinds told line next (inl h) = ap (λ (t : Told). t.tag) h.passed
@@ -55,7 +55,7 @@ by_each P Less a b c = a refl
 by_each P Equal a b c = b refl
 by_each P Greater a b c = c refl
 
-tag_of_told : (tag : List ℕ) (parts : List Told) → (told_of tag parts).tag ≡ tag
+pub tag_of_told : (tag : List ℕ) (parts : List Told) → (told_of tag parts).tag ≡ tag
 tag_of_told tag [] = refl
 tag_of_told tag (part ∷ parts) =
     let rest = tag_of_told tag parts in
@@ -250,7 +250,7 @@ pub record IsReady (course : Course) (lines : List (List ℕ)) (text : List ℕ)
   pub ahead : IsAhead course parts text
   pub early : length parts < course.task.count → course.round ≡ 0
 
-longer : (query : List ℕ) (kinds : List ItemKind) (parts : List Told) (line : List ℕ) (next : List Told) → TakesTagged query kinds parts line next →
+pub longer : (query : List ℕ) (kinds : List ItemKind) (parts : List Told) (line : List ℕ) (next : List Told) → TakesTagged query kinds parts line next →
     length parts ≤ length next
 longer query kinds parts line next h = rw h.put (put_longer h.told parts)
 
@@ -677,3 +677,16 @@ pub still_goes : (old new : Course) → GoesOnTo old new → is_over_before new.
 still_goes old new on =
     let next : suc old.round ≡ new.round = omega (arith, on.round) in
     subst (λ (n : ℕ). is_over_before n new.parts ≡ false) next (same_over_all new.round old.round old.parts new.parts on.kept ∙ on.more)
+
+pub round_stands : (o : Option ReportEnd) (b : Bool) → (is_none o && b) ≡ true → (o ≡ None) × (b ≡ true)
+round_stands None b h = (refl, h)
+round_stands (Some end) b h = absurd (false≢true h)
+
+pub same_number : (a b : ℕ) → (a == b) ≡ true → a ≡ b
+same_number a b e = grind (arith, nat_tests)
+
+pub other_number : (a b : ℕ) → (a == b) ≡ false → a ≢ b
+other_number a b e = λ same. absurd (false≢true (sym e ∙ is_same a b same))
+  where
+    is_same : (a b : ℕ) → a ≡ b → (a == b) ≡ true
+    is_same a b e = grind (arith, nat_tests)

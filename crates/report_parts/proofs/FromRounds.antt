@@ -1,10 +1,11 @@
 -- That a part of which the passed blocks are forgotten goes on as the whole report does, and says the same in each round behind them.
-use Rattle.std.proofs.Common.{◌≡◌, ◌⊎◌, ℕ, zero, suc, ◌+◌, ◌-◌, ◌<◌, ◌≤◌, ◌==◌, min, Bool, true, false, Some, slice_get, List, [], ◌∷◌, ◌++◌, length, map, set, remove, get_or, if◌then◌else◌, refl, sym, ap, subst, ◌∙◌, inl, inr, arith, replicate, length-append}
-use Rattle.std.proofs.Math.Seq.{get_or-append_seam}
+use Rattle.std.proofs.Common.{◌≡◌, ◌⊎◌, ℕ, zero, suc, ◌+◌, ◌-◌, ◌<◌, ◌≤◌, ◌==◌, min, Bool, true, false, Some, slice_get, List, [], ◌∷◌, ◌++◌, length, map, set, remove, get_or, if◌then◌else◌, refl, sym, ap, subst, ◌∙◌, inl, inr, arith, replicate, length-append, take, drop}
+use Rattle.std.proofs.Math.Seq.{get_or-append_seam, take-append_seam}
 use Rattle.std.proofs.Math.ListN.{get_or-eq_default}
 use Rattle.std.proofs.lemmas.List.{get_or-append_right, get_or-replicate, get_or_append_left, length-replicate}
 use Rattle.std.specs.Cmp.Lexicographic.{slice_cmp}
 use Rattle.std.specs.List.{list_all}
+use Rattle.std.specs.List.Sorted.{IsStrictlySortedBy}
 use Rattle.std.specs.Ordering.{nat_cmp}
 use Rattle.std.specs.declared.cmp.Ordering.{Ordering}
 use Rattle.std.specs.declared.cmp.Ordering.TheVariants.{Less, Equal, Greater}
@@ -16,7 +17,7 @@ use Rattle.report_parts.specs.Passed.{AllTellFrom, TellsFrom}
 use Rattle.report_parts.specs.Combined.{AreAlike, FitsOver}
 use Rattle.report_parts.specs.Reports.{IsBlockFault, answers_over}
 use Rattle.report_parts.specs.Rounds.{answer_in, answers_in, has_block, is_over, no_answer}
-use Rattle.report_parts.specs.Tags.{CannotTake, IsLineRefused, IsRefused, TakesTagged, against, behind_tag, by_order, tag_of, told_of, with_part}
+use Rattle.report_parts.specs.Tags.{AreInOrder, CannotTake, IsLineRefused, IsRefused, TakesTagged, against, behind_tag, by_order, tag_of, told_of, with_part}
 use Rattle.report_parts.specs.Told.{Takes, TakesAt, Told, at_place, nothing_told, with_answer}
 use Rattle.report_parts.specs.declared.fault.BlockFault.{BlockFault}
 use Rattle.report_parts.specs.declared.fault.BlockFault.TheVariants.{NoMemory as NoBlock, OtherDecimals, TooWide}
@@ -411,3 +412,13 @@ pub block_kept : (count n round : ℕ) (blocks : List (List Answer)) → count �
 block_kept count n round blocks e le =
     sym (ap (λ (k : ℕ). get_or (replicate n [] ++ blocks) k []) (last_is count n round blocks e)
     ∙ get_or-append_right (replicate n []) blocks n (min round (count - 1)) [] (length-replicate n []) le)
+
+-- the parts stay in order
+pub order_behind : (n round : ℕ) (items old new : List Told) → old ≡ items → n ≡ length items → AreInOrder items → AllTellFrom round old new →
+    AreInOrder (take n (new ++ drop (length new) items))
+order_behind n round items old new e size sorted h =
+    let count : length new ≡ n = same_count round old new h ∙ ap (λ (ps : List Told). length ps) e ∙ sym size in
+    let kept : take n (new ++ drop (length new) items) ≡ new = ap (λ (k : ℕ). take k (new ++ drop (length new) items)) (sym count) ∙ take-append_seam new (drop (length new) items) in
+    let before : AreInOrder old = subst (λ (ps : List Told). AreInOrder ps) (sym e) sorted in
+    subst (λ (ps : List Told). AreInOrder ps) (sym kept)
+    (subst (λ (tags : List (List ℕ)). IsStrictlySortedBy (slice_cmp nat_cmp) tags) (same_tags round old new h) before)

@@ -1,4 +1,5 @@
 pub mod Certain
+pub mod Commutes
 pub mod Courses
 pub mod FromRounds
 pub mod Grows

@@ -19,7 +19,7 @@ use Rattle.report_parts.specs.Told.{Told, nothing_told}
 
 -- ---- tags in order
 
-equal_is : (a b : List ℕ) → slice_cmp nat_cmp a b ≡ Equal → a ≡ b
+pub equal_is : (a b : List ℕ) → slice_cmp nat_cmp a b ≡ Equal → a ≡ b
 equal_is a b e = (bytes_eq-Decides a b).0 (sym (is_eq-slice_cmp a b) ∙ ap is_eq e)
 
 pub tag_is : (tag : List ℕ) (part : Told) → against tag part ≡ Equal → part.tag ≡ tag

@@ -1,5 +1,5 @@
 -- The course of a combination: which lines were taken, and what is written of them.
-use Rattle.std.specs.Prelude.{◌≡◌, ℕ, zero, suc, ◌+◌, ◌<◌, ◌≤◌, ◌==◌, Bool, true, false, List, [], ◌∷◌, ◌++◌, codes, length}
+use Rattle.std.specs.Prelude.{◌≡◌, ◌≢◌, ℕ, zero, suc, ◌+◌, ◌<◌, ◌≤◌, ◌==◌, Bool, true, false, List, [], ◌∷◌, ◌++◌, codes, length}
 use Rattle.std.specs.declared.option.Option.{Option}
 use Rattle.std.specs.declared.option.Option.TheVariants.{Some, None}
 use Rattle.std.specs.List.{list_all}
@@ -10,11 +10,13 @@ use Rattle.report_parts.specs.Narrowness.{is_narrow}
 use Rattle.report_parts.specs.Passed.{AllTellFrom}
 use Rattle.report_parts.specs.Reports.{IsBlockFault, blocks_text}
 use Rattle.report_parts.specs.Rounds.{has_block, is_over}
-use Rattle.report_parts.specs.Tags.{IsRefused, TakesTagged}
+use Rattle.report_parts.specs.Tags.{IsRefused, TakesTagged, tag_of}
 use Rattle.report_parts.specs.Told.{Told}
 use Rattle.report_parts.specs.Written.{Wanted, Writes, is_narrow_at}
 use Rattle.report_parts.specs.declared.fault.BlockFault.{BlockFault}
 use Rattle.report_parts.specs.declared.fault.BlockFault.TheVariants.{NoMemory, OtherDecimals, TooWide}
+use Rattle.report_parts.specs.declared.fault.CourseFault.{CourseFault}
+use Rattle.report_parts.specs.declared.fault.CourseFault.TheVariants.{Block, Input}
 use Rattle.report_parts.specs.declared.fault.InputFault.{InputFault}
 
 -- what is asked: the query and the kinds of its items, how many parts there are, the width of a narrow answer, and the number of the last
@@ -113,7 +115,8 @@ pub record Stands (course : Course) (lines : List (List ℕ)) (text : List ℕ) 
 
 -- where a report stands, it is the combined report of its lines
 abbrev pub StandsIsCombined : Type 0
-StandsIsCombined = (course : Course) (lines : List (List ℕ)) (text : List ℕ) → Stands course lines text → Combines course.task lines text course.end
+StandsIsCombined =
+    (course : Course) (lines : List (List ℕ)) (text : List ℕ) → Stands course lines text → Combines course.task lines text course.end
 
 -- ---- between a line and what is written then
 
@@ -178,3 +181,31 @@ pub record IsStopped (task : Task) (lines : List (List ℕ)) (text before after 
   pub told : Tell task [] lines parts
   pub all : length parts ≡ task.count
   pub stops : StopsBy why task parts text before after
+
+abbrev pub IsCourseFault : CourseFault → Course → List ℕ → List ℕ → List ℕ → Type 0
+IsCourseFault (Input why) old line before after =
+    (after ≡ before) × ((lines : List (List ℕ)) (text : List ℕ) → Stands old lines text → IsLineFault old.task lines line why)
+IsCourseFault (Block why) old line before after =
+    (lines : List (List ℕ)) (text : List ℕ) → Stands old lines text → IsStopped old.task (lines ++ line ∷ []) text before after why
+
+-- ---- lines in another order
+
+-- the same lines, of which neighbours with other tags have changed places, once or many times
+pub data Interleaved : List (List ℕ) → List (List ℕ) → Type 0 where
+  unmoved : (lines : List (List ℕ)) → Interleaved lines lines
+  swapped : (first second : List ℕ) (lines : List (List ℕ)) → tag_of first ≢ tag_of second →
+      Interleaved (first ∷ second ∷ lines) (second ∷ first ∷ lines)
+  farther : (line : List ℕ) (lines others : List (List ℕ)) → Interleaved lines others → Interleaved (line ∷ lines) (line ∷ others)
+  twice : (lines others lasts : List (List ℕ)) → Interleaved lines others → Interleaved others lasts → Interleaved lines lasts
+
+-- the combined report is that of the lines in any order that leaves those of each part in theirs
+abbrev pub OrderIsFree : Type 0
+OrderIsFree =
+    (task : Task) (lines others : List (List ℕ)) (text : List ℕ) (end : Option ReportEnd) → Interleaved lines others →
+    Combines task lines text end → Combines task others text end
+
+-- what the parts tell is one text, with one end
+abbrev pub TextIsOne : Type 0
+TextIsOne =
+    (task : Task) (parts : List Told) (text other : List ℕ) (end later : Option ReportEnd) → length parts ≤ task.count →
+    IsText task parts text end → IsText task parts other later → (other ≡ text) × (later ≡ end)

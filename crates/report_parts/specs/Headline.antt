@@ -25,7 +25,8 @@ pub record IsCertainOf (item : ℕ) (kind : ItemKind) (told : Told) (values : Li
   pub some : 0 < length told.blocks
   pub contains : (block : ℕ) → block < length told.blocks → Admits (bound_of (answer_at block item told)) (answer kind values)
   pub is_bound : (block : ℕ) → block < length told.blocks → IsBoundOf kind (bound_of (answer_at block item told))
-  pub nests : (block : ℕ) → block + 1 < length told.blocks → IsNested (bound_of (answer_at block item told)) (bound_of (answer_at (block + 1) item told))
+  pub nests : (block : ℕ) → block + 1 < length told.blocks →
+      IsNested (bound_of (answer_at block item told)) (bound_of (answer_at (block + 1) item told))
 
 abbrev pub AreCertainOf : ℕ → ItemKind → List Told → List (List ℤ) → Type 0
 AreCertainOf item kind [] [] = Unit {0}
@@ -35,10 +36,12 @@ AreCertainOf item kind (part ∷ parts) (values ∷ tables) = IsCertainOf item k
 
 -- what is printed of the item in a round contains the answer on the rows of all parts together, the next round's lies within it, and where
 -- each part says its answer in the round, it is the answer
-pub record IsCertainIn (round item : ℕ) (kind : ItemKind) (kinds : List ItemKind) (parts : List Told) (tables : List (List ℤ)) : Type 0 where
+pub record IsCertainIn (round item : ℕ) (kind : ItemKind) (kinds : List ItemKind) (parts : List Told)
+    (tables : List (List ℤ)) : Type 0 where
   pub printed : slice_get (answers_over round 0 kinds parts) item ≡ Some (answer_over kind (answers_in round item parts))
   pub contains : Admits (bound_of (answer_over kind (answers_in round item parts))) (shards.answer_over kind tables)
-  pub nests : IsNested (bound_of (answer_over kind (answers_in round item parts))) (bound_of (answer_over kind (answers_in (round + 1) item parts)))
+  pub nests : IsNested (bound_of (answer_over kind (answers_in round item parts)))
+      (bound_of (answer_over kind (answers_in (round + 1) item parts)))
   pub exact : AreTold kind (map bound_of (answers_in round item parts)) tables →
       Tells (bound_of (answer_over kind (answers_in round item parts))) (shards.answer_over kind tables)
 

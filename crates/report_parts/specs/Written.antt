@@ -36,8 +36,9 @@ pub data Writes (wanted : Wanted) (parts : List Told) : ℕ → List ℕ → Opt
   waits : (round : ℕ) → list_all (has_block round) parts ≡ false → Writes wanted parts round [] None
   ends : (round : ℕ) (end : ReportEnd) → list_all (has_block round) parts ≡ true → end_at wanted round parts ≡ Some end →
       Writes wanted parts round (block_text round wanted.kinds parts ++ end_text end) (Some end)
-  goes : (round : ℕ) (rest : List ℕ) (end : Option ReportEnd) → list_all (has_block round) parts ≡ true → end_at wanted round parts ≡ None →
-      Writes wanted parts (round + 1) rest end → Writes wanted parts round (block_text round wanted.kinds parts ++ rest) end
+  goes : (round : ℕ) (rest : List ℕ) (end : Option ReportEnd) → list_all (has_block round) parts ≡ true →
+      end_at wanted round parts ≡ None → Writes wanted parts (round + 1) rest end →
+      Writes wanted parts round (block_text round wanted.kinds parts ++ rest) end
 
 -- the one text begins the other
 pub record Begins (text longer : List ℕ) : Type 0 where
@@ -48,4 +49,5 @@ pub record Begins (text longer : List ℕ) : Type 0 where
 abbrev pub WrittenStays : Type 0
 WrittenStays =
     (query : List ℕ) (wanted : Wanted) (parts laters : List Told) (round : ℕ) (text longer : List ℕ) (end later : Option ReportEnd) →
-    AllReach query wanted.kinds parts laters → Writes wanted parts round text end → Writes wanted laters round longer later → Begins text longer
+    AllReach query wanted.kinds parts laters → Writes wanted parts round text end → Writes wanted laters round longer later →
+    Begins text longer

@@ -4,10 +4,11 @@ ghost use Rattle.std.specs.Prelude.{◌≡◌, ◌≤◌, ◌++◌, IfErr, IfOk,
 ghost use Rattle.std.specs.List.{All};
 ghost use Rattle.query_model.specs.declared.query.ItemKind.{ItemKind};
 ghost use Rattle.report_parts.specs.Combined.{answer_over};
+ghost use Rattle.report_parts.specs.Course.{opening_text};
 ghost use Rattle.report_parts.specs.Reports.{IsBlockFault, answers_over, block_text, item_lines};
 ghost use Rattle.report_parts.specs.Rounds.{answers_in};
 ghost use Rattle.report_text.specs.Answers.{HasFewDecimals};
-ghost use Rattle.report_text.specs.Lines.{round_words};
+ghost use Rattle.report_text.specs.Lines.{parts_line, round_words};
 
 use crate::combined::combine_item;
 use crate::fault::{BlockFault, CombineFault};
@@ -27,7 +28,8 @@ fn item_over(
 ) -> Result<Answer, BlockFault>
     ensures few { IfOk result HasFewDecimals }
     ensures answer { IfOk result (λ answer. answer ≡ answer_over kind (answers_in round item parts.now)) }
-    ensures fault { IfErr result (λ why. (kinds : List ItemKind) → slice_get kinds item ≡ Some kind → IsBlockFault why round kinds parts.now) }
+    ensures fault { IfErr result (λ why.
+        (kinds : List ItemKind) → slice_get kinds item ≡ Some kind → IsBlockFault why round kinds parts.now) }
 {
     match combine_item(alloc, kind, round, item, parts) {
         Ok(answer) => Ok(answer),
@@ -57,7 +59,7 @@ pub(crate) fn answers_over(
 }
 
 // Puts a line and its line feed behind the text.
-fn push_line(text: &mut Vec<u8>, line: &[u8]) -> Result<(), AllocError>
+pub(crate) fn push_line(text: &mut Vec<u8>, line: &[u8]) -> Result<(), AllocError>
     ensures { OnOk result (text.new.items ≡ text.old.items ++ (line.now ++ codes "\n")) }
 {
     text.extend_from_slice(line)?;
@@ -95,6 +97,21 @@ fn written_round(round: u64) -> TextBuf
     text
 }
 
+// The text of the block of a round in which these are the answers.
+pub(crate) fn written_answers(
+    alloc: Global,
+    round: usize,
+    answers: &[Answer],
+) -> Result<Vec<u8>, AllocError>
+    requires { All HasFewDecimals answers.now }
+    ensures { IfOk result (λ text. text.items ≡ (round_words round ++ codes "\n") ++ item_lines 1 answers.now) }
+{
+    let mut text = Vec::new(alloc);
+    push_line(&mut text, written_round(round as u64).bytes())?;
+    push_items(&mut text, answers)?;
+    Ok(text)
+}
+
 /// The text of the block of a round: its line, and the lines of the items that are asked for.
 pub fn written_block(
     alloc: Global,
@@ -106,8 +123,25 @@ pub fn written_block(
     ensures fault { IfErr result (λ why. IsBlockFault why round kinds.now parts.now) }
 {
     let answers = answers_over(alloc, round, kinds, parts)?;
+    Ok(written_answers(alloc, round, &answers)?)
+}
+
+// How many parts a combined report is of.
+fn written_parts(count: u64) -> TextBuf
+    ensures { result ≡ parts_line count }
+{
+    let mut text = TextBuf::new();
+    text.append(b"parts ");
+    text.append(written_count(count).bytes());
+    text
+}
+
+/// The first lines of a combined report of so many parts: the query's, and how many parts there are.
+pub fn written_opening(alloc: Global, query: &[u8], count: u64) -> Result<Vec<u8>, AllocError>
+    ensures { IfOk result (λ text. text.items ≡ opening_text query.now count) }
+{
     let mut text = Vec::new(alloc);
-    push_line(&mut text, written_round(round as u64).bytes())?;
-    push_items(&mut text, &answers)?;
+    push_line(&mut text, query)?;
+    push_line(&mut text, written_parts(count).bytes())?;
     Ok(text)
 }

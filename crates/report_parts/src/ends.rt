@@ -2,6 +2,7 @@
 
 ghost use Rattle.std.specs.Prelude.{◌≡◌, ◌<◌, ◌^◌, IfErr, None, OnOk, length};
 ghost use Rattle.std.specs.List.{list_all};
+ghost use Rattle.report_text.specs.Lines.{end_line};
 ghost use Rattle.report_parts.specs.Ends.{IsEndFault, end_behind, end_of_all, ends_narrow, first_open};
 
 use crate::fault::EndFault;
@@ -33,13 +34,24 @@ fn have_ended_narrow(parts: &[Part]) -> bool
 }
 
 // How it ends where no part goes on.
-fn end_of_all(parts: &[Part]) -> ReportEnd
+pub(crate) fn end_of_all(parts: &[Part]) -> ReportEnd
     ensures { result ≡ end_of_all parts.now }
 {
     if have_ended_narrow(parts) {
         ReportEnd::Narrow
     } else {
         ReportEnd::Rounds
+    }
+}
+
+// The line of an end.
+pub(crate) fn written_end(end: ReportEnd) -> &'static [u8]
+    ensures { result.now ≡ end_line end }
+{
+    match end {
+        ReportEnd::Narrow => b"end narrow",
+        ReportEnd::Rounds => b"end rounds",
+        ReportEnd::Reads => b"end reads",
     }
 }
 

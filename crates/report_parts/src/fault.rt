@@ -3,6 +3,7 @@
 ghost use Rattle.std.specs.Prelude.{◌≡◌};
 ghost use Rattle.report_parts.specs.declared.fault.BlockFault.TheVariants.{NoMemory as NoBlock};
 ghost use Rattle.report_parts.specs.declared.fault.CombineFault.TheVariants.{NoMemory};
+ghost use Rattle.report_parts.specs.declared.fault.CourseFault.TheVariants.{Block, Input};
 ghost use Rattle.report_parts.specs.declared.fault.InputFault.TheVariants.{Line};
 ghost use Rattle.report_parts.specs.declared.fault.LineFault.TheVariants.{NoMemory as NoRoom};
 
@@ -77,6 +78,33 @@ impl<T: Drop> From<AllocFailed<T>> for InputFault {
 
     fn from(_: AllocFailed<T>) -> Self {
         InputFault::Line(LineFault::NoMemory)
+    }
+}
+
+/// Why a line is refused, or what is to be written behind it.
+#[derive(Debug, PartialEq, Eq, Drop, Error)]
+pub enum CourseFault {
+    /// The parts do not take the line.
+    #[error("{0}")]
+    Input(InputFault),
+    /// A block that stands is not written.
+    #[error("{0}")]
+    Block(BlockFault),
+}
+
+impl From<InputFault> for CourseFault {
+    ghost from_gives = { λ why e. e ≡ Input why };
+
+    fn from(why: InputFault) -> Self {
+        CourseFault::Input(why)
+    }
+}
+
+impl From<BlockFault> for CourseFault {
+    ghost from_gives = { λ why e. e ≡ Block why };
+
+    fn from(why: BlockFault) -> Self {
+        CourseFault::Block(why)
     }
 }
 

@@ -1,6 +1,6 @@
 //! What holds of the lines of parts. Each law stands on a function that does nothing.
 
-ghost use Rattle.report_parts.specs.Course.{StandsIsCombined};
+ghost use Rattle.report_parts.specs.Course.{OrderIsFree, StandsIsCombined, TextIsOne};
 ghost use Rattle.report_parts.specs.Headline.{CombinedAveragesAreCertain, CombinedIsCertain};
 ghost use Rattle.report_parts.specs.Laws.{AnswersContain, AnswersNest, AnswersTell, AveragesContain, LinesOnlyAdd, ReportsOnlyGrow, ToldBlocksStay};
 ghost use Rattle.report_parts.specs.Written.{WrittenStays};
@@ -55,6 +55,16 @@ pub fn answers_tell()
 {
     combinations_tell();
 }
+
+/// The combined report of some lines is that of the same lines in any order that leaves those of each part in theirs.
+pub fn order_of_lines_is_free()
+    ensures { OrderIsFree }
+{}
+
+/// What the parts tell is one text, with one end.
+pub fn combined_text_is_one()
+    ensures { TextIsOne }
+{}
 
 /// Where the report of each part is certain of its rows, each block of the combined report is certain of all rows together: what it prints
 /// of an item contains the answer, lies within what the block before prints, and is the answer where each part says its own.

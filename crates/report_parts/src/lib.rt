@@ -3,6 +3,7 @@
 
 mod averages;
 mod blocks;
+mod combination;
 mod combined;
 mod decimals;
 mod ends;
@@ -16,16 +17,18 @@ mod rounds;
 mod tags;
 mod values;
 
-pub use blocks::written_block;
+pub use blocks::{written_block, written_opening};
+pub use combination::{Combination, Until};
 pub use combined::combine_item;
 pub use ends::{end_behind, may_end};
-pub use fault::{BlockFault, CombineFault, EndFault, InputFault, LineFault};
+pub use fault::{BlockFault, CombineFault, CourseFault, EndFault, InputFault, LineFault};
 pub use laws::{
     answers_contain, answers_nest, answers_tell, averages_contain, combined_averages_are_certain,
-    combined_is_certain, lines_only_add, reports_only_grow, stands_are_combined, told_blocks_stay,
-    written_stays,
+    combined_is_certain, combined_text_is_one, lines_only_add, order_of_lines_is_free,
+    reports_only_grow, stands_are_combined, told_blocks_stay, written_stays,
 };
 pub use narrowness::is_narrow;
 pub use part::{Block, Part, Place};
 pub use parts::{Asked, Parts};
 pub use rounds::{all_have_block, have_all_ended};
+pub use tags::untagged;

@@ -1,6 +1,7 @@
 //! Whether it is known well enough where an answer lies.
 
 ghost use Rattle.std.specs.Prelude.{◌≡◌};
+ghost use Rattle.std.specs.List.{list_all};
 ghost use Rattle.report_parts.specs.Narrowness.{is_narrow, is_told, near_numbers};
 
 use crate::averages::fraction_of;
@@ -38,4 +39,16 @@ pub fn is_narrow(width: u64, answer: &Answer) -> bool
             are_near(width, fraction_of(shown.low), fraction_of(shown.high)),
         ),
     }
+}
+
+// Whether each answer is narrow.
+pub(crate) fn are_narrow(width: u64, answers: &[Answer]) -> bool
+    ensures { result ≡ list_all (is_narrow width) answers.now }
+{
+    for answer in answers {
+        if !is_narrow(width, answer) {
+            return false;
+        }
+    }
+    true
 }

@@ -1,8 +1,10 @@
-//! The report of a part, read line by line.
+//! The report of a part, read line by line. Blocks that are no longer asked for are forgotten.
 
 ghost use Rattle.std.specs.Prelude.{◌≡◌, ◌≢◌, ◌+◌, ◌==◌, ◌<◌, ◌++◌, [], ◌∷◌, Err, MatchBool, MatchOption, OnOk, slice_get, length, if◌then◌else◌};
 ghost use Rattle.query_model.specs.declared.query.ItemKind.{ItemKind};
 ghost use Rattle.report_text.specs.declared.answers.Answer.{Answer};
+ghost use Rattle.report_parts.specs.Passed.{TellsFrom};
+ghost use Rattle.report_parts.specs.Rounds.{block_for};
 ghost use Rattle.report_parts.specs.Told.{Answers, BeginsRound, Ends, GoesOn, IsNextAnswer, IsOpened, Opens, Refuses, Takes, TellsParts, Told, at_place, nothing_told, with_answer};
 ghost use Rattle.report_parts.specs.declared.part.Place.TheVariants.{Items, Opened, Query, Round};
 
@@ -32,22 +34,35 @@ pub enum Place {
 /// The answers of a block, one for each item.
 pub type Block = Listed<Answer>;
 
-/// The report of a part, as far as it was read.
+/// The report of a part, as far as it was read: the blocks behind so many that were forgotten, the answers of one that is not whole yet,
+/// and what comes next.
 #[derive(Drop)]
 pub struct Part {
     tag: Vec<u8>,
+    passed: usize,
     blocks: Vec<Block>,
     current: Vec<Answer>,
     place: Place,
 }
 
 impl Model for Part {
+    ghost use Rattle.std.specs.Prelude.{◌<◌, ◌^◌, ◌++◌, [], replicate};
     ghost use Rattle.report_parts.specs.Told.{Told};
 
     ghost Value = { Told };
 
-    ghost view = { λ p. record { tag = p.tag.items; blocks = p.blocks.items; current = p.current.items; place = p.place } };
+    ghost view = { λ p. record {
+      tag = p.tag.items;
+      blocks = replicate p.passed [] ++ p.blocks.items;
+      current = p.current.items;
+      place = p.place;
+    } };
+
+    ghost invariant = { λ p. p.passed < 2 ^ 62 };
 }
+
+// More blocks than a report has.
+const MOST_PASSED: usize = (1 << 62) - 1;
 
 // The kind of an item.
 fn kind_at(kinds: &[ItemKind], item: usize) -> Option<ItemKind>
@@ -63,6 +78,7 @@ impl Part {
     {
         Part {
             tag,
+            passed: 0,
             blocks: Vec::new(alloc),
             current: Vec::new(alloc),
             place: Place::Query,
@@ -76,11 +92,27 @@ impl Part {
         &self.tag
     }
 
-    /// The whole blocks.
-    pub fn blocks(&self) -> &[Block]
-        ensures { result.now ≡ self.now.blocks }
+    /// How many whole blocks it has told.
+    pub fn count(&self) -> usize
+        ensures { result ≡ length self.now.blocks }
     {
-        &self.blocks
+        self.passed + self.blocks.len()
+    }
+
+    /// Its block for a round: where its report has ended before, the last. One that was forgotten is empty, and so is that of a part that
+    /// has told none.
+    pub fn block_for(&self, round: usize) -> &[Answer]
+        ensures { result.now ≡ block_for round self.now }
+    {
+        let count = self.count();
+        if count == 0 {
+            return &[];
+        }
+        let place = round.min(count - 1);
+        if place < self.passed {
+            return &[];
+        }
+        self.blocks[place - self.passed].as_slice()
     }
 
     /// What comes next.
@@ -132,7 +164,7 @@ impl Part {
             (BeginsRound self.old line.now self.new)
             (Refuses (BeginsRound self.old line.now) self.old self.new) }
     {
-        if !is_round_line(self.blocks.len() as u64, line) {
+        if !is_round_line(self.count() as u64, line) {
             return false;
         }
         self.go(Place::Items);
@@ -146,7 +178,7 @@ impl Part {
             (Ends self.old line.now self.new)
             (Refuses (Ends self.old line.now) self.old self.new) }
     {
-        if self.blocks.is_empty() {
+        if self.count() == 0 {
             return false;
         }
         match read_end(line) {
@@ -211,6 +243,16 @@ impl Part {
         let item = self.current.len();
         let kind = kind_at(kinds, item)?;
         read_item(kind, item as u64 + 1, line)
+    }
+
+    /// Forgets the first block that is kept, if it is before the round and not the last.
+    pub fn pass(&mut self, round: usize)
+        ensures { TellsFrom round self.old self.new }
+    {
+        if self.passed < round && self.passed < MOST_PASSED && self.blocks.len() > 1 {
+            self.blocks.remove(0);
+            self.passed += 1;
+        }
     }
 
     /// Takes the next line of the report of that query, which asks for items of these kinds. A line that no such report has at this place

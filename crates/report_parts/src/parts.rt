@@ -2,6 +2,7 @@
 
 ghost use Rattle.std.specs.Prelude.{◌≡◌, ◌≤◌, ◌<◌, [], IfErr, MatchResult, OnErr, OnOk, length, set};
 ghost use Rattle.std.specs.List.{insert};
+ghost use Rattle.report_parts.specs.Passed.{AllTellFrom};
 ghost use Rattle.report_parts.specs.Tags.{AreInOrder, AreKept, BelongsAt, IsKept, IsLineRefused, IsRefused, StandsAt, TakesTagged, part_at};
 ghost use Rattle.report_parts.specs.Told.{Takes, Told, nothing_told};
 
@@ -98,6 +99,15 @@ fn take_first(
     Ok(())
 }
 
+// Each part forgets what only the rounds before that one ask for.
+fn pass_all(parts: &mut [Part], round: usize)
+    ensures { AllTellFrom round parts.old parts.new }
+{
+    for place in 0..parts.len() {
+        parts[place].pass(round);
+    }
+}
+
 impl Parts {
     /// No part.
     pub fn new(alloc: Global) -> Parts
@@ -115,6 +125,13 @@ impl Parts {
         &self.parts
     }
 
+    /// Each part forgets what only the rounds before that one ask for.
+    pub fn pass(&mut self, round: usize)
+        ensures { AllTellFrom round self.old self.new }
+    {
+        pass_all(&mut self.parts, round);
+    }
+
     /// Takes a line of the input: the part whose tag stands before its tab takes what stands behind. There may be so many parts at most. A
     /// line that is refused changes nothing.
     pub fn take(
@@ -125,6 +142,7 @@ impl Parts {
         line: &[u8],
     ) -> Result<(), InputFault>
         ensures taken { OnOk result (TakesTagged asked.now.query.items asked.now.kinds.items self.old line.now self.new) }
+        ensures few { OnOk result (length self.old ≤ most → length self.new ≤ most) }
         ensures refused { IfErr result (λ why. IsRefused why asked.now.query.items asked.now.kinds.items most self.old line.now) }
         ensures kept { IfErr result (λ why. AreKept why self.old self.new) }
     {

@@ -23,7 +23,7 @@ pub(crate) fn is_ended(place: Place) -> bool
 fn has_block(round: usize, part: &Part) -> bool
     ensures { result ≡ has_block round part.now }
 {
-    is_ended(part.place()) || round < part.blocks().len()
+    is_ended(part.place()) || round < part.count()
 }
 
 /// Whether each part tells what it knows in that round: its block is whole, or its report has ended before.
@@ -43,7 +43,7 @@ fn is_over(round: usize, part: &Part) -> bool
     requires { round < 2 ^ 63 }
     ensures { result ≡ is_over round part.now }
 {
-    is_ended(part.place()) && part.blocks().len() <= round + 1
+    is_ended(part.place()) && part.count() <= round + 1
 }
 
 /// Whether the report of each part has ended, with no block behind that round.
@@ -83,11 +83,7 @@ fn answer_at(item: usize, block: &[Answer]) -> Answer
 fn answer_in(round: usize, item: usize, part: &Part) -> Answer
     ensures { result ≡ answer_in round item part.now }
 {
-    let blocks = part.blocks();
-    if blocks.is_empty() {
-        return NO_ANSWER;
-    }
-    answer_at(item, blocks[round.min(blocks.len() - 1)].as_slice())
+    answer_at(item, part.block_for(round))
 }
 
 // What all parts say of an item in that round.

@@ -56,3 +56,16 @@ pub(crate) fn read_tag(line: &[u8]) -> Result<Tagged<'_>, InputFault>
         }
     }
 }
+
+/// What stands behind the tag and the tab of a line: a line of the report of a part.
+pub fn untagged(line: &[u8]) -> Result<&[u8], InputFault>
+    ensures behind { IfOk result (λ rest. rest.now ≡ behind_tag line.now) }
+    ensures is_tag { OnOk result (IsTag (tag_of line.now)) }
+    ensures refused { IfErr result (λ why. (query : List ℕ) (kinds : List ItemKind) (most : ℕ) (parts : List Told)
+        → IsRefused why query kinds most parts line.now) }
+{
+    match read_tag(line) {
+        Ok(tagged) => Ok(tagged.line),
+        Err(why) => Err(why),
+    }
+}

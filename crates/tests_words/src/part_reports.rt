@@ -2,8 +2,9 @@
 
 use query_model::{Bound, ItemKind, Nullity};
 use report_parts::{
-    Asked, BlockFault, CombineFault, EndFault, InputFault, LineFault, Part, Parts, all_have_block,
-    combine_item, end_behind, have_all_ended, is_narrow, may_end, written_block,
+    Asked, BlockFault, Combination, CombineFault, EndFault, InputFault, LineFault, Part, Parts,
+    Until, all_have_block, combine_item, end_behind, have_all_ended, is_narrow, may_end,
+    written_block, written_opening,
 };
 use report_text::{Answer, Number, Ratio, ReportEnd, ShownAverage, ShownBound};
 use std::alloc::{AllocError, Global};
@@ -163,6 +164,8 @@ fn an_answer_is_narrow_by_its_width(rt: HostRuntime) {
         value_within(Nullity::Always, 0, 0),
         average((7, 2), (11, 2)),
         average((1, 2), (2, 4)),
+        average((i128::MIN, 1), (i128::MIN, 1)),
+        average((i128::MAX, u64::MAX), (i128::MAX, u64::MAX)),
     ];
     for answer in near {
         assert!(rt; is_narrow(2, &answer));
@@ -266,4 +269,91 @@ fn each_refusal_of_a_line(rt: HostRuntime) {
         Some(InputFault::Line(LineFault::OtherLine))
     );
     assert_eq!(rt; refusal(alloc, &[opened, second, b"a\tround 0"]), None);
+}
+
+// What is written of the lines of two parts, as far as they are taken, behind the first lines.
+fn written(rt: HostRuntime, until: Until, lines: &[&[u8]]) -> Option<Vec<u8>> {
+    let alloc = rt.alloc();
+    let Ok(asked) = asked(alloc) else {
+        return None;
+    };
+    let mut combination = Combination::new(alloc, asked, 2, until);
+    let mut text = Vec::new(alloc);
+    for line in lines {
+        if combination.has_ended() {
+            return Some(text);
+        }
+        if combination.take(alloc, line, &mut text).is_err() {
+            return None;
+        }
+    }
+    if combination.has_ended() {
+        Some(text)
+    } else {
+        None
+    }
+}
+
+const IN_TURN: [&[u8]; 14] = [
+    b"b\tquery SELECT SUM(price), COUNT(*) FROM t",
+    b"b\tround 0",
+    b"b\t1 [3, 24]",
+    b"b\t2 2",
+    b"b\tround 1 price 1/3",
+    b"b\t1 [14, 17]",
+    b"b\t2 2",
+    b"b\tend rounds",
+    b"a\tquery SELECT SUM(price), COUNT(*) FROM t",
+    b"a\tparts 2",
+    b"a\tround 0",
+    b"a\t1 5 or null",
+    b"a\t2 [0, 1]",
+    b"a\tend reads",
+];
+
+const INTERLEAVED: [&[u8]; 14] = [
+    b"a\tquery SELECT SUM(price), COUNT(*) FROM t",
+    b"b\tquery SELECT SUM(price), COUNT(*) FROM t",
+    b"b\tround 0",
+    b"a\tparts 2",
+    b"a\tround 0",
+    b"b\t1 [3, 24]",
+    b"a\t1 5 or null",
+    b"b\t2 2",
+    b"a\t2 [0, 1]",
+    b"b\tround 1 price 1/3",
+    b"a\tend reads",
+    b"b\t1 [14, 17]",
+    b"b\t2 2",
+    b"b\tend rounds",
+];
+
+fn until(width: u64, rounds: Option<u32>) -> Until {
+    Until { width, rounds }
+}
+
+#[test]
+fn a_combined_report_is_the_same_in_each_order_of_lines(rt: HostRuntime) {
+    let whole: &[u8] = b"round 0\n1 [3, 29]\n2 [2, 3]\nround 1\n1 [14, 22]\n2 [2, 3]\nend rounds\n";
+    let first: &[u8] = b"round 0\n1 [3, 29]\n2 [2, 3]\nend rounds\n";
+    let narrow: &[u8] = b"round 0\n1 [3, 29]\n2 [2, 3]\nend narrow\n";
+    for lines in [&IN_TURN, &INTERLEAVED] {
+        assert!(rt;
+            written(rt, until(7, None), lines).is_some_and(|text| text.as_slice() == whole)
+        );
+        assert!(rt;
+            written(rt, until(0, Some(0)), lines).is_some_and(|text| text.as_slice() == first)
+        );
+        assert!(rt;
+            written(rt, until(26, Some(0)), lines).is_some_and(|text| text.as_slice() == narrow)
+        );
+    }
+}
+
+#[test]
+fn the_opening_names_the_query_and_the_parts(rt: HostRuntime) {
+    let Ok(text) = written_opening(rt.alloc(), b"query SELECT COUNT(*) FROM t", 12) else {
+        panic!(rt; "no memory");
+    };
+    assert!(rt; text.as_slice() == b"query SELECT COUNT(*) FROM t\nparts 12\n".as_slice());
 }
