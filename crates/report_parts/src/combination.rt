@@ -105,9 +105,13 @@ impl Combination {
 
     /// Whether the report has ended, and no line more is taken.
     pub fn has_ended(&self) -> bool
-        ensures { result ≡ is_some self.now.end }
+        ensures ended { result ≡ is_some self.now.end }
+        ensures open { result ≡ false → self.now.end ≡ None }
     {
-        self.end.is_some()
+        match self.end {
+            Some(_) => true,
+            None => false,
+        }
     }
 
     /// Whether the input may end here: there are as many parts as are to be, and the report of each has ended.
