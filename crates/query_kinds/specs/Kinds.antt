@@ -1,0 +1,86 @@
+-- Which line is that of a query of totals, and of which kinds its items are.
+use Rattle.std.specs.Prelude.{◌≡◌, ℕ, Bool, true, false, List, ◌++◌, map, codes}
+use Rattle.std.specs.List.{list_all}
+use Rattle.std.specs.Str.{IsUtf8}
+use Rattle.query_model.specs.declared.query.ItemKind.{ItemKind}
+use Rattle.query_model.specs.declared.query.ItemKind.TheVariants as kinds
+use Rattle.sql_text.specs.declared.tree.CallKind.{CallKind}
+use Rattle.sql_text.specs.declared.tree.CallKind.TheVariants as calls
+use Rattle.sql_text.specs.Answer.{IsText}
+use Rattle.sql_text.specs.declared.fault.SqlFault.{SqlFault}
+use Rattle.sql_text.specs.declared.fault.SqlFault.TheVariants as text
+use Rattle.sql_text.specs.Tree.{Item, Plain, CountAll, Call, Query, Items, Nothing}
+use Rattle.query_kinds.specs.declared.fault.KindsFault.{KindsFault}
+use Rattle.query_kinds.specs.declared.fault.KindsFault.TheVariants as faults
+
+abbrev pub kind_of_call : CallKind → ItemKind
+kind_of_call calls.Count = kinds.Count
+kind_of_call calls.Sum = kinds.Sum
+kind_of_call calls.Avg = kinds.Avg
+kind_of_call calls.Min = kinds.Min
+kind_of_call calls.Max = kinds.Max
+
+abbrev pub is_aggregate : Item → Bool
+is_aggregate (Plain name) = false
+is_aggregate CountAll = true
+is_aggregate (Call kind argument) = true
+
+-- the kind of an aggregate; a column by itself has none, and is counted as a number of rows
+abbrev pub kind_of : Item → ItemKind
+kind_of (Plain name) = kinds.Count
+kind_of CountAll = kinds.Count
+kind_of (Call kind argument) = kind_of_call kind
+
+-- a query without groups and without an order, which asks for these aggregates
+pub record IsTotals (query : Query) (items : List Item) : Type 0 where
+  pub alone : query.ending ≡ Nothing
+  pub head : query.head ≡ Items items
+  pub aggregates : list_all is_aggregate items ≡ true
+
+abbrev pub IsNoTotals : Query → Type 0
+IsNoTotals query = (items : List Item) → IsTotals query items → ⊥
+
+-- these are the kinds of its aggregates
+pub record IsOfKinds (query : Query) (kinds : List ItemKind) : Type 0 where
+  pub items : List Item
+  pub totals : IsTotals query items
+  pub each : kinds ≡ map kind_of items
+
+-- the line in front of a report, and the query that it says
+pub record IsQueryLine (line : List ℕ) (query : Query) : Type 0 where
+  pub text : List ℕ
+  pub spelled : line ≡ codes "query " ++ text
+  pub utf8 : IsUtf8 text
+  pub is_text : IsText text query
+
+-- the line is that of a query of totals whose items are of these kinds
+pub record Asks (line : List ℕ) (kinds : List ItemKind) : Type 0 where
+  pub query : Query
+  pub is_line : IsQueryLine line query
+  pub of_kinds : IsOfKinds query kinds
+
+abbrev pub IsNoQuery : List ℕ → Type 0
+IsNoQuery line = (query : Query) → IsQueryLine line query → ⊥
+
+-- the line is that of a query which asks for groups or for rows
+pub record AsksOther (line : List ℕ) : Type 0 where
+  pub query : Query
+  pub is_line : IsQueryLine line query
+  pub no_totals : IsNoTotals query
+
+abbrev pub IsKindsFault : List ℕ → KindsFault → Type 0
+IsKindsFault line faults.NoQuery = IsNoQuery line
+IsKindsFault line faults.NoTotals = AsksOther line
+IsKindsFault line faults.NoMemory = Unit {0}
+
+-- a text that is no query makes its line none
+abbrev pub fault_of : SqlFault → KindsFault
+fault_of text.NoMemory = faults.NoMemory
+fault_of fault = faults.NoQuery
+
+-- ---- laws
+
+pub record KindsAreOne : Type 0 where
+  pub same : (line : List ℕ) (one other : List ItemKind) → Asks line one → Asks line other → one ≡ other
+  pub not_none : (line : List ℕ) (kinds : List ItemKind) → Asks line kinds → IsNoQuery line → ⊥
+  pub not_other : (line : List ℕ) (kinds : List ItemKind) → Asks line kinds → AsksOther line → ⊥

@@ -1,0 +1,12 @@
+//! What holds of the lines of queries. Each law stands on a function that does nothing.
+
+ghost use Rattle.query_kinds.specs.Kinds.{KindsAreOne};
+
+use sql_text::one_answer;
+
+/// A line asks for items of one list of kinds at most, and then has no fault but want of memory.
+pub fn kinds_are_one()
+    ensures { KindsAreOne }
+{
+    one_answer();
+}
