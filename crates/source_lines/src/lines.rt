@@ -1,0 +1,157 @@
+//! Lines of a source. Bytes are read where no whole line stands in what was read before, and not else.
+
+ghost use Rattle.std.specs.Prelude.{◌≡◌, ◌≢◌, ◌≤◌, ◌+◌, ◌++◌, true, false, Ok, Err, length, position, IfErr, OnOk};
+ghost use Rattle.source_lines.specs.Lines.{Comes, ComesNothing, Ends, Stands, StopsLines};
+ghost use Rattle.source_lines.specs.Lines.{behind_line, front_line, has_line, is_feed, line_length, no_lines};
+
+use crate::fault::LineFault;
+use outer_world::Source;
+use std::alloc::{AllocError, Global};
+use std::marker::Model;
+
+/// The most bytes of a line, without its line feed.
+pub const MOST_LINE: usize = 65_536;
+
+/// The most bytes of all lines.
+pub const MOST_BYTES: usize = 1_073_741_824;
+
+/// What was read of a source, from the next line on.
+#[derive(Drop)]
+pub struct SourceLines {
+    held: Vec<u8>,
+    passed: usize,
+    total: usize,
+}
+
+impl Model for SourceLines {
+    ghost use Rattle.std.specs.Prelude.{◌≤◌, length, drop};
+    ghost use Rattle.source_lines.specs.Lines.{LinesState, most_bytes};
+
+    ghost Value = { LinesState };
+
+    ghost view = { λ s. record { pending = drop s.passed s.held.items; total = s.total } };
+
+    ghost invariant = { λ s. (s.passed ≤ length s.held.items) × (s.total ≤ most_bytes) };
+}
+
+// The place of the first line feed.
+fn feed_place(bytes: &[u8]) -> Option<usize>
+    ensures { result ≡ position is_feed bytes.now }
+{
+    bytes.iter().position(|byte| *byte == 10)
+}
+
+impl SourceLines {
+    /// Nothing was read.
+    pub fn new(alloc: Global) -> SourceLines
+        ensures { result ≡ no_lines }
+    {
+        SourceLines {
+            held: Vec::new(alloc),
+            passed: 0,
+            total: 0,
+        }
+    }
+
+    // What was read, from the next line on.
+    fn pending(&self) -> &[u8]
+        ensures { result.now ≡ self.now.pending }
+    {
+        &self.held[self.passed..]
+    }
+
+    // How many bytes come before the next line feed, or are there.
+    fn line_length(&self) -> usize
+        ensures { result ≡ line_length self.now.pending }
+    {
+        let pending = self.pending();
+        match feed_place(pending) {
+            Some(place) => place,
+            None => pending.len(),
+        }
+    }
+
+    /// Whether a whole line stands there.
+    pub fn has_line(&self) -> bool
+        ensures { result ≡ has_line self.now.pending }
+    {
+        self.line_length() < self.pending().len()
+    }
+
+    /// The next line, without its line feed.
+    pub fn line(&self) -> &[u8]
+        ensures { result.now ≡ front_line self.now.pending }
+    {
+        let length = self.line_length();
+        &self.pending()[..length]
+    }
+
+    /// Passes over the next line.
+    pub fn pass(&mut self)
+        ensures pending { self.new.pending ≡ behind_line self.old.pending }
+        ensures total { self.new.total ≡ self.old.total }
+    {
+        let length = self.line_length();
+        self.passed = if length < self.pending().len() {
+            self.passed + length + 1
+        } else {
+            self.held.len()
+        };
+    }
+
+    // Puts bytes behind what was read.
+    fn keep(&mut self, alloc: Global, bytes: &[u8]) -> Result<(), AllocError>
+        requires { self.old.total + length bytes.now ≤ 1073741824 }
+        ensures pending { OnOk result (self.new.pending ≡ self.old.pending ++ bytes.now) }
+        ensures total { OnOk result (self.new.total ≡ self.old.total + length bytes.now) }
+    {
+        let mut held = Vec::new(alloc);
+        held.extend_from_slice(self.pending())?;
+        held.extend_from_slice(bytes)?;
+        self.held = held;
+        self.passed = 0;
+        self.total += bytes.len();
+        Ok(())
+    }
+
+    // Reads some bytes more, and says whether some came.
+    #[tactic(auto, using(crate::proofs::Steps::stops_failed, crate::proofs::Steps::stops_full, crate::proofs::Steps::stops_starved))]
+    fn read_more<S: Source>(&mut self, alloc: Global, source: &mut S) -> Result<bool, LineFault>
+        ensures came { result ≡ Ok true → Comes self.old self.new (S.state source.old) (S.state source.new) }
+        ensures ended { result ≡ Ok false → ComesNothing self.old self.new (S.state source.old) (S.state source.new) }
+        ensures stopped { has_line self.old.pending ≡ false
+            → IfErr result (StopsLines self.old (S.state source.old) (S.state source.new)) }
+        ensures lines { result ≢ Err LineFault.LineTooLong }
+        ensures faults { (S.state source.old).faults ≤ (S.state source.new).faults }
+    {
+        let mut buffer = [0u8; 4096];
+        let count = source.read(&mut buffer)?;
+        if count == 0 {
+            return Ok(false);
+        }
+        if count > MOST_BYTES - self.total {
+            return Err(LineFault::TooLong);
+        }
+        self.keep(alloc, &buffer[..count])?;
+        Ok(true)
+    }
+
+    /// Reads until a whole line stands there, which it says, or to the end of the source. What stands there then is no line.
+    pub fn read_line<S: Source>(&mut self, alloc: Global, source: &mut S) -> Result<bool, LineFault>
+        ensures line { result ≡ Ok true → Stands self.old self.new (S.state source.old) (S.state source.new) }
+        ensures ended { result ≡ Ok false → Ends self.old self.new (S.state source.old) (S.state source.new) }
+        ensures stopped { IfErr result (StopsLines self.old (S.state source.old) (S.state source.new)) }
+        ensures idle { has_line self.old.pending ≡ true → source.new ≡ source.old }
+        ensures faults { (S.state source.old).faults ≤ (S.state source.new).faults }
+    {
+        while !self.has_line() {
+            if self.pending().len() > MOST_LINE {
+                return Err(LineFault::LineTooLong);
+            }
+            if !self.read_more(alloc, source)? {
+                return Ok(false);
+            }
+        }
+        Ok(true)
+    }
+}
