@@ -1,11 +1,11 @@
 -- What several reads of a source come to.
-use Rattle.std.proofs.Common.{◌≡◌, ℕ, ◌+◌, ◌<◌, ◌≤◌, true, false, List, [], ◌++◌, length, append_assoc, append-nil, length-append, subst, sym, ap, ◌∙◌, arith}
+use Rattle.std.proofs.Common.{◌≡◌, ℕ, ◌<◌, ◌≤◌, true, false, List, [], ◌∷◌, ◌++◌, length, append_assoc, append-nil, length-append, subst, sym, ap, ◌∙◌, refl, arith}
 use Rattle.std.proofs.KnownBytes.{Consumes-kept, Consumes-nil, Consumes-trans}
 use Rattle.std.specs.Io.KnownBytes.{Consumes, Keeps}
 use Rattle.outer_world.specs.Device.{Rose, SourceState}
 use Rattle.source_lines.specs.declared.fault.LineFault.{LineFault}
 use Rattle.source_lines.specs.declared.fault.LineFault.TheVariants.{Fault, LineTooLong, TooLong, NoMemory}
-use Rattle.source_lines.specs.Lines.{LinesState, ReadsOn, StopsLines, Took, has_line, most_bytes, most_line}
+use Rattle.source_lines.specs.Lines.{IsFull, LinesState, ReadsOn, StopsLines, Took, has_line, line_length, most_bytes, most_line}
 
 -- nothing was read
 pub reads_none : (s : LinesState) (source : SourceState) → ReadsOn s s source source
@@ -42,6 +42,15 @@ took_both P Q a b r s t first step took =
 rose_later : (before mid now : ℕ) → before ≤ mid → Rose mid now → Rose before now
 rose_later before mid now later rose = omega (arith, later, rose)
 
+full_behind : (a b : LinesState) (r s : SourceState) (first : ReadsOn a b r s) (bytes : List ℕ) → IsFull b bytes → IsFull a (first.bytes ++ bytes)
+full_behind a b r s first bytes is = record {
+  front = first.bytes ++ is.front;
+  last = is.last;
+  split = ap (λ v. first.bytes ++ v) is.split ∙ sym (append_assoc first.bytes is.front (is.last ∷ []));
+  full = let long = length-append first.bytes is.front in let total = first.total in let full = is.full in omega arith;
+  no_line = moved (λ v. has_line v ≡ false) a b r s first is.front is.no_line;
+}
+
 -- it stops behind what was read before
 pub stops_behind : (a b : LinesState) (r s t : SourceState) (why : LineFault) → r.faults ≤ s.faults → ReadsOn a b r s →
     StopsLines b s t why → StopsLines a r t why
@@ -50,12 +59,8 @@ stops_behind a b r s t Fault later first stop = record {
   took = took_both _ _ a b r s t first (λ bytes. moved (λ v. has_line v ≡ false) a b r s first bytes) stop.took;
 }
 stops_behind a b r s t LineTooLong later first stop =
-    took_both _ _ a b r s t first (λ bytes long. record {
-      no_line = moved (λ v. has_line v ≡ false) a b r s first bytes long.no_line;
-      long = moved (λ v. most_line < length v) a b r s first bytes long.long;
-    }) stop
-stops_behind a b r s t TooLong later first stop =
-    took_both _ _ a b r s t first (λ bytes many. let long = length-append first.bytes bytes in let total = first.total in omega arith) stop
+    took_both _ _ a b r s t first (λ bytes. moved (λ v. most_line < line_length v) a b r s first bytes) stop
+stops_behind a b r s t TooLong later first stop = took_both _ _ a b r s t first (full_behind a b r s first) stop
 stops_behind a b r s t NoMemory later first stop = took_both _ _ a b r s t first (λ bytes any. tt) stop
 
 -- ---- one read
@@ -72,24 +77,36 @@ stops_failed s r t rose kept none = record {
   };
 }
 
--- more bytes came than may come
-pub stops_full : (s : LinesState) (r t : SourceState) (bytes : List ℕ) → Consumes r.left t.left bytes → most_bytes < s.total + length bytes →
-    StopsLines s r t TooLong
-stops_full s r t bytes came many = record { bytes = bytes; came = came; holds = many }
+one_byte : (bytes : List ℕ) → length bytes ≡ 1 → (last : ℕ) × (bytes ≡ last ∷ [])
+one_byte (last ∷ []) e = (last, refl)
+one_byte (last ∷ next ∷ bytes) e = absurd (omega (arith, e))
+one_byte [] e = absurd (omega (arith, e))
+
+-- one byte came more than may come
+pub stops_full : (s : LinesState) (r t : SourceState) (bytes : List ℕ) → Consumes r.left t.left bytes → length bytes ≡ 1 →
+    s.total ≡ most_bytes → has_line s.pending ≡ false → StopsLines s r t TooLong
+stops_full s r t bytes came one full none = record {
+  bytes = bytes;
+  came = came;
+  holds = record {
+    front = [];
+    last = (one_byte bytes one).0;
+    split = (one_byte bytes one).1;
+    full = omega (arith, full);
+    no_line = subst (λ v. has_line v ≡ false) (sym (append-nil s.pending)) none;
+  };
+}
 
 -- there is no memory for them
 pub stops_starved : (s : LinesState) (r t : SourceState) (bytes : List ℕ) → Consumes r.left t.left bytes → StopsLines s r t NoMemory
 stops_starved s r t bytes came = record { bytes = bytes; came = came; holds = tt }
 
--- what stands there is too long
-pub stops_long : (s : LinesState) (r : SourceState) → has_line s.pending ≡ false → most_line < length s.pending → StopsLines s r r LineTooLong
-stops_long s r none long = record {
+-- the line is too long
+pub stops_long : (s : LinesState) (r : SourceState) → most_line < line_length s.pending → StopsLines s r r LineTooLong
+stops_long s r long = record {
   bytes = [];
   came = Consumes-nil r.left;
-  holds = record {
-    no_line = subst (λ v. has_line v ≡ false) (sym (append-nil s.pending)) none;
-    long = subst (λ v. most_line < length v) (sym (append-nil s.pending)) long;
-  };
+  holds = subst (λ v. most_line < line_length v) (sym (append-nil s.pending)) long;
 }
 
 -- where a line stands nothing is read

@@ -1,5 +1,5 @@
 -- The lines of what was read of a source, and what reading on says.
-use Rattle.std.specs.Prelude.{◌≡◌, ℕ, ◌+◌, ◌==◌, ◌<◌, ◌≤◌, nat_lt, Bool, true, false, List, [], ◌++◌, length, take, drop}
+use Rattle.std.specs.Prelude.{◌≡◌, ℕ, ◌+◌, ◌==◌, ◌<◌, ◌≤◌, nat_lt, Bool, true, false, List, [], ◌∷◌, ◌++◌, length, take, drop}
 use Rattle.std.specs.List.{position_or_len}
 use Rattle.std.specs.Io.KnownBytes.{Consumes, IsAtEnd}
 use Rattle.outer_world.specs.Device.{Rose, SourceState}
@@ -63,10 +63,11 @@ pub record ComesNothing (old new : LinesState) (source source' : SourceState) : 
   pub ended : IsAtEnd source'.left
   pub same : new ≡ old
 
--- a whole line stands there
+-- a whole line stands there, of at most so many bytes
 pub record Stands (old new : LinesState) (source source' : SourceState) : Type 0 where
   pub reads : ReadsOn old new source source'
   pub line : has_line new.pending ≡ true
+  pub short : line_length new.pending ≤ most_line
 
 -- the source was read to its end, and what stands there is no whole line
 pub record Ends (old new : LinesState) (source source' : SourceState) : Type 0 where
@@ -76,10 +77,13 @@ pub record Ends (old new : LinesState) (source source' : SourceState) : Type 0 w
 
 -- ---- where it stops
 
--- what stands there with these bytes behind it is no whole line, and too long for one
-pub record IsLong (pending bytes : List ℕ) : Type 0 where
-  pub no_line : has_line (pending ++ bytes) ≡ false
-  pub long : most_line < length (pending ++ bytes)
+-- as many bytes as may come had come, and no whole line stood there, as one came more
+pub record IsFull (old : LinesState) (bytes : List ℕ) : Type 0 where
+  pub front : List ℕ
+  pub last : ℕ
+  pub split : bytes ≡ front ++ last ∷ []
+  pub full : old.total + length front ≡ most_bytes
+  pub no_line : has_line (old.pending ++ front) ≡ false
 
 -- bytes were read of which this holds
 pub record Took (P : List ℕ → Type 0) (source source' : SourceState) : Type 0 where
@@ -94,6 +98,6 @@ pub record IsBroken (pending : List ℕ) (source source' : SourceState) : Type 0
 
 abbrev pub StopsLines : LinesState → SourceState → SourceState → LineFault → Type 0
 StopsLines old source source' Fault = IsBroken old.pending source source'
-StopsLines old source source' LineTooLong = Took (IsLong old.pending) source source'
-StopsLines old source source' TooLong = Took (λ bytes. most_bytes < old.total + length bytes) source source'
+StopsLines old source source' LineTooLong = Took (λ bytes. most_line < line_length (old.pending ++ bytes)) source source'
+StopsLines old source source' TooLong = Took (IsFull old) source source'
 StopsLines old source source' NoMemory = Took (λ bytes. Unit {0}) source source'

@@ -125,11 +125,12 @@ impl SourceLines {
         ensures faults { (S.state source.old).faults ≤ (S.state source.new).faults }
     {
         let mut buffer = [0u8; 4096];
-        let count = source.read(&mut buffer)?;
+        let room = MOST_BYTES - self.total;
+        let count = source.read(&mut buffer[..room.clamp(1, 4096)])?;
         if count == 0 {
             return Ok(false);
         }
-        if count > MOST_BYTES - self.total {
+        if count > room {
             return Err(LineFault::TooLong);
         }
         self.keep(alloc, &buffer[..count])?;
@@ -145,12 +146,15 @@ impl SourceLines {
         ensures faults { (S.state source.old).faults ≤ (S.state source.new).faults }
     {
         while !self.has_line() {
-            if self.pending().len() > MOST_LINE {
+            if self.line_length() > MOST_LINE {
                 return Err(LineFault::LineTooLong);
             }
             if !self.read_more(alloc, source)? {
                 return Ok(false);
             }
+        }
+        if self.line_length() > MOST_LINE {
+            return Err(LineFault::LineTooLong);
         }
         Ok(true)
     }
