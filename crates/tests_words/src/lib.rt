@@ -1,4 +1,4 @@
-//! Words of command lines, scripts, lines of reports, tokens of SQL, and devices in memory and over the system.
+//! Words of command lines, scripts, lines of queries and reports, tokens of SQL, and devices in memory and over the system.
 #![tactic(auto)]
 
 #[cfg(test)]
@@ -9,6 +9,8 @@ mod devices;
 mod files;
 #[cfg(test)]
 mod part_reports;
+#[cfg(test)]
+mod query_lines;
 #[cfg(test)]
 mod report_lines;
 #[cfg(test)]

@@ -1,0 +1,58 @@
+//! Lines of queries in front of reports, and lines that are none.
+
+use query_kinds::{KindsFault, query_kinds};
+use query_model::ItemKind;
+use std::alloc::Global;
+use std::test::Fail;
+
+// How many aggregates the query of the line asks for, and the kind of the last of them.
+fn last_kind(alloc: Global, line: &[u8]) -> Result<(usize, Option<ItemKind>), KindsFault> {
+    query_kinds(alloc, line).map(|kinds| (kinds.len(), kinds.last().copied()))
+}
+
+#[test]
+fn lines_of_totals(rt: HostRuntime) -> Result<(), Fail> {
+    let lines: [(&[u8], usize, ItemKind); 5] = [
+        (b"query SELECT COUNT(*) FROM t", 1, ItemKind::Count),
+        (
+            b"query SELECT COUNT(*), SUM(price * qty) FROM t WHERE qty > 2",
+            2,
+            ItemKind::Sum,
+        ),
+        (b"query SELECT SUM(a), MIN(a) FROM t", 2, ItemKind::Min),
+        (b"query SELECT AVG(a), MAX(a) FROM t", 2, ItemKind::Max),
+        (
+            b"query SELECT COUNT(a), COUNT(*), AVG(qty + 1) FROM t",
+            3,
+            ItemKind::Avg,
+        ),
+    ];
+    for (line, count, kind) in lines {
+        assert_eq!(rt; last_kind(rt.alloc(), line), Ok((count, Some(kind))));
+    }
+    Ok(())
+}
+
+#[test]
+fn lines_of_no_totals(rt: HostRuntime) -> Result<(), Fail> {
+    let wrong: [(&[u8], KindsFault); 8] = [
+        (b"", KindsFault::NoQuery),
+        (b"query", KindsFault::NoQuery),
+        (b"queries 2", KindsFault::NoQuery),
+        (b"SELECT COUNT(*) FROM t", KindsFault::NoQuery),
+        (b"query SELECT COUNT(* FROM t", KindsFault::NoQuery),
+        (b"query SELECT COUNT(\"\xff\") FROM t", KindsFault::NoQuery),
+        (
+            b"query SELECT city, COUNT(*) FROM t GROUP BY city",
+            KindsFault::NoTotals,
+        ),
+        (
+            b"query SELECT * FROM t ORDER BY price LIMIT 2",
+            KindsFault::NoTotals,
+        ),
+    ];
+    for (line, fault) in wrong {
+        assert_eq!(rt; last_kind(rt.alloc(), line), Err(fault));
+    }
+    Ok(())
+}
