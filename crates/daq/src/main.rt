@@ -1,8 +1,12 @@
 //! The program `daq`: hands the words of the command line, files and streams to `run`, and ends with its status.
 #![tactic(auto)]
 
+mod files;
 mod person;
 
+ghost use Rattle.std.specs.Prelude.{◌≡◌};
+
+use crate::files::{input_of, made_of, planes_of, side_of};
 use crate::person::tell;
 use command_line::{Command, Words};
 use daq_cli::{Status, World, code, run};
@@ -14,7 +18,7 @@ use std::process::ExitCode;
 use system_devices::{FileSink, FileSource, FileStore, hold_standard_places};
 
 /// The devices of a run of this program.
-pub type Devices = World<FileSource, FileStore, FileSink>;
+pub type Devices<'a> = World<FileSource<'a>, FileStore<'a>, FileSink<'a>>;
 
 // The words of the command line, without the program's name; none where one of them is no text.
 fn read_words(rt: &HostRuntime, alloc: Global) -> Result<Option<Words>, AllocError> {
@@ -31,7 +35,7 @@ fn read_words(rt: &HostRuntime, alloc: Global) -> Result<Option<Words>, AllocErr
 }
 
 // Where the line of a refusal goes: at a terminal it is held, until it is known whether a person is to see it.
-fn lines_for(rt: &HostRuntime) -> Result<FileSink, AllocError> {
+fn lines_for<'a>(rt: &HostRuntime) -> Result<FileSink<'a>, AllocError> {
     if rt.stderr().is_terminal() {
         FileSink::held(rt.alloc())
     } else {
@@ -39,35 +43,21 @@ fn lines_for(rt: &HostRuntime) -> Result<FileSink, AllocError> {
     }
 }
 
-// The devices that the words name, and the standard streams.
-fn world_of(rt: &HostRuntime, words: &Words) -> Result<Devices, AllocError> {
-    let mut world = World {
-        input: FileSource::closed(),
-        side: FileSource::closed(),
-        planes: FileStore::closed(),
-        made: FileSink::closed(),
+// The devices over the files that a command names, and the standard streams.
+fn devices_of<'a>(rt: &HostRuntime, command: &Command<'a>) -> Result<Devices<'a>, AllocError> {
+    Ok(World {
+        input: input_of(rt, command),
+        side: side_of(rt, command),
+        planes: planes_of(rt, command),
+        made: made_of(rt, command)?,
         out: FileSink::out(rt).map_err(|_| AllocError)?,
         err: lines_for(rt)?,
-    };
-    match Command::parse(words) {
-        Ok(Command::Ask(ask)) => world.input = FileSource::open(rt, ask.csv),
-        Ok(Command::Load(load)) => {
-            world.input = FileSource::open(rt, load.csv);
-            world.made = FileSink::named(rt, load.file, load.csv)?;
-        }
-        Ok(Command::Query(query)) => world.planes = FileStore::open(rt, query.file),
-        Ok(Command::Session(session)) => {
-            world.planes = FileStore::open(rt, session.file);
-            world.side = FileSource::open(rt, session.script);
-        }
-        Ok(Command::Info(info)) => world.planes = FileStore::open(rt, info.file),
-        Ok(Command::Upgrade(upgrade)) => {
-            world.planes = FileStore::open(rt, upgrade.older);
-            world.made = FileSink::named(rt, upgrade.newer, upgrade.older)?;
-        }
-        Ok(Command::Demo(_)) | Ok(Command::Help) | Ok(Command::Version) | Err(_) => {}
-    }
-    Ok(world)
+    })
+}
+
+// The devices of the command that the words are; where they are none, those of the help, which reads and makes no file.
+fn world_of<'a>(rt: &HostRuntime, words: &'a Words) -> Result<Devices<'a>, AllocError> {
+    devices_of(rt, &Command::parse(words).unwrap_or(Command::Help))
 }
 
 // Says why the program ends before its words are known.
@@ -79,7 +69,9 @@ fn give_up(rt: &HostRuntime, line: &str, status: Status) -> ExitCode {
 }
 
 // Where the run is done its new file takes its name, else what is written of it is removed.
-fn settle(world: &mut Devices, status: Status) -> Status {
+fn settle(world: &mut Devices, status: Status) -> Status
+    ensures { result ≡ Status.Done → status ≡ Status.Done }
+{
     if status != Status::Done {
         world.made.give_up();
         return status;

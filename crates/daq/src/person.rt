@@ -1,5 +1,7 @@
 //! What is told at a terminal: the line of a refusal, and below it what a person needs to go on.
 
+ghost use Rattle.std.specs.Prelude.{◌≡◌, ◌⊎◌};
+
 use crate::Devices;
 use command_line::{Command, Words};
 use daq_cli::Status;
@@ -19,29 +21,6 @@ const MOST_BYTES: usize = 1_073_741_824;
 // The columns of the table that `demo` makes.
 const DEMO_SCHEMA: &str = "a:int,b:dec2,d:date,g:text";
 
-// The paths of a command: what it reads, the script beside it, and what it makes.
-#[derive(Clone, Copy)]
-struct Paths<'a> {
-    read: &'a str,
-    side: &'a str,
-    made: &'a str,
-}
-
-impl<'a> Paths<'a> {
-    fn of(words: &'a Words) -> Paths<'a> {
-        let (read, side, made) = match Command::parse(words) {
-            Ok(Command::Ask(ask)) => (ask.csv, "", ""),
-            Ok(Command::Load(load)) => (load.csv, "", load.file),
-            Ok(Command::Query(query)) => (query.file, "", ""),
-            Ok(Command::Session(session)) => (session.file, session.script, ""),
-            Ok(Command::Info(info)) => (info.file, "", ""),
-            Ok(Command::Upgrade(upgrade)) => (upgrade.older, "", upgrade.newer),
-            _ => ("", "", ""),
-        };
-        Paths { read, side, made }
-    }
-}
-
 // The texts of the words.
 fn texts_of<'a>(rt: &HostRuntime, words: &'a Words) -> Result<Vec<&'a str>, AllocError> {
     let mut texts = Vec::new(rt.alloc());
@@ -60,12 +39,22 @@ fn at(trouble: Option<Trouble>, path: &str) -> Option<(Trouble, &str)> {
 }
 
 // What the system said last of a device that failed, and its path.
-fn trouble_of<'a>(world: &Devices, paths: &Paths<'a>) -> Option<(Trouble, &'a str)> {
-    at(world.side.trouble(), paths.side)
-        .or(at(world.input.trouble(), paths.read))
-        .or(at(world.planes.trouble(), paths.read))
-        .or(at(world.made.trouble(), paths.made))
+fn trouble_of<'a>(world: &Devices<'a>) -> Option<(Trouble, &'a str)> {
+    at(world.side.trouble(), world.side.path())
+        .or(at(world.input.trouble(), world.input.path()))
+        .or(at(world.planes.trouble(), world.planes.path()))
+        .or(at(world.made.trouble(), world.made.path()))
         .or(at(world.out.trouble(), "standard output"))
+}
+
+// The path of the text that is read: of the script, else of the CSV.
+fn text_path<'a>(world: &Devices<'a>) -> &'a str {
+    let script = world.side.path();
+    if script.is_empty() {
+        world.input.path()
+    } else {
+        script
+    }
 }
 
 // Whether a regular file stands at the path: that can be read once more.
@@ -163,24 +152,18 @@ fn explained(
     line: &str,
 ) -> Result<String, AllocError> {
     let texts = texts_of(rt, words)?;
-    let paths = Paths::of(words);
     let wanted = wanted_for(line);
     let schema = if wanted.schema {
         schema_of(rt, words)?
     } else {
         String::new(rt.alloc())
     };
-    let path = if paths.side.is_empty() {
-        paths.read
-    } else {
-        paths.side
-    };
     let input = if wanted.input {
-        bytes_of(rt, path)
+        bytes_of(rt, text_path(world))
     } else {
         Vec::new(rt.alloc())
     };
-    let trouble = trouble_of(world, &paths);
+    let trouble = trouble_of(world);
     let reason = match trouble {
         Some((trouble, _)) => format!(in rt.alloc(); "{}", trouble.error)?,
         None => String::new(rt.alloc()),
@@ -205,7 +188,9 @@ fn is_reader_gone(world: &Devices) -> bool {
 }
 
 /// Tells at a terminal what was held, and explains it. Gives the status with which the program ends.
-pub fn tell(rt: &HostRuntime, words: &Words, world: &Devices, status: Status) -> Status {
+pub fn tell(rt: &HostRuntime, words: &Words, world: &Devices, status: Status) -> Status
+    ensures { (result ≡ status) ⊎ (result ≡ Status.WriteFault) }
+{
     let line = from_utf8(world.err.held_bytes()).unwrap_or("");
     if line.is_empty() || is_reader_gone(world) {
         return status;

@@ -1,8 +1,8 @@
 -- When a piece ends a line, and when a new file is made.
 use Rattle.std.specs.Prelude.{◌≡◌, ℕ, ◌-◌, List, length, slice_get, Some, IsSome, ⊤}
 use Rattle.system_devices.specs.declared.new_file.NewFile.{NewFile}
-use Rattle.system_devices.specs.declared.sinks.Target.{Target}
-use Rattle.system_devices.specs.declared.sinks.Target.TheVariants.{New}
+use Rattle.system_devices.specs.declared.target.Target.{Target}
+use Rattle.system_devices.specs.declared.target.Target.TheVariants.{New}
 
 -- the last byte is a line break
 abbrev pub EndsLine : List ℕ → Type 0

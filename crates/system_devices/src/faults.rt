@@ -97,11 +97,12 @@ impl Faults {
         }
     }
 
-    // The answer to a write of the piece.
+    // The answer to a write of the piece, at which this was asked.
     pub(crate) fn after_write(
         &mut self,
         piece: &[u8],
         written: io::Result<usize>,
+        action: Action,
     ) -> Result<usize, Failed>
         ensures answer { AnswersWrite piece.now written result self.old.count self.new.count }
         ensures cause { HasCause self.old.count self.new.count result }
@@ -109,7 +110,7 @@ impl Faults {
         match written {
             Ok(count) if count > 0 || piece.is_empty() => Ok(count),
             Ok(_) => Err(self.add()),
-            Err(error) => Err(self.add_error(Action::Write, error)),
+            Err(error) => Err(self.add_error(action, error)),
         }
     }
 }

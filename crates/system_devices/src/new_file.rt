@@ -31,7 +31,7 @@ enum Site {
 
 // A new file, before and while it is written.
 #[derive(Drop)]
-pub(crate) struct NewFile {
+pub struct NewFile {
     rt: HostRuntime,
     site: Site,
     path: String,
@@ -107,6 +107,11 @@ impl NewFile {
             path,
             file: None,
         })
+    }
+
+    // Whether it is made.
+    pub(crate) fn is_made(&self) -> bool {
+        self.file.is_some()
     }
 
     // Makes it, where that is not done yet.

@@ -1,97 +1,97 @@
-//! The devices to write: over files and the standard streams. They tell no content, and count their faults.
+//! The devices to write: over what the system writes. They tell its bytes where it tells them, as files and streams do not, and
+//! count their faults.
 
-ghost use Rattle.std.specs.Prelude.{◌≡◌, ◌≤◌, ◌<◌, [], IfOk, None, OnOk, length, take};
-ghost use Rattle.std.specs.Io.Buffered.{writer_buffer, writer_contents};
-ghost use Rattle.std.specs.Io.KnownBytes.{Appends};
-ghost use Rattle.outer_world.specs.Device.{HasCause};
-ghost use Rattle.system_devices.specs.Lines.{EndsLine, IsMade, IsNew};
+ghost use Rattle.std.specs.Prelude.{◌≡◌, [], IfOk};
+ghost use Rattle.system_devices.specs.Lines.{IsNew};
+ghost use Rattle.system_devices.specs.Paths.{path_of_sink};
 
 use crate::faults::{Action, Faults, Trouble};
 use crate::new_file::NewFile;
+use crate::target::{Output, Target};
 use outer_world::{Failed, Sink};
 use std::alloc::{AllocError, Global};
-use std::io::{BufWriter, Write};
-use std::rt::{Stderr, Stdout};
+use std::io::{BufWriter, ErrorKind};
 use std::{io, mem};
 
 // How many bytes of a line are held.
 const MOST_HELD: usize = 1024;
 
-// Where a sink writes.
+/// What is written to.
 #[derive(Drop)]
-enum Target {
-    Closed,
-    // What has no line break yet is kept.
-    Out(BufWriter<Stdout>),
-    Err(Stderr),
-    // Bytes that are handed out later.
-    Held(Vec<u8>),
-    New(NewFile),
-}
-
-/// A stream or a file to write. Where there is none, each call fails.
-#[derive(Drop)]
-pub struct FileSink {
-    target: Target,
+pub struct OutputSink<'a, W> {
+    path: &'a str,
+    output: W,
     faults: Faults,
 }
 
-impl FileSink {
-    // Bytes to this target.
-    fn to(target: Target) -> FileSink
-        ensures { result.target ≡ target }
+/// A stream or a file to write. Where there is none, each call fails.
+pub type FileSink<'a> = OutputSink<'a, Target>;
+
+// Why nothing can be written to a sink that is closed.
+fn closed() -> Target {
+    Target::Closed(io::Error::from(ErrorKind::NotConnected))
+}
+
+impl<'a> OutputSink<'a, Target> {
+    // Bytes to this target, which has no path.
+    fn to(output: Target) -> FileSink<'a>
+        ensures output { result.output ≡ output }
+        ensures path { path_of_sink result ≡ [] }
     {
-        FileSink {
-            target,
+        OutputSink {
+            path: "",
+            output,
             faults: Faults::none(),
         }
     }
 
     /// Nowhere.
-    pub fn closed() -> FileSink {
-        FileSink::to(Target::Closed)
+    pub fn closed() -> FileSink<'a>
+        ensures { path_of_sink result ≡ [] }
+    {
+        OutputSink::to(closed())
     }
 
     /// A new file at a path, which is begun where its first byte is written. It may not be the file that is read. Where a
     /// regular file or nothing stands at the path, that stays so until `finish`.
-    pub fn named(rt: &HostRuntime, path: &str, read: &str) -> Result<FileSink, AllocError>
-        ensures { IfOk result (λ sink. IsNew sink.target) }
+    pub fn named(rt: &HostRuntime, path: &'a str, read: &str) -> Result<FileSink<'a>, AllocError>
+        ensures path { IfOk result (λ sink. path_of_sink sink ≡ path.now) }
+        ensures new { IfOk result (λ sink. IsNew sink.output) }
     {
-        Ok(FileSink::to(Target::New(NewFile::new(rt, path, read)?)))
+        Ok(OutputSink {
+            path,
+            output: Target::New(NewFile::new(rt, path, read)?),
+            faults: Faults::none(),
+        })
     }
 
     /// Standard output, to which each line is handed over at its end.
-    pub fn out(rt: &HostRuntime) -> io::Result<FileSink> {
-        Ok(FileSink::to(Target::Out(BufWriter::new(rt.alloc(), rt.stdout())?)))
+    pub fn out(rt: &HostRuntime) -> io::Result<FileSink<'a>> {
+        Ok(OutputSink::to(Target::Out(BufWriter::new(rt.alloc(), rt.stdout())?)))
     }
 
     /// Standard error.
-    pub fn err(rt: &HostRuntime) -> FileSink {
-        FileSink::to(Target::Err(rt.stderr()))
+    pub fn err(rt: &HostRuntime) -> FileSink<'a> {
+        OutputSink::to(Target::Err(rt.stderr()))
     }
 
     /// A line that is held, and takes no memory later.
-    pub fn held(alloc: Global) -> Result<FileSink, AllocError> {
-        Ok(FileSink::to(Target::Held(Vec::with_capacity(alloc, MOST_HELD)?)))
+    pub fn held(alloc: Global) -> Result<FileSink<'a>, AllocError> {
+        Ok(OutputSink::to(Target::Held(Vec::with_capacity(alloc, MOST_HELD)?)))
     }
 
     /// The bytes that are held.
     pub fn held_bytes(&self) -> &[u8] {
-        match &self.target {
+        match &self.output {
             Target::Held(bytes) => bytes.as_slice(),
             _ => &[],
         }
     }
 
-    /// What the system said last, if a call of it failed.
-    pub fn trouble(&self) -> Option<Trouble> {
-        self.faults.last
-    }
-
     /// Gives a new file its name, once all of it is written and the disk holds it. Where that fails, the old file stands, if
     /// there was one. After that nothing is written any more.
     pub fn finish(&mut self) -> Result<(), Failed> {
-        match mem::replace(&mut self.target, Target::Closed) {
+        match mem::replace(&mut self.output, closed()) {
             Target::New(file) => match file.keep() {
                 Ok(()) => Ok(()),
                 Err(error) => Err(self.faults.add_error(Action::Keep, error)),
@@ -102,78 +102,32 @@ impl FileSink {
 
     /// Gives a new file up: what was written of it beside its path is removed, and the old file stands, if there was one.
     pub fn give_up(&mut self) {
-        if let Target::New(file) = mem::replace(&mut self.target, Target::Closed) {
+        if let Target::New(file) = mem::replace(&mut self.output, closed()) {
             file.give_up();
         }
     }
 }
 
-// Takes bytes from the front of the piece. Where it takes them all and they end a line, nothing is kept back.
-fn write_lines<W: Write + Drop>(out: &mut BufWriter<W>, piece: &[u8]) -> io::Result<usize>
-    ensures bound { IfOk result (λ taken. taken ≤ length piece.now) }
-    ensures bytes { IfOk result (λ taken. Appends (writer_contents W.contents out.old) (writer_contents W.contents out.new)
-        (take taken piece.now)) }
-    ensures line { IfOk result (λ taken. taken ≡ length piece.now → EndsLine piece.now → writer_buffer out.new ≡ []) }
-{
-    let taken = out.write(piece)?;
-    if taken == piece.len() && piece.last() == Some(&b'\n') {
-        out.flush()?;
-    }
-    Ok(taken)
-}
-
-// Takes the piece, where there is room for it.
-fn hold(held: &mut Vec<u8>, piece: &[u8]) -> io::Result<usize>
-    ensures { IfOk result (λ taken. taken ≡ length piece.now) }
-{
-    held.extend_from_slice(piece)?;
-    Ok(piece.len())
-}
-
-// Takes bytes of the piece into a new file, which is made with its first byte.
-fn write_new(file: &mut NewFile, faults: &mut Faults, piece: &[u8]) -> Result<usize, Failed>
-    ensures bound { IfOk result (λ taken. taken ≤ length piece.now) }
-    ensures some { IfOk result (λ taken. 0 < length piece.now → 0 < taken) }
-    ensures made { OnOk result (0 < length piece.now → IsMade file.new) }
-    ensures cause { HasCause faults.old.count faults.new.count result }
-{
-    if piece.is_empty() {
-        return Ok(0);
-    }
-    match file.open() {
-        Ok(()) => faults.after_write(piece, file.write(piece)),
-        Err(error) => Err(faults.add_error(Action::Make, error)),
-    }
-}
-
-impl FileSink {
-    // Lets go of standard output and of what is kept, so that nothing of it is written any more.
-    fn close(&mut self)
-        ensures closed { self.new.target ≡ Target.Closed }
-        ensures faults { self.new.faults ≡ self.old.faults }
+impl<'a, W> OutputSink<'a, W> {
+    /// The path with which it was opened; empty where there is none.
+    pub fn path(&self) -> &'a str
+        ensures { result.now ≡ path_of_sink self.now }
     {
-        if let Target::Out(out) = mem::replace(&mut self.target, Target::Closed) {
-            let _kept = out.into_parts();
-        }
+        self.path
+    }
+
+    /// What the system said last, if a call of it failed.
+    pub fn trouble(&self) -> Option<Trouble> {
+        self.faults.last
     }
 }
 
-impl Sink for FileSink {
-    ghost state = { λ s. record { written = None; faults = s.faults.count } };
+impl<W: Output> Sink for OutputSink<'_, W> {
+    ghost state = { λ s. record { written = W.contents s.output; faults = s.faults.count } };
 
     fn write(&mut self, piece: &[u8]) -> Result<usize, Failed> {
-        match &mut self.target {
-            Target::Out(out) => {
-                let answer = self.faults.after_write(piece, write_lines(out, piece));
-                if answer.is_err() {
-                    self.close();
-                }
-                answer
-            }
-            Target::Err(err) => self.faults.after_write(piece, err.write(piece)),
-            Target::Held(held) => self.faults.after_write(piece, hold(held, piece)),
-            Target::New(file) => write_new(file, &mut self.faults, piece),
-            Target::Closed => Err(self.faults.add()),
-        }
+        let written = self.output.write(piece);
+        let action = self.output.action();
+        self.faults.after_write(piece, written, action)
     }
 }
