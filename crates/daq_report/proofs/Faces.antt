@@ -1,5 +1,5 @@
 -- The ends of the bound of an item can be shown under the item's face.
-use Rattle.std.proofs.Common.{◌≡◌, ◌≢◌, ℕ, zero, suc, ◌<◌, ◌≤◌, ℤ, List, [], ◌∷◌, length, map, get_or, slice_get, Option, Some, IfSome, refl, sym, ap, subst, ◌∙◌, arith}
+use Rattle.std.proofs.Common.{◌≡◌, ◌≢◌, ℕ, zero, suc, ◌<◌, ◌≤◌, ℤ, List, [], ◌∷◌, length, map, get_or, slice_get, Option, Some, IfSome, true, refl, sym, ap, subst, ◌∙◌, arith}
 use Rattle.std.proofs.lemmas.List.{get_or-map}
 use Rattle.std.specs.List.{AllByRecursion}
 use Rattle.interval_calc.specs.Intervals.{Within}
@@ -23,6 +23,7 @@ use Rattle.query_model.specs.declared.query.TypedQuery.{TypedQuery}
 use Rattle.round_engine.specs.Promises.{IsShownWithin}
 use Rattle.round_engine.specs.Stages.{IsOpenItem, IsOpenQuery}
 use Rattle.daq_report.specs.Intervals.{column_of}
+use Rattle.daq_report.specs.Extras.{is_average}
 use Rattle.daq_report.specs.Ends.{CanShow, CanShowAny, CanShowAverage, CanShowBound, CanShowEnds, HasNumber, IfShown, IsThere}
 
 -- ---- the columns of the query
@@ -105,7 +106,7 @@ if_shown Always P h = tt
 
 -- ---- the items
 
-open_at : (frame : Frame) (items : List Item) (place : ℕ) (item : Item) → AllByRecursion (IsOpenItem frame) items → slice_get items place ≡ Some item → IsOpenItem frame item
+pub open_at : (frame : Frame) (items : List Item) (place : ℕ) (item : Item) → AllByRecursion (IsOpenItem frame) items → slice_get items place ≡ Some item → IsOpenItem frame item
 open_at frame [] place item h e = absurd (cc)
 open_at frame (i ∷ is) zero item h e = subst (IsOpenItem frame) (cc) h.0
 open_at frame (i ∷ is) (suc place) item h e = open_at frame is place item h.1 e
@@ -142,6 +143,15 @@ pub bound_shows : (head : Head) (query : TypedQuery) (part : Frame) (place : ℕ
 bound_shows head query part place item bound fits texts opened there shown =
     let own = open_at part query.items place item opened.items there in
     by_face head query part item.kind item.arg item.face bound fits texts own.face (subst (λ n. ReadsBelow n item.arg) opened.columns own.columns) shown
+
+-- each number can be shown as an average
+pub number_of_average_shows : (head : Head) (query : TypedQuery) (kind : ItemKind) (arg : Term) (face : Face) → FaceOf kind arg face → is_average kind ≡ true → CanShowAny head query face
+number_of_average_shows head query kind arg (Number scale) own average value = few_decimals kind arg scale own
+number_of_average_shows head query Count arg (OfColumn c) own average value = absurd (cc)
+number_of_average_shows head query Sum arg (OfColumn c) own average value = absurd (cc)
+number_of_average_shows head query Min arg (OfColumn c) own average value = absurd (cc)
+number_of_average_shows head query Max arg (OfColumn c) own average value = absurd (cc)
+number_of_average_shows head query Avg arg (OfColumn c) (scale, few, is) average value = absurd (cc)
 
 -- where each number can be shown, so can an average
 pub any_average_shows : (head : Head) (query : TypedQuery) (face : Face) (bound : averages.AverageBound) → CanShowAny head query face → CanShowAverage head query face bound
