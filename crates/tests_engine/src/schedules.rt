@@ -132,11 +132,7 @@ fn rounds_of(policy: &Policy, start: Progress) -> [u8; 16]
     match policy {
         Policy::By(by) => {
             let by = *by;
-            rounds(
-                policy,
-                &Chooser::new(|p: &Progress| choose(by, p)),
-                start,
-            )
+            rounds(policy, &Chooser::new(|p: &Progress| choose(by, p)), start)
         }
         Policy::Listed(list) => rounds(
             policy,
