@@ -1,5 +1,5 @@
 -- One more record: either it is taken, or it shows what the text is refused for.
-use Rattle.std.proofs.Common.{◌≡◌, ℕ, suc, ◌+◌, ◌*◌, ◌<◌, ◌≤◌, Some, List, [], ◌∷◌, ◌++◌, slice_get, get_or, length, refl, sym, ap, subst, inl, inr, ◌∙◌, arith}
+use Rattle.std.proofs.Common.{◌≡◌, ◌≢◌, ℕ, suc, ◌+◌, ◌-◌, ◌*◌, ◌<◌, ◌≤◌, Some, List, [], ◌∷◌, ◌++◌, slice_get, get_or, length, refl, sym, ap, subst, inl, inr, ◌∙◌, arith}
 use Rattle.std.proofs.lemmas.Option.{slice_get_cases}
 use Rattle.daq_table.specs.Schemas.{columns_in, item_names}
 use Rattle.daq_table.specs.declared.schema_column.SchemaColumn.{SchemaColumn}
@@ -7,9 +7,9 @@ use Rattle.daq_table.specs.declared.schema_item.SchemaItem.{SchemaItem}
 use Rattle.csv_load.specs.Columns.{column_texts, present}
 use Rattle.csv_load.specs.Faults.{HasBadField, PassesFieldNames, ReachesCell, Refuses}
 use Rattle.csv_load.specs.Kept.{AreFull, kept_fields, kept_rows, place_of}
-use Rattle.csv_load.specs.Records.{Begins, Fields}
+use Rattle.csv_load.specs.Records.{AreRecordsOf, Begins, Fields}
 use Rattle.csv_load.specs.Rows.{AreGoodRows}
-use Rattle.csv_load.specs.States.{AreStates, HasTaken, RefusesCell, RefusesField, RefusesRecord, RefusesRow, State, TakesRecord, TakesRow, state_of}
+use Rattle.csv_load.specs.States.{AreStates, HasRead, HasTaken, RefusesCell, RefusesField, RefusesRecord, RefusesRow, State, TakesRecord, TakesRow, state_of}
 use Rattle.csv_load.specs.declared.fault.TableFault.{TableFault}
 use Rattle.csv_load.specs.declared.fault.TableFault.TheVariants.{NoHeader, HeaderDiffers, TooManyRows, TooManyCells, UnequalLength, BadCell, TooManyNames, NoMemory}
 use Rattle.csv_load.specs.declared.limits.Limits.{Limits}
@@ -128,3 +128,16 @@ pub refused_at : (bytes : List ℕ) (items : List SchemaItem) (limits : Limits) 
 refused_at bytes items limits records n old now next fault h count is b r =
     let at = subst (λ (m : ℕ). RefusesRecord items limits m now next fault) (sym count) r in
     record_refused bytes items limits records old next fault h b (subst (λ (xs : List State). RefusesRecord items limits (length records) xs next fault) is at)
+
+-- where these are all records, the text was read to its end
+pub read_whole : (bytes : List ℕ) (items : List SchemaItem) (limits : Limits) (records : List Fields) (states : List State) → HasTaken items limits records states
+    → length records ≢ 0 → AreRecordsOf bytes records → HasRead bytes items limits (length records - 1) states
+read_whole bytes items limits [] states h some all = absurd (some refl)
+read_whole bytes items limits (header ∷ rows) states h some all = record {
+  rows = rows;
+  records = subst (λ (first : Fields). AreRecordsOf bytes (first ∷ rows)) h.header_is all;
+  full = h.full;
+  good = h.good;
+  count_is = omega arith;
+  states_are = h.states_are;
+}

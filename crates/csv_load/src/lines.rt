@@ -1,8 +1,8 @@
-//! Plain lines of a text, with no field in quotes and no CR at the end: records that are cut at commas.
+//! Lines of a text whose records are cut at commas: no field has a quote inside.
 
 ghost use Rattle.std.specs.Prelude.{◌≡◌, ◌≢◌, ◌-◌, ◌<◌, ◌≤◌};
-ghost use Rattle.std.specs.Prelude.{length, take, drop, slice_index_or, All, IfOk, IsFalse};
-ghost use Rattle.csv_load.specs.Lines.{JoinsField, ReadsLine, record_at};
+ghost use Rattle.std.specs.Prelude.{length, take, drop, slice_index_or, All, IfOk, IfSome, IsFalse, IsTrue};
+ghost use Rattle.csv_load.specs.Lines.{IsBreak, JoinsField, JoinsQuoted, ReadsField, ReadsLine, StopsField, record_at};
 ghost use Rattle.csv_load.specs.Records.{held};
 
 use std::alloc::AllocError;
@@ -13,8 +13,24 @@ pub(crate) enum Line {
     End,
     /// A record, and the place where the next line begins.
     Ends(usize),
-    /// A line with a quote or a CR, which is not read.
+    /// A line with a quote inside a field, which is not read.
     Other,
+}
+
+// A field, and the place where it ends: at a comma, a line break or the end of the text.
+#[derive(Clone, Copy)]
+struct Field<'t> {
+    bytes: &'t [u8],
+    end: usize,
+}
+
+// Whether a line ends at the byte.
+fn is_break(byte: u8) -> bool
+    ensures yes { IsTrue result → IsBreak byte }
+    ensures no_feed { IsFalse result → byte ≢ 10 }
+    ensures no_return { IsFalse result → byte ≢ 13 }
+{
+    byte == b'\n' || byte == b'\r'
 }
 
 // Whether a byte may end a field, or begin one in quotes.
@@ -30,10 +46,11 @@ fn line_start(text: &[u8], from: usize) -> usize
     ensures from { from ≤ result }
     ensures within { result ≤ length text.now }
     ensures passed { record_at text.now from ≡ record_at text.now result }
-    ensures stops { result < length text.now → slice_index_or text.now result 0 ≢ 10 }
+    ensures no_feed { result < length text.now → slice_index_or text.now result 0 ≢ 10 }
+    ensures no_return { result < length text.now → slice_index_or text.now result 0 ≢ 13 }
 {
     for at in from..text.len() {
-        if text[at] != b'\n' {
+        if !is_break(text[at]) {
             return at;
         }
     }
@@ -55,7 +72,67 @@ fn field_end(text: &[u8], from: usize) -> usize
     text.len()
 }
 
-/// The fields of the next line that is not empty, if there is one and it is plain.
+// Where the first quote stands from that place on, or the end of the text.
+fn next_quote(text: &[u8], from: usize) -> usize
+    requires { from ≤ length text.now }
+    ensures from { from ≤ result }
+    ensures within { result ≤ length text.now }
+    ensures field { All JoinsQuoted (take (result - from) (drop from text.now)) }
+    ensures quote { result < length text.now → slice_index_or text.now result 0 ≡ 34 }
+{
+    for at in from..text.len() {
+        if text[at] == b'"' {
+            return at;
+        }
+    }
+    text.len()
+}
+
+// Whether a field may end at that place.
+fn ends_field(text: &[u8], at: usize) -> bool
+    requires { at ≤ length text.now }
+    ensures stops { IsTrue result → at < length text.now → StopsField (slice_index_or text.now at 0) }
+    ensures goes_on { IsFalse result → at < length text.now }
+{
+    at == text.len() || text[at] == b',' || is_break(text[at])
+}
+
+// The field in quotes whose quote stands at that place, if it has no quote inside.
+fn quoted_field(text: &[u8], at: usize) -> Option<Field<'_>>
+    requires within { at < length text.now }
+    requires quote { slice_index_or text.now at 0 ≡ 34 }
+    ensures { IfSome result (λ field. ReadsField text.now at field.bytes.now field.end) }
+{
+    let close = next_quote(text, at + 1);
+    if close < text.len() && ends_field(text, close + 1) {
+        Some(Field {
+            bytes: &text[at + 1..close],
+            end: close + 1,
+        })
+    } else {
+        None
+    }
+}
+
+// The field that begins at that place, in quotes or not, if it has no quote inside.
+fn read_field(text: &[u8], at: usize) -> Option<Field<'_>>
+    requires { at ≤ length text.now }
+    ensures { IfSome result (λ field. ReadsField text.now at field.bytes.now field.end) }
+{
+    let end = field_end(text, at);
+    if ends_field(text, end) {
+        Some(Field {
+            bytes: &text[at..end],
+            end,
+        })
+    } else if end == at && text[at] == b'"' {
+        quoted_field(text, at)
+    } else {
+        None
+    }
+}
+
+/// The fields of the next line that is not empty, if there is one and none of its fields has a quote inside.
 pub(crate) fn read_line<'t>(
     text: &'t [u8],
     from: usize,
@@ -69,21 +146,17 @@ pub(crate) fn read_line<'t>(
     if at == text.len() {
         return Ok(Line::End);
     }
-    if text[at] == b'\r' {
-        return Ok(Line::Other);
-    }
     'fields: loop {
-        let end = field_end(text, at);
-        fields.push(&text[at..end])?;
-        if end == text.len() {
-            return Ok(Line::Ends(end));
-        }
-        at = end + 1;
-        if text[end] == b'\n' {
-            return Ok(Line::Ends(at));
-        }
-        if text[end] != b',' {
+        let Some(field) = read_field(text, at) else {
             return Ok(Line::Other);
+        };
+        fields.push(field.bytes)?;
+        if field.end == text.len() {
+            return Ok(Line::Ends(field.end));
+        }
+        at = field.end + 1;
+        if text[field.end] != b',' {
+            return Ok(Line::Ends(at));
         }
     }
 }

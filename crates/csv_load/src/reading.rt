@@ -84,7 +84,7 @@ fn read_any(
     Ok((records - 1, columns))
 }
 
-// The same of a text all of whose lines are plain. None where one before the first fault is not.
+// The same of a text of whose fields none has a quote inside. None where one before the first fault has.
 fn read_plain(
     alloc: Global,
     bytes: &[u8],
@@ -116,7 +116,7 @@ fn read_plain(
     Ok(Some((records - 1, columns)))
 }
 
-/// The number of rows and the columns' cells, or the first fault. A text with a line that is not plain is read once more.
+/// The number of rows and the columns' cells, or the first fault. A text with a quote inside a field is read once more.
 pub(crate) fn read_columns(
     alloc: Global,
     bytes: &[u8],
