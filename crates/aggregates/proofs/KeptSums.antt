@@ -1,5 +1,5 @@
 -- Sums that follow the rows of a block that come and leave, and planes that are read.
-use Rattle.std.proofs.Common.{◌&&◌, not, count_by, sum_by, ◌≡◌, ℕ, zero, suc, ◌+◌, ◌-◌, ◌*◌, ◌/◌, ◌^◌, min, Bool, true, false, cond, List, [], ◌∷◌, ◌++◌, length, map, take, drop, replicate, refl, ap, sym, subst, ◌∙◌, arith}
+use Rattle.std.proofs.Common.{◌&&◌, not, count_by, sum_by, ◌≡◌, ℕ, zero, suc, ◌+◌, ◌-◌, ◌*◌, ◌/◌, ◌^◌, min, Bool, true, false, cond, List, [], ◌∷◌, ◌++◌, length, map, take, drop, replicate, ◌<◌, ◌≤◌, ◌⊎◌, inl, inr, refl, ap, sym, subst, ◌∙◌, arith}
 use Rattle.std.specs.Int.Count.{ones}
 use Rattle.std.specs.Simd.Lanes.{put_chunk, zip2}
 use Rattle.std.proofs.lemmas.List.Sums.{count_by-le-length, sum_by-cons}
@@ -15,7 +15,11 @@ use Rattle.known_column.specs.Columns.{KnownColumn, number_of, read_further, row
 use Rattle.known_column.proofs.Growing.{length-longer}
 use Rattle.aggregates.specs.declared.kept_sum.KeptSum.{KeptSum}
 use Rattle.aggregates.specs.KeptSums.{IsKept}
-use Rattle.aggregates.specs.Selections.{block_of, early_number, sum_of_first, sum_where}
+use Rattle.aggregates.specs.Selections.{block_of, early_number, has_row, sum_of_first, sum_where}
+use Rattle.aggregates.specs.Widening.{CoverOthers}
+use Rattle.std.proofs.lemmas.Bool.{cases_lt, false≢true}
+use Rattle.std.proofs.lemmas.List.{ext_get_or, get_or-drop, get_or-take, length-drop, length-take}
+use Rattle.std.proofs.lemmas.Simd.{get_or-put_chunk_above, get_or-put_chunk_below, length-put_chunk}
 
 -- ---- rows that come and leave
 
@@ -64,6 +68,33 @@ rows_moved size (suc i) (x ∷ xs) (z ∷ zs) long same =
 -- the same rows behind the same rows
 pub rows_stayed : (size i : ℕ) (xs zs : List Bool) → take i xs ≡ take i zs → take size (drop i xs) ≡ take size (drop i zs) → take (i + size) xs ≡ take (i + size) zs
 rows_stayed size i xs zs first next = take-add i size xs ∙ ap (λ l. l ++ take size (drop i xs)) first ∙ ap (λ l. take i zs ++ l) next ∙ sym (take-add i size zs)
+
+-- rows of a mask in place of those of a block: elsewhere the same blocks cover where both differ
+pub still_covers : (block : ℕ) (xs zs blocks : List Bool) → length xs ≡ length zs → has_row blocks block ≡ true → CoverOthers xs zs blocks → CoverOthers (put_chunk (512 * block) xs (block_of block zs)) zs blocks
+still_covers block xs zs blocks long on covers = record {
+  room = omega (arith, length-put_chunk (512 * block) xs (block_of block zs), covers.room);
+  same = λ b j few off. covers.same b j few off ∙ sym (elsewhere b j few off (cases_lt b block) (cases_lt block b));
+}
+  where
+    short : length (block_of block zs) ≤ 512
+    short = omega (arith, length-take 512 (drop (512 * block) zs))
+
+    elsewhere : (b j : ℕ) → j < 512 → has_row blocks b ≡ false → (b < block) ⊎ (block ≤ b) → (block < b) ⊎ (b ≤ block) →
+        has_row (put_chunk (512 * block) xs (block_of block zs)) (512 * b + j) ≡ has_row xs (512 * b + j)
+    elsewhere b j few off (inl before) other = get_or-put_chunk_below (512 * block) xs (block_of block zs) (512 * b + j) false (omega (arith, few, before))
+    elsewhere b j few off (inr from) (inl behind) = get_or-put_chunk_above (512 * block) xs (block_of block zs) (512 * b + j) false (omega (arith, short, behind))
+    elsewhere b j few off (inr from) (inr to) = absurd (false≢true (sym off ∙ ap (has_row blocks) (omega (arith, from, to)) ∙ on))
+
+-- where the blocks do not cover, both have the same rows
+pub stays_here : (block : ℕ) (xs zs blocks : List Bool) → length xs ≡ length zs → CoverOthers xs zs blocks → has_row blocks block ≡ false → block_of block xs ≡ block_of block zs
+stays_here block xs zs blocks long covers off =
+    let at = 512 * block in
+    let left : length (drop at xs) ≡ length (drop at zs) = length-drop at xs ∙ ap (λ n. n - at) long ∙ sym (length-drop at zs) in
+    let both : length (block_of block xs) ≡ length (block_of block zs) = length-take 512 (drop at xs) ∙ ap (min 512) left ∙ sym (length-take 512 (drop at zs)) in
+    ext_get_or false (block_of block xs) (block_of block zs) both (λ r below.
+    let few : r < 512 = omega (arith, below, length-take 512 (drop at xs)) in
+    get_or-take 512 (drop at xs) r false few ∙ get_or-drop at xs r false ∙ sym (covers.same block r few off)
+    ∙ sym (get_or-take 512 (drop at zs) r false few ∙ get_or-drop at zs r false))
 
 -- of numbers of prefixes
 block_moved : (f : ℕ → ℕ) (block : ℕ) (xs ys : List Bool) (ps : List ℕ) → length xs ≡ length ps → length ys ≡ min 512 (length xs - 512 * block) →

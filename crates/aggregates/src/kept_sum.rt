@@ -3,8 +3,8 @@
 ghost use Rattle.std.specs.Prelude.{◌≡◌, ◌+◌, ◌*◌, ◌<◌, length, take, count_by, IfOk, IsTrue};
 ghost use Rattle.query_model.specs.Answers.{total};
 ghost use Rattle.known_column.specs.Columns.{KnownColumn, rows_of_column};
-ghost use Rattle.aggregates.specs.KeptSums.{IsKept};
-ghost use Rattle.aggregates.specs.Selections.{highs_in, lows_in, IsSmallSum, IsSumOfDigits, MayHaveValues};
+ghost use Rattle.aggregates.specs.KeptSums.{CanFollow, HasFollowed, IsKept, MovesAnywhere, MovesInBlocks};
+ghost use Rattle.aggregates.specs.Selections.{has_row, highs_in, lows_in, IsSmallSum, IsSumOfDigits, MayHaveValues};
 
 use crate::block_words::{and_not_words, are_same};
 use crate::digits::number_planes;
@@ -14,22 +14,26 @@ use known_column::Known;
 use plane_kernels::{Mask, count_ones};
 use std::alloc::{AllocError, Global};
 
-/// Rows of a column, how many they are, and what its first planes gave of their numbers, added up.
+/// Rows of a column, the blocks of 512 in which rows may come or leave next, how many rows there are, and what the first planes of the
+/// column gave of their numbers, added up.
 #[derive(Drop)]
 pub struct KeptSum {
     mask: Mask,
+    blocks: Mask,
     count: u64,
     read: u8,
     number: u128,
 }
 
 impl KeptSum {
-    /// Room for the rows of a column of so many. So far it has none of them.
+    /// Room for the rows of a column of so many. So far it has none of them, and each may come.
     pub fn open(alloc: Global, rows: usize) -> Result<KeptSum, AllocError>
-        ensures { IfOk result (λ kept. (column : KnownColumn) → rows_of_column column ≡ rows → IsKept column kept) }
+        ensures kept { IfOk result (λ kept. (column : KnownColumn) → rows_of_column column ≡ rows → IsKept column kept) }
+        ensures moves { IfOk result (MovesAnywhere rows) }
     {
         Ok(KeptSum {
             mask: Mask::none(alloc, rows)?,
+            blocks: Mask::all(alloc, rows.div_ceil(512))?,
             count: 0,
             read: 0,
             number: 0,
@@ -41,8 +45,12 @@ impl KeptSum {
         requires rows { length mask.now ≡ rows_of_column known.now }
         requires block { 512 * block < rows_of_column known.now }
         requires kept { IsKept known.now self.old }
+        requires moves { MovesInBlocks mask.now self.old }
+        requires here { IsTrue (has_row self.old.blocks block) }
         requires moved { take (512 * block) self.old.mask ≡ take (512 * block) mask.now }
         ensures kept { IsKept known.now self.new }
+        ensures moves { MovesInBlocks mask.now self.new }
+        ensures blocks { self.new.blocks ≡ self.old.blocks }
         ensures moved { take (512 * (block + 1)) self.new.mask ≡ take (512 * (block + 1)) mask.now }
     {
         let _planes = number_planes(known);
@@ -58,6 +66,23 @@ impl KeptSum {
         }
     }
 
+    // The same, where rows move in the block.
+    fn follow_block(&mut self, known: &Known, mask: &Mask, block: usize)
+        requires rows { length mask.now ≡ rows_of_column known.now }
+        requires block { 512 * block < rows_of_column known.now }
+        requires kept { IsKept known.now self.old }
+        requires moves { MovesInBlocks mask.now self.old }
+        requires moved { take (512 * block) self.old.mask ≡ take (512 * block) mask.now }
+        ensures kept { IsKept known.now self.new }
+        ensures moves { MovesInBlocks mask.now self.new }
+        ensures blocks { self.new.blocks ≡ self.old.blocks }
+        ensures moved { take (512 * (block + 1)) self.new.mask ≡ take (512 * (block + 1)) mask.now }
+    {
+        if self.blocks.get(block) {
+            self.move_block(known, mask, block);
+        }
+    }
+
     // Whether both have all rows.
     fn is_full(&self, mask: &Mask) -> bool
         requires rows { length mask.now ≡ length self.now.mask }
@@ -68,18 +93,20 @@ impl KeptSum {
         self.count == rows && mask.count() == rows
     }
 
-    // Makes its rows those of the mask, where it has some. Blocks of which no row moved are passed over.
+    // Makes its rows those of the mask, where it has some.
     fn move_rows(&mut self, known: &Known, mask: &Mask)
         requires rows { length mask.now ≡ rows_of_column known.now }
         requires kept { IsKept known.now self.old }
+        requires moves { MovesInBlocks mask.now self.old }
         ensures kept { IsKept known.now self.new }
+        ensures blocks { self.new.blocks ≡ self.old.blocks }
         ensures moved { self.new.mask ≡ mask.now }
     {
         if self.is_full(mask) {
             return;
         }
         for block in 0..mask.rows().div_ceil(512) {
-            self.move_block(known, mask, block);
+            self.follow_block(known, mask, block);
         }
     }
 
@@ -87,8 +114,10 @@ impl KeptSum {
     fn follow(&mut self, known: &Known, mask: &Mask) -> u128
         requires rows { length mask.now ≡ rows_of_column known.now }
         requires kept { IsKept known.now self.old }
+        requires moves { MovesInBlocks mask.now self.old }
         ensures kept { IsKept known.now self.new }
         ensures rows { self.new.mask ≡ mask.now }
+        ensures blocks { self.new.blocks ≡ self.old.blocks }
         ensures sum { IsSumOfDigits known.now mask.now result }
     {
         if self.count == 0 {
@@ -103,18 +132,22 @@ impl KeptSum {
         self.number
     }
 
-    /// Both ends at the mask's rows, added up. The rows that came or left since the last call are told apart, and what they gave is
-    /// added or taken off; of the others only the planes that were read since are counted.
-    pub fn ends(&mut self, known: &Known, mask: &Mask) -> SumSpan
+    /// Both ends at the mask's rows, added up. The rows that came or left since the last call stand in the blocks that it was given;
+    /// they are told apart, and what they gave is added or taken off. Of the others only the planes that were read since are counted.
+    /// Until the next call rows move in these blocks of 512 alone, of which there is a bit for each.
+    pub fn ends(&mut self, known: &Known, mask: &Mask, blocks: &Mask) -> SumSpan
         requires kept { IsKept known.now self.old }
+        requires moves { CanFollow mask.now blocks.now self.old }
         requires rows { length mask.now ≡ rows_of_column known.now }
         requires values { MayHaveValues known.now mask.now }
         ensures kept { IsKept known.now self.new }
+        ensures followed { HasFollowed mask.now blocks.now self.new }
         ensures low { result.low ≡ total (lows_in known.now mask.now) }
         ensures high { result.high ≡ total (highs_in known.now mask.now) }
         ensures few { IsSmallSum result.low × IsSmallSum result.high }
     {
         let numbers = self.follow(known, mask);
+        self.blocks.copy_from(blocks);
         ends_of_mask(known, mask, self.count, numbers)
     }
 }

@@ -27,7 +27,8 @@ same_truth True False r e = absurd (true≢false (r true refl))
 same_truth Unknown False r e = absurd (true≢false (r true tt))
 same_truth False False r e = refl
 
-stays : (pred : Condition) (before : KnownTable) (column : ℕ) (bits : List Bool) (row : ℕ) → IsKnownTable before → CanTake before.frame before.known column bits → row < before.frame.rows →
+-- and so does a truth that is decided before a plane is read
+pub stays : (pred : Condition) (before : KnownTable) (column : ℕ) (bits : List Bool) (row : ℕ) → IsKnownTable before → CanTake before.frame before.known column bits → row < before.frame.rows →
     is_certain (truth_at pred before row) ≡ is_possible (truth_at pred before row) → truth_at pred (read_column before column bits) row ≡ truth_at pred before row
 stays pred before column bits row known could inside decided =
     let now = taken before.known column bits in
@@ -37,7 +38,7 @@ stays pred before column bits row known could inside decided =
     (ranges_narrower before.frame before.known column bits row known.knowledge could inside)) decided
 
 -- the bit that a test gives of what is known at a row
-bit_under : (test : Truth → Bool) (pred : Condition) (table : KnownTable) (row : ℕ) → row < table.frame.rows → get_or (map test (truths_under pred table)) row false ≡ test (truth_at pred table row)
+pub bit_under : (test : Truth → Bool) (pred : Condition) (table : KnownTable) (row : ℕ) → row < table.frame.rows → get_or (map test (truths_under pred table)) row false ≡ test (truth_at pred table row)
 bit_under test pred table row inside =
     get_or-map test (truths_under pred table) row Unknown false (omega (arith, length-map-range_with_len (truth_at pred table) 0 table.frame.rows, inside))
     ∙ ap test (get_or-map-range_with_len (truth_at pred table) 0 table.frame.rows row row Unknown inside (omega arith))

@@ -69,6 +69,7 @@ pub record StoodBefore (stage : Stage) (column : ℕ) (bits : List Bool) (answer
   pub open_stage : IsOpenStage before
   pub answered : AreAnswers before answers
   pub rows : length bits ≡ before.frame.rows
+  pub legal : CanTake before.frame before.known column bits
   pub read : stage ≡ stepped before column bits
 
 -- each column is read for what its role says

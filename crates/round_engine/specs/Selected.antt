@@ -1,11 +1,13 @@
 -- Items whose bound masks tell, and the pairs of a column's rows as masks tell them.
-use Rattle.std.specs.Prelude.{◌≡◌, ℕ, ◌*◌, ◌≤◌, ◌||◌, Bool, true, false, List, length, map, replicate, IsTrue}
+use Rattle.std.specs.Prelude.{◌≡◌, ℕ, ◌+◌, ◌*◌, ◌<◌, ◌≤◌, ◌||◌, Bool, true, false, List, length, map, replicate, IsTrue}
+use Rattle.std.specs.List.{count_by}
 use Rattle.aggregates.specs.Selections.{MayHaveValues, has_row, rows_in}
 use Rattle.daq_table.specs.Tables.{Frame}
 use Rattle.known_column.specs.Columns.{KnownColumn, numbers_at, rows_of_column}
 use Rattle.query_model.specs.Bounds.{Pair}
 use Rattle.query_model.specs.Queries.{Aggregate, Term, Column, Literal, Add, Sub, Mul}
 use Rattle.round_engine.specs.declared.row_masks.RowMasks.{RowMasks}
+use Rattle.round_engine.specs.declared.selection.RowCounts.{RowCounts}
 use Rattle.round_engine.specs.declared.selection.Selection.{Selection}
 use Rattle.round_engine.specs.Counts.{is_counted}
 
@@ -26,10 +28,16 @@ pub record HasRows (rows : ℕ) (selection : Selection) : Type 0 where
   pub may : length selection.may ≡ rows
   pub must : length selection.must ≡ rows
 
+-- so many rows each mask has
+pub record AreCounts (selection : Selection) (counts : RowCounts) : Type 0 where
+  pub most : counts.most ≡ count_by (λ b. b) selection.may
+  pub fewest : counts.fewest ≡ count_by (λ b. b) selection.must
+
 -- the masks are of so many rows, and each of their blocks of 512 has a bit of 1
 pub record HaveRows (rows : ℕ) (masks : RowMasks) : Type 0 where
   pub selection : HasRows rows masks.selection
   pub room : rows ≤ 512 * length masks.blocks
+  pub tight : 512 * length masks.blocks < rows + 512
   pub each : masks.blocks ≡ replicate (length masks.blocks) true
 
 -- rows of a column that may have values, and among them those that surely count

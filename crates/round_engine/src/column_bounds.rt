@@ -1,17 +1,17 @@
 //! Bounds of a bare column's items, from the rows that give a value, by masks and planes.
 
-ghost use Rattle.std.specs.Prelude.{◌≡◌, ◌<◌, length, count_by, IfSome, IsFalse, IsTrue};
-ghost use Rattle.aggregates.specs.KeptSums.{IsKept};
+ghost use Rattle.std.specs.Prelude.{◌≡◌, ◌<◌, ◌⊎◌, length, count_by, IfSome, IsFalse, IsTrue};
+ghost use Rattle.aggregates.specs.KeptSums.{CanFollow, HasFollowed, IsKept};
 ghost use Rattle.aggregates.specs.Widening.{CoverOthers};
 ghost use Rattle.known_column.specs.Columns.{KnownColumn, rows_of_column};
 ghost use Rattle.query_model.specs.declared.query.ItemKind.TheVariants.{Count, Max, Min, Sum};
 ghost use Rattle.query_model.specs.Bounds.{average_bound_of, bound_of, fractions_of, nullity_of};
-ghost use Rattle.round_engine.specs.Selected.{IsSelection, pairs_in};
+ghost use Rattle.round_engine.specs.Selected.{AreCounts, IsSelection, pairs_in};
 ghost use Rattle.round_engine.specs.Totals.{IsBoundOf};
 
 use crate::item_bound::ItemBound;
 use crate::kept_sums::ends_by_kept;
-use crate::selection::Selected;
+use crate::selection::{RowCounts, Selected};
 use aggregates::{End, KeptSum, greatest_ends, least_ends, quotient};
 use known_column::Known;
 use plane_kernels::Mask;
@@ -39,14 +39,30 @@ impl Selected<'_> {
         }
     }
 
+    // How many rows each mask has, where that is not told.
+    fn counts(&self, told: Option<RowCounts>) -> RowCounts
+        requires { IfSome told (AreCounts self.now) }
+        ensures { AreCounts self.now result }
+    {
+        match told {
+            Some(counts) => counts,
+            None => RowCounts {
+                most: self.may.count(),
+                fewest: self.must.count(),
+            },
+        }
+    }
+
     // How many rows count.
-    fn count(&self) -> Bound
+    fn count(&self, told: Option<RowCounts>) -> Bound
+        requires { IfSome told (AreCounts self.now) }
         ensures { (column : KnownColumn) → IsSelection column self.now → result ≡ bound_of Count (pairs_in column self.now) }
     {
+        let counts = self.counts(told);
         Bound {
             null: Nullity::Never,
-            lo: i128::from(self.must.count()),
-            hi: i128::from(self.may.count()),
+            lo: i128::from(counts.fewest),
+            hi: i128::from(counts.most),
         }
     }
 
@@ -81,10 +97,12 @@ impl Selected<'_> {
         requires selection { IsSelection known.now self.now }
         requires blocks { CoverOthers self.now.may self.now.must blocks.now }
         requires kept { IfSome kept.old (IsKept known.now) }
+        requires moves { IfSome kept.old (CanFollow self.now.must blocks.now) }
         ensures kept { IfSome kept.new (IsKept known.now) }
+        ensures followed { IfSome kept.new (HasFollowed self.now.must blocks.now) }
         ensures bound { result ≡ bound_of Sum (pairs_in known.now self.now) }
     {
-        let certain = ends_by_kept(kept, known, self.must);
+        let certain = ends_by_kept(kept, known, self.must, blocks);
         Bound {
             null: self.nullity(),
             lo: self.sum_end(End::Low, known, certain.low, blocks),
@@ -94,16 +112,26 @@ impl Selected<'_> {
 
     // The bound of the average: a sum that is not negative is divided by as many rows as may count for the low end, and by as few
     // as surely count for the high end.
-    fn average(&self, known: &Known, blocks: &Mask, kept: &mut Option<KeptSum>) -> AverageBound
+    fn average(
+        &self,
+        known: &Known,
+        blocks: &Mask,
+        kept: &mut Option<KeptSum>,
+        told: Option<RowCounts>,
+    ) -> AverageBound
         requires selection { IsSelection known.now self.now }
+        requires told { IfSome told (AreCounts self.now) }
         requires blocks { CoverOthers self.now.may self.now.must blocks.now }
         requires kept { IfSome kept.old (IsKept known.now) }
+        requires moves { IfSome kept.old (CanFollow self.now.must blocks.now) }
         ensures kept { IfSome kept.new (IsKept known.now) }
+        ensures followed { IfSome kept.new (HasFollowed self.now.must blocks.now) }
         ensures bound { fractions_of result ≡ average_bound_of (pairs_in known.now self.now) }
     {
-        let most = self.may.count().max(1);
-        let fewest = self.must.count().max(1);
-        let certain = ends_by_kept(kept, known, self.must);
+        let counts = self.counts(told);
+        let most = counts.most.max(1);
+        let fewest = counts.fewest.max(1);
+        let certain = ends_by_kept(kept, known, self.must, blocks);
         let low = self.sum_end(End::Low, known, certain.low, blocks);
         let high = self.sum_end(End::High, known, certain.high, blocks);
         AverageBound {
@@ -113,26 +141,30 @@ impl Selected<'_> {
         }
     }
 
-    // The bound of an item of this kind.
+    // The bound of an item of this kind. How many rows each mask has may be told.
     pub(crate) fn bound(
         &self,
         kind: ItemKind,
         known: &Known,
         blocks: &Mask,
         kept: &mut Option<KeptSum>,
+        told: Option<RowCounts>,
     ) -> ItemBound
         requires selection { IsSelection known.now self.now }
+        requires told { IfSome told (AreCounts self.now) }
         requires blocks { CoverOthers self.now.may self.now.must blocks.now }
         requires kept { IfSome kept.old (IsKept known.now) }
+        requires moves { IfSome kept.old (CanFollow self.now.must blocks.now) }
         ensures kept { IfSome kept.new (IsKept known.now) }
+        ensures followed { (kept.new ≡ kept.old) ⊎ IfSome kept.new (HasFollowed self.now.must blocks.now) }
         ensures bound { IsBoundOf kind (pairs_in known.now self.now) result }
     {
         match kind {
-            ItemKind::Count => ItemBound::Numbers(self.count()),
+            ItemKind::Count => ItemBound::Numbers(self.count(told)),
             ItemKind::Sum => ItemBound::Numbers(self.sum(known, blocks, kept)),
             ItemKind::Min => ItemBound::Numbers(self.least(known)),
             ItemKind::Max => ItemBound::Numbers(self.greatest(known)),
-            ItemKind::Avg => ItemBound::Fractions(self.average(known, blocks, kept)),
+            ItemKind::Avg => ItemBound::Fractions(self.average(known, blocks, kept, told)),
         }
     }
 }

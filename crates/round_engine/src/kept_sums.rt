@@ -1,11 +1,11 @@
 //! Sums over bare columns that are kept from one plane to the next.
 
 ghost use Rattle.std.specs.Prelude.{◌≡◌, length, IfOk, IfSome};
-ghost use Rattle.aggregates.specs.KeptSums.{IsKept};
+ghost use Rattle.aggregates.specs.KeptSums.{CanFollow, HasFollowed, IsKept};
 ghost use Rattle.aggregates.specs.Selections.{highs_in, lows_in, IsSmallSum, MayHaveValues};
-ghost use Rattle.known_column.specs.Columns.{KnownColumn, rows_of_column};
+ghost use Rattle.known_column.specs.Columns.{rows_of_column};
 ghost use Rattle.query_model.specs.Answers.{total};
-ghost use Rattle.round_engine.specs.KeptSums.{HoldSums};
+ghost use Rattle.round_engine.specs.KeptSums.{HoldSums, IsOpenSum};
 
 use crate::totals::is_column;
 use aggregates::{KeptSum, SumSpan, sum_ends};
@@ -16,7 +16,7 @@ use std::alloc::{AllocError, Global};
 
 // Room for the sum of an item over so many rows, where masks tell it, and none for an item that has no sum.
 fn open_kept(alloc: Global, item: &Item, rows: usize) -> Result<Option<KeptSum>, AllocError>
-    ensures { IfOk result (λ kept. IfSome kept (λ sum. (column : KnownColumn) → rows_of_column column ≡ rows → IsKept column sum)) }
+    ensures { IfOk result (λ kept. IfSome kept (IsOpenSum rows)) }
 {
     match item.kind {
         ItemKind::Sum | ItemKind::Avg if is_column(&item.arg) => {
@@ -41,18 +41,25 @@ pub(crate) fn open_sums(
     Ok(kept)
 }
 
-// Both ends at a mask's rows, added up, from what is kept of them where it is.
-pub(crate) fn ends_by_kept(kept: &mut Option<KeptSum>, known: &Known, mask: &Mask) -> SumSpan
+// Both ends at a mask's rows, added up, from what is kept of them where it is. From then on rows move in these blocks alone.
+pub(crate) fn ends_by_kept(
+    kept: &mut Option<KeptSum>,
+    known: &Known,
+    mask: &Mask,
+    blocks: &Mask,
+) -> SumSpan
     requires kept { IfSome kept.old (IsKept known.now) }
+    requires moves { IfSome kept.old (CanFollow mask.now blocks.now) }
     requires rows { length mask.now ≡ rows_of_column known.now }
     requires values { MayHaveValues known.now mask.now }
     ensures kept { IfSome kept.new (IsKept known.now) }
+    ensures followed { IfSome kept.new (HasFollowed mask.now blocks.now) }
     ensures low { result.low ≡ total (lows_in known.now mask.now) }
     ensures high { result.high ≡ total (highs_in known.now mask.now) }
     ensures few { IsSmallSum result.low × IsSmallSum result.high }
 {
     match kept {
-        Some(sum) => sum.ends(known, mask),
+        Some(sum) => sum.ends(known, mask, blocks),
         None => sum_ends(known, mask),
     }
 }

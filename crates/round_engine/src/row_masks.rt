@@ -1,18 +1,17 @@
 //! Items over a bare column, told by masks.
 
 ghost use Rattle.std.specs.Prelude.{◌≡◌, IfOk, IfSome};
-ghost use Rattle.aggregates.specs.KeptSums.{IsKept};
-ghost use Rattle.known_column.specs.KnownTables.{column_at};
 ghost use Rattle.query_model.specs.declared.query.Shape.TheVariants.{Plain};
 ghost use Rattle.kleene_filter.specs.Filters.{truths_under};
 ghost use Rattle.query_model.specs.Queries.{Column};
 ghost use Rattle.round_engine.specs.Engines.{stage_of};
+ghost use Rattle.round_engine.specs.KeptSums.{IsSumOf};
 ghost use Rattle.round_engine.specs.Selected.{HaveRows};
 ghost use Rattle.round_engine.specs.Stages.{IsOpenItem, IsOpenStage};
 ghost use Rattle.round_engine.specs.Totals.{IsTotal};
 
 use crate::item_bound::ItemBound;
-use crate::selection::{Selection, select_all};
+use crate::selection::{Selection, counts_of, select_all};
 use aggregates::KeptSum;
 use kleene_filter::Filter;
 use known_column::LentColumns;
@@ -54,9 +53,9 @@ impl RowMasks {
         requires judged { filter.now.truths ≡ truths_under query.now.pred columns.now }
         requires column { item.now.arg ≡ Column column }
         requires room { HaveRows columns.now.frame.rows self.old }
-        requires kept { IfSome kept.old (IsKept (column_at columns.now column)) }
+        requires kept { IfSome kept.old (IsSumOf (stage_of query.now columns.now) column) }
         ensures room { HaveRows columns.now.frame.rows self.new }
-        ensures kept { IfSome kept.new (IsKept (column_at columns.now column)) }
+        ensures kept { IfSome kept.new (IsSumOf (stage_of query.now columns.now) column) }
         ensures bound { IsTotal (stage_of query.now columns.now) item.now result }
     {
         let known = columns.column(column as usize);
@@ -64,9 +63,16 @@ impl RowMasks {
             self.selection.select(filter, known);
             self.selection
                 .lend()
-                .bound(item.kind, known, &self.blocks, kept)
+                .bound(item.kind, known, &self.blocks, kept, None)
         } else {
-            select_all(filter, known).bound(item.kind, known, filter.undecided(), kept)
+            let counts = counts_of(filter);
+            select_all(filter, known).bound(
+                item.kind,
+                known,
+                filter.undecided(),
+                kept,
+                Some(counts),
+            )
         }
     }
 }

@@ -5,7 +5,8 @@ ghost use Rattle.std.specs.Simd.Lanes.{zip2};
 ghost use Rattle.kleene_filter.specs.Filters.{is_certain, is_possible};
 ghost use Rattle.known_column.specs.Columns as column;
 ghost use Rattle.known_column.specs.Columns.{is_sure, rows_of_column, rows_where};
-ghost use Rattle.round_engine.specs.Selected.{HasRows};
+ghost use Rattle.round_engine.specs.declared.selection.Selection.{Selection};
+ghost use Rattle.round_engine.specs.Selected.{AreCounts, HasRows};
 
 use kleene_filter::Filter;
 use known_column::Known;
@@ -33,6 +34,25 @@ impl<'a> Model for Selected<'a> {
     ghost Value = { Selection };
 
     ghost view = { λ s. record { may = s.may.now; must = s.must.now } };
+}
+
+// How many rows may give a value, and how many surely do.
+#[derive(Clone, Copy)]
+pub(crate) struct RowCounts {
+    pub(crate) most: u64,
+    pub(crate) fewest: u64,
+}
+
+// At how many rows a condition may hold, and at how many it surely does.
+pub(crate) fn counts_of(filter: &Filter) -> RowCounts
+    ensures { (rows : Selection) → rows.may ≡ map is_possible filter.now.truths → rows.must ≡ map is_certain filter.now.truths
+        → AreCounts rows result }
+{
+    let most = filter.possible();
+    RowCounts {
+        most,
+        fewest: most - filter.unknown(),
+    }
 }
 
 // The rows at which a condition holds, which all have a value in a column that is never null.

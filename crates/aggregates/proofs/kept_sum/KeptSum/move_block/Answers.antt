@@ -9,7 +9,8 @@ use Rattle.plane_kernels.proofs.RowLemmas.{count-rows_of, length-rows_of}
 use Rattle.known_column.specs.Columns.{rows_of_column}
 use Rattle.aggregates.specs.Selections.{block_of, sum_of_first}
 use Rattle.aggregates.proofs.EndSums.{OfColumn, short_early, short_few}
-use Rattle.aggregates.proofs.KeptSums.{AreMoved, count_follows, left_padded, rows_moved, rows_stayed, sum_follows}
+use Rattle.aggregates.specs.Widening.{CoverOthers}
+use Rattle.aggregates.proofs.KeptSums.{AreMoved, count_follows, left_padded, rows_moved, rows_stayed, still_covers, sum_follows}
 use Rattle.aggregates.proofs.kept_sum.KeptSum.move_block.Goals as goal
 
 pub sum_rows-came-requires-clause-rows : goal.sum_rows-came-requires-clause-rows
@@ -150,3 +151,12 @@ returns-else-not-are_same-clause-moved c =
     let here : block_of c.args.block kept.mask ≡ block_of c.args.block mask =
     sym c.block-old.ensures.rows ∙ ap (rows_of (block_rows (length kept.mask) c.args.block)) words ∙ ap (λ n. rows_of (block_rows n c.args.block) c.block-new.result) same ∙ c.block-new.ensures.rows in
     ap (λ n. take n kept.mask) next ∙ rows_stayed 512 at kept.mask mask c.requires.moved here ∙ ap (λ n. take n mask) (sym next)
+
+pub returns-then-not-are_same-clause-moves : goal.returns-then-not-are_same-clause-moves
+returns-then-not-are_same-clause-moves c =
+    let kept = c.args.self.now in
+    let mask = c.args.mask.now in
+    let same : length kept.mask ≡ length mask = c.requires.kept.rows ∙ sym c.requires.rows in
+    let is : c.set_block.new.self ≡ put_chunk (512 * c.args.block) kept.mask (block_of c.args.block mask) =
+    c.set_block.ensures ∙ ap (λ n. put_chunk (512 * c.args.block) kept.mask (rows_of (block_rows n c.args.block) c.block-new.result)) same ∙ ap (put_chunk (512 * c.args.block) kept.mask) c.block-new.ensures.rows in
+    subst (λ l. CoverOthers l mask kept.blocks) (sym is) (still_covers c.args.block kept.mask mask kept.blocks same c.requires.here c.requires.moves)

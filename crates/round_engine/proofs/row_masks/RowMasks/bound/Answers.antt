@@ -6,7 +6,9 @@ use Rattle.known_column.specs.Columns.{rows_of_column}
 use Rattle.query_model.specs.Meaning.{ReadsBelow}
 use Rattle.round_engine.specs.Selected.{HasRows, IsSelection, pairs_in}
 use Rattle.round_engine.specs.Totals.{IsBoundOf}
+use Rattle.round_engine.specs.Engines.{stage_of}
 use Rattle.round_engine.proofs.Covers.{all_cover, settled_cover}
+use Rattle.round_engine.proofs.KeptSums.{followed_null, followed_truths, follows_null, follows_truths, kept_of}
 use Rattle.round_engine.proofs.SelectedPairs.{never_null, selected_pairs, selection_is}
 use Rattle.round_engine.proofs.row_masks.RowMasks.bound.Goals as goal
 
@@ -55,7 +57,7 @@ returns-then-nullable-clause-room c =
     let is : IsSelection c.column-known.result.now c.select.new.self =
     selection_is c.args.query.now c.args.item.now c.args.columns.now c.requires.plain c.args.filter.now.truths c.requires.judged c.column-known.result.now c.args.column c.requires.column
     c.column-known.ensures.column c.column-known.ensures.rows c.select.new.self c.select.ensures.may c.select.ensures.must in
-    record { selection = subst (λ n. HasRows n c.select.new.self) c.column-known.ensures.rows is.rows; room = c.requires.room.room; each = c.requires.room.each }
+    record { selection = subst (λ n. HasRows n c.select.new.self) c.column-known.ensures.rows is.rows; room = c.requires.room.room; tight = c.requires.room.tight; each = c.requires.room.each }
 
 pub returns-then-nullable-clause-bound : goal.returns-then-nullable-clause-bound
 returns-then-nullable-clause-bound c =
@@ -72,3 +74,58 @@ returns-else-nullable-clause-bound c =
     c.column-known.ensures.column c.column-known.ensures.rows c.select_all.result c.select_all.ensures.may c.select_all.ensures.must in
     subst (λ ps. IsBoundOf c.args.item.now.kind ps c.bound-else-nullable.result) (sym same)
     (subst (λ k. IsBoundOf k (pairs_in c.column-known.result.now c.select_all.result) c.bound-else-nullable.result) (ap (λ i. i.kind) c.item.view_is) c.bound-else-nullable.ensures.bound)
+
+pub bound-requires-clause-kept : goal.bound-requires-clause-kept
+bound-requires-clause-kept c = kept_of (stage_of c.args.query.now c.args.columns.now) c.args.column c.column-known.result.now c.args.kept.now c.column-known.ensures.column c.requires.kept
+
+pub bound-requires-else-nullable-clause-kept : goal.bound-requires-else-nullable-clause-kept
+bound-requires-else-nullable-clause-kept c = kept_of (stage_of c.args.query.now c.args.columns.now) c.args.column c.column-known.result.now c.args.kept.now c.column-known.ensures.column c.requires.kept
+
+pub bound-requires-clause-moves : goal.bound-requires-clause-moves
+bound-requires-clause-moves c =
+    let known = c.column-known.result.now in
+    let column = c.column-known.ensures.column in
+    let is : IsSelection known c.lend.result =
+    selection_is c.args.query.now c.args.item.now c.args.columns.now c.requires.plain c.args.filter.now.truths c.requires.judged known c.args.column c.requires.column
+    column c.column-known.ensures.rows c.lend.result (ap (λ s. s.may) c.lend.ensures ∙ c.select.ensures.may) (ap (λ s. s.must) c.lend.ensures ∙ c.select.ensures.must) in
+    follows_null (stage_of c.args.query.now c.args.columns.now) c.args.column c.args.kept.now c.lend.result.must c.args.self.now.blocks (sym (ap rows_of_column column) ∙ c.column-known.ensures.rows)
+    (sym (ap (λ k. k.ends.nullable) column) ∙ sym c.nullable.ensures ∙ c.if-nullable.true) (is.rows.must ∙ c.column-known.ensures.rows) c.requires.room.room c.requires.room.tight c.requires.kept
+
+pub bound-requires-else-nullable-clause-moves : goal.bound-requires-else-nullable-clause-moves
+bound-requires-else-nullable-clause-moves c =
+    let known = c.column-known.result.now in
+    let column = c.column-known.ensures.column in
+    let truths = c.args.filter.now.truths in
+    let long : length truths ≡ rows_of_column known =
+    ap length c.requires.judged ∙ length-map-range_with_len (truth_at c.args.query.now.pred c.args.columns.now) 0 c.args.columns.now.frame.rows ∙ sym c.column-known.ensures.rows in
+    let plain : known.ends.nullable ≡ false = sym c.nullable.ensures ∙ c.if-nullable.false in
+    let must : c.select_all.result.must ≡ map is_certain truths = c.select_all.ensures.must ∙ sym (never_null known (map is_certain truths) plain (length-map truths is_certain ∙ long)).0 in
+    follows_truths (stage_of c.args.query.now c.args.columns.now) c.args.column c.args.kept.now truths c.select_all.result.must c.undecided.result.now (sym (ap rows_of_column column) ∙ c.column-known.ensures.rows)
+    c.requires.judged must (ap length must ∙ length-map truths is_certain ∙ long ∙ c.column-known.ensures.rows) c.undecided.ensures c.requires.kept
+
+pub returns-then-nullable-clause-kept : goal.returns-then-nullable-clause-kept
+returns-then-nullable-clause-kept c =
+    followed_null (stage_of c.args.query.now c.args.columns.now) c.args.column c.column-known.result.now c.args.kept.now c.bound.new.kept c.lend.result.must c.args.self.now.blocks c.column-known.ensures.column
+    c.requires.room.room c.requires.room.tight c.requires.room.each c.requires.kept c.bound.ensures.kept c.bound.ensures.followed
+
+pub returns-else-nullable-clause-kept : goal.returns-else-nullable-clause-kept
+returns-else-nullable-clause-kept c =
+    let known = c.column-known.result.now in
+    let truths = c.args.filter.now.truths in
+    let long : length truths ≡ rows_of_column known =
+    ap length c.requires.judged ∙ length-map-range_with_len (truth_at c.args.query.now.pred c.args.columns.now) 0 c.args.columns.now.frame.rows ∙ sym c.column-known.ensures.rows in
+    let plain : known.ends.nullable ≡ false = sym c.nullable.ensures ∙ c.if-nullable.false in
+    let must : c.select_all.result.must ≡ map is_certain truths = c.select_all.ensures.must ∙ sym (never_null known (map is_certain truths) plain (length-map truths is_certain ∙ long)).0 in
+    followed_truths (stage_of c.args.query.now c.args.columns.now) c.args.column known c.args.kept.now c.bound-else-nullable.new.kept truths c.select_all.result.must c.undecided.result.now c.column-known.ensures.column plain
+    c.requires.judged must (ap length must ∙ length-map truths is_certain ∙ long ∙ c.column-known.ensures.rows) c.undecided.ensures c.requires.kept c.bound-else-nullable.ensures.kept c.bound-else-nullable.ensures.followed
+
+pub bound-requires-else-nullable-clause-told : goal.bound-requires-else-nullable-clause-told
+bound-requires-else-nullable-clause-told c =
+    let known = c.column-known.result.now in
+    let truths = c.args.filter.now.truths in
+    let long : length truths ≡ rows_of_column known =
+    ap length c.requires.judged ∙ length-map-range_with_len (truth_at c.args.query.now.pred c.args.columns.now) 0 c.args.columns.now.frame.rows ∙ sym c.column-known.ensures.rows in
+    let plain : known.ends.nullable ≡ false = sym c.nullable.ensures ∙ c.if-nullable.false in
+    let may : c.select_all.result.may ≡ map is_possible truths = c.select_all.ensures.may ∙ sym (never_null known (map is_possible truths) plain (length-map truths is_possible ∙ long)).1 in
+    let must : c.select_all.result.must ≡ map is_certain truths = c.select_all.ensures.must ∙ sym (never_null known (map is_certain truths) plain (length-map truths is_certain ∙ long)).0 in
+    c.counts_of-counts.ensures c.select_all.result may must

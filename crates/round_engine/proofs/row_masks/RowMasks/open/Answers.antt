@@ -9,5 +9,6 @@ returns c =
     record {
       selection = c.in_ok-selection.ensures;
       room = omega (arith, long);
+      tight = omega (arith, long);
       each = c.in_ok-blocks.ensures ∙ ap (λ n. replicate n true) (sym long);
     }

@@ -1,4 +1,4 @@
-use Rattle.std.proofs.Common.{◌≡◌, max, cond, count_by, int_le, pos, to_z, of_z, ap, sym, subst, ◌∙◌, arith}
+use Rattle.std.proofs.Common.{◌≡◌, max, cond, int_le, pos, to_z, of_z, ap, sym, subst, ◌∙◌, arith}
 use Rattle.std.specs.Int.{w128}
 use Rattle.std.proofs.lemmas.Int.{ints}
 use Rattle.aggregates.proofs.BoundFacts.{average_is}
@@ -32,8 +32,8 @@ returns-clause-bound c =
       word_is = c.nullity.ensures column is;
       low_is = c.quotient.ensures.num ∙ low ∙ c.sum_end-low.ensures.sum;
       high_is = c.quotient-2.ensures.num ∙ high ∙ c.sum_end-high.ensures.sum;
-      most_is = c.max-most.ensures ∙ ap (λ n. max n 1) (c.count.ensures ∙ ap (λ s. count_by (λ b. b) s.may) c.self.view_is ∙ all_is column selection is);
-      fewest_is = c.max-fewest.ensures ∙ ap (λ n. max n 1) (c.count-2.ensures ∙ ap (λ s. count_by (λ b. b) s.must) c.self.view_is ∙ certain_is column selection is);
+      most_is = c.max-most.ensures ∙ ap (λ n. max n 1) (c.counts-counts.ensures.most ∙ all_is column selection is);
+      fewest_is = c.max-fewest.ensures ∙ ap (λ n. max n 1) (c.counts-counts.ensures.fewest ∙ certain_is column selection is);
       low_den_is = c.quotient.ensures.den ∙ ap (λ n. cond (int_le (pos 0) n) c.max-most.result c.max-fewest.result) (sym c.quotient.ensures.num);
       high_den_is = c.quotient-2.ensures.den ∙ ap (λ n. cond (int_le (pos 0) n) c.max-fewest.result c.max-most.result) (sym c.quotient-2.ensures.num);
     })

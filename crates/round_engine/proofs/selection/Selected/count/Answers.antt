@@ -1,4 +1,4 @@
-use Rattle.std.proofs.Common.{◌≡◌, pos, count_by, to_z, of_z, refl, ap, ◌∙◌, arith}
+use Rattle.std.proofs.Common.{◌≡◌, pos, to_z, of_z, refl, ap, ◌∙◌, arith}
 use Rattle.std.specs.Int.{w128}
 use Rattle.std.proofs.lemmas.Int.{ints}
 use Rattle.query_model.specs.declared.query.ItemKind.TheVariants.{Count}
@@ -12,4 +12,4 @@ returns c = λ column is.
     let selection = c.args.self.now in
     let low : to_z w128 (of_z w128 c.from.result) ≡ c.from.result = omega (arith, ints) in
     let high : to_z w128 (of_z w128 c.from-2.result) ≡ c.from-2.result = omega (arith, ints) in
-    count_bound Count (pairs_in column selection) _ _ refl (low ∙ c.from.ensures ∙ ap pos (c.count.ensures ∙ ap (λ s. count_by (λ b. b) s.must) c.self.view_is ∙ certain_is column selection is)) (high ∙ c.from-2.ensures ∙ ap pos (c.count-2.ensures ∙ ap (λ s. count_by (λ b. b) s.may) c.self.view_is ∙ all_is column selection is))
+    count_bound Count (pairs_in column selection) _ _ refl (low ∙ c.from.ensures ∙ ap pos (c.counts-counts.ensures.fewest ∙ certain_is column selection is)) (high ∙ c.from-2.ensures ∙ ap pos (c.counts-counts.ensures.most ∙ all_is column selection is))
