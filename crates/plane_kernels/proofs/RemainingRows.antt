@@ -91,6 +91,16 @@ block_noted block left source old new blocks are takes within none = record {
   ];
 }
 
+-- rows that are kept have no row where there was none
+pub blocks_stay : (bit : Bool) (rows plane blocks : List Bool) → length plane ≡ length rows → AreBlocksOf rows blocks → AreBlocksOf (kept_rows bit rows plane) blocks
+blocks_stay bit rows plane blocks long are = record {
+  room = omega (arith, are.room, length-kept_rows bit rows plane long);
+  tight = omega (arith, are.tight, length-kept_rows bit rows plane long);
+  none = λ block off j few.
+      let at = 512 * block + j in
+      bit-kept_rows bit rows plane at long ∙ ap (λ b. is_kept bit b (get_or plane at false)) (are.none block off j few) ∙ none_kept bit (get_or plane at false);
+}
+
 -- ---- all blocks
 
 -- below a row the bits are those of one list, and from it on those of another

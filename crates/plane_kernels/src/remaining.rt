@@ -12,16 +12,24 @@ use crate::plane::Plane;
 use std::alloc::{AllocError, Global};
 use std::marker::Model;
 
-/// A mask that only loses rows. A block of 512 that has none left is passed over.
+// The planes by which rows are kept in passes over all: while they are read, most blocks have rows left. It affects speed alone.
+const WHOLE_PLANES: u8 = 8;
+
+/// A mask that only loses rows. Behind its first planes a block of 512 that has none left is passed over.
 pub struct Remaining {
     rows: Mask,
     blocks: Mask,
+    planes: u8,
 }
 
 // A call of its own: a derived drop is proved anew wherever one is let go.
 impl Drop for Remaining {
     fn drop(self) {
-        let Remaining { rows: _, blocks: _ } = self;
+        let Remaining {
+            rows: _,
+            blocks: _,
+            planes: _,
+        } = self;
     }
 }
 
@@ -149,6 +157,33 @@ fn part_rows(rows: &mut Mask, blocks: &mut Mask, others: &mut Mask, plane: &Plan
     }
 }
 
+// Keeps the rows that have this bit in the plane, in one pass over all. A block that is left without rows keeps its bit.
+fn keep_whole(rows: &mut Mask, blocks: &Mask, plane: &Plane, bit: bool)
+    requires blocks { AreBlocksOf rows.old blocks.now }
+    requires plane { length plane.now ≡ length rows.old }
+    ensures rows { rows.new ≡ kept_rows bit rows.old plane.now }
+    ensures blocks { AreBlocksOf rows.new blocks.now }
+{
+    rows.keep(plane, bit);
+}
+
+// The same, where the rows that are not kept are added to another mask.
+fn part_whole(rows: &mut Mask, blocks: &Mask, others: &mut Mask, plane: &Plane, bit: bool)
+    requires blocks { AreBlocksOf rows.old blocks.now }
+    requires others { length others.old ≡ length rows.old }
+    requires plane { length plane.now ≡ length rows.old }
+    ensures rows { rows.new ≡ kept_rows bit rows.old plane.now }
+    ensures blocks { AreBlocksOf rows.new blocks.now }
+    ensures others { others.new ≡ zip2 (λ a b. a || b) others.old (kept_rows (not bit) rows.old plane.now) }
+{
+    if bit {
+        others.bits.or_rest(&rows.bits, &plane.bits);
+    } else {
+        others.bits.or_shared(&rows.bits, &plane.bits);
+    }
+    keep_whole(rows, blocks, plane, bit);
+}
+
 // Whether a block has a row.
 fn has_row_in(rows: &Mask, blocks: &Mask, block: usize) -> bool
     requires blocks { AreBlocksOf rows.now blocks.now }
@@ -200,6 +235,7 @@ impl Remaining {
         Ok(Remaining {
             rows: Mask::all(alloc, rows)?,
             blocks: Mask::all(alloc, rows.div_ceil(512))?,
+            planes: 0,
         })
     }
 
@@ -223,7 +259,12 @@ impl Remaining {
         requires { length plane.now ≡ length self.old }
         ensures { self.new ≡ kept_rows bit self.old plane.now }
     {
-        keep_rows(&mut self.rows, &mut self.blocks, plane, bit);
+        if self.planes < WHOLE_PLANES {
+            self.planes += 1;
+            keep_whole(&mut self.rows, &self.blocks, plane, bit);
+        } else {
+            keep_rows(&mut self.rows, &mut self.blocks, plane, bit);
+        }
     }
 
     /// Keeps the rows that have this bit in the plane, and adds the others to another mask.
@@ -233,7 +274,12 @@ impl Remaining {
         ensures others { others.new ≡ zip2 (λ a b. a || b) others.old (kept_rows (not bit) self.old plane.now) }
         ensures kept { self.new ≡ kept_rows bit self.old plane.now }
     {
-        part_rows(&mut self.rows, &mut self.blocks, others, plane, bit);
+        if self.planes < WHOLE_PLANES {
+            self.planes += 1;
+            part_whole(&mut self.rows, &self.blocks, others, plane, bit);
+        } else {
+            part_rows(&mut self.rows, &mut self.blocks, others, plane, bit);
+        }
     }
 
     /// Moves the rows whose bit in the plane is less than this bit to `lt`, and those whose bit is greater to `gt`.
@@ -246,9 +292,9 @@ impl Remaining {
         ensures kept { self.new ≡ kept_rows bit self.old plane.now }
     {
         if bit {
-            part_rows(&mut self.rows, &mut self.blocks, lt, plane, true);
+            self.move_others(lt, plane, true);
         } else {
-            part_rows(&mut self.rows, &mut self.blocks, gt, plane, false);
+            self.move_others(gt, plane, false);
         }
     }
 
