@@ -14,3 +14,4 @@ pub mod NumberRows
 pub mod RowSums
 pub mod Values
 pub mod Widening
+pub mod SumsOfCells

@@ -6,3 +6,4 @@ pub mod Runnings
 pub mod Selections
 pub mod Tallies
 pub mod Widening
+pub mod SumsOfCells

@@ -37,6 +37,19 @@ pub record MayAdd (running : Tallies) (cell : ℕ) (p : Pair) : Type 0 where
   pub stands : StandsFor running cell pairs
   pub may_get : MayGet running.kind pairs p
 
+-- of each cell the same is kept as in others, and all else is as it was
+pub record IsCopied (old new others : Tallies) : Type 0 where
+  pub kind : new.kind ≡ old.kind
+  pub room : new.room ≡ old.room
+  pub count : length new.cells ≡ length others.cells
+  pub each : (cell : ℕ) → cell < length others.cells → slice_get new.cells cell ≡ slice_get others.cells cell
+
+-- the cell stands for a list that is not full
+pub record MayCount (running : Tallies) (cell : ℕ) : Type 0 where
+  pub pairs : List Pair
+  pub stands : StandsFor running cell pairs
+  pub few : length pairs < 16777216
+
 -- the cell stands for each list for which it stood, with the pair at its end, and all else is as it was
 pub record IsAdded (old new : Tallies) (cell : ℕ) (p : Pair) : Type 0 where
   pub kind : new.kind ≡ old.kind

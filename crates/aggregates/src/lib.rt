@@ -2,6 +2,8 @@
 #![tactic(auto)]
 
 mod block_words;
+mod cell_counts;
+mod cell_sums;
 mod digits;
 mod ends;
 mod extreme_rows;
@@ -16,6 +18,8 @@ mod sums;
 mod tally;
 
 pub use block_words::{first_place, is_empty};
+pub use cell_counts::CellCounts;
+pub use cell_sums::CellSums;
 pub use digits::number_planes;
 pub use ends::{
     End, ExtremeSpan, greatest_ends, greatest_high, least_ends, least_low, negative_lows,

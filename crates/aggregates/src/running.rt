@@ -5,8 +5,10 @@ ghost use Rattle.query_model.specs.declared.query.ItemKind.TheVariants.{Avg};
 ghost use Rattle.query_model.specs.Bounds.{average_bound_of, bound_of, fractions_of, Pair};
 ghost use Rattle.aggregates.specs.BlockPairs.{pairs_in, AreAllAdded, MayAddAll};
 ghost use Rattle.aggregates.specs.Tallies.{pair_with};
-ghost use Rattle.aggregates.specs.Runnings.{IsAdded, IsBlank, IsSet, MayAdd, StandsFor};
+ghost use Rattle.aggregates.specs.Runnings.{IsAdded, IsBlank, IsCopied, IsSet, MayAdd, StandsFor};
 
+use crate::cell_counts::CellCounts;
+use crate::cell_sums::CellSums;
 use crate::tally::Tally;
 use interval_calc::Interval;
 use query_model::{AverageBound, Bound, ItemKind};
@@ -70,6 +72,30 @@ impl Running {
         ensures { IsSet self.old self.new cell tally }
     {
         self.tallies[cell as usize] = tally;
+    }
+
+    /// Makes the cells stand for what those of some counts stand for.
+    pub fn copy_counts(&mut self, counts: &CellCounts)
+        requires { length counts.now.cells ≤ self.old.room }
+        ensures { IsCopied self.old self.new counts.now }
+    {
+        let cells = counts.cells();
+        for cell in 0..cells {
+            self.tallies[cell] = counts.tally(cell);
+        }
+        self.cells = cells;
+    }
+
+    /// Makes the cells stand for what those of some sums stand for.
+    pub fn copy_sums(&mut self, sums: &CellSums)
+        requires { length sums.now.cells ≤ self.old.room }
+        ensures { IsCopied self.old self.new sums.now }
+    {
+        let cells = sums.cells();
+        for cell in 0..cells {
+            self.tallies[cell] = sums.tally(cell);
+        }
+        self.cells = cells;
     }
 
     /// Adds a row to a cell.
