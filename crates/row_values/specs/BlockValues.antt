@@ -10,6 +10,8 @@ use Rattle.query_model.specs.Knowledge.{ranges_of}
 use Rattle.query_model.specs.Queries.{Term}
 use Rattle.query_model.specs.Truths.{may_be_null, may_be_number, null_of, span_of}
 use Rattle.row_values.specs.declared.block_values.BlockValues.{BlockValues}
+use Rattle.row_values.specs.declared.short_values.ShortValues.{ShortValues}
+use Rattle.row_values.specs.ShortSpans.{AreShortSpans}
 
 -- the word has the rows of the block at which the expression may have a value
 abbrev pub ArePossible : Term → KnownTable → ℕ → ℕ → Type 0
@@ -36,3 +38,10 @@ pub record AreValues (term : Term) (table : KnownTable) (block : ℕ) (values : 
   pub sure : AreSure term table block values.sure
   pub count : length values.spans ≡ 64
   pub spans : AreSpans term table block values.spans
+
+-- the same by numbers of 64 bits
+pub record AreShortValues (term : Term) (table : KnownTable) (block : ℕ) (values : ShortValues) : Type 0 where
+  pub possible : ArePossible term table block values.possible
+  pub sure : AreSure term table block values.sure
+  pub count : length values.spans ≡ 64
+  pub spans : AreShortSpans term table block values.spans

@@ -2,6 +2,7 @@
 use Rattle.std.specs.Prelude.{◌≡◌, ℕ, ℤ, ◌+◌, ◌*◌, ◌<◌, List, length, slice_get, IsTrue, FitsSigned}
 use Rattle.std.specs.declared.option.Option.TheVariants.{Some}
 use Rattle.std.specs.Int.{w64}
+use Rattle.aggregates.specs.SumsOfCells.{FitsCell}
 use Rattle.interval_calc.specs.Intervals.{Interval, only, difference_of, product_of, sum_of}
 use Rattle.known_column.specs.Columns.{KnownColumn, count_in_block, missing_at, numbers_at}
 use Rattle.known_column.specs.KnownTables.{KnownTable}
@@ -28,6 +29,11 @@ FitsShort (Literal n) ranges = FitsSigned w64 n
 FitsShort (Add a b) ranges = FitsShort a ranges × FitsShort b ranges × IsShort (span_of (Add a b) ranges)
 FitsShort (Sub a b) ranges = FitsShort a ranges × FitsShort b ranges × IsShort (span_of (Sub a b) ranges)
 FitsShort (Mul a b) ranges = FitsShort a ranges × FitsShort b ranges × IsShort (span_of (Mul a b) ranges)
+
+-- and none of the expression is so large that its sum over the rows of a table leaves them
+pub record FitsCells (term : Term) (ranges : Ranges) : Type 0 where
+  pub short : FitsShort term ranges
+  pub cell : FitsCell (span_of term ranges).low (span_of term ranges).high
 
 -- what an operation makes of two intervals
 abbrev pub result_of : Operation → Interval → Interval → Interval

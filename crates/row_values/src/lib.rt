@@ -12,9 +12,12 @@ mod short;
 mod short_arithmetic;
 mod short_ranges;
 mod short_spans;
+mod short_values;
 mod spans;
 
 pub use block_sums::{add_rows, fits_small};
 pub use block_values::BlockValues;
 pub use nulls::null_of;
+pub use short::ShortInterval;
+pub use short_values::{ShortValues, fits_cells};
 pub use spans::{difference, product, span_of, sum};

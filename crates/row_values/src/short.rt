@@ -2,12 +2,12 @@
 
 ghost use Rattle.std.specs.Prelude.{◌≤ℤ◌};
 
-// The whole numbers from `lo` to `hi`, both included.
+/// The whole numbers from `lo` to `hi`, both included.
 #[derive(Clone, Copy)]
-pub(crate) struct ShortInterval {
-    pub(crate) lo: i64,
-    pub(crate) hi: i64,
-    pub(crate) ghost ordered: { lo ≤ℤ hi },
+pub struct ShortInterval {
+    pub lo: i64,
+    pub hi: i64,
+    pub ghost ordered: { lo ≤ℤ hi },
 }
 
 // The interval of the number 0.
