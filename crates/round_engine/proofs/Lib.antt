@@ -32,3 +32,4 @@ pub mod OneCell
 pub mod FewCells
 pub mod CountedCells
 pub mod CellNarrow
+pub mod CompactCells

@@ -70,7 +70,9 @@ fn fill_item(
         masks.fill(query, item, columns, filter, single[0], running);
     } else if cells.count() <= FEW_CELLS && is_by_masks(item, columns) {
         masks.fill_parts(query, item, columns, filter, cells, single, running);
-    } else if !masks.fill_counted(query, item, columns, filter, cells, single, running) {
+    } else if !masks.fill_counted(query, item, columns, filter, cells, single, running)
+        && !masks.fill_compact(query, item, columns, filter, cells, single, running)
+    {
         fill_cells(query, item, columns, filter, block, cells, single, running);
     }
 }
@@ -135,7 +137,7 @@ impl Groups {
         tell_single(&cells, &mut single);
         let presence = Running::open(alloc, ItemKind::Count, most)?;
         let runnings = open_each(alloc, query, most)?;
-        let masks = CellMasks::open(alloc, columns.rows())?;
+        let masks = CellMasks::open(alloc, columns.rows(), most)?;
         Ok(Groups {
             cells,
             single,

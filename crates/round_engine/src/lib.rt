@@ -8,6 +8,7 @@ mod cell_room;
 mod cell_tally;
 mod cells;
 mod column_bounds;
+mod compact_cells;
 mod counted_cells;
 mod counted_sums;
 mod counts;

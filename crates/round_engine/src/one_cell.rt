@@ -13,20 +13,23 @@ ghost use Rattle.round_engine.specs.Selected.{is_by_masks};
 ghost use Rattle.round_engine.specs.Stages.{IsOpenItem, IsOpenStage};
 
 use crate::selection::{Selected, Selection, select_all};
-use aggregates::{Running, Tally};
+use aggregates::{CellCounts, CellSums, Running, Tally};
 use kleene_filter::Filter;
 use known_column::LentColumns;
 use plane_kernels::Mask;
 use query_model::{Expr, Item, TypedQuery};
 use std::alloc::{AllocError, Global};
 
-// Room for the rows of a cell, for those of them that give a value, and for those whose ends are added up; and a mask of no row.
+// Room for the rows of a cell, for those of them that give a value, and for those whose ends are added up; and a mask of no row. Beside it
+// room for the counts and the sums of many cells.
 #[derive(Drop)]
 pub(crate) struct CellMasks {
     pub(crate) within: Mask,
     pub(crate) selection: Selection,
     pub(crate) added: Mask,
     pub(crate) none: Mask,
+    pub(crate) counts: CellCounts,
+    pub(crate) sums: CellSums,
 }
 
 impl<'a> Selected<'a> {
@@ -71,8 +74,8 @@ fn count_rows(
 }
 
 impl CellMasks {
-    // Room for so many rows.
-    pub(crate) fn open(alloc: Global, rows: usize) -> Result<CellMasks, AllocError>
+    // Room for so many rows, and for so many cells.
+    pub(crate) fn open(alloc: Global, rows: usize, cells: usize) -> Result<CellMasks, AllocError>
         ensures { IfOk result (HoldMasks rows) }
     {
         Ok(CellMasks {
@@ -80,6 +83,8 @@ impl CellMasks {
             selection: Selection::open(alloc, rows)?,
             added: Mask::none(alloc, rows)?,
             none: Mask::none(alloc, rows)?,
+            counts: CellCounts::open(alloc, cells)?,
+            sums: CellSums::open(alloc, cells)?,
         })
     }
 
