@@ -1,5 +1,5 @@
 -- A row more in each cell, where its tally is kept compact.
-use Rattle.std.proofs.Common.{◌≡◌, ℕ, ◌+◌, ◌*◌, ◌<◌, ◌≤◌, ℤ, ◌≤ℤ◌, Bool, true, false, not, ◌&&◌, length, slice_get, Some, None, IsTrue, refl, sym, ap, subst, ◌∙◌, arith, to_z, of_z, if◌then◌else◌}
+use Rattle.std.proofs.Common.{◌≡◌, ℕ, ◌+◌, ◌<◌, ◌≤◌, Bool, true, false, not, ◌&&◌, Some, None, IsTrue, refl, sym, ap, subst, ◌∙◌, arith, to_z, of_z, if◌then◌else◌}
 use Rattle.std.specs.Int.{w64}
 use Rattle.std.proofs.lemmas.Int.{ints}
 use Rattle.std.specs.declared.option.Option.{Option}
@@ -12,7 +12,7 @@ use Rattle.query_model.specs.Queries.{Aggregate, Query}
 use Rattle.query_model.specs.Answers.{groups_of}
 use Rattle.query_model.specs.Bounds.{Pair, pair_unless_false}
 use Rattle.query_model.specs.Groups.{cell_of, holds_one_key, pairs_in_cell_below}
-use Rattle.query_model.specs.Knowledge.{IsKnowledge, ranges_of}
+use Rattle.query_model.specs.Knowledge.{ranges_of}
 use Rattle.query_model.specs.Laws.{PairsAreFew}
 use Rattle.query_model.specs.Truths.{IsInside, and_of, may_be_null, may_be_number, null_of, span_of, truth_of, truth_of_number}
 use Rattle.kleene_filter.specs.Filters.{is_certain, is_possible}

@@ -1,15 +1,10 @@
-use Rattle.std.proofs.Common.{◌≡◌, ℕ, ◌+◌, ◌*◌, ◌%◌, ◌<◌, get_or, slice_get, ap, sym, ◌∙◌, ◌&&◌, false, not, subst, arith}
+use Rattle.std.proofs.Common.{◌≡◌, ℕ, ◌+◌, ◌*◌, ◌%◌, get_or, ap, ◌∙◌, ◌&&◌, false, arith}
 use Rattle.std.proofs.lemmas.Bool.{not-true}
-use Rattle.std.proofs.lemmas.Option.{get_or_from_slice_get, slice_get-get_or}
+use Rattle.std.proofs.lemmas.Option.{get_or_from_slice_get}
 use Rattle.interval_calc.specs.declared.Interval as code
 use Rattle.kleene_filter.specs.Filters.{is_certain, is_possible}
-use Rattle.kleene_filter.proofs.WordBits.{both_bits}
-use Rattle.query_model.specs.declared.bounds.Nullity.TheVariants.{Never}
-use Rattle.query_model.specs.Answers.{groups_of}
-use Rattle.query_model.specs.Groups.{holds_one_key}
 use Rattle.query_model.specs.Knowledge.{ranges_of}
-use Rattle.query_model.specs.Truths.{may_be_null, may_be_number, null_of, span_of, truth_of}
-use Rattle.query_model.specs.Validity.{declared_ranges}
+use Rattle.query_model.specs.Truths.{span_of, truth_of}
 use Rattle.query_model.proofs.Queries.{ranges_ordered, span_ordered}
 use Rattle.round_engine.specs.Engines.{stage_of}
 use Rattle.round_engine.proofs.CellKept.{parted_rows}

@@ -1,4 +1,4 @@
-use Rattle.std.proofs.Common.{◌≡◌, ℕ, ◌+◌, ◌*◌, ◌%◌, ◌<◌, get_or, slice_get, Some, ap, sym, ◌∙◌, ◌&&◌, false, not, subst, arith, ℤ, IsTrue, to_z, of_z}
+use Rattle.std.proofs.Common.{◌≡◌, ◌+◌, ◌*◌, ◌%◌, get_or, slice_get, Some, ap, sym, ◌∙◌, ◌&&◌, false, not, subst, arith, ℤ, IsTrue, to_z, of_z}
 use Rattle.std.proofs.lemmas.Option.{get_or_from_slice_get, slice_get-get_or}
 use Rattle.std.specs.Int.{w64}
 use Rattle.aggregates.specs.Runnings.{IsAdded}
@@ -8,8 +8,6 @@ use Rattle.row_values.specs.BlockValues.{AreShortValues}
 use Rattle.row_values.specs.declared.short.ShortInterval.{ShortInterval}
 use Rattle.kleene_filter.specs.Filters.{is_certain, is_possible, truth_at}
 use Rattle.kleene_filter.proofs.WordBits.{both_bits}
-use Rattle.query_model.specs.Answers.{groups_of}
-use Rattle.query_model.specs.Groups.{holds_one_key}
 use Rattle.query_model.specs.Knowledge.{ranges_of}
 use Rattle.query_model.specs.Truths.{may_be_null, may_be_number, null_of, span_of, truth_of}
 use Rattle.query_model.specs.Validity.{declared_ranges}
