@@ -27,14 +27,14 @@ AreFetchedBelow column block planes end =
     (j : ℕ) → first_digit column ≤ j → j < end → IsBlockOf (ones_of column j) block (get_or planes (j - first_digit column) [])
 
 -- the words of all planes that hold digits, and those of the rows at top's prefix
-pub record IsFetched (column : KnownColumn) (block : ℕ) (fetched : Fetched) : Type 0 where
+pub record IsFetched (column : KnownColumn) (block : ℕ) (fetched : Fetched) (room : List (List ℕ)) : Type 0 where
   pub few : column.known.read ≤ first_digit column + 32
-  pub planes : AreFetchedBelow column block fetched.planes column.known.read
+  pub planes : AreFetchedBelow column block room column.known.read
   pub tops : IsBlockOf (map (is_at_top column.ends column.known.read) column.known.prefixes) block fetched.tops
 
 -- the only one of some factors is an end of a column, of which a block is fetched
-pub record IsLone (table : KnownTable) (block : ℕ) (factors : List Factor) (fetched : Fetched) : Type 0 where
+pub record IsLone (table : KnownTable) (block : ℕ) (factors : List Factor) (fetched : Fetched) (room : List (List ℕ)) : Type 0 where
   pub there : fetched.column < length table.frame.columns
-  pub words : IsFetched (column_at table fetched.column) block fetched
+  pub words : IsFetched (column_at table fetched.column) block fetched room
   pub product : (row : ℕ) → product_at table factors row ≡ term_end table fetched.end (Column fetched.column) row *ℤ pos 1
   pub values : (row : ℕ) → HaveValues table factors row → HasValue table (Column fetched.column) row

@@ -14,7 +14,7 @@ ghost use Rattle.product_sums.specs.Products.{sum_of_products, sum_over, product
 
 use crate::column_ends::{weight_of_all, weight_of_digits, weight_of_top};
 use crate::factors::{Factor, is_longer, joined, other};
-use crate::fetched::{Fetched, fetch_lone};
+use crate::fetched::{Fetched, PlaneRoom, fetch_lone};
 use crate::fetched_sums::sum_fetched;
 use crate::rows::Rows;
 use crate::wrapping::{minus, plus, times};
@@ -29,13 +29,14 @@ pub(crate) fn sum_products<'a>(
     block: usize,
     rows: &Rows,
     factors: &[Factor<'a>],
+    room: &mut PlaneRoom,
 ) -> i128
     requires { CanMultiply columns.now block rows.now factors.now }
     ensures { result ≡ int_wrap w128 (sum_of_products columns.now block rows.now factors.now) }
 {
     match factors {
         [] => i128::from(rows.count()),
-        [first, rest @ ..] => sum_first(columns, block, rows, *first, rest),
+        [first, rest @ ..] => sum_first(columns, block, rows, *first, rest, room),
     }
 }
 
@@ -47,6 +48,7 @@ fn sum_times<'a>(
     rows: &Rows,
     factors: &[Factor<'a>],
     number: i128,
+    room: &mut PlaneRoom,
 ) -> i128
     requires { CanMultiply columns.now block rows.now factors.now }
     ensures { result ≡ int_wrap w128 (number *ℤ sum_of_products columns.now block rows.now factors.now) }
@@ -57,7 +59,7 @@ fn sum_times<'a>(
     if rows.count() == 0 {
         return 0;
     }
-    times(number, sum_products(columns, block, rows, factors))
+    times(number, sum_products(columns, block, rows, factors, room))
 }
 
 // The product of some factors, added up: in words that are fetched, where these are of the only factor.
@@ -68,14 +70,16 @@ fn sum_rest<'a>(
     rows: &Rows,
     rest: &[Factor<'a>],
     fetched: &Option<Fetched>,
+    room: &mut PlaneRoom,
 ) -> i128
     requires rest { CanMultiply columns.now block rows.now rest.now }
-    requires fetched { IfSome fetched.now (IsLone columns.now block rest.now) }
-    ensures { result ≡ int_wrap w128 (sum_of_products columns.now block rows.now rest.now) }
+    requires fetched { IfSome fetched.now (λ words. IsLone columns.now block rest.now words room.old.planes) }
+    ensures fetched { IfSome fetched.now (λ words. IsLone columns.now block rest.now words room.new.planes) }
+    ensures sum { result ≡ int_wrap w128 (sum_of_products columns.now block rows.now rest.now) }
 {
     match fetched {
-        Some(words) => sum_fetched(columns, block, rows, words),
-        None => sum_products(columns, block, rows, rest),
+        Some(words) => sum_fetched(columns, block, rows, words, room),
+        None => sum_products(columns, block, rows, rest, room),
     }
 }
 
@@ -87,6 +91,7 @@ pub(crate) fn sum_digits<'a>(
     rows: &Rows,
     column: u8,
     rest: &[Factor<'a>],
+    room: &mut PlaneRoom,
 ) -> i128
     requires column { column < length columns.now.frame.columns }
     requires rest { CanMultiply columns.now block rows.now rest.now }
@@ -95,13 +100,13 @@ pub(crate) fn sum_digits<'a>(
 {
     let known = columns.column(usize::from(column));
     let (from, to) = number_planes(known);
-    let fetched = fetch_lone(columns, block, rest, to - from);
+    let fetched = fetch_lone(columns, block, rest, to - from, room);
     let mut sum: i128 = 0;
     for j in from..to {
         let ones = rows.and(&Rows::of_plane(known.plane(j), block));
         sum = plus(
             times(sum, 2),
-            sum_rest(columns, block, &ones, rest, &fetched),
+            sum_rest(columns, block, &ones, rest, &fetched, room),
         );
     }
     sum
@@ -116,6 +121,7 @@ fn sum_column<'a>(
     column: u8,
     end: End,
     rest: &[Factor<'a>],
+    room: &mut PlaneRoom,
 ) -> i128
     requires column { column < length columns.now.frame.columns }
     requires rest { CanMultiply columns.now block rows.now rest.now }
@@ -126,11 +132,11 @@ fn sum_column<'a>(
     let known = columns.column(usize::from(column));
     let digits = times(
         weight_of_digits(known),
-        sum_digits(columns, block, rows, column, rest),
+        sum_digits(columns, block, rows, column, rest, room),
     );
-    let all = sum_times(columns, block, rows, rest, weight_of_all(end, known));
+    let all = sum_times(columns, block, rows, rest, weight_of_all(end, known), room);
     let tops = rows.and(&Rows::of_mask(known.at_top(), block));
-    let less = sum_times(columns, block, &tops, rest, weight_of_top(end, known));
+    let less = sum_times(columns, block, &tops, rest, weight_of_top(end, known), room);
     minus(plus(digits, all), less)
 }
 
@@ -143,12 +149,20 @@ fn sum_both<'a>(
     first: Factor<'a>,
     second: Factor<'a>,
     rest: &[Factor<'a>],
+    room: &mut PlaneRoom,
 ) -> i128
     requires { CanMultiply columns.now block rows.now (first ∷ second ∷ rest.now) }
     ensures { result ≡ int_wrap w128 (sum_of_products columns.now block rows.now (first.entry ∷ second.entry ∷ rest.now)) }
 {
     let factors = joined(second, rest);
-    sum_first(columns, block, rows, first, &factors[..rest.len() + 1])
+    sum_first(
+        columns,
+        block,
+        rows,
+        first,
+        &factors[..rest.len() + 1],
+        room,
+    )
 }
 
 // The product of a factor and others, added up.
@@ -159,17 +173,18 @@ fn sum_first<'a>(
     rows: &Rows,
     first: Factor<'a>,
     rest: &[Factor<'a>],
+    room: &mut PlaneRoom,
 ) -> i128
     requires { CanMultiply columns.now block rows.now (first ∷ rest.now) }
     ensures { result ≡ int_wrap w128 (sum_of_products columns.now block rows.now (first.entry ∷ rest.now)) }
 {
     let end = first.end;
     match first.term {
-        Expr::Column(column) => sum_column(columns, block, rows, *column, end, rest),
-        Expr::Literal(number) => sum_times(columns, block, rows, rest, *number),
+        Expr::Column(column) => sum_column(columns, block, rows, *column, end, rest, room),
+        Expr::Literal(number) => sum_times(columns, block, rows, rest, *number, room),
         Expr::Add(a, b) => plus(
-            sum_first(columns, block, rows, Factor { term: a, end }, rest),
-            sum_first(columns, block, rows, Factor { term: b, end }, rest),
+            sum_first(columns, block, rows, Factor { term: a, end }, rest, room),
+            sum_first(columns, block, rows, Factor { term: b, end }, rest, room),
         ),
         Expr::Sub(a, b) => {
             let less = Factor {
@@ -177,17 +192,17 @@ fn sum_first<'a>(
                 end: other(end),
             };
             minus(
-                sum_first(columns, block, rows, Factor { term: a, end }, rest),
-                sum_first(columns, block, rows, less, rest),
+                sum_first(columns, block, rows, Factor { term: a, end }, rest, room),
+                sum_first(columns, block, rows, less, rest, room),
             )
         }
         Expr::Mul(a, b) => {
             let left = Factor { term: a, end };
             let right = Factor { term: b, end };
             if is_longer(a, b, columns) {
-                sum_both(columns, block, rows, right, left, rest)
+                sum_both(columns, block, rows, right, left, rest, room)
             } else {
-                sum_both(columns, block, rows, left, right, rest)
+                sum_both(columns, block, rows, left, right, rest, room)
             }
         }
     }

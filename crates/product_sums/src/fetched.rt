@@ -10,12 +10,25 @@ use aggregates::{End, number_planes};
 use known_column::{Known, LentColumns};
 use query_model::Expr;
 
-// An end of a column: the words of the planes that hold digits, from the first on, and those of the rows at top's prefix.
+// Room for the words of the planes that hold digits, from the first on. It is lent, and never cleared.
+#[derive(Drop)]
+pub(crate) struct PlaneRoom {
+    pub(crate) planes: [[u64; 8]; 32],
+}
+
+impl PlaneRoom {
+    pub(crate) fn new() -> PlaneRoom {
+        PlaneRoom {
+            planes: [[0; 8]; 32],
+        }
+    }
+}
+
+// An end of a column, of which the words of planes are in such room, and the words of the rows at top's prefix.
 #[derive(Drop)]
 pub(crate) struct Fetched {
     pub(crate) column: u8,
     pub(crate) end: End,
-    pub(crate) planes: [[u64; 8]; 32],
     pub(crate) tops: [u64; 8],
 }
 
@@ -27,32 +40,30 @@ fn has_room(known: &Known) -> bool
     to - from <= 32
 }
 
-// The words of the planes that hold digits.
-fn fetch_planes(known: &Known, block: usize) -> [[u64; 8]; 32]
+// Fetches the words of the planes that hold digits.
+fn fetch_planes(known: &Known, block: usize, room: &mut PlaneRoom)
     requires block { 512 * block < rows_of_column known.now }
     requires few { known.now.known.read ≤ first_digit known.now + 32 }
-    ensures { AreFetchedBelow known.now block result known.now.known.read }
+    ensures { AreFetchedBelow known.now block room.new.planes known.now.known.read }
 {
     let (from, to) = number_planes(known);
-    let mut planes = [[0; 8]; 32];
     for j in from..to {
-        planes[usize::from(j - from)] = known.plane(j).block(block);
+        room.planes[usize::from(j - from)] = known.plane(j).block(block);
     }
-    planes
 }
 
 // Fetches a block of a column.
-fn fetch(known: &Known, column: u8, end: End, block: usize) -> Fetched
+fn fetch(known: &Known, column: u8, end: End, block: usize, room: &mut PlaneRoom) -> Fetched
     requires block { 512 * block < rows_of_column known.now }
     requires few { known.now.known.read ≤ first_digit known.now + 32 }
-    ensures words { IsFetched known.now block result }
+    ensures words { IsFetched known.now block result room.new.planes }
     ensures column { result.column ≡ column }
     ensures end { result.end ≡ end }
 {
+    fetch_planes(known, block, room);
     Fetched {
         column,
         end,
-        planes: fetch_planes(known, block),
         tops: known.at_top().block(block),
     }
 }
@@ -63,10 +74,11 @@ pub(crate) fn fetch_lone<'a>(
     block: usize,
     factors: &[Factor<'a>],
     counted: u8,
+    room: &mut PlaneRoom,
 ) -> Option<Fetched>
     requires block { 512 * block < columns.now.frame.rows }
     requires factors { AreFactors columns.now.frame factors.now }
-    ensures { IfSome result (IsLone columns.now block factors.now) }
+    ensures { IfSome result (λ fetched. IsLone columns.now block factors.now fetched room.new.planes) }
 {
     if counted <= 1 {
         return None;
@@ -78,7 +90,7 @@ pub(crate) fn fetch_lone<'a>(
     match only.term {
         Expr::Column(column) if has_room(columns.column(usize::from(*column))) => {
             let known = columns.column(usize::from(*column));
-            Some(fetch(known, *column, only.end, block))
+            Some(fetch(known, *column, only.end, block, room))
         }
         _ => None,
     }

@@ -10,7 +10,7 @@ ghost use Rattle.product_sums.specs.Fetched.{IsFetched};
 ghost use Rattle.product_sums.specs.Products.{product_at, sum_over, term_end, CanMultiply, HasValue};
 
 use crate::column_ends::{weight_of_all, weight_of_digits, weight_of_top};
-use crate::fetched::Fetched;
+use crate::fetched::{Fetched, PlaneRoom};
 use crate::rows::Rows;
 use crate::wrapping::{minus, plus, times};
 use aggregates::number_planes;
@@ -22,10 +22,11 @@ fn sum_fetched_digits(
     block: usize,
     rows: &Rows,
     fetched: &Fetched,
+    room: &PlaneRoom,
 ) -> i128
     requires column { fetched.now.column < length columns.now.frame.columns }
     requires rows { CanMultiply columns.now block rows.now [] }
-    requires fetched { IsFetched (column_at columns.now fetched.now.column) block fetched.now }
+    requires fetched { IsFetched (column_at columns.now fetched.now.column) block fetched.now room.now.planes }
     ensures { result ≡ int_wrap w128 (sum_over rows.now
         (λ i. pos (number_at (column_at columns.now fetched.now.column) (512 * block + i))
         *ℤ product_at columns.now [] (512 * block + i))) }
@@ -34,7 +35,7 @@ fn sum_fetched_digits(
     let (from, to) = number_planes(known);
     let mut sum: i128 = 0;
     for j in from..to {
-        let ones = rows.count_words(&fetched.planes[usize::from(j - from)]);
+        let ones = rows.count_words(&room.planes[usize::from(j - from)]);
         sum = plus(times(sum, 2), i128::from(ones));
     }
     sum
@@ -46,10 +47,11 @@ pub(crate) fn sum_fetched(
     block: usize,
     rows: &Rows,
     fetched: &Fetched,
+    room: &PlaneRoom,
 ) -> i128
     requires column { fetched.now.column < length columns.now.frame.columns }
     requires rows { CanMultiply columns.now block rows.now [] }
-    requires fetched { IsFetched (column_at columns.now fetched.now.column) block fetched.now }
+    requires fetched { IsFetched (column_at columns.now fetched.now.column) block fetched.now room.now.planes }
     requires values { (i : ℕ) → IsTrue (has_row rows.now i) → HasValue columns.now (Column fetched.now.column) (512 * block + i) }
     ensures { result ≡ int_wrap w128 (sum_over rows.now
         (λ i. term_end columns.now fetched.now.end (Column fetched.now.column) (512 * block + i)
@@ -59,7 +61,7 @@ pub(crate) fn sum_fetched(
     let end = fetched.end;
     let digits = times(
         weight_of_digits(known),
-        sum_fetched_digits(columns, block, rows, fetched),
+        sum_fetched_digits(columns, block, rows, fetched, room),
     );
     let all = times(weight_of_all(end, known), i128::from(rows.count()));
     let tops = i128::from(rows.count_words(&fetched.tops));

@@ -16,6 +16,7 @@ ghost use Rattle.product_sums.specs.Products.{sum_over};
 use crate::block_sums::sum_digits;
 use crate::column_ends::weight_of_top;
 use crate::factors::Factor;
+use crate::fetched::PlaneRoom;
 use crate::rows::Rows;
 use crate::sums::sum_wrapped;
 use crate::wrapping::{plus, times};
@@ -29,6 +30,7 @@ fn sum_block_numbers<'a>(
     column: u8,
     other: Factor<'a>,
     block: usize,
+    room: &mut PlaneRoom,
 ) -> i128
     requires follow { CanFollow columns.now mask.now column (term_of other.term.now) }
     requires block { 512 * block < columns.now.frame.rows }
@@ -40,7 +42,7 @@ fn sum_block_numbers<'a>(
     if rows.count() == 0 {
         return 0;
     }
-    sum_digits(columns, block, &rows, column, &[other])
+    sum_digits(columns, block, &rows, column, &[other], room)
 }
 
 // These over all of the mask's rows.
@@ -55,9 +57,13 @@ pub(crate) fn sum_numbers<'a>(
         (known_at columns.now.known column).read result }
 {
     let _rows = columns.rows();
+    let mut room = PlaneRoom::new();
     let mut sum: i128 = 0;
     for block in 0..mask.rows().div_ceil(512) {
-        sum = plus(sum, sum_block_numbers(columns, mask, column, other, block));
+        sum = plus(
+            sum,
+            sum_block_numbers(columns, mask, column, other, block, &mut room),
+        );
     }
     sum
 }

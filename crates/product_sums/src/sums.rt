@@ -11,6 +11,7 @@ ghost use Rattle.product_sums.specs.Products.{sum_over, term_end, HasValues, IsP
 
 use crate::block_sums::sum_products;
 use crate::factors::Factor;
+use crate::fetched::PlaneRoom;
 use crate::rows::Rows;
 use crate::wrapping::plus;
 use aggregates::End;
@@ -19,7 +20,14 @@ use plane_kernels::Mask;
 use query_model::Expr;
 
 // The ends at the mask's rows of a block, added up.
-fn sum_block(end: End, arg: &Expr, columns: &LentColumns<'_>, mask: &Mask, block: usize) -> i128
+fn sum_block(
+    end: End,
+    arg: &Expr,
+    columns: &LentColumns<'_>,
+    mask: &Mask,
+    block: usize,
+    room: &mut PlaneRoom,
+) -> i128
     requires sums { IsProductSum columns.now.frame (term_of arg.now) }
     requires rows { length mask.now ≡ columns.now.frame.rows }
     requires values { HasValues columns.now (term_of arg.now) mask.now }
@@ -32,7 +40,7 @@ fn sum_block(end: End, arg: &Expr, columns: &LentColumns<'_>, mask: &Mask, block
     if rows.count() == 0 {
         return 0;
     }
-    sum_products(columns, block, &rows, &[Factor { term: arg, end }])
+    sum_products(columns, block, &rows, &[Factor { term: arg, end }], room)
 }
 
 // The ends at all of the mask's rows, added up in 128 bits that wrap around.
@@ -43,9 +51,10 @@ pub(crate) fn sum_wrapped(end: End, arg: &Expr, columns: &LentColumns<'_>, mask:
     ensures { result ≡ int_wrap w128 (sum_over mask.now (term_end columns.now end (term_of arg.now))) }
 {
     let _rows = columns.rows();
+    let mut room = PlaneRoom::new();
     let mut sum: i128 = 0;
     for block in 0..mask.rows().div_ceil(512) {
-        sum = plus(sum, sum_block(end, arg, columns, mask, block));
+        sum = plus(sum, sum_block(end, arg, columns, mask, block, &mut room));
     }
     sum
 }

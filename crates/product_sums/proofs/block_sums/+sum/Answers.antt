@@ -70,8 +70,11 @@ sum_digits-loop-j-init t c =
     let from : c.number_planes-from.result.0 ≡ first_plane (ends_at table.frame c.args.column) (known_at table.known c.args.column).read =
     c.number_planes-from.ensures.from ∙ ap (λ (k : KnownColumn). min (cond k.ends.nullable 1 0) k.known.read) is in
     let none : FitsSigned w128 (pos 0) = record { sfits = omega arith } in
-    sym (int_wrap_fits w128 (pos 0) none)
-    ∙ ap (int_wrap w128) (sym (digits_first table c.args.block c.args.rows.now c.args.rest.now c.requires.rest c.args.column c.requires.column c.number_planes-from.result.0 (omega (arith, from))))
+    record {
+      sum = sym (int_wrap_fits w128 (pos 0) none)
+          ∙ ap (int_wrap w128) (sym (digits_first table c.args.block c.args.rows.now c.args.rest.now c.requires.rest c.args.column c.requires.column c.number_planes-from.result.0 (omega (arith, from))));
+      fetched = c.fetch_lone-fetched.ensures;
+    }
 
 pub sum_digits-and-ones-requires : goal.sum_digits-and-ones-requires
 sum_digits-and-ones-requires t c =
@@ -88,7 +91,7 @@ sum_digits-sum_rest-requires t c =
     ap length (c.of_plane.ensures ∙ ap (λ l. take 512 (drop (512 * c.args.block) l)) (c.plane.ensures ∙ ap (λ (k : KnownColumn). map (digit_of k.known.read c.loop-j.j) k.known.prefixes) is))
     ∙ tested_length table c.args.block c.args.rows.now c.args.rest.now c.requires.rest c.args.column c.requires.column (digit_of (known_at table.known c.args.column).read c.loop-j.j) in (
       search (rules, arith),
-      (subst (λ r. CanMultiply table c.args.block r c.args.rest.now) (sym c.and-ones.ensures) (fewer_rows table c.args.block c.args.rows.now c.of_plane.result c.args.rest.now same c.requires.rest), c.fetch_lone-fetched.ensures),
+      (subst (λ r. CanMultiply table c.args.block r c.args.rest.now) (sym c.and-ones.ensures) (fewer_rows table c.args.block c.args.rows.now c.of_plane.result c.args.rest.now same c.requires.rest), c.loop-j.invariant.fetched),
     )
 
 pub sum_digits-loop-j-preserved : goal.sum_digits-loop-j-preserved
@@ -104,17 +107,20 @@ sum_digits-loop-j-preserved t c =
     c.and-ones.ensures
     ∙ ap (zip2 (λ a b. a && b) c.args.rows.now) (c.of_plane.ensures ∙ ap (λ l. take 512 (drop (512 * c.args.block) l)) (c.plane.ensures ∙ ap (λ (k : KnownColumn). map (digit_of k.known.read c.loop-j.j) k.known.prefixes) is)) in
     let before = first_digits table c.args.block c.args.rows.now rest c.args.column ((known_at table.known c.args.column).read - c.loop-j.j) in
-    let twice = c.times.ensures ∙ ap (λ z. wrapped (z *ℤ pos 2)) c.loop-j.invariant ∙ times_wrapped before (pos 2) in
-    whole
-    ∙ plus_is c.plus-sum.result c.times.result c.sum_rest.result _ _ c.plus-sum.ensures (omega (arith, ints)) (omega (arith, ints)) twice (c.sum_rest.ensures ∙ ap (λ r. wrapped (sum_of_products table c.args.block r rest)) ones)
-    ∙ ap wrapped (sym (digits_next table c.args.block c.args.rows.now rest c.requires.rest c.args.column c.requires.column c.loop-j.j (omega (arith, from, c.loop-j.auto)) (omega (arith, to, c.loop-j-test.true))))
+    let twice = c.times.ensures ∙ ap (λ z. wrapped (z *ℤ pos 2)) c.loop-j.invariant.sum ∙ times_wrapped before (pos 2) in
+    record {
+      sum = whole
+          ∙ plus_is c.plus-sum.result c.times.result c.sum_rest.result _ _ c.plus-sum.ensures (omega (arith, ints)) (omega (arith, ints)) twice (c.sum_rest.ensures.sum ∙ ap (λ r. wrapped (sum_of_products table c.args.block r rest)) ones)
+          ∙ ap wrapped (sym (digits_next table c.args.block c.args.rows.now rest c.requires.rest c.args.column c.requires.column c.loop-j.j (omega (arith, from, c.loop-j.auto)) (omega (arith, to, c.loop-j-test.true))));
+      fetched = c.sum_rest.ensures.fetched;
+    }
 
 pub sum_digits-returns : goal.sum_digits-returns
 sum_digits-returns t c =
     let table = c.args.columns.now in
     let is : c.column-known.result.now ≡ column_at table c.args.column = c.column-known.ensures.column ∙ ap (column_at table) c.from.ensures in
     let to : c.number_planes-from.result.1 ≡ (known_at table.known c.args.column).read = c.number_planes-from.ensures.to ∙ ap (λ (k : KnownColumn). k.known.read) is in
-    c.loop-j.invariant
+    c.loop-j.invariant.sum
     ∙ ap wrapped (digits_last table c.args.block c.args.rows.now c.args.rest.now c.requires.rest c.args.column c.requires.column ((known_at table.known c.args.column).read - c.loop-j.j) (omega (arith, to, c.loop-j.auto, c.loop-j-test.false)))
 
 pub sum_first-returns-in-Literal : goal.sum_first-returns-in-Literal
@@ -161,12 +167,12 @@ sum_products-returns-in-empty t c =
     whole ∙ c.from.ensures ∙ ap pos c.count.ensures ∙ sym (int_wrap_fits w128 (pos (count_by (λ b. b) c.args.rows.now)) few)
     ∙ ap wrapped (sym (empty_sum c.args.columns.now c.args.block c.args.rows.now c.args.factors.now (omega (arith, c.in-empty.len_below))))
 
-pub sum_rest-returns-in-Some : goal.sum_rest-returns-in-Some
-sum_rest-returns-in-Some t c =
+pub sum_rest-returns-in-Some-clause-sum : goal.sum_rest-returns-in-Some-clause-sum
+sum_rest-returns-in-Some-clause-sum t c =
     let table = c.args.columns.now in
     let rest = c.args.rest.now in
     let words = c.in-Some.words in
-    let lone = subst (λ o. IfSome o (IsLone table c.args.block rest)) c.in-Some.is c.requires.fetched in
+    let lone = subst (λ o. IfSome o (λ fetched. IsLone table c.args.block rest fetched c.args.room.now.planes)) c.in-Some.is c.requires.fetched in
     let whole : to_z w128 (of_z w128 c.sum_fetched.result) ≡ c.sum_fetched.result = omega (arith, ints) in
     whole ∙ c.sum_fetched.ensures
     ∙ ap wrapped (over_same c.args.rows.now (λ i. term_end table words.end (Column words.column) (512 * c.args.block + i) *ℤ pos 1) (λ i. product_at table rest (512 * c.args.block + i)) (λ i has. sym (lone.product (512 * c.args.block + i))))

@@ -1,8 +1,9 @@
 -- Measures of the calls, and what the loop over planes keeps.
-use Rattle.std.proofs.Common.{◌≡◌, ◌+◌, ◌-◌, ◌*◌}
+use Rattle.std.proofs.Common.{◌≡◌, ◌+◌, ◌-◌, ◌*◌, IfSome}
 use Rattle.std.specs.Int.{int_wrap, w128}
 use Rattle.query_model.specs.Knowledge.{known_at}
 use Rattle.query_model.specs.Queries.{term_of}
+use Rattle.product_sums.specs.Fetched.{IsLone}
 use Rattle.product_sums.proofs.DigitSums.{first_digits}
 use Rattle.product_sums.proofs.Sizes.{size, sizes}
 use Rattle.product_sums.proofs.block_sums.+sum.Given as goal
@@ -29,5 +30,7 @@ abbrev pub decreases-sum_column : goal.decreases-sum_column
 decreases-sum_column l = 6 * sizes l.rest.now + 4
 
 abbrev pub invariant-sum_digits-loop-j : goal.invariant-sum_digits-loop-j
-invariant-sum_digits-loop-j l =
-    l.sum ≡ int_wrap w128 (first_digits l.columns l.block l.rows l.rest l.column ((known_at l.columns.known l.column).read - l.j))
+invariant-sum_digits-loop-j l = record {
+  sum : l.sum ≡ int_wrap w128 (first_digits l.columns l.block l.rows l.rest l.column ((known_at l.columns.known l.column).read - l.j));
+  fetched : IfSome l.fetched (λ words. IsLone l.columns l.block l.rest words l.room.planes);
+}

@@ -12,9 +12,9 @@ loop-j-preserved c =
     let first : first_digit column ≡ c.number_planes-from.result.0 = sym c.number_planes-from.ensures.from in
     let at : j - first_digit column ≡ c.from.result = omega (arith, c.from.ensures, first) in
     let is : IsBlockOf (ones_of column j) c.args.block c.block.result = subst (λ p. IsBlockOf p c.args.block c.block.result) c.plane.ensures (record { bits = c.block.ensures.rows; padded = c.block.ensures.padded }) in (
-      length-set c.loop-j.planes c.from.result c.block.result ∙ c.loop-j.invariant.0,
-      subst (λ n. AreFetchedBelow column c.args.block (set c.loop-j.planes n c.block.result) (j + 1)) at
-          (fetched_more column c.args.block c.loop-j.planes c.block.result j c.loop-j.invariant.1 (omega (arith, first, c.loop-j.auto)) (omega (arith, first, c.requires.few, c.loop-j-test.true, c.number_planes-from.ensures.to, c.loop-j.invariant.0)) is),
+      length-set c.loop-j.room.planes c.from.result c.block.result ∙ c.loop-j.invariant.0,
+      subst (λ n. AreFetchedBelow column c.args.block (set c.loop-j.room.planes n c.block.result) (j + 1)) at
+          (fetched_more column c.args.block c.loop-j.room.planes c.block.result j c.loop-j.invariant.1 (omega (arith, first, c.loop-j.auto)) (omega (arith, first, c.requires.few, c.loop-j-test.true, c.number_planes-from.ensures.to, c.loop-j.invariant.0)) is),
     )
 
 pub returns : goal.returns

@@ -41,9 +41,9 @@ loop-j-preserved c =
     let to : c.number_planes-from.result.1 ≡ (known_at table.known column).read = c.number_planes-from.ensures.to ∙ ap (λ (k : KnownColumn). k.known.read) is in
     let at : c.from-in-loop-j.result ≡ j - first_digit known = omega (arith, c.from-in-loop-j.ensures, from) in
     let all : length (ones_of known j) ≡ table.frame.rows = length-map known.known.prefixes (digit_of known.known.read j) ∙ c.requires.rows.known.knowledge.rows column c.requires.column in
-    let bits = bits_there (ones_of known j) rows block (get_or c.args.fetched.now.planes (j - first_digit known) []) (c.requires.fetched.planes j (omega (arith, from, c.loop-j.auto)) (omega (arith, to, c.loop-j-test.true)))
+    let bits = bits_there (ones_of known j) rows block (get_or c.args.room.now.planes (j - first_digit known) []) (c.requires.fetched.planes j (omega (arith, from, c.loop-j.auto)) (omega (arith, to, c.loop-j-test.true)))
     (c.requires.rows.count ∙ ap (λ n. min 512 (n - 512 * block)) (sym all)) in
-    let counted = c.count_words-ones.ensures ∙ ap (λ n. count_by (λ b. b) (zip2 (λ a b. a && b) rows (rows_of (length rows) (get_or c.args.fetched.now.planes n [])))) at ∙ ap (count_by (λ b. b)) bits.1 in
+    let counted = c.count_words-ones.ensures ∙ ap (λ n. count_by (λ b. b) (zip2 (λ a b. a && b) rows (rows_of (length rows) (get_or c.args.room.now.planes n [])))) at ∙ ap (count_by (λ b. b)) bits.1 in
     let ones = count_is table block (zip2 (λ a b. a && b) rows (take 512 (drop (512 * block) (ones_of known j)))) c.count_words-ones.result c.from-in-loop-j-2.result c.from-in-loop-j-2.ensures counted (omega (arith, c.count_words-ones.type_inv)) in
     let before = first_digits table block rows [] column ((known_at table.known column).read - j) in
     let twice = c.times.ensures ∙ ap (λ z. wrapped (z *ℤ pos 2)) c.loop-j.invariant ∙ times_wrapped before (pos 2) in
