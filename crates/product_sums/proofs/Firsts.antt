@@ -21,7 +21,7 @@ pub empty_sum : (table : KnownTable) (block : ℕ) (rows : List Bool) (fs : List
 empty_sum table block rows [] few = over_ones rows
 empty_sum table block rows (f ∷ fs) few = absurd (omega (arith, few))
 
-only_end : (e : End) (n : ℤ) → end_of e (only n) ≡ n
+pub only_end : (e : End) (n : ℤ) → end_of e (only n) ≡ n
 only_end Low n = refl
 only_end High n = refl
 

@@ -6,7 +6,9 @@ pub mod TermEnds
 pub mod DigitSums
 pub mod Tallies
 pub mod KeptProducts
-pub mod KeptEnds
+pub mod PairSums
+pub mod FirstNumbers
+pub mod LinearSums
 pub mod ProductParts
 pub mod StaysKept
 pub mod MaskSums

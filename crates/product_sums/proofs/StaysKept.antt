@@ -1,59 +1,33 @@
 -- Sums of products that are kept stay, whatever plane is read.
-use Rattle.std.proofs.Common.{◌≡◌, ℕ, zero, suc, ◌+◌, ◌-◌, ◌*◌, ◌/◌, ◌^◌, ◌<◌, ◌≤◌, inl, inr, ℤ, pos, ◌*ℤ◌, Bool, true, false, cond, List, [], ◌∷◌, length, refl, ap, sym, ◌∙◌, arith, get_or, subst}
+use Rattle.std.proofs.Common.{◌≡◌, ℕ, zero, suc, ◌+◌, ◌-◌, ◌*◌, ◌/◌, ◌^◌, ◌<◌, ◌≤◌, inl, inr, pos, ◌*ℤ◌, Bool, true, false, cond, List, [], ◌∷◌, length, refl, ap, sym, ◌∙◌, arith, get_or, subst, IsTrue}
 use Rattle.std.specs.Prelude.{◌≢◌, slice_index}
 use Rattle.std.specs.Int.{int_wrap, w128}
 use Rattle.std.proofs.Math.Nat.{div-div-eq-div-mul, pow-suc}
 use Rattle.std.proofs.lemmas.Bool.{cases_eq}
 use Rattle.std.proofs.lemmas.List.{get_or-set_other, get_or-set_same}
-use Rattle.interval_calc.specs.Intervals.{difference_of, product_of, sum_of}
-use Rattle.daq_table.specs.Tables.{Frame, ends_at, planes}
+use Rattle.std.proofs.lemmas.List.Elements.{All-weaker}
+use Rattle.daq_table.specs.Tables.{ends_at, planes}
 use Rattle.daq_table.specs.declared.head.Ends.{Ends}
-use Rattle.aggregates.specs.declared.ends.End.{End}
-use Rattle.aggregates.specs.declared.ends.End.TheVariants.{Low, High}
 use Rattle.aggregates.specs.ExtremeRows.{number_at}
-use Rattle.aggregates.specs.Selections.{end_of}
+use Rattle.aggregates.specs.Selections.{has_row}
 use Rattle.aggregates.proofs.BlockWords.{row_within}
 use Rattle.aggregates.proofs.EarlyNumbers.{early_row}
 use Rattle.known_column.specs.Columns.{number_of}
 use Rattle.known_column.specs.KnownTables.{IsKnownTable, KnownTable, column_at, read_column}
-use Rattle.query_model.specs.Knowledge.{ColumnKnowledge, IsLegal, Knowledge, known_at, longer, longer_column, range_of, ranges_of, taken}
+use Rattle.query_model.specs.Knowledge.{ColumnKnowledge, IsLegal, Knowledge, known_at, longer, longer_column, taken}
 use Rattle.query_model.specs.Meaning.{ReadsBelow}
-use Rattle.query_model.specs.Queries.{Term, Column, Literal, Add, Sub, Mul}
-use Rattle.query_model.specs.Truths.{Range, span_of}
-use Rattle.product_sums.specs.declared.kept_end.KeptEnd.{KeptEnd}
+use Rattle.query_model.specs.Queries.{Term}
 use Rattle.product_sums.specs.declared.kept_product.KeptProduct.{KeptProduct}
-use Rattle.product_sums.specs.KeptProducts.{IsKeptEnd, IsKeptNumber, IsKeptProduct, other_part, planes_read}
-use Rattle.product_sums.specs.Products.{term_end}
-use Rattle.product_sums.proofs.ProductParts.{column_read, other_reads}
+use Rattle.product_sums.specs.declared.pair_sums.Pair.{Pair}
+use Rattle.product_sums.specs.declared.pair_sums.PairSums.{PairSums}
+use Rattle.product_sums.specs.KeptProducts.{AreKeptEnds, ArePairSums, IsKeptProduct, IsPair, first_number}
 use Rattle.product_sums.proofs.RowSums.{over_same}
 
--- the expression does not read this column
-abbrev pub Avoids : ℕ → Term → Type 0
-Avoids d (Column c) = c ≢ d
-Avoids d (Literal n) = Unit {0}
-Avoids d (Add a b) = Avoids d a × Avoids d b
-Avoids d (Sub a b) = Avoids d a × Avoids d b
-Avoids d (Mul a b) = Avoids d a × Avoids d b
+-- ---- planes of another column
 
--- ---- planes of a column that an expression does not read
-
-module _ (frame : Frame) (known : Knowledge) (d : ℕ) (bits : List Bool) (r : ℕ) where
-  abbrev after : ℕ → Range
-  after = ranges_of frame (taken known d bits) r
-
-  abbrev before : ℕ → Range
-  before = ranges_of frame known r
-
+module _ (known : Knowledge) (d : ℕ) (bits : List Bool) where
   pub same_known : (c : ℕ) → c ≢ d → known_at (taken known d bits) c ≡ known_at known c
   same_known c other = get_or-set_other known d c (longer_column (known_at known d) bits) (record { read = 0; prefixes = [] }) other
-
-  -- leave it where it lies
-  pub same_span : (t : Term) → Avoids d t → span_of t after ≡ span_of t before
-  same_span (Column c) a = ap (λ (w : ColumnKnowledge). (range_of (ends_at frame c) w.read (slice_index w.prefixes r)).numbers) (same_known c a)
-  same_span (Literal n) a = refl
-  same_span (Add a b) h = ap (λ s. sum_of s (span_of b after)) (same_span a h.0) ∙ ap (sum_of (span_of a before)) (same_span b h.1)
-  same_span (Sub a b) h = ap (λ s. difference_of s (span_of b after)) (same_span a h.0) ∙ ap (difference_of (span_of a before)) (same_span b h.1)
-  same_span (Mul a b) h = ap (λ s. product_of s (span_of b after)) (same_span a h.0) ∙ ap (product_of (span_of a before)) (same_span b h.1)
 
 -- ---- the first digits of a prefix stay where a digit follows
 
@@ -85,26 +59,8 @@ module _ (table : KnownTable) (known : IsKnownTable table) (d : ℕ) (bits : Lis
   read_grows : (c : ℕ) → c < length table.frame.columns → (known_at table.known c).read ≤ (known_at (taken table.known d bits) c).read
   read_grows c there = elim (cases_eq c d) [
     | inl here ↦ (let once : (known_at (taken table.known d bits) c).read ≡ (known_at table.known c).read + 1 = ap (λ (w : ColumnKnowledge). w.read) (read_once c there here) in omega (arith, once))
-    | inr other ↦ (let same : (known_at (taken table.known d bits) c).read ≡ (known_at table.known c).read = ap (λ (w : ColumnKnowledge). w.read) (same_known table.frame table.known d bits 0 c other) in omega (arith, same))
+    | inr other ↦ (let same : (known_at (taken table.known d bits) c).read ≡ (known_at table.known c).read = ap (λ (w : ColumnKnowledge). w.read) (same_known table.known d bits c other) in omega (arith, same))
   ]
-
-  planes_grow : (t : Term) → ReadsBelow (length table.frame.columns) t → planes_read table t ≤ planes_read read_after t
-  planes_grow (Column c) there = read_grows c there
-  planes_grow (Literal n) there = omega arith
-  planes_grow (Add a b) there = omega (arith, planes_grow a there.0, planes_grow b there.1)
-  planes_grow (Sub a b) there = omega (arith, planes_grow a there.0, planes_grow b there.1)
-  planes_grow (Mul a b) there = omega (arith, planes_grow a there.0, planes_grow b there.1)
-
-  -- where no plane more was read of an expression's columns, the column is none of them
-  avoided : (t : Term) → ReadsBelow (length table.frame.columns) t → planes_read read_after t ≡ planes_read table t → Avoids d t
-  avoided (Column c) there same = elim (cases_eq c d) [
-    | inl here ↦ (let once : (known_at (taken table.known d bits) c).read ≡ (known_at table.known c).read + 1 = ap (λ (w : ColumnKnowledge). w.read) (read_once c there here) in absurd (omega (arith, once, same)))
-    | inr other ↦ other
-  ]
-  avoided (Literal n) there same = tt
-  avoided (Add a b) there same = (avoided a there.0 (omega (arith, same, planes_grow a there.0, planes_grow b there.1)), avoided b there.1 (omega (arith, same, planes_grow a there.0, planes_grow b there.1)))
-  avoided (Sub a b) there same = (avoided a there.0 (omega (arith, same, planes_grow a there.0, planes_grow b there.1)), avoided b there.1 (omega (arith, same, planes_grow a there.0, planes_grow b there.1)))
-  avoided (Mul a b) there same = (avoided a there.0 (omega (arith, same, planes_grow a there.0, planes_grow b there.1)), avoided b there.1 (omega (arith, same, planes_grow a there.0, planes_grow b there.1)))
 
   module _ (c : ℕ) (there : c < length table.frame.columns) (had : ℕ) (some : had ≤ (known_at table.known c).read) where
     abbrev ends : Ends
@@ -129,42 +85,44 @@ module _ (table : KnownTable) (known : IsKnownTable table) (d : ℕ) (bits : Lis
         sym (early_row ends (now.read + 1) had q read_more (omega (arith, some)) legal_more) ∙ ap (number_of ends had) first
         ∙ early_row ends now.read had p (known.knowledge.read c there) some (known.knowledge.legal c r there below)
 
-    number_stays : (r : ℕ) → r < table.frame.rows →
+    pub number_stays : (r : ℕ) → r < table.frame.rows →
         number_at (column_at read_after c) r / 2 ^ ((known_at (taken table.known d bits) c).read - had) ≡ number_at (column_at table c) r / 2 ^ (now.read - had)
     number_stays r below = elim (cases_eq c d) [
       | inl here ↦ ap (λ (v : ColumnKnowledge). number_of ends v.read (slice_index v.prefixes r) / 2 ^ (v.read - had)) (read_once c there here) ∙ longer_stays here r below
-      | inr other ↦ ap (λ (v : ColumnKnowledge). number_of ends v.read (slice_index v.prefixes r) / 2 ^ (v.read - had)) (same_known table.frame table.known d bits 0 c other)
+      | inr other ↦ ap (λ (v : ColumnKnowledge). number_of ends v.read (slice_index v.prefixes r) / 2 ^ (v.read - had)) (same_known table.known d bits c other)
     ]
 
-    -- so what is kept stays where the other part does
-    kept_stays : (mask : List Bool) (e : End) (t : Term) (number : ℤ) → length mask ≡ table.frame.rows → Avoids d t → IsKeptNumber table mask c (term_end table e t) had number → IsKeptNumber read_after mask c (term_end read_after e t) had number
-    kept_stays mask e t number long avoid is =
-        is ∙ ap (λ z. int_wrap w128 z) (sym (over_same mask
-        (λ r. pos (number_at (column_at read_after c) r / 2 ^ ((known_at (taken table.known d bits) c).read - had)) *ℤ term_end read_after e t r)
-        (λ r. pos (number_at (column_at table c) r / 2 ^ (now.read - had)) *ℤ term_end table e t r)
-        (λ r has.
-        ap (λ n. pos n *ℤ term_end read_after e t r) (number_stays r (omega (arith, row_within mask r has, long)))
-        ∙ ap (λ s. pos (number_at (column_at table c) r / 2 ^ (now.read - had)) *ℤ end_of e s) (same_span table.frame table.known d bits r t avoid))))
-
-  end_stays : (c : ℕ) → c < length table.frame.columns → (e : End) (t : Term) (kept : KeptEnd) → ReadsBelow (length table.frame.columns) t → IsKeptEnd table c t e kept → IsKeptEnd read_after c t e kept
-  end_stays c there e t kept reads is =
-      let grows = read_grows c there in
-      let more = planes_grow t reads in
-      let same : planes_read read_after t ≡ kept.others → (planes_read read_after t ≡ planes_read table t) × (planes_read table t ≡ kept.others) = λ now. (omega (arith, now, more, is.others_read), omega (arith, now, more, is.others_read)) in
+  -- what planes of two columns gave stays
+  pub sums_stay : (mask : List Bool) (pair : Pair) (sums : PairSums) → IsPair table pair → ArePairSums table mask pair sums → ArePairSums read_after mask pair sums
+  sums_stay mask pair sums is are =
+      let below : (r : ℕ) → IsTrue (has_row mask r) → r < table.frame.rows = λ r has. omega (arith, row_within mask r has, are.rows) in
+      let first : (r : ℕ) → IsTrue (has_row mask r) → pos (first_number table pair.first sums.first_read r) ≡ pos (first_number read_after pair.first sums.first_read r) =
+      λ r has. ap pos (sym (number_stays pair.first is.first sums.first_read are.first_read r (below r has))) in
+      let second : (r : ℕ) → IsTrue (has_row mask r) → pos (first_number table pair.second sums.second_read r) ≡ pos (first_number read_after pair.second sums.second_read r) =
+      λ r has. ap pos (sym (number_stays pair.second is.second sums.second_read are.second_read r (below r has))) in
       record {
-        rows = is.rows;
-        some_read = omega (arith, grows, is.some_read);
-        others_read = omega (arith, more, is.others_read);
-        number = λ now. kept_stays c there kept.read is.some_read kept.mask e t kept.number is.rows (avoided t reads (same now).0) (is.number (same now).1);
-        others = λ now. is.others (same now).1
-            ∙ ap (int_wrap w128) (sym (over_same kept.mask (term_end read_after e t) (term_end table e t) (λ r has. ap (end_of e) (same_span table.frame table.known d bits r t (avoided t reads (same now).0)))));
+        rows = are.rows;
+        first_read = omega (arith, are.first_read, read_grows pair.first is.first);
+        second_read = omega (arith, are.second_read, read_grows pair.second is.second);
+        first = are.first
+            ∙ ap (int_wrap w128) (over_same mask (λ r. pos (first_number table pair.first sums.first_read r)) (λ r. pos (first_number read_after pair.first sums.first_read r)) first);
+        second = are.second
+            ∙ ap (int_wrap w128) (over_same mask (λ r. pos (first_number table pair.second sums.second_read r)) (λ r. pos (first_number read_after pair.second sums.second_read r)) second);
+        both = are.both
+            ∙ ap (int_wrap w128) (over_same mask (λ r. pos (first_number table pair.first sums.first_read r) *ℤ pos (first_number table pair.second sums.second_read r))
+            (λ r. pos (first_number read_after pair.first sums.first_read r) *ℤ pos (first_number read_after pair.second sums.second_read r))
+            (λ r has. ap (λ z. z *ℤ pos (first_number table pair.second sums.second_read r)) (first r has) ∙ ap (λ z. pos (first_number read_after pair.first sums.first_read r) *ℤ z) (second r has)));
       }
 
-  -- both ends of an expression
+  -- the ends of an expression
   pub product_stays : (term : Term) (kept : KeptProduct) → ReadsBelow (length table.frame.columns) term → IsKeptProduct table term kept → IsKeptProduct read_after term kept
   product_stays term kept reads is = record {
     product = is.product;
-    low = end_stays kept.column (column_read kept.column term (length table.frame.columns) is.product reads) Low (other_part kept.column term) kept.low (other_reads kept.column term (length table.frame.columns) is.product reads) is.low;
-    high = end_stays kept.column (column_read kept.column term (length table.frame.columns) is.product reads) High (other_part kept.column term) kept.high (other_reads kept.column term (length table.frame.columns) is.product reads) is.high;
-    room = is.room;
+    linear = is.linear;
+    pair_is = record { first = is.pair_is.first; second = is.pair_is.second };
+    cells_are = All-weaker (AreKeptEnds table kept.pair) (AreKeptEnds read_after kept.pair) (λ ends are. record {
+      low = sums_stay ends.low.mask kept.pair ends.low.sums is.pair_is are.low;
+      high = sums_stay ends.high.mask kept.pair ends.high.sums is.pair_is are.high;
+    }) kept.cells.items is.cells_are;
+    rooms_are = record { beside = is.rooms_are.beside; ones = is.rooms_are.ones };
   }

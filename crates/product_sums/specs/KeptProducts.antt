@@ -1,15 +1,24 @@
 -- Sums of products that are kept from one plane to the next.
-use Rattle.std.specs.Prelude.{◌≡◌, ℕ, ◌+◌, ◌-◌, ◌/◌, ◌^◌, ◌≤◌, ◌<◌, ◌==◌, ◌||◌, ℤ, pos, ◌*ℤ◌, Bool, false, cond, List, length, IsTrue}
+use Rattle.std.specs.Prelude.{◌≡◌, ℕ, ◌-◌, ◌/◌, ◌^◌, ◌≤◌, ◌<◌, ◌==◌, ◌&&◌, ◌||◌, ℤ, pos, ◌*ℤ◌, Bool, false, cond, List, length, IsTrue}
 use Rattle.std.specs.Int.{int_wrap, w128}
-use Rattle.aggregates.specs.declared.ends.End.{End}
-use Rattle.aggregates.specs.declared.ends.End.TheVariants.{Low, High}
+use Rattle.std.specs.List.{All}
+use Rattle.std.specs.Simd.Lanes.{zip2}
+use Rattle.aggregates.specs.declared.ends.End.TheVariants.{High}
 use Rattle.aggregates.specs.ExtremeRows.{number_at}
+use Rattle.known_column.specs.Columns.{is_at_top, rows_where}
 use Rattle.known_column.specs.KnownTables.{KnownTable, column_at}
 use Rattle.query_model.specs.Knowledge.{known_at}
 use Rattle.query_model.specs.Queries.{Term, Column, Literal, Add, Sub, Mul, term_of}
 use Rattle.product_sums.specs.declared.factors.Factor.{Factor}
-use Rattle.product_sums.specs.declared.kept_end.KeptEnd.{KeptEnd}
+use Rattle.product_sums.specs.declared.kept_pair.Clipped.{Clipped}
+use Rattle.product_sums.specs.declared.kept_pair.KeptPair.{KeptPair}
+use Rattle.product_sums.specs.declared.kept_product.KeptEnds.{KeptEnds}
 use Rattle.product_sums.specs.declared.kept_product.KeptProduct.{KeptProduct}
+use Rattle.product_sums.specs.declared.linear_sums.ColumnSums.{ColumnSums}
+use Rattle.product_sums.specs.declared.pair_sums.Pair.{Pair}
+use Rattle.product_sums.specs.declared.pair_sums.PairSums.{PairSums}
+use Rattle.product_sums.specs.declared.pair_sums.Rooms.{Rooms}
+use Rattle.product_sums.specs.ColumnEnds.{weight_of_top}
 use Rattle.product_sums.specs.Products.{sum_over, term_end, HasValues, IsProductSum}
 
 -- ---- a product of a column and another part
@@ -38,13 +47,13 @@ other_part c (Add a b) = Add a b
 other_part c (Sub a b) = Sub a b
 other_part c (Mul a b) = cond (is_column_at c a) b a
 
--- how many planes were read of the columns in an expression, those of each column as often as it stands there
-abbrev pub planes_read : KnownTable → Term → ℕ
-planes_read table (Column c) = (known_at table.known c).read
-planes_read table (Literal n) = 0
-planes_read table (Add a b) = planes_read table a + planes_read table b
-planes_read table (Sub a b) = planes_read table a + planes_read table b
-planes_read table (Mul a b) = planes_read table a + planes_read table b
+-- the expression adds and takes off numbers and this column alone
+abbrev pub IsLinear : ℕ → Term → Type 0
+IsLinear c (Column k) = k ≡ c
+IsLinear c (Literal n) = Unit {0}
+IsLinear c (Add a b) = IsLinear c a × IsLinear c b
+IsLinear c (Sub a b) = IsLinear c a × IsLinear c b
+IsLinear c (Mul a b) = ⊥
 
 -- an end of an expression at a row
 abbrev pub factor_end : KnownTable → Factor → ℕ → ℤ
@@ -57,36 +66,90 @@ pub record CanFollow (table : KnownTable) (mask : List Bool) (c : ℕ) (other : 
   pub sums : IsProductSum table.frame other
   pub values : HasValues table other mask
 
--- ---- what is kept
+-- ---- what planes give
 
 -- the number that a column's digits make but for so many at the end, times a number of each row, added up over a mask's rows
 abbrev pub first_sum : KnownTable → List Bool → ℕ → (ℕ → ℤ) → ℕ → ℤ
 first_sum table mask c f k = sum_over mask (λ r. pos (number_at (column_at table c) r / 2 ^ k) *ℤ f r)
 
--- what the first planes gave of it, so many of them
-abbrev pub IsKeptNumber : KnownTable → List Bool → ℕ → (ℕ → ℤ) → ℕ → ℤ → Type 0
-IsKeptNumber table mask c f read number = number ≡ int_wrap w128 (first_sum table mask c f ((known_at table.known c).read - read))
+-- the number that the first planes of a column make at a row, so many of them
+abbrev pub first_number : KnownTable → ℕ → ℕ → ℕ → ℕ
+first_number table c read row = number_at (column_at table c) row / 2 ^ ((known_at table.known c).read - read)
 
--- an end of a product of a column and another part: what the column's first planes gave of it over the rows of a mask, and the other part,
--- added up. Planes of the column leave that as it is, and so do those of columns that the other part does not read
-pub record IsKeptEnd (table : KnownTable) (c : ℕ) (other : Term) (end : End) (kept : KeptEnd) : Type 0 where
-  pub rows : length kept.mask ≡ table.frame.rows
-  pub some_read : kept.read ≤ (known_at table.known c).read
-  pub others_read : kept.others ≤ planes_read table other
-  pub number : planes_read table other ≡ kept.others → IsKeptNumber table kept.mask c (term_end table end other) kept.read kept.number
-  pub others : planes_read table other ≡ kept.others → kept.sum ≡ int_wrap w128 (sum_over kept.mask (term_end table end other))
+-- the table has both columns
+pub record IsPair (table : KnownTable) (pair : Pair) : Type 0 where
+  pub first : pair.first < length table.frame.columns
+  pub second : pair.second < length table.frame.columns
 
--- what is kept is that of these rows, and of all planes that were read
-pub record IsReadTo (table : KnownTable) (mask : List Bool) (c : ℕ) (other : Factor) (kept : KeptEnd) : Type 0 where
-  pub rows : kept.mask ≡ mask
-  pub all_read : kept.read ≡ (known_at table.known c).read
-  pub others_read : kept.others ≤ planes_read table (term_of other.term.now)
-  pub number : IsKeptNumber table mask c (factor_end table other) (known_at table.known c).read kept.number
-  pub others : kept.sum ≡ int_wrap w128 (sum_over mask (factor_end table other))
+-- the sums are those of the numbers that the first planes of two columns make, over the rows of a mask
+pub record ArePairSums (table : KnownTable) (mask : List Bool) (pair : Pair) (sums : PairSums) : Type 0 where
+  pub rows : length mask ≡ table.frame.rows
+  pub first_read : sums.first_read ≤ (known_at table.known pair.first).read
+  pub second_read : sums.second_read ≤ (known_at table.known pair.second).read
+  pub first : sums.first ≡ int_wrap w128 (sum_over mask (λ r. pos (first_number table pair.first sums.first_read r)))
+  pub second : sums.second ≡ int_wrap w128 (sum_over mask (λ r. pos (first_number table pair.second sums.second_read r)))
+  pub both : sums.both
+      ≡ int_wrap w128 (sum_over mask (λ r. pos (first_number table pair.first sums.first_read r)
+      *ℤ pos (first_number table pair.second sums.second_read r)))
 
--- both ends of an expression are kept
+-- and all planes that were read are in them
+pub record AreReadOn (table : KnownTable) (mask : List Bool) (pair : Pair) (sums : PairSums) : Type 0 where
+  pub sums_are : ArePairSums table mask pair sums
+  pub all_first : sums.first_read ≡ (known_at table.known pair.first).read
+  pub all_second : sums.second_read ≡ (known_at table.known pair.second).read
+
+-- the same the other way round
+abbrev pub turned_pair : Pair → Pair
+turned_pair pair = record { first = pair.second; second = pair.first }
+
+abbrev pub turned_sums : PairSums → PairSums
+turned_sums sums = record {
+  first_read = sums.second_read;
+  second_read = sums.first_read;
+  first = sums.second;
+  second = sums.first;
+  both = sums.both;
+}
+
+-- there is room for so many rows
+pub record AreRooms (rows : ℕ) (rooms : Rooms) : Type 0 where
+  pub beside : length rooms.beside ≡ rows
+  pub ones : length rooms.ones ≡ rows
+
+-- ---- ends by what planes give
+
+-- the sums are those of a number of each row of a mask, and of a column's number times that
+pub record AreColumnSums (table : KnownTable) (mask : List Bool) (c : ℕ) (f : ℕ → ℤ) (sums : ColumnSums) : Type 0 where
+  pub rows : length mask ≡ table.frame.rows
+  pub all : sums.all ≡ int_wrap w128 (sum_over mask f)
+  pub numbers : sums.numbers ≡ int_wrap w128 (sum_over mask (λ r. pos (first_number table c (known_at table.known c).read r) *ℤ f r))
+  pub clipped : sums.clipped ≡ int_wrap w128 (weight_of_top High (column_at table c)
+      *ℤ sum_over (zip2 (λ a b. a && b) mask (rows_where is_at_top (column_at table c))) f)
+
+-- what the rows at the prefix of the second column's top give less, of a mask
+pub record AreClipped (table : KnownTable) (mask : List Bool) (pair : Pair) (clipped : Clipped) : Type 0 where
+  pub rows : clipped.rows
+      ≡ int_wrap w128 (weight_of_top High (column_at table pair.second)
+      *ℤ sum_over (zip2 (λ a b. a && b) mask (rows_where is_at_top (column_at table pair.second))) (λ r. pos 1))
+  pub numbers : clipped.numbers ≡ int_wrap w128 (weight_of_top High (column_at table pair.second)
+      *ℤ sum_over (zip2 (λ a b. a && b) mask (rows_where is_at_top (column_at table pair.second)))
+      (λ r. pos (first_number table pair.first (known_at table.known pair.first).read r)))
+
+-- ---- what is kept
+
+-- rows, and what planes of two columns gave over them. No plane that is read changes it
+abbrev pub IsKeptPair : KnownTable → Pair → KeptPair → Type 0
+IsKeptPair table pair kept = ArePairSums table kept.mask pair kept.sums
+
+-- of one cell both are kept
+pub record AreKeptEnds (table : KnownTable) (pair : Pair) (kept : KeptEnds) : Type 0 where
+  pub low : IsKeptPair table pair kept.low
+  pub high : IsKeptPair table pair kept.high
+
+-- the ends of an expression are kept
 pub record IsKeptProduct (table : KnownTable) (term : Term) (kept : KeptProduct) : Type 0 where
-  pub product : IsProductWith kept.column term
-  pub low : IsKeptEnd table kept.column (other_part kept.column term) Low kept.low
-  pub high : IsKeptEnd table kept.column (other_part kept.column term) High kept.high
-  pub room : length kept.room ≡ table.frame.rows
+  pub product : IsProductWith kept.pair.first term
+  pub linear : IsLinear kept.pair.second (other_part kept.pair.first term)
+  pub pair_is : IsPair table kept.pair
+  pub cells_are : All (AreKeptEnds table kept.pair) kept.cells.items
+  pub rooms_are : AreRooms table.frame.rows kept.rooms

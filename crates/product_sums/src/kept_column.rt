@@ -1,11 +1,10 @@
-//! Products of a column and another part: which column is followed from plane to plane.
+//! Products of a column and another part: which columns are followed from plane to plane.
 
-ghost use Rattle.std.specs.Prelude.{◌≡◌, ◌^◌, ◌-◌, min, length, IfSome, IsTrue};
-ghost use Rattle.query_model.specs.Meaning.{ReadsBelow};
+ghost use Rattle.std.specs.Prelude.{◌≡◌, IfSome, IsTrue};
 ghost use Rattle.query_model.specs.Queries.{term_of};
-ghost use Rattle.product_sums.specs.KeptProducts.{is_column_at, other_part, planes_read, IsProductWith};
+ghost use Rattle.product_sums.specs.KeptProducts.{is_column_at, other_part, IsLinear, IsPair, IsProductWith};
 
-use aggregates::number_planes;
+use crate::pair_sums::Pair;
 use known_column::LentColumns;
 use query_model::Expr;
 
@@ -39,66 +38,62 @@ pub(crate) fn other_part(expr: &Expr, column: u8) -> &Expr
     }
 }
 
-// How many planes were read of the columns in an expression, or the greatest number of 64 bits.
-pub(crate) fn planes_read(expr: &Expr, columns: &LentColumns<'_>) -> u64
-    requires { ReadsBelow (length columns.now.frame.columns) (term_of expr.now) }
-    ensures { result ≡ min (planes_read columns.now (term_of expr.now)) (2 ^ 64 - 1) }
+// Whether the expression adds and takes off numbers and this column alone.
+fn is_linear(expr: &Expr, column: u8) -> bool
+    ensures { IsTrue result → IsLinear column (term_of expr.now) }
 {
     match expr {
-        Expr::Column(column) => u64::from(number_planes(columns.column(usize::from(*column))).1),
-        Expr::Literal(_) => 0,
-        Expr::Add(a, b) | Expr::Sub(a, b) | Expr::Mul(a, b) => {
-            planes_read(a, columns).saturating_add(planes_read(b, columns))
-        }
-    }
-}
-
-// Whether the expression reads a column.
-fn reads(expr: &Expr, column: u8) -> bool {
-    match expr {
         Expr::Column(there) => *there == column,
-        Expr::Literal(_) => false,
-        Expr::Add(a, b) | Expr::Sub(a, b) | Expr::Mul(a, b) => reads(a, column) || reads(b, column),
+        Expr::Literal(_) => true,
+        Expr::Add(a, b) | Expr::Sub(a, b) => is_linear(a, column) && is_linear(b, column),
+        Expr::Mul(_, _) => false,
     }
 }
 
-// The column that the expression is, and how many of its planes are unread, if the other part of the product does not read it.
-fn lone_column(expr: &Expr, other: &Expr, columns: &LentColumns<'_>) -> Option<(u8, u8)> {
+// The first column that stands in an expression.
+fn first_column(expr: &Expr) -> Option<u8> {
     match expr {
-        Expr::Column(column) => {
-            let there = usize::from(*column);
-            if there < columns.len() && !reads(other, *column) {
-                Some((*column, columns.unread(there)))
+        Expr::Column(column) => Some(*column),
+        Expr::Literal(_) => None,
+        Expr::Add(a, b) | Expr::Sub(a, b) | Expr::Mul(a, b) => {
+            let first = first_column(a);
+            if first.is_some() {
+                first
             } else {
-                None
+                first_column(b)
             }
         }
-        Expr::Literal(_) | Expr::Add(_, _) | Expr::Sub(_, _) | Expr::Mul(_, _) => None,
     }
 }
 
-// The part of a product that is a column with most planes unread. It affects speed alone.
-fn longest_column(expr: &Expr, columns: &LentColumns<'_>) -> Option<u8> {
+// The column that a part of a product is, and the first one in its other part.
+fn columns_of_parts(expr: &Expr) -> Option<Pair> {
     match expr {
-        Expr::Mul(a, b) => match (lone_column(a, b, columns), lone_column(b, a, columns)) {
-            (Some((left, unread)), Some((right, more))) => {
-                Some(if unread < more { right } else { left })
-            }
-            (Some((left, _)), None) => Some(left),
-            (None, Some((right, _))) => Some(right),
-            (None, None) => None,
+        Expr::Mul(a, b) => match (&**a, &**b) {
+            (Expr::Column(first), other) | (other, Expr::Column(first)) => Some(Pair {
+                first: *first,
+                second: first_column(other)?,
+            }),
+            _ => None,
         },
         Expr::Column(_) | Expr::Literal(_) | Expr::Add(_, _) | Expr::Sub(_, _) => None,
     }
 }
 
-// The column whose planes are followed, where the expression is a product with one that its other part does not read.
-pub(crate) fn column_to_keep(expr: &Expr, columns: &LentColumns<'_>) -> Option<u8>
-    ensures { IfSome result (λ column. IsProductWith column (term_of expr.now)) }
+// The columns whose planes are followed, where the expression is a product of one and a part that is linear in the other.
+pub(crate) fn columns_to_keep(expr: &Expr, columns: &LentColumns<'_>) -> Option<Pair>
+    ensures pair { IfSome result (IsPair columns.now) }
+    ensures product { IfSome result (λ pair. IsProductWith pair.first (term_of expr.now)) }
+    ensures linear { IfSome result (λ pair. IsLinear pair.second (other_part pair.first (term_of expr.now))) }
 {
-    let column = longest_column(expr, columns)?;
-    if is_product_with(expr, column) {
-        Some(column)
+    let pair = columns_of_parts(expr)?;
+    let other = other_part(expr, pair.first);
+    if is_product_with(expr, pair.first)
+        && is_linear(other, pair.second)
+        && usize::from(pair.first) < columns.len()
+        && usize::from(pair.second) < columns.len()
+    {
+        Some(pair)
     } else {
         None
     }

@@ -61,12 +61,14 @@ fn ends_if_none(
     })
 }
 
-// The low ends at the mask's rows, added up, from what is kept of them where it is.
-fn low_sum(
+// The ends at the mask's rows of a cell, added up, from what is kept of them where it is.
+fn sum_kept(
+    end: End,
     arg: &Expr,
     columns: &LentColumns<'_>,
     mask: &Mask,
     kept: &mut Option<KeptProduct>,
+    cell: usize,
 ) -> i128
     requires sums { IsProductSum columns.now.frame (term_of arg.now) }
     requires fits { FitsSum columns.now.frame.rows (span_of (term_of arg.now) (declared_ranges columns.now.frame)) }
@@ -74,38 +76,17 @@ fn low_sum(
     requires values { HasValues columns.now (term_of arg.now) mask.now }
     requires kept { IfSome kept.old (IsKeptProduct columns.now (term_of arg.now)) }
     ensures kept { IfSome kept.new (IsKeptProduct columns.now (term_of arg.now)) }
-    ensures sum { result ≡ total (map (term_end columns.now Low (term_of arg.now)) (rows_in mask.now)) }
+    ensures sum { result ≡ total (map (term_end columns.now end (term_of arg.now)) (rows_in mask.now)) }
 {
     match kept {
-        Some(product) => product.low_sum(arg, columns, mask),
-        None => sum_ends(End::Low, arg, columns, mask),
-    }
-}
-
-// The high ends.
-fn high_sum(
-    arg: &Expr,
-    columns: &LentColumns<'_>,
-    mask: &Mask,
-    kept: &mut Option<KeptProduct>,
-) -> i128
-    requires sums { IsProductSum columns.now.frame (term_of arg.now) }
-    requires fits { FitsSum columns.now.frame.rows (span_of (term_of arg.now) (declared_ranges columns.now.frame)) }
-    requires rows { length mask.now ≡ columns.now.frame.rows }
-    requires values { HasValues columns.now (term_of arg.now) mask.now }
-    requires kept { IfSome kept.old (IsKeptProduct columns.now (term_of arg.now)) }
-    ensures kept { IfSome kept.new (IsKeptProduct columns.now (term_of arg.now)) }
-    ensures sum { result ≡ total (map (term_end columns.now High (term_of arg.now)) (rows_in mask.now)) }
-{
-    match kept {
-        Some(product) => product.high_sum(arg, columns, mask),
-        None => sum_ends(End::High, arg, columns, mask),
+        Some(product) => product.sum(end, arg, columns, mask, cell),
+        None => sum_ends(end, arg, columns, mask),
     }
 }
 
 /// What a sum or an average of an expression that is never below 0 keeps of the rows of a mask, of which another has those that surely
-/// count. There is none where no row surely counts and the outermost ends are not quickly found. Where sums of the expression are kept,
-/// they are followed to these rows, and planes that were read already are not counted again while the rows stay.
+/// count. There is none where no row surely counts and the outermost ends are not quickly found. Where sums of the expression are kept
+/// for the cell, they are followed to these rows: planes that were read already are not counted again for rows that stay.
 pub fn kept_tally(
     kind: ItemKind,
     arg: &Expr,
@@ -113,6 +94,7 @@ pub fn kept_tally(
     may: &Mask,
     must: &Mask,
     kept: &mut Option<KeptProduct>,
+    cell: usize,
 ) -> Option<Tally>
     requires kind { IsSumKind kind }
     requires sums { IsProductSum columns.now.frame (term_of arg.now) }
@@ -136,8 +118,8 @@ pub fn kept_tally(
         greatest_high: ends.high,
         least_certain_high: None,
         greatest_certain_low: None,
-        low_sum: low_sum(arg, columns, must, kept),
-        high_sum: high_sum(arg, columns, may, kept),
+        low_sum: sum_kept(End::Low, arg, columns, must, kept, cell),
+        high_sum: sum_kept(End::High, arg, columns, may, kept, cell),
     })
 }
 
@@ -159,5 +141,5 @@ pub fn sum_tally(
     requires values { HasValues columns.now (term_of arg.now) may.now }
     ensures { IfSome result (λ tally. tally ≡ tally_of kind (pairs_of columns.now (term_of arg.now) may.now must.now)) }
 {
-    kept_tally(kind, arg, columns, may, must, &mut None)
+    kept_tally(kind, arg, columns, may, must, &mut None, 0)
 }

@@ -1,5 +1,5 @@
 -- The pairs of an item whose sum counts tell.
-use Rattle.std.proofs.Common.{◌≡◌, ℕ, zero, suc, ◌+◌, ◌<◌, ◌≤◌, Bool, false, ◌&&◌, not, List, [], length, map, filter, filter_map, get_or, IsTrue, IfSome, true, refl, ap, sym, subst, ◌∙◌, arith, Option, Some, None, slice_get, replicate, set, inl, inr}
+use Rattle.std.proofs.Common.{◌≡◌, ℕ, zero, suc, ◌+◌, ◌<◌, ◌≤◌, Bool, false, ◌&&◌, not, List, [], length, map, filter, filter_map, get_or, IfSome, true, refl, ap, sym, subst, ◌∙◌, arith, Option, Some, None, slice_get, replicate, set, inl, inr}
 use Rattle.std.specs.List.{range_with_len}
 use Rattle.std.proofs.lemmas.List.FromFn.{get_or-map-range_with_len}
 use Rattle.std.proofs.lemmas.Bool.{cases_eq}
@@ -8,7 +8,7 @@ use Rattle.std.proofs.lemmas.Option.{same_Some}
 use Rattle.std.specs.Simd.Lanes.{zip2}
 use Rattle.std.proofs.lemmas.Simd.{get_or-zip2, length-zip2, map-map}
 use Rattle.aggregates.specs.declared.tally.Tally.{Tally}
-use Rattle.aggregates.specs.Runnings.{StandsFor, Tallies}
+use Rattle.aggregates.specs.Runnings.{Tallies}
 use Rattle.aggregates.specs.Selections.{IsPartOf, has_row}
 use Rattle.aggregates.specs.Tallies.{AreOrdered, tally_of}
 use Rattle.aggregates.proofs.BlockWords.{row_within}

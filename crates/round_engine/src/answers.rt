@@ -44,7 +44,7 @@ impl Answers {
         match &query.shape {
             Shape::Plain => {
                 let items = query.items.as_slice();
-                let products = open_products(alloc, query, columns)?;
+                let products = open_products(alloc, query, columns, 1)?;
                 Ok(Answers::Totals(Totals::open(alloc, items, rows, products)?))
             }
             Shape::Grouped(_) => Ok(Answers::Groups(Groups::open(alloc, query, columns)?)),

@@ -4,6 +4,7 @@ ghost use Rattle.std.specs.Prelude.{◌≡◌, ◌&&◌, if◌then◌else◌, le
 ghost use Rattle.std.specs.Simd.Lanes.{zip2};
 ghost use Rattle.aggregates.specs.Tallies.{tally_of};
 ghost use Rattle.kleene_filter.specs.Filters.{is_certain, is_possible, truths_under};
+ghost use Rattle.product_sums.specs.KeptProducts.{IsKeptProduct};
 ghost use Rattle.query_model.specs.Groups.{pairs_in_cell};
 ghost use Rattle.round_engine.specs.CellAnswers.{HasRoom, IsParted, StandForCells};
 ghost use Rattle.round_engine.specs.CountedSums.{IsByCounts};
@@ -20,7 +21,7 @@ use aggregates::{Running, Tally};
 use kleene_filter::Filter;
 use known_column::LentColumns;
 use plane_kernels::Mask;
-use product_sums::sum_tally;
+use product_sums::{KeptProduct, kept_tally};
 use query_model::{Item, TypedQuery};
 use row_groups::{Cells, cells_tell_keys};
 
@@ -46,7 +47,7 @@ impl Selection {
 }
 
 impl CellMasks {
-    // What an item keeps of the cell's rows, where counts tell it.
+    // What an item keeps of the cell's rows, where counts tell it, by what is kept of them from round to round.
     fn counted_part(
         &mut self,
         query: &TypedQuery,
@@ -55,6 +56,7 @@ impl CellMasks {
         filter: &Filter,
         cell: u32,
         certain: bool,
+        kept: &mut Option<KeptProduct>,
     ) -> Option<Tally>
         requires open_stage { IsOpenStage (stage_of query.now columns.now) }
         requires open_item { IsOpenItem columns.now.frame item.now }
@@ -62,19 +64,23 @@ impl CellMasks {
         requires by_counts { IsByCounts columns.now.frame item.now }
         requires part { IsPart (stage_of query.now columns.now) cell certain self.old.within }
         requires masks { HoldMasks columns.now.frame.rows self.old }
+        requires kept { IfSome kept.old (IsKeptProduct columns.now item.now.arg) }
         ensures masks { HoldMasks columns.now.frame.rows self.new }
+        ensures kept { IfSome kept.new (IsKeptProduct columns.now item.now.arg) }
         ensures tally { IfSome result (λ tally.
             tally ≡ tally_of item.now.kind (pairs_in_cell query.now item.now cell columns.now.frame columns.now.known)) }
     {
         self.selection
             .select_passing_within(&self.within, filter, certain, &self.none);
         self.selection.keep_valued(&item.arg, columns);
-        sum_tally(
+        kept_tally(
             item.kind,
             &item.arg,
             columns,
             &self.selection.may,
             &self.selection.must,
+            kept,
+            cell as usize,
         )
     }
 
@@ -88,6 +94,7 @@ impl CellMasks {
         cells: &Cells,
         single: &[bool],
         running: &mut Running,
+        kept: &mut Option<KeptProduct>,
     ) -> bool
         requires open_stage { IsOpenStage (stage_of query.now columns.now) }
         requires open_item { IsOpenItem columns.now.frame item.now }
@@ -95,6 +102,8 @@ impl CellMasks {
         requires parted { IsParted (stage_of query.now columns.now) cells.now single.now }
         requires masks { HoldMasks columns.now.frame.rows self.old }
         requires room { HasRoom (stage_of query.now columns.now) item.now running.old }
+        requires kept { IfSome kept.old (IsKeptProduct columns.now item.now.arg) }
+        ensures kept { IfSome kept.new (IsKeptProduct columns.now item.now.arg) }
         ensures masks { HoldMasks columns.now.frame.rows self.new }
         ensures room { HasRoom (stage_of query.now columns.now) item.now running.new }
         ensures stand { IsTrue result → StandForCells (stage_of query.now columns.now) item.now running.new }
@@ -103,7 +112,7 @@ impl CellMasks {
         if total > FEW_CELLS {
             return false;
         }
-        if !is_by_counts(item, columns, total) {
+        if !is_by_counts(item, columns, total, kept) {
             return false;
         }
         cells_tell_keys();
@@ -111,7 +120,7 @@ impl CellMasks {
         for cell in 0..total {
             cells.select(cell, &mut self.within);
             let certain = single[cell as usize];
-            match self.counted_part(query, item, columns, filter, cell, certain) {
+            match self.counted_part(query, item, columns, filter, cell, certain, kept) {
                 Some(tally) => running.set(cell, tally),
                 None => return false,
             }

@@ -26,14 +26,31 @@ use query_model::{Expr, Item, ItemKind, TypedQuery};
 // So many counts of rows a block of 512 cost about what its rows cost one by one. It affects speed alone.
 const MOST_COUNTS: u64 = 800;
 
+// Of sums that are kept a round counts a part of that alone.
+const MOST_KEPT_COUNTS: u64 = 1600;
+
+// How many counts a block may cost.
+fn most_counts(kept: &Option<KeptProduct>) -> u64 {
+    match kept {
+        Some(_) => MOST_KEPT_COUNTS,
+        None => MOST_COUNTS,
+    }
+}
+
 // Whether counts of rows may tell the item in so many cells: a sum or an average of a sum of products that is never below 0.
-pub(crate) fn is_by_counts(item: &Item, columns: &LentColumns<'_>, cells: u32) -> bool
+pub(crate) fn is_by_counts(
+    item: &Item,
+    columns: &LentColumns<'_>,
+    cells: u32,
+    kept: &Option<KeptProduct>,
+) -> bool
     requires { IsOpenItem columns.now.frame item.now }
     ensures { IsTrue result → IsByCounts columns.now.frame item.now }
 {
     match item.kind {
         ItemKind::Sum | ItemKind::Avg => {
-            count_of_counts(&item.arg, columns).saturating_mul(u64::from(cells)) <= MOST_COUNTS
+            count_of_counts(&item.arg, columns).saturating_mul(u64::from(cells))
+                <= most_counts(kept)
                 && is_product_sum(&item.arg, columns)
                 && is_never_negative(&item.arg, columns)
         }
@@ -96,12 +113,14 @@ impl Selection {
         ensures kept { IfSome kept.new (IsKeptProduct columns.now item.now.arg) }
         ensures told { IsTold (stage_of query.now columns.now) item.now result }
     {
-        if !is_by_counts(item, columns, 1) {
+        if !is_by_counts(item, columns, 1, kept) {
             return None;
         }
         self.select_passing(filter);
         self.keep_valued(&item.arg, columns);
-        kept_tally(item.kind, &item.arg, columns, &self.may, &self.must, kept)
+        kept_tally(
+            item.kind, &item.arg, columns, &self.may, &self.must, kept, 0,
+        )
     }
 }
 

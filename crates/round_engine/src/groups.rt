@@ -4,12 +4,14 @@ ghost use Rattle.std.specs.Prelude.{◌≡◌, ◌≢◌, ◌<◌, length, slice
 ghost use Rattle.kleene_filter.specs.Filters.{truths_under};
 ghost use Rattle.known_column.specs.KnownTables.{unread_table};
 ghost use Rattle.query_model.specs.declared.query.ItemKind.TheVariants.{Avg};
+ghost use Rattle.product_sums.specs.KeptProducts.{IsKeptProduct};
 ghost use Rattle.query_model.specs.Bounds.{fractions_of};
 ghost use Rattle.round_engine.specs.CellAnswers.{AreGroups, HasCell, HasItem, HasRoom, HoldGroups};
 ghost use Rattle.round_engine.specs.CellAnswers.{IsParted, StandForCells, StandForEach, StandForOthers, WereGroups};
 ghost use Rattle.row_groups.specs.Partition.{is_legal_cell, ranges_in, ranges_of_cell};
 ghost use Rattle.round_engine.specs.Cells.{absence_in_cell, average_in_cell, bound_in_cell, cells_in, parts_in};
 ghost use Rattle.round_engine.specs.Engines.{stage_of};
+ghost use Rattle.round_engine.specs.KeptProducts.{AreKeptProducts};
 ghost use Rattle.round_engine.specs.OneCell.{HoldMasks};
 ghost use Rattle.round_engine.specs.Stages.{IsGrouped, IsOpenItem, IsOpenStage, Stage};
 
@@ -17,6 +19,7 @@ use crate::cell_filling::fill_cells;
 use crate::cell_room::{every_row, most_cells, open_cells, open_each};
 use crate::few_cells::FEW_CELLS;
 use crate::group_columns::is_group;
+use crate::kept_products::open_products;
 use crate::moved::{moved_items, moves_rows};
 use crate::one_cell::CellMasks;
 use crate::one_key::tell_single;
@@ -25,13 +28,15 @@ use aggregates::Running;
 use kleene_filter::Filter;
 use known_column::{LentColumns, RowBlock};
 use plane_kernels::Plane;
+use product_sums::KeptProduct;
 use query_model::{AverageBound, Bound, Item, ItemKind, Nullity, TypedQuery};
 use row_groups::{
     CellKeys, Cells, cells_tell_keys, opening_stands, others_leave_cells, refining_stands,
 };
 use std::alloc::{AllocError, Global};
 
-// Which cell each row is in, which cells hold one key, and what is added up of each cell: its rows, and each item's values.
+// Which cell each row is in, which cells hold one key, and what is added up of each cell: its rows, and each item's values. Of sums of
+// products what planes gave is kept cell by cell, where there are few.
 #[derive(Drop)]
 pub(crate) struct Groups {
     cells: Cells,
@@ -39,6 +44,7 @@ pub(crate) struct Groups {
     presence: Running,
     pub(crate) runnings: Vec<Running>,
     masks: CellMasks,
+    products: Vec<Option<KeptProduct>>,
 }
 
 // Adds all rows to an item: by masks where these tell it of one cell that has all rows, or of each of few, by counts of rows where these
@@ -53,6 +59,7 @@ fn fill_item(
     single: &[bool],
     masks: &mut CellMasks,
     running: &mut Running,
+    kept: &mut Option<KeptProduct>,
 )
     requires open_stage { IsOpenStage (stage_of query.now columns.now) }
     requires open_item { IsOpenItem columns.now.frame item.now }
@@ -61,6 +68,8 @@ fn fill_item(
     requires parted { IsParted (stage_of query.now columns.now) cells.now single.now }
     requires masks { HoldMasks columns.now.frame.rows masks.old }
     requires room { HasRoom (stage_of query.now columns.now) item.now running.old }
+    requires kept { IfSome kept.old (IsKeptProduct columns.now item.now.arg) }
+    ensures kept { IfSome kept.new (IsKeptProduct columns.now item.now.arg) }
     ensures same { block.new.frame.columns ≡ columns.now.frame.columns }
     ensures masks { HoldMasks columns.now.frame.rows masks.new }
     ensures stand { StandForCells (stage_of query.now columns.now) item.now running.new }
@@ -70,7 +79,7 @@ fn fill_item(
         masks.fill(query, item, columns, filter, single[0], running);
     } else if cells.count() <= FEW_CELLS && is_by_masks(item, columns) {
         masks.fill_parts(query, item, columns, filter, cells, single, running);
-    } else if !masks.fill_counted(query, item, columns, filter, cells, single, running)
+    } else if !masks.fill_counted(query, item, columns, filter, cells, single, running, kept)
         && !masks.fill_compact(query, item, columns, filter, cells, single, running)
     {
         fill_cells(query, item, columns, filter, block, cells, single, running);
@@ -88,6 +97,7 @@ fn fill_each(
     marks: &[bool; 16],
     masks: &mut CellMasks,
     runnings: &mut [Running],
+    products: &mut [Option<KeptProduct>],
 )
     requires open_stage { IsOpenStage (stage_of query.now columns.now) }
     requires judged { filter.now.truths ≡ truths_under query.now.pred columns.now }
@@ -95,6 +105,8 @@ fn fill_each(
     requires parted { IsParted (stage_of query.now columns.now) cells.now single.now }
     requires masks { HoldMasks columns.now.frame.rows masks.old }
     requires others { StandForOthers (stage_of query.now columns.now) marks.now runnings.old }
+    requires products { AreKeptProducts columns.now query.now.items products.old }
+    ensures products { AreKeptProducts columns.now query.now.items products.new }
     ensures same { block.new.frame.columns ≡ columns.now.frame.columns }
     ensures masks { HoldMasks columns.now.frame.rows masks.new }
     ensures stand { StandForEach (stage_of query.now columns.now) runnings.new }
@@ -112,6 +124,7 @@ fn fill_each(
                 single,
                 masks,
                 &mut runnings[i],
+                &mut products[i],
             );
         }
     }
@@ -138,12 +151,14 @@ impl Groups {
         let presence = Running::open(alloc, ItemKind::Count, most)?;
         let runnings = open_each(alloc, query, most)?;
         let masks = CellMasks::open(alloc, columns.rows(), most)?;
+        let products = open_products(alloc, query, columns, most.min(FEW_CELLS as usize))?;
         Ok(Groups {
             cells,
             single,
             presence,
             runnings,
             masks,
+            products,
         })
     }
 
@@ -172,6 +187,7 @@ impl Groups {
             &self.single,
             &mut self.masks,
             &mut self.presence,
+            &mut None,
         );
         let all = [true; 16];
         fill_each(
@@ -184,6 +200,7 @@ impl Groups {
             &all,
             &mut self.masks,
             &mut self.runnings,
+            &mut self.products,
         );
     }
 
@@ -243,6 +260,7 @@ impl Groups {
                 &moved,
                 &mut self.masks,
                 &mut self.runnings,
+                &mut self.products,
             );
         }
     }

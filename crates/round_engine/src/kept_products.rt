@@ -12,17 +12,18 @@ use product_sums::KeptProduct;
 use query_model::{Item, TypedQuery};
 use std::alloc::{AllocError, Global};
 
-// Room for the ends of an item's argument, where counts of rows may tell the item.
+// Room for the ends of an item's argument in so many cells, where counts of rows may tell the item.
 fn open_product(
     alloc: Global,
     item: &Item,
     columns: &LentColumns<'_>,
+    cells: usize,
 ) -> Result<Option<KeptProduct>, AllocError>
     requires { IsOpenItem columns.now.frame item.now }
     ensures { IfOk result (λ kept. IfSome kept (IsKeptProduct columns.now item.now.arg)) }
 {
-    if is_by_counts(item, columns, 1) {
-        KeptProduct::open(alloc, &item.arg, columns)
+    if is_by_counts(item, columns, 1, &None) {
+        KeptProduct::open(alloc, &item.arg, columns, cells)
     } else {
         Ok(None)
     }
@@ -33,6 +34,7 @@ pub(crate) fn open_products(
     alloc: Global,
     query: &TypedQuery,
     columns: &LentColumns<'_>,
+    cells: usize,
 ) -> Result<Vec<Option<KeptProduct>>, AllocError>
     requires { IsOpenStage (stage_of query.now columns.now) }
     ensures { IfOk result (λ kept. AreKeptProducts columns.now query.now.items kept.items) }
@@ -40,7 +42,7 @@ pub(crate) fn open_products(
     let items = query.items.as_slice();
     let mut kept = Vec::with_capacity(alloc, items.len())?;
     for i in 0..items.len() {
-        kept.push(open_product(alloc, &items[i], columns)?)?;
+        kept.push(open_product(alloc, &items[i], columns, cells)?)?;
     }
     Ok(kept)
 }

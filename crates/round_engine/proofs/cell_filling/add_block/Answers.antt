@@ -1,4 +1,4 @@
-use Rattle.std.proofs.Common.{◌≡◌, ◌+◌, ◌*◌, ◌%◌, get_or, slice_get, ap, subst, ◌&&◌, false, arith}
+use Rattle.std.proofs.Common.{◌≡◌, ◌+◌, ◌*◌, ◌%◌, get_or, ap, subst, ◌&&◌, false, arith}
 use Rattle.std.proofs.lemmas.Option.{get_or_from_slice_get, slice_get-get_or}
 use Rattle.aggregates.specs.Tallies.{pair_with}
 use Rattle.kleene_filter.specs.Filters.{is_certain, is_possible}

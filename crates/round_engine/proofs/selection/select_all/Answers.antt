@@ -1,4 +1,4 @@
-use Rattle.std.proofs.Common.{map, length, ◌∙◌}
+use Rattle.std.proofs.Common.{map, ◌∙◌}
 use Rattle.std.proofs.lemmas.List.{length-map}
 use Rattle.kleene_filter.specs.Filters.{is_certain, is_possible}
 use Rattle.round_engine.proofs.SelectedPairs.{never_null}

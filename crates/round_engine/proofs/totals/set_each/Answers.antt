@@ -1,16 +1,12 @@
-use Rattle.std.proofs.Common.{◌≡◌, ◌≤◌, ◌<◌, ◌&&◌, true, false, not, length, get_or, slice_get, Option, Some, None, refl, ap, sym, subst, ◌∙◌, arith}
+use Rattle.std.proofs.Common.{◌≡◌, ◌<◌, length, get_or, ap, ◌∙◌, arith}
 use Rattle.std.proofs.lemmas.Option.{slice_get-get_or}
-use Rattle.aggregates.specs.declared.tally.Tally.{Tally}
-use Rattle.aggregates.specs.Runnings.{Tallies}
-use Rattle.query_model.specs.Queries.{Aggregate, Query}
+use Rattle.query_model.specs.Queries.{Query}
 use Rattle.round_engine.specs.CountedSums.{IsSetTo, told_at}
 use Rattle.round_engine.specs.Engines.{stage_of}
 use Rattle.round_engine.specs.Moves.{is_marked}
 use Rattle.round_engine.specs.Selected.{is_by_masks}
-use Rattle.round_engine.specs.Totals.{IsFilledBelow}
 use Rattle.round_engine.proofs.CountedSums.{set_item}
 use Rattle.round_engine.proofs.Kept.{item_at}
-use Rattle.round_engine.proofs.Places.{read_there}
 use Rattle.round_engine.proofs.Walks.{walk_end, walk_set, walk_start}
 use Rattle.round_engine.proofs.totals.set_each.Goals as goal
 

@@ -1,17 +1,17 @@
 use Rattle.std.proofs.Common.{◌≡◌, false, length, ap, sym, ◌∙◌}
 use Rattle.std.proofs.lemmas.List.{length-replicate}
-use Rattle.aggregates.specs.declared.ends.End.TheVariants.{High, Low}
-use Rattle.query_model.specs.Queries.{term_of}
-use Rattle.product_sums.specs.KeptProducts.{other_part}
 use Rattle.product_sums.proofs.kept_product.KeptProduct.open.Goals as goal
 
-pub returns-in_ok-none-in-Some : goal.returns-in_ok-none-in-Some
-returns-in_ok-none-in-Some c =
+pub returns-in_ok-none-in-Some-2 : goal.returns-in_ok-none-in-Some-2
+returns-in_ok-none-in-Some-2 c =
     let rows : c.rows-rows.result ≡ c.args.columns.now.frame.rows = c.rows-rows.ensures.rows in
-    let other = other_part c.in-Some.column (term_of c.args.expr.now) in
     record {
-      product = c.in-Some.ensures;
-      low = c.in_ok-open-in-Some.ensures c.args.columns.now c.in-Some.column other Low (sym rows);
-      high = c.in_ok-open-in-Some-2.ensures c.args.columns.now c.in-Some.column other High (sym rows);
-      room = ap length c.in_ok-none-in-Some.ensures ∙ length-replicate c.rows-rows.result false ∙ rows;
+      product = c.in-Some.ensures.product;
+      linear = c.in-Some.ensures.linear;
+      pair_is = c.in-Some.ensures.pair;
+      cells_are = c.in_ok-open_cells-in-Some.ensures c.args.columns.now c.in-Some.pair (sym rows) c.in-Some.ensures.pair;
+      rooms_are = record {
+        beside = ap length c.in_ok-none-in-Some.ensures ∙ length-replicate c.rows-rows.result false ∙ rows;
+        ones = ap length c.in_ok-none-in-Some-2.ensures ∙ length-replicate c.rows-rows.result false ∙ rows;
+      };
     }

@@ -1,6 +1,6 @@
 use Rattle.std.proofs.Common.{length, ap, sym, subst, ◌∙◌, arith}
 use Rattle.query_model.specs.Answers.{groups_of}
-use Rattle.round_engine.specs.CellAnswers.{HaveCells, TellSingle, most_cells}
+use Rattle.round_engine.specs.CellAnswers.{HaveCells, TellSingle}
 use Rattle.round_engine.specs.Engines.{stage_of}
 use Rattle.round_engine.specs.OneCell.{HoldMasks}
 use Rattle.round_engine.proofs.CellKept.{opened_cells, written}
@@ -40,4 +40,5 @@ returns c =
       presence = record { kind = c.in_ok-presence.ensures.kind_is; room = c.in_ok-presence.ensures.room_is ∙ most };
       items = subst (λ n. HaveCells c.args.query.now.items n c.in_ok-runnings.runnings.items) most c.in_ok-runnings.ensures;
       masks = subst (λ n. HoldMasks n c.in_ok-masks.masks) c.rows.ensures.rows c.in_ok-masks.ensures;
+      products = c.in_ok-products.ensures;
     }

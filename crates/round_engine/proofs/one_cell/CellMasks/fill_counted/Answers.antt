@@ -42,6 +42,7 @@ counted_part-requires-clause-masks c =
 pub loop-cell-preserved : goal.loop-cell-preserved
 loop-cell-preserved c = record {
   masks = c.counted_part.ensures.masks;
+  kept = c.counted_part.ensures.kept;
   parts =
       part_more c.args.query.now c.args.item.now c.args.columns.now c.loop-cell.cell c.loop-cell.running c.set.new.self _ c.requires.open_stage.knowledge c.loop-cell.invariant.parts c.set.ensures
       (subst (λ o. IfSome o (λ tally. tally ≡ tally_of c.args.item.now.kind (pairs_in_cell c.args.query.now c.args.item.now c.loop-cell.cell c.args.columns.now.frame c.args.columns.now.known))) c.in-Some.is c.counted_part.ensures.tally);

@@ -1,9 +1,6 @@
-use Rattle.std.proofs.Common.{◌≡◌, ◌&&◌, not, List, Bool, length, ap, sym, ◌∙◌}
-use Rattle.std.proofs.lemmas.List.{length-map}
-use Rattle.std.proofs.lemmas.Simd.{length-zip2}
-use Rattle.daq_table.specs.declared.head.Ends.{Ends}
+use Rattle.std.proofs.Common.{◌&&◌, not, ap, sym, ◌∙◌}
 use Rattle.aggregates.specs.Selections.{has_row}
-use Rattle.known_column.specs.Columns.{KnownColumn, is_possible, is_sure, rows_of_column, rows_where}
+use Rattle.known_column.specs.Columns.{is_possible, is_sure}
 use Rattle.query_model.specs.Knowledge.{ranges_of}
 use Rattle.query_model.specs.Queries.{term_of}
 use Rattle.query_model.specs.Truths.{may_be_null, may_be_number, null_of}

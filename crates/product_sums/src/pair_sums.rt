@@ -1,0 +1,258 @@
+//! What the planes of two columns give over a mask's rows: the numbers that they make, and their products, added up. A plane more of either
+//! column doubles what it had, and adds what the other column has over the rows with its bit.
+
+ghost use Rattle.std.specs.Prelude.{◌≡◌, ◌≤◌, ◌<◌, ◌+◌, ◌&&◌, not, length, ℤ, pos, ◌*ℤ◌, ◌+ℤ◌, ◌-ℤ◌};
+ghost use Rattle.std.specs.Simd.Lanes.{zip2};
+ghost use Rattle.std.specs.Int.{int_wrap, w128};
+ghost use Rattle.known_column.specs.KnownTables.{column_at};
+ghost use Rattle.query_model.specs.Knowledge.{known_at};
+ghost use Rattle.product_sums.specs.Fetched.{first_digit};
+ghost use Rattle.product_sums.specs.KeptProducts.{turned_pair, turned_sums, ArePairSums, AreReadOn, AreRooms, IsPair};
+
+use crate::first_numbers::sum_first;
+use crate::wrapping::{minus, plus, times};
+use aggregates::number_planes;
+use known_column::LentColumns;
+use plane_kernels::Mask;
+
+// Two columns, or one twice.
+#[derive(Clone, Copy)]
+pub(crate) struct Pair {
+    pub(crate) first: u8,
+    pub(crate) second: u8,
+}
+
+impl Pair {
+    // The same the other way round.
+    fn turned(self) -> Pair
+        ensures { result ≡ turned_pair self }
+    {
+        Pair {
+            first: self.second,
+            second: self.first,
+        }
+    }
+}
+
+// A sum, twice, and what a plane more adds.
+fn doubled(sum: i128, more: i128) -> i128
+    ensures { (a b : ℤ) → sum ≡ int_wrap w128 a → more ≡ int_wrap w128 b → result ≡ int_wrap w128 ((a *ℤ pos 2) +ℤ b) }
+{
+    plus(times(sum, 2), more)
+}
+
+// A sum, with what rows gave that came, and without what those gave that left.
+fn moved(sum: i128, came: i128, left: i128) -> i128
+    ensures { (a b c : ℤ) → sum ≡ int_wrap w128 a → came ≡ int_wrap w128 b → left ≡ int_wrap w128 c
+        → result ≡ int_wrap w128 ((a +ℤ b) -ℤ c) }
+{
+    minus(plus(sum, came), left)
+}
+
+// Room for rows of one mask that another has not, and for those of them that have a bit of 1.
+#[derive(Drop)]
+pub(crate) struct Rooms {
+    pub(crate) beside: Mask,
+    pub(crate) ones: Mask,
+}
+
+// How many planes were read of each of two columns, the numbers that they make, added up, and the products of these, added up.
+#[derive(Clone, Copy)]
+pub(crate) struct PairSums {
+    pub(crate) first_read: u8,
+    pub(crate) second_read: u8,
+    pub(crate) first: i128,
+    pub(crate) second: i128,
+    pub(crate) both: i128,
+}
+
+impl PairSums {
+    // The same the other way round.
+    fn turned(self) -> PairSums
+        ensures { result ≡ turned_sums self }
+    {
+        PairSums {
+            first_read: self.second_read,
+            second_read: self.first_read,
+            first: self.second,
+            second: self.first,
+            both: self.both,
+        }
+    }
+
+    // The sums once rows came and others left.
+    fn moved(self, came: PairSums, left: PairSums) -> PairSums
+        ensures first_read { result.first_read ≡ self.first_read }
+        ensures second_read { result.second_read ≡ self.second_read }
+        ensures first { (a b c : ℤ) → self.first ≡ int_wrap w128 a → came.first ≡ int_wrap w128 b → left.first ≡ int_wrap w128 c
+            → result.first ≡ int_wrap w128 ((a +ℤ b) -ℤ c) }
+        ensures second { (a b c : ℤ) → self.second ≡ int_wrap w128 a → came.second ≡ int_wrap w128 b → left.second ≡ int_wrap w128 c
+            → result.second ≡ int_wrap w128 ((a +ℤ b) -ℤ c) }
+        ensures both { (a b c : ℤ) → self.both ≡ int_wrap w128 a → came.both ≡ int_wrap w128 b → left.both ≡ int_wrap w128 c
+            → result.both ≡ int_wrap w128 ((a +ℤ b) -ℤ c) }
+    {
+        PairSums {
+            first_read: self.first_read,
+            second_read: self.second_read,
+            first: moved(self.first, came.first, left.first),
+            second: moved(self.second, came.second, left.second),
+            both: moved(self.both, came.both, left.both),
+        }
+    }
+}
+
+// A plane more of the first column.
+fn read_plane(
+    columns: &LentColumns<'_>,
+    pair: Pair,
+    sums: PairSums,
+    mask: &Mask,
+    room: &mut Mask,
+) -> PairSums
+    requires pair { IsPair columns.now pair }
+    requires sums { ArePairSums columns.now mask.now pair sums }
+    requires digit { first_digit (column_at columns.now pair.first) ≤ sums.first_read }
+    requires unread { sums.first_read < (known_at columns.now.known pair.first).read }
+    requires room { length room.old ≡ columns.now.frame.rows }
+    ensures room { length room.new ≡ columns.now.frame.rows }
+    ensures sums { ArePairSums columns.now mask.now pair result }
+    ensures first { result.first_read ≡ sums.first_read + 1 }
+    ensures second { result.second_read ≡ sums.second_read }
+{
+    let _rows = columns.rows();
+    let known = columns.column(usize::from(pair.first));
+    let _planes = number_planes(known);
+    room.copy_from(mask);
+    room.keep(known.plane(sums.first_read), true);
+    let ones = i128::from(room.count());
+    let others = sum_first(columns, pair.second, sums.second_read, room);
+    PairSums {
+        first_read: sums.first_read + 1,
+        second_read: sums.second_read,
+        first: doubled(sums.first, ones),
+        second: sums.second,
+        both: doubled(sums.both, others),
+    }
+}
+
+// All planes more of the first column.
+fn read_first(
+    columns: &LentColumns<'_>,
+    pair: Pair,
+    sums: PairSums,
+    mask: &Mask,
+    room: &mut Mask,
+) -> PairSums
+    requires pair { IsPair columns.now pair }
+    requires sums { ArePairSums columns.now mask.now pair sums }
+    requires room { length room.old ≡ columns.now.frame.rows }
+    ensures room { length room.new ≡ columns.now.frame.rows }
+    ensures sums { ArePairSums columns.now mask.now pair result }
+    ensures first { result.first_read ≡ (known_at columns.now.known pair.first).read }
+    ensures second { result.second_read ≡ sums.second_read }
+{
+    let _rows = columns.rows();
+    let (from, to) = number_planes(columns.column(usize::from(pair.first)));
+    let begin = from.max(sums.first_read);
+    let mut sums = PairSums {
+        first_read: begin,
+        second_read: sums.second_read,
+        first: sums.first,
+        second: sums.second,
+        both: sums.both,
+    };
+    for _j in begin..to {
+        sums = read_plane(columns, pair, sums, mask, room);
+    }
+    sums
+}
+
+// All planes more of both.
+pub(crate) fn read_on(
+    columns: &LentColumns<'_>,
+    pair: Pair,
+    sums: PairSums,
+    mask: &Mask,
+    room: &mut Mask,
+) -> PairSums
+    requires pair { IsPair columns.now pair }
+    requires sums { ArePairSums columns.now mask.now pair sums }
+    requires room { length room.old ≡ columns.now.frame.rows }
+    ensures room { length room.new ≡ columns.now.frame.rows }
+    ensures sums { AreReadOn columns.now mask.now pair result }
+{
+    let first = read_first(columns, pair, sums, mask, room);
+    let second = read_first(columns, pair.turned(), first.turned(), mask, room);
+    second.turned()
+}
+
+// What all planes give over a mask's rows.
+fn sums_of(columns: &LentColumns<'_>, pair: Pair, mask: &Mask, room: &mut Mask) -> PairSums
+    requires pair { IsPair columns.now pair }
+    requires rows { length mask.now ≡ columns.now.frame.rows }
+    requires room { length room.old ≡ columns.now.frame.rows }
+    ensures room { length room.new ≡ columns.now.frame.rows }
+    ensures sums { AreReadOn columns.now mask.now pair result }
+{
+    let _rows = columns.rows();
+    let first = number_planes(columns.column(usize::from(pair.first))).1;
+    let second = number_planes(columns.column(usize::from(pair.second))).1;
+    if mask.count() == 0 {
+        return PairSums {
+            first_read: first,
+            second_read: second,
+            first: 0,
+            second: 0,
+            both: 0,
+        };
+    }
+    let begun = PairSums {
+        first_read: first,
+        second_read: 0,
+        first: sum_first(columns, pair.first, first, mask),
+        second: 0,
+        both: 0,
+    };
+    read_on(columns, pair, begun, mask, room)
+}
+
+// The rows of one mask that another has not, and what they give.
+fn sums_beside(
+    columns: &LentColumns<'_>,
+    pair: Pair,
+    mask: &Mask,
+    other: &Mask,
+    rooms: &mut Rooms,
+) -> PairSums
+    requires pair { IsPair columns.now pair }
+    requires rows { length mask.now ≡ columns.now.frame.rows }
+    requires other { length other.now ≡ columns.now.frame.rows }
+    requires rooms { AreRooms columns.now.frame.rows rooms.old }
+    ensures rooms { AreRooms columns.now.frame.rows rooms.new }
+    ensures sums { AreReadOn columns.now (zip2 (λ a b. a && not b) mask.now other.now) pair result }
+{
+    rooms.beside.copy_from(mask);
+    rooms.beside.and_not_into(other);
+    sums_of(columns, pair, &rooms.beside, &mut rooms.ones)
+}
+
+// The sums over the rows of another mask, where these are all planes' over one.
+pub(crate) fn move_sums(
+    columns: &LentColumns<'_>,
+    pair: Pair,
+    sums: PairSums,
+    old: &Mask,
+    new: &Mask,
+    rooms: &mut Rooms,
+) -> PairSums
+    requires pair { IsPair columns.now pair }
+    requires sums { AreReadOn columns.now old.now pair sums }
+    requires rows { length new.now ≡ columns.now.frame.rows }
+    requires rooms { AreRooms columns.now.frame.rows rooms.old }
+    ensures rooms { AreRooms columns.now.frame.rows rooms.new }
+    ensures sums { AreReadOn columns.now new.now pair result }
+{
+    let came = sums_beside(columns, pair, new, old, rooms);
+    let left = sums_beside(columns, pair, old, new, rooms);
+    sums.moved(came, left)
+}

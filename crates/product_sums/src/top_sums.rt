@@ -1,0 +1,43 @@
+//! What the high ends of a product with a column give less, where they are clipped by the column's top.
+
+ghost use Rattle.std.specs.Prelude.{◌≡◌, ◌&&◌, ◌*ℤ◌, length};
+ghost use Rattle.std.specs.Int.{int_wrap, w128};
+ghost use Rattle.std.specs.Simd.Lanes.{zip2};
+ghost use Rattle.known_column.specs.Columns.{is_at_top, rows_where};
+ghost use Rattle.known_column.specs.KnownTables.{column_at};
+ghost use Rattle.query_model.specs.Queries.{term_of};
+ghost use Rattle.product_sums.specs.ColumnEnds.{weight_of_top};
+ghost use Rattle.product_sums.specs.KeptProducts.{factor_end, CanFollow};
+ghost use Rattle.product_sums.specs.Products.{sum_over};
+
+use crate::column_ends::weight_of_top;
+use crate::factors::Factor;
+use crate::sums::sum_wrapped;
+use crate::wrapping::times;
+use known_column::LentColumns;
+use plane_kernels::Mask;
+
+// What the rows at the prefix of the column's top give less, where the high end is clipped by top.
+pub(crate) fn sum_clipped<'a>(
+    columns: &LentColumns<'_>,
+    mask: &Mask,
+    column: u8,
+    other: Factor<'a>,
+    room: &mut Mask,
+) -> i128
+    requires follow { CanFollow columns.now mask.now column (term_of other.term.now) }
+    requires room { length room.old ≡ columns.now.frame.rows }
+    ensures room { length room.new ≡ columns.now.frame.rows }
+    ensures sum { result ≡ int_wrap w128 (weight_of_top other.entry.end (column_at columns.now column)
+        *ℤ sum_over (zip2 (λ a b. a && b) mask.now (rows_where is_at_top (column_at columns.now column)))
+        (factor_end columns.now other.entry)) }
+{
+    let known = columns.column(usize::from(column));
+    let weight = weight_of_top(other.end, known);
+    if weight == 0 {
+        return 0;
+    }
+    room.copy_from(mask);
+    room.and_into(known.at_top());
+    times(weight, sum_wrapped(other.end, other.term, columns, room))
+}
