@@ -1,0 +1,4 @@
+pub mod Values
+pub mod Conditions
+pub mod Rows
+pub mod Laws

@@ -1,0 +1,6 @@
+//! What SQL means, in the words of the people who ask: over rows of decimals, dates, texts and nulls.
+#![tactic(auto)]
+
+mod laws;
+
+pub use laws::{conditions_mean_their_trees, tables_have_values};
