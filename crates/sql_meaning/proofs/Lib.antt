@@ -5,3 +5,9 @@ pub mod Written
 pub mod Named
 pub mod Truths
 pub mod Filled
+pub mod Decimals
+pub mod Amounts
+pub mod Readings
+pub mod Asked
+pub mod Groups
+pub mod Answered

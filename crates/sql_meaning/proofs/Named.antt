@@ -2,7 +2,7 @@
 use Rattle.std.proofs.Common.{◌≡◌, ◌≢◌, ℕ, zero, suc, ◌+◌, ◌<◌, ◌==◌, cond, Bool, true, false, ℤ, List, [], ◌∷◌, length, map, get_or, Option, Some, None, IfSome, inl, inr, refl, sym, ap, ◌∙◌, arith, slice_get}
 use Rattle.std.proofs.lemmas.Bool.{cases_eq}
 use Rattle.std.proofs.lemmas.List.{get_or-map}
-use Rattle.std.proofs.lemmas.Option.{none-some, same_Some}
+use Rattle.std.proofs.lemmas.Option.{none-some, same_Some, slice_get-get_or}
 use Rattle.std.specs.Prelude.{nat_lt, slice_index_or}
 use Rattle.std.specs.List.{AllByRecursion, position, position_or_len}
 use Rattle.std.specs.Str.{bytes_eq}
@@ -80,6 +80,30 @@ mapped f [] c x d e = absurd (none-some x e)
 mapped f (y ∷ xs) zero x d e = ap f (same_Some y x e)
 mapped f (y ∷ xs) (suc c) x d e = mapped f xs c x d e
 
+-- the name stands for a column
+pub record IsColumn (table : List ColumnHead) (columns : List ℕ) (n : Name) : Type 0 where
+  pub column : ColumnHead
+  pub kind : kind_of table n.name ≡ column.kind
+  pub names : dictionary_of table n.name ≡ column.names
+  pub at : unless_null (slice_get table) (slice_get columns (number_of table columns n.name)) ≡ Some column
+
+column_at : (table : List ColumnHead) (columns : List ℕ) (n : Name) (c : ℕ) → place_of table n.name ≡ Some c → c < length table → IsAmong c columns → IsColumn table columns n
+column_at table columns n c place c_in among =
+    let at = there table c c_in in
+    let is = found c columns among in
+    let number : number_of table columns n.name ≡ position_or_len (λ i. i == c) columns = ap (number_at columns) place ∙ number_is c columns is in
+    record {
+      column = at.element;
+      kind = ap (kind_at table) place ∙ mapped (λ h. h.kind) table c at.element Int at.get;
+      names = ap (dictionary_at table) place ∙ mapped (λ h. h.names) table c at.element [] at.get;
+      at = ap (λ k. unless_null (slice_get table) (slice_get columns k)) number
+          ∙ ap (unless_null (slice_get table)) (slice_get-get_or columns (position_or_len (λ i. i == c) columns) 0 is.within ∙ ap Some is.there) ∙ at.get;
+    }
+
+column_by : (table : List ColumnHead) (columns : List ℕ) (n : Name) (o : Option ℕ) → place_of table n.name ≡ o → unknown_at n.at o ≡ None → IfSome o (λ c. c < length table) → IfSome o (λ c. IsAmong c columns) → IsColumn table columns n
+column_by table columns n None place known c_in among = absurd cc
+column_by table columns n (Some c) place known c_in among = column_at table columns n c place c_in among
+
 -- ---- numbers of the columns of a query
 
 module _ (head : Head) (cells : Cells) (r : ℕ) (query : Query) where
@@ -121,12 +145,25 @@ all_known : (table : List ColumnHead) (ns : List Name) → first_in (name_fault 
 all_known table [] h = tt
 all_known table (n ∷ ns) h = (none_first _ _ h, all_known table ns (none_later _ _ h))
 
--- each name of a query without faults stands for a column
-pub all_named : (q : tree.Query) (head : Head) (cells : Cells) (r : ℕ) → first_fault head.columns q ≡ None → HasValues head cells → r < head.rows
-    → AllByRecursion (IsNamed head.columns (typed head.columns q).columns (numbers_at (typed head.columns q) head cells r) (row_at head cells r)) (names_in q)
-all_named q head cells r good values r_in =
-    all_both (λ n. name_fault head.columns n ≡ None) (λ n. IfSome (place_of head.columns n.name) (λ c. IsAmong c (columns_named head.columns (names_in q))))
-    (IsNamed head.columns (typed head.columns q).columns (numbers_at (typed head.columns q) head cells r) (row_at head cells r))
-    (λ n known among. named_by head cells r (typed head.columns q) n (place_of head.columns n.name) values r_in refl known (position_within (λ column. bytes_eq column.name n.name) head.columns) among)
+-- what holds of each name that is known and numbered holds of all names of a query without faults
+pub all_names : (P : Name → Type 0) (q : tree.Query) (head : Head) → first_fault head.columns q ≡ None
+    → ((n : Name) → name_fault head.columns n ≡ None → IfSome (place_of head.columns n.name) (λ c. IsAmong c (columns_named head.columns (names_in q))) → P n) → AllByRecursion P (names_in q)
+all_names P q head good each =
+    all_both (λ n. name_fault head.columns n ≡ None) (λ n. IfSome (place_of head.columns n.name) (λ c. IsAmong c (columns_named head.columns (names_in q)))) P each
     (names_in q) (all_known head.columns (names_in q) (clean head.columns q good).known)
     (all_mapped (λ m. IfSome m.column (λ c. IsAmong c (columns_named head.columns (names_in q)))) (mention head.columns) (names_in q) (all_seen [] (mentions head.columns (names_in q))))
+
+-- the column of a name, and what it holds at each row
+pub record IsRead (q : tree.Query) (head : Head) (cells : Cells) (n : Name) : Type 0 where
+  pub column : IsColumn head.columns (typed head.columns q).columns n
+  pub at_row : (r : ℕ) → r < head.rows → IsNamed head.columns (typed head.columns q).columns (numbers_at (typed head.columns q) head cells r) (row_at head cells r) n
+
+-- each name of a query without faults stands for a column
+pub all_read : (q : tree.Query) (head : Head) (cells : Cells) → first_fault head.columns q ≡ None → HasValues head cells → AllByRecursion (IsRead q head cells) (names_in q)
+all_read q head cells good values =
+    all_names (IsRead q head cells) q head good
+    (λ n known among. (let within = position_within (λ column. bytes_eq column.name n.name) head.columns in
+    record {
+      column = column_by head.columns (typed head.columns q).columns n (place_of head.columns n.name) refl known within among;
+      at_row = λ r r_in. named_by head cells r (typed head.columns q) n (place_of head.columns n.name) values r_in refl known within among;
+    }))

@@ -12,7 +12,7 @@ use Rattle.query_model.proofs.Integers.{times_pos}
 spread : (a : ℤ) (x y : ℕ) → a *ℤ pos (x + y) ≡ (a *ℤ pos x) +ℤ (a *ℤ pos y)
 spread a x y = omega (arith, ints)
 
-next : (a : ℤ) (n : ℕ) → a *ℤ pos (suc n) ≡ (a *ℤ pos n) +ℤ a
+pub next : (a : ℤ) (n : ℕ) → a *ℤ pos (suc n) ≡ (a *ℤ pos n) +ℤ a
 next a n =
     let e : pos (suc n) ≡ pos (n + 1) = omega (arith, ints) in
     let one : a *ℤ pos 1 ≡ a = omega (arith, ints) in

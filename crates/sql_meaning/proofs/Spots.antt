@@ -36,7 +36,7 @@ less_by x y Less h = grind (arith, ints)
 less_by x y Equal h = grind (arith, ints)
 less_by x y Greater h = grind (arith, ints)
 
-more_by : (x y : ℤ) (o : Ordering) → MatchOrdering o (x <ℤ y) (x ≡ y) (y <ℤ x) → int_lt y x ≡ is_gt o
+pub more_by : (x y : ℤ) (o : Ordering) → MatchOrdering o (x <ℤ y) (x ≡ y) (y <ℤ x) → int_lt y x ≡ is_gt o
 more_by x y Less h = grind (arith, ints)
 more_by x y Equal h = grind (arith, ints)
 more_by x y Greater h = grind (arith, ints)

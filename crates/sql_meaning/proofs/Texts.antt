@@ -16,7 +16,7 @@ use Rattle.sql_typing.specs.Typing.{compared, high_end, is_name, low_end, member
 use Rattle.sql_typing.proofs.Comparisons.{and_left, and_right}
 use Rattle.sql_meaning.proofs.Spots.{IsPlaced, KeepsNull, StandsBefore, at_null, at_placed, before_null, before_placed}
 
-abbrev texts_cmp : List ℕ → List ℕ → Ordering
+abbrev pub texts_cmp : List ℕ → List ℕ → Ordering
 texts_cmp x y = slice_cmp nat_cmp x y
 
 less_is : (o : Ordering) → is_lt o ≡ true → o ≡ Less
@@ -64,7 +64,7 @@ at_above t (m ∷ ms) (suc k) x h e = at_above t ms k x h.1 e
 
 -- ---- the name of rank k stands to t as k to the rank of t
 
-abbrev IsRank : ℕ → ℕ → Bool → Ordering → Type 0
+abbrev pub IsRank : ℕ → ℕ → Bool → Ordering → Type 0
 IsRank k p named o = MatchOrdering o (k < p) ((k ≡ p) × (named ≡ true)) ((p ≤ k) × (named ≡ true → p < k))
 
 one_more : (k p : ℕ) (named : Bool) (o : Ordering) → IsRank k p named o → IsRank (suc k) (1 + p) named o
@@ -101,7 +101,7 @@ later_rank n t ns a k x get Less e h =
 later_rank n t ns a k x get Equal e h = over_first n t ns a k x get Equal e refl
 later_rank n t ns a k x get Greater e h = over_first n t ns a k x get Greater e refl
 
-ranked : (names : List (List ℕ)) (t : List ℕ) → IsTrue (is_ascending names) → (k : ℕ) (x : List ℕ) → slice_get names k ≡ Some x
+pub ranked : (names : List (List ℕ)) (t : List ℕ) → IsTrue (is_ascending names) → (k : ℕ) (x : List ℕ) → slice_get names k ≡ Some x
     → IsRank k (names_below names t) (is_name names t) (texts_cmp x t)
 ranked [] t a k x e = absurd (none-some x e)
 ranked (n ∷ ns) t a zero x e = let same : n ≡ x = same_Some n x e in rw (sym same) (first_rank n t ns a (texts_cmp n t) refl)

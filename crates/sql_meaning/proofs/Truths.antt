@@ -1,11 +1,13 @@
 -- Typed conditions have the truths of those that are written.
-use Rattle.std.proofs.Common.{◌≡◌, ℕ, ◌+◌, ◌^◌, ◌*ℤ◌, ℤ, pos, Bool, true, false, ◌&&◌, ◌||◌, List, [], ◌∷◌, ◌++◌, map, Option, Some, None, refl, sym, ap, subst, ◌∙◌}
+use Rattle.std.proofs.Common.{◌≡◌, ℕ, ◌<◌, ◌+◌, ◌^◌, ◌*ℤ◌, ℤ, pos, Bool, true, false, ◌&&◌, ◌||◌, List, [], ◌∷◌, ◌++◌, map, Option, Some, None, refl, sym, ap, subst, ◌∙◌}
 use Rattle.std.proofs.lemmas.Option.{same_Some}
 use Rattle.std.specs.List.{AllByRecursion, list_any}
 use Rattle.std.specs.Ordering.{int_cmp, int_eq}
 use Rattle.daq_table.specs.declared.head.ColumnHead.{ColumnHead}
+use Rattle.daq_table.specs.Tables.{Cells}
 use Rattle.daq_table.specs.declared.head.Kind.{Kind}
 use Rattle.daq_table.specs.declared.head.Kind.TheVariants as kinds
+use Rattle.daq_table.specs.declared.table_head.Head.{Head}
 use Rattle.query_model.specs.Meaning as typed
 use Rattle.query_model.specs.Meaning.{atom_truth, compares, of_value, of_values, sql_and, sql_not, sql_or}
 use Rattle.query_model.specs.Queries.{Query}
@@ -14,12 +16,12 @@ use Rattle.sql_text.specs.declared.tree.Comparison.{Comparison}
 use Rattle.sql_text.specs.declared.tree.Comparison.TheVariants.{Eq, Ge, Le}
 use Rattle.sql_text.specs.Tree as tree
 use Rattle.sql_text.specs.Tree.{Name, Operand, Pred}
-use Rattle.sql_typing.specs.Faults.{filter_fault, pred_fault, value_fault, values_fault}
+use Rattle.sql_typing.specs.Faults.{filter_fault, first_fault, pred_fault, value_fault, values_fault}
 use Rattle.sql_typing.specs.Kinds.{can_compare}
 use Rattle.sql_typing.specs.Names.{kind_of, names_in_filter, names_in_pred, names_in_head, names_in_ending, number_of}
 use Rattle.sql_typing.specs.Typing.{compared, high_end, low_end, member, op_of, spot_of, spot_in, typed_filter, typed_pred}
 use Rattle.sql_typing.specs.Typing as typing
-use Rattle.sql_typing.proofs.Alls.{all_left, all_right}
+use Rattle.sql_typing.proofs.Alls.{all_left, all_right, all_then}
 use Rattle.sql_typing.proofs.Clean.{clean}
 use Rattle.sql_typing.proofs.Comparisons.{false_not, same_number}
 use Rattle.sql_typing.proofs.Firsts.{none_first, none_later, not_if}
@@ -27,10 +29,10 @@ use Rattle.sql_meaning.specs.Values.{Value, Number, compare, unless_null}
 use Rattle.sql_meaning.specs.Conditions as meaning
 use Rattle.sql_meaning.specs.Conditions.{Row, compared_with, is_null, passes, truth, truth_of_where}
 use Rattle.sql_meaning.specs.Rows.{row_at, value_in, value_of}
-use Rattle.sql_meaning.specs.Laws.{ConditionsMeanTheirTrees, numbers_at}
+use Rattle.sql_meaning.specs.Laws.{ConditionsMeanTheirTrees, HasValues, numbers_at}
 use Rattle.sql_meaning.proofs.Powers.{power_some, scaled}
 use Rattle.sql_meaning.proofs.Spots.{op_is}
-use Rattle.sql_meaning.proofs.Named.{IsNamed, all_named}
+use Rattle.sql_meaning.proofs.Named.{IsNamed, IsRead, all_read}
 use Rattle.sql_meaning.proofs.Written.{written, written_null}
 
 abbrev Stands : ColumnHead → Option ℤ → Type 0
@@ -94,10 +96,10 @@ null_case column c w stands (Some z) e = let x = stands z e in rw (e, x.1) refl
 one_scale : (s t : ℕ) (z y : ℤ) → s ≡ t → int_cmp (z *ℤ pos (10 ^ t)) (y *ℤ pos (10 ^ s)) ≡ int_cmp z y
 one_scale s t z y e = ap (λ k. int_cmp (z *ℤ pos (10 ^ t)) (y *ℤ pos (10 ^ k))) e ∙ scaled z y (10 ^ t) (power_some t)
 
-numbers_alike : (s t : ℕ) (z y : ℤ) (u v : Value) → s ≡ t → Some (Number (record { digits = z; behind = s })) ≡ Some u → Some (Number (record { digits = y; behind = t })) ≡ Some v → compare u v ≡ Some (int_cmp z y)
+pub numbers_alike : (s t : ℕ) (z y : ℤ) (u v : Value) → s ≡ t → Some (Number (record { digits = z; behind = s })) ≡ Some u → Some (Number (record { digits = y; behind = t })) ≡ Some v → compare u v ≡ Some (int_cmp z y)
 numbers_alike s t z y u v same e f = rw (sym (same_Some _ u e), sym (same_Some _ v f)) (ap Some (one_scale s t z y same))
 
-alike : (k l : Kind) (names others : List (List ℕ)) (z y : ℤ) (u v : Value) → can_compare k l ≡ true → value_in k names z ≡ Some u → value_in l others y ≡ Some v → compare u v ≡ Some (int_cmp z y)
+pub alike : (k l : Kind) (names others : List (List ℕ)) (z y : ℤ) (u v : Value) → can_compare k l ≡ true → value_in k names z ≡ Some u → value_in l others y ≡ Some v → compare u v ≡ Some (int_cmp z y)
 alike kinds.Int kinds.Int names others z y u v h e f = numbers_alike 0 0 z y u v refl e f
 alike kinds.Int (kinds.Dec t) names others z y u v h e f = numbers_alike 0 t z y u v (same_number 0 t h) e f
 alike kinds.Int kinds.Date names others z y u v h e f = absurd cc
@@ -169,10 +171,16 @@ where_means : (table : List ColumnHead) (columns : List ℕ) (w : typed.Row) (ro
 where_means table columns w row None good h = refl
 where_means table columns w row (Some a) good h = pred_means table columns w row a good h
 
+pub where_is : (q : tree.Query) (head : Head) (cells : Cells) (r : ℕ) → first_fault head.columns q ≡ None → HasValues head cells → r < head.rows
+    → typed.truth (typing.typed head.columns q).pred (numbers_at (typing.typed head.columns q) head cells r) ≡ truth_of_where q.pred (row_at head cells r)
+where_is q head cells r good values r_in =
+    let named : Name → Type 0 = IsNamed head.columns (typing.columns_of head.columns q) (numbers_at (typing.typed head.columns q) head cells r) (row_at head cells r) in
+    let front = all_left (IsRead q head cells) (names_in_head q.head ++ names_in_filter q.pred) (names_in_ending q.ending) (all_read q head cells good values) in
+    let here = all_right (IsRead q head cells) (names_in_head q.head) (names_in_filter q.pred) front in
+    where_means head.columns (typing.columns_of head.columns q) (numbers_at (typing.typed head.columns q) head cells r) (row_at head cells r) q.pred (clean head.columns q good).condition
+    (all_then (IsRead q head cells) named (λ n is. is.at_row r r_in) (names_in_filter q.pred) here)
+
 pub conditions_mean : ConditionsMeanTheirTrees
 conditions_mean q head query cells r is values r_in =
-    let named : Name → Type 0 = IsNamed head.columns (typing.columns_of head.columns q) (numbers_at (typing.typed head.columns q) head cells r) (row_at head cells r) in
-    let front = all_left named (names_in_head q.head ++ names_in_filter q.pred) (names_in_ending q.ending) (all_named q head cells r is.faultless values r_in) in
     subst (λ (query : Query). typed.truth query.pred (numbers_at query head cells r) ≡ truth_of_where q.pred (row_at head cells r)) (sym is.same)
-    (where_means head.columns (typing.columns_of head.columns q) (numbers_at (typing.typed head.columns q) head cells r) (row_at head cells r) q.pred (clean head.columns q is.faultless).condition
-    (all_right named (names_in_head q.head) (names_in_filter q.pred) front))
+    (where_is q head cells r is.faultless values r_in)

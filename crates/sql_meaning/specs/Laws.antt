@@ -1,17 +1,24 @@
 -- The laws, as statements. A public function with an empty body has each as its contract.
-use Rattle.std.specs.Prelude.{◌≡◌, ℕ, ◌<◌, [], length, slice_get, IsTrue}
+use Rattle.std.specs.Prelude.{◌≡◌, ◌≢◌, ℕ, ◌<◌, [], length, map, slice_get, IsTrue}
 use Rattle.std.specs.declared.option.Option.TheVariants.{Some, None}
 use Rattle.daq_table.specs.ColumnFacts.{is_text}
 use Rattle.daq_table.specs.Tables.{Cells, IsTable, frame_of, row_of}
 use Rattle.daq_table.specs.declared.head.ColumnHead.{ColumnHead}
 use Rattle.daq_table.specs.declared.table_head.Head.{Head}
+use Rattle.query_model.specs.Answers.{Key, groups_of}
 use Rattle.query_model.specs.Meaning as typed
 use Rattle.query_model.specs.Projection.{projected, projected_frame}
-use Rattle.query_model.specs.Queries.{Query}
+use Rattle.query_model.specs.Queries.{Aggregate, Query}
+use Rattle.query_model.specs.Worlds.{answer_on}
+use Rattle.sql_text.specs.declared.tree.CallKind.{CallKind}
+use Rattle.sql_text.specs.declared.tree.CallKind.TheVariants.{Count}
 use Rattle.sql_text.specs.Tree as tree
 use Rattle.sql_typing.specs.Refusals.{IsTyped}
 use Rattle.sql_meaning.specs.Conditions.{truth_of_where}
-use Rattle.sql_meaning.specs.Rows.{row_at, value_at}
+use Rattle.sql_meaning.specs.Values.{unless_null}
+use Rattle.sql_meaning.specs.Expressions.{value}
+use Rattle.sql_meaning.specs.Answers.{answer, asked, group_of, grouping, is_same}
+use Rattle.sql_meaning.specs.Rows.{row_at, rows_at, shown, value_at}
 
 -- the numbers of a row in the columns of a typed query
 abbrev pub numbers_at : Query → Head → Cells → ℕ → typed.Row
@@ -37,3 +44,30 @@ abbrev pub ConditionsMeanTheirTrees : Type 0
 ConditionsMeanTheirTrees =
     (q : tree.Query) (head : Head) (query : Query) (cells : Cells) (r : ℕ) → IsTyped q head query → HasValues head cells →
     r < head.rows → typed.truth query.pred (numbers_at query head cells r) ≡ truth_of_where q.pred (row_at head cells r)
+
+-- the key of the group of a row, as a typed query has it
+abbrev pub key_at : Query → Head → Cells → ℕ → Key
+key_at query head cells one = map (numbers_at query head cells one) (groups_of query.shape)
+
+-- an aggregate as it is written and as it is typed, both at one place among the aggregates of a query
+pub record IsAsked (q : tree.Query) (query : Query) (item : tree.Item) (typed : Aggregate) : Type 0 where
+  pub place : ℕ
+  pub in_text : slice_get (asked q.head) place ≡ Some item
+  pub in_query : slice_get query.items place ≡ Some typed
+
+-- the number that the typed argument gives at a row is the value of the argument as it is written
+abbrev pub ArgumentsMeanTheirTrees : Type 0
+ArgumentsMeanTheirTrees =
+    (q : tree.Query) (head : Head) (query : Query) (cells : Cells) (r : ℕ) (kind : CallKind) (e : tree.Expr) (item : Aggregate) →
+    IsTyped q head query → HasValues head cells → r < head.rows → IsAsked q query (tree.Call kind e) item → kind ≢ Count →
+    IsTrue (is_same (unless_null (shown head.columns query.columns item.face) (typed.val item.arg (numbers_at query head cells r)))
+    (value e (row_at head cells r)))
+
+-- the answer of a typed item for the group of a row is the value that the item has over the rows of that group
+abbrev pub AnswersMeanTheirTrees : Type 0
+AnswersMeanTheirTrees =
+    (q : tree.Query) (head : Head) (query : Query) (cells : Cells) (one : ℕ) (item : tree.Item) (typed : Aggregate) →
+    IsTyped q head query → HasValues head cells → IsAsked q query item typed → (grouping q.ending ≢ [] → one < head.rows) →
+    IsTrue (is_same (unless_null (shown head.columns query.columns typed.face)
+    (answer_on query typed (key_at query head cells one) (frame_of head) cells))
+    (answer item (group_of q (row_at head cells one) (rows_at head cells))))

@@ -1,4 +1,6 @@
 pub mod Values
 pub mod Conditions
+pub mod Expressions
+pub mod Answers
 pub mod Rows
 pub mod Laws

@@ -3,4 +3,7 @@
 
 mod laws;
 
-pub use laws::{conditions_mean_their_trees, tables_have_values};
+pub use laws::{
+    answers_mean_their_trees, arguments_mean_their_trees, conditions_mean_their_trees,
+    tables_have_values,
+};
