@@ -10,7 +10,7 @@ use Rattle.query_model.specs.Answers.{Key, passes, unless_empty}
 use Rattle.query_model.specs.Meaning.{Row, is_sql_true, val}
 use Rattle.query_model.specs.Projection.{projected, projected_frame}
 use Rattle.query_model.specs.Queries.{Aggregate, Query}
-use Rattle.query_model.specs.Worlds.{answer_on}
+use Rattle.query_model.specs.Worlds.{answer_on, average_on}
 use Rattle.query_model.specs.declared.query.Face.TheVariants as faces
 use Rattle.sql_text.specs.declared.tree.CallKind.{CallKind}
 use Rattle.sql_text.specs.declared.tree.CallKind.TheVariants as calls
@@ -26,13 +26,13 @@ use Rattle.sql_meaning.specs.Conditions.{truth_of_where}
 use Rattle.sql_meaning.specs.Expressions.{value}
 use Rattle.sql_meaning.specs.Answers.{answer, are_one_group, group_of, grouping, is_same, least, greatest, total, whole}
 use Rattle.sql_meaning.specs.Rows.{row_at, rows_at, shown}
-use Rattle.sql_meaning.specs.Laws.{AnswersMeanTheirTrees, HasValues, IsAsked, key_at, numbers_at}
+use Rattle.sql_meaning.specs.Laws.{AnswersMeanTheirTrees, AveragesMeanTheirTrees, IsAverage, HasValues, IsAsked, key_at, numbers_at}
 use Rattle.sql_meaning.proofs.Asked.{amount_at, any_argument, item_is}
 use Rattle.sql_meaning.proofs.Groups.{passes_is}
 use Rattle.sql_meaning.proofs.Named.{IsRead}
 use Rattle.sql_meaning.proofs.Readings.{AreRelated, IsNumber, Related, as_many, greatest_is, least_is, lists_alike, numbers_read, same_itself, shown_is, total_is}
 
-range_all : (P : ℕ → Type 0) (a n : ℕ) → ((r : ℕ) → r < a + n → P r) → AllByRecursion P (range_with_len a n)
+pub range_all : (P : ℕ → Type 0) (a n : ℕ) → ((r : ℕ) → r < a + n → P r) → AllByRecursion P (range_with_len a n)
 range_all P a zero h = tt
 range_all P a (suc n) h = (h a (omega arith), range_all P (a + 1) n (λ r lt. h r (omega (arith, lt))))
 
@@ -120,6 +120,28 @@ module _ (q : tree.Query) (head : Head) (cells : Cells) (one : ℕ) (good : firs
       let is = item_is q head cells (Call kind e) t good values asked in
       subst (λ (a : Aggregate). IsTrue (is_same (unless_null (shown table columns a.face) (answer_on query a (key_at query head cells one) (frame_of head) cells)) (answer (Call kind e) rows)))
       (same_Some (typed_call table columns kind e) t is.typed) (call_answered kind e is.fine is.named)
+
+  average_by : (values : List Value) (zs : List ℤ) (shows : ℤ → Option Value) → length zs ≡ length values → IsTrue (is_same (unless_null shows (unless_empty zs (typed.total zs))) (total values)) → IsAverage shows (typed.average zs) values
+  average_by [] [] shows n h = refl
+  average_by (v ∷ vs) [] shows n h = absurd (omega (arith, n))
+  average_by values (z ∷ zs) shows n h = (h, n)
+
+  pub average_answered : (e : Expr) (t : Aggregate) → IsAsked q query (Call calls.Avg e) t
+      → IsAverage (shown table columns t.face) (average_on query t (key_at query head cells one) (frame_of head) cells) (filter_map (value e) rows)
+  average_answered e t asked =
+      let is = item_is q head cells (Call calls.Avg e) t good values asked in
+      let own = typed_call table columns calls.Avg e in
+      let related = rows_alike (IsNumber (scale_of table e)) (value e) own (amount_at q head cells e is.fine is.named) in
+      subst (λ (a : Aggregate). IsAverage (shown table columns a.face) (average_on query a (key_at query head cells one) (frame_of head) cells) (filter_map (value e) rows))
+      (same_Some own t is.typed)
+      (average_by (filter_map (value e) rows) (numbers_of own) (shown table columns (faces.Number (scale_of table e))) (as_many (IsNumber (scale_of table e)) (numbers_of own) (filter_map (value e) rows) related)
+      (sum_answered e is.fine is.named own refl))
+
+pub averages_mean : AveragesMeanTheirTrees
+averages_mean q head meant cells one e t is values asked one_in =
+    subst (λ (w : Query). IsAsked q w (Call calls.Avg e) t
+    → IsAverage (shown head.columns w.columns t.face) (average_on w t (key_at w head cells one) (frame_of head) cells) (filter_map (value e) (group_of q (row_at head cells one) (rows_at head cells))))
+    (sym is.same) (λ found. average_answered q head cells one is.faultless values one_in e t found) asked
 
 pub answers_mean : AnswersMeanTheirTrees
 answers_mean q head meant cells one item t is values asked one_in =

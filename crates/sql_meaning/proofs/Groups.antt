@@ -64,7 +64,7 @@ distinct_all p seen (n ∷ ns) = distinct_all p (with_number seen n) ns ∙ ap (
 
 -- ---- keys
 
-key_of : (w one : typed.Row) (cs : List ℕ) → in_group cs (map one cs) w ≡ list_all (λ c. same_value (w c) (one c)) cs
+pub key_of : (w one : typed.Row) (cs : List ℕ) → in_group cs (map one cs) w ≡ list_all (λ c. same_value (w c) (one c)) cs
 key_of w one [] = refl
 key_of w one (c ∷ cs) = ap (λ b. same_value (w c) (one c) && b) (key_of w one cs)
 

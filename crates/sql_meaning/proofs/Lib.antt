@@ -11,3 +11,5 @@ pub mod Readings
 pub mod Asked
 pub mod Groups
 pub mod Answered
+pub mod Ordered
+pub mod Resulted

@@ -162,7 +162,7 @@ module _ (R : ℤ → Value → Type 0) where
   as_many (z ∷ zs) (u ∷ us) h = ap suc (as_many zs us h.1)
 
 module _ (shows : ℤ → Option Value) (R : ℤ → Value → Type 0) (reads : IsReading shows R) where
-  after_is : (x y : ℤ) (u v : Value) → R x u → R y v → is_after u v ≡ int_lt y x
+  pub after_is : (x y : ℤ) (u v : Value) → R x u → R y v → is_after u v ≡ int_lt y x
   after_is x y u v h k = rw (reads.in_order x y u v h k) (sym (more_by x y (int_cmp x y) (int_ranks x y)))
 
   chosen : (b : Bool) (x y : ℤ) (u v : Value) → R x u → R y v → R (cond b x y) (if b then u else v)

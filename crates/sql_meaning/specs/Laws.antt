@@ -1,23 +1,28 @@
 -- The laws, as statements. A public function with an empty body has each as its contract.
-use Rattle.std.specs.Prelude.{◌≡◌, ◌≢◌, ℕ, ◌<◌, [], length, map, slice_get, IsTrue}
+use Rattle.std.specs.Prelude.{◌≡◌, ◌≢◌, ℕ, ◌<◌, ℤ, Bool, List, [], length, map, slice_get, IsTrue}
+use Rattle.std.specs.declared.option.Option.{Option}
 use Rattle.std.specs.declared.option.Option.TheVariants.{Some, None}
+use Rattle.std.specs.List.{filter_map}
 use Rattle.daq_table.specs.ColumnFacts.{is_text}
 use Rattle.daq_table.specs.Tables.{Cells, IsTable, frame_of, row_of}
 use Rattle.daq_table.specs.declared.head.ColumnHead.{ColumnHead}
 use Rattle.daq_table.specs.declared.table_head.Head.{Head}
 use Rattle.query_model.specs.Answers.{Key, groups_of}
 use Rattle.query_model.specs.Meaning as typed
+use Rattle.query_model.specs.Meaning.{is_sql_true}
 use Rattle.query_model.specs.Projection.{projected, projected_frame}
 use Rattle.query_model.specs.Queries.{Aggregate, Query}
-use Rattle.query_model.specs.Worlds.{answer_on}
+use Rattle.query_model.specs.Worlds.{IsInResultOn, answer_on, average_on, belongs_on}
 use Rattle.sql_text.specs.declared.tree.CallKind.{CallKind}
-use Rattle.sql_text.specs.declared.tree.CallKind.TheVariants.{Count}
+use Rattle.sql_text.specs.declared.tree.CallKind.TheVariants.{Avg, Count}
+use Rattle.sql_text.specs.declared.tree.Num.{Num}
 use Rattle.sql_text.specs.Tree as tree
 use Rattle.sql_typing.specs.Refusals.{IsTyped}
 use Rattle.sql_meaning.specs.Conditions.{truth_of_where}
-use Rattle.sql_meaning.specs.Values.{unless_null}
+use Rattle.sql_meaning.specs.Values.{Value, unless_null}
 use Rattle.sql_meaning.specs.Expressions.{value}
-use Rattle.sql_meaning.specs.Answers.{answer, asked, group_of, grouping, is_same}
+use Rattle.sql_meaning.specs.Answers.{answer, asked, group_of, grouping, is_same, total}
+use Rattle.sql_meaning.specs.Orders.{is_among_first}
 use Rattle.sql_meaning.specs.Rows.{row_at, rows_at, shown, value_at}
 
 -- the numbers of a row in the columns of a typed query
@@ -55,6 +60,11 @@ pub record IsAsked (q : tree.Query) (query : Query) (item : tree.Item) (typed : 
   pub in_text : slice_get (asked q.head) place ≡ Some item
   pub in_query : slice_get query.items place ≡ Some typed
 
+-- a sum and a count are the total of some values and how many they are; none is that of no values
+abbrev pub IsAverage : (ℤ → Option Value) → Option (ℤ × ℕ) → List Value → Type 0
+IsAverage shows None values = values ≡ []
+IsAverage shows (Some (sum, count)) values = IsTrue (is_same (shows sum) (total values)) × (count ≡ length values)
+
 -- the number that the typed argument gives at a row is the value of the argument as it is written
 abbrev pub ArgumentsMeanTheirTrees : Type 0
 ArgumentsMeanTheirTrees =
@@ -71,3 +81,30 @@ AnswersMeanTheirTrees =
     IsTrue (is_same (unless_null (shown head.columns query.columns typed.face)
     (answer_on query typed (key_at query head cells one) (frame_of head) cells))
     (answer item (group_of q (row_at head cells one) (rows_at head cells))))
+
+-- the average of a typed item is the total of its values divided by how many they are, both as they are written
+abbrev pub AveragesMeanTheirTrees : Type 0
+AveragesMeanTheirTrees =
+    (q : tree.Query) (head : Head) (query : Query) (cells : Cells) (one : ℕ) (e : tree.Expr) (item : Aggregate) →
+    IsTyped q head query → HasValues head cells → IsAsked q query (tree.Call Avg e) item → (grouping q.ending ≢ [] → one < head.rows) →
+    IsAverage (shown head.columns query.columns item.face) (average_on query item (key_at query head cells one) (frame_of head) cells)
+    (filter_map (value e) (group_of q (row_at head cells one) (rows_at head cells)))
+
+-- what is typed of rows in an order says which rows are among the first
+abbrev pub OrdersMeanTheirTrees : Type 0
+OrdersMeanTheirTrees =
+    (q : tree.Query) (head : Head) (query : Query) (cells : Cells) (key : tree.Name) (down : Bool) (limit : Num) (x : ℕ) →
+    IsTyped q head query → HasValues head cells → x < head.rows → q.ending ≡ tree.Ordered key down limit →
+    belongs_on query (frame_of head) cells x
+    ≡ is_among_first (record { pred = q.pred; key = key; down = down; limit = limit }) (row_at head cells) head.rows x
+
+-- the groups of a result: a row at which the condition is true is of one, and each is that of such a row
+pub record HasGroups (q : tree.Query) (head : Head) (query : Query) (cells : Cells) : Type 0 where
+  pub of_row : (r : ℕ) → r < head.rows → IsTrue (is_sql_true (truth_of_where q.pred (row_at head cells r))) →
+      IsInResultOn query (key_at query head cells r) (frame_of head) cells
+  pub of_key : (key : Key) → length key ≡ length (groups_of query.shape) → IsInResultOn query key (frame_of head) cells →
+      (r : ℕ) × (r < head.rows) × IsTrue (is_sql_true (truth_of_where q.pred (row_at head cells r))) × (key ≡ key_at query head cells r)
+
+abbrev pub ResultsMeanTheirTrees : Type 0
+ResultsMeanTheirTrees =
+    (q : tree.Query) (head : Head) (query : Query) (cells : Cells) → IsTyped q head query → HasValues head cells → HasGroups q head query cells

@@ -1,6 +1,7 @@
 //! The laws that typed queries mean what their trees mean. Each stands on a function that does nothing.
 
-ghost use Rattle.sql_meaning.specs.Laws.{AnswersMeanTheirTrees, ArgumentsMeanTheirTrees, ConditionsMeanTheirTrees, TablesHaveValues};
+ghost use Rattle.sql_meaning.specs.Laws.{AnswersMeanTheirTrees, ArgumentsMeanTheirTrees, AveragesMeanTheirTrees, ConditionsMeanTheirTrees};
+ghost use Rattle.sql_meaning.specs.Laws.{OrdersMeanTheirTrees, ResultsMeanTheirTrees, TablesHaveValues};
 
 /// Each number of a table stands for a value, where columns of texts without names have nulls alone.
 pub fn tables_have_values()
@@ -20,4 +21,19 @@ pub fn arguments_mean_their_trees()
 /// The answer of a typed item for a group is the value that the item as it is written has over the rows of the group.
 pub fn answers_mean_their_trees()
     ensures { AnswersMeanTheirTrees }
+{}
+
+/// The average of a typed item is the total of those values divided by how many they are.
+pub fn averages_mean_their_trees()
+    ensures { AveragesMeanTheirTrees }
+{}
+
+/// The rows that are among the first of a typed query are those that the query as it is written asks for.
+pub fn orders_mean_their_trees()
+    ensures { OrdersMeanTheirTrees }
+{}
+
+/// The keys of a typed query's result are those of the rows at which the condition as it is written is true.
+pub fn results_mean_their_trees()
+    ensures { ResultsMeanTheirTrees }
 {}
