@@ -13,3 +13,4 @@ pub mod Groups
 pub mod Answered
 pub mod Ordered
 pub mod Resulted
+pub mod Keyed

@@ -2,7 +2,7 @@
 use Rattle.std.specs.Prelude.{◌≡◌, ◌≢◌, ℕ, ◌<◌, ℤ, Bool, List, [], length, map, slice_get, IsTrue}
 use Rattle.std.specs.declared.option.Option.{Option}
 use Rattle.std.specs.declared.option.Option.TheVariants.{Some, None}
-use Rattle.std.specs.List.{filter_map}
+use Rattle.std.specs.List.{AllByRecursion, filter_map}
 use Rattle.daq_table.specs.ColumnFacts.{is_text}
 use Rattle.daq_table.specs.Tables.{Cells, IsTable, frame_of, row_of}
 use Rattle.daq_table.specs.declared.head.ColumnHead.{ColumnHead}
@@ -12,6 +12,7 @@ use Rattle.query_model.specs.Meaning as typed
 use Rattle.query_model.specs.Meaning.{is_sql_true}
 use Rattle.query_model.specs.Projection.{projected, projected_frame}
 use Rattle.query_model.specs.Queries.{Aggregate, Query}
+use Rattle.query_model.specs.declared.query.Face.TheVariants.{OfColumn}
 use Rattle.query_model.specs.Worlds.{IsInResultOn, answer_on, average_on, belongs_on}
 use Rattle.sql_text.specs.declared.tree.CallKind.{CallKind}
 use Rattle.sql_text.specs.declared.tree.CallKind.TheVariants.{Avg, Count}
@@ -53,6 +54,20 @@ ConditionsMeanTheirTrees =
 -- the key of the group of a row, as a typed query has it
 abbrev pub key_at : Query → Head → Cells → ℕ → Key
 key_at query head cells one = map (numbers_at query head cells one) (groups_of query.shape)
+
+-- a part of the key of a row, shown as a value of its column, is the value of the row in a column of GROUP BY
+pub record IsPart (q : tree.Query) (head : Head) (query : Query) (cells : Cells) (one c : ℕ) : Type 0 where
+  pub place : ℕ
+  pub name : tree.Name
+  pub grouped : slice_get (grouping q.ending) place ≡ Some name
+  pub same : IsTrue (is_same (unless_null (shown head.columns query.columns (OfColumn c)) (numbers_at query head cells one c))
+      (row_at head cells one name.name))
+
+-- the parts of keys are the values of the columns of GROUP BY
+abbrev pub KeysMeanTheirTrees : Type 0
+KeysMeanTheirTrees =
+    (q : tree.Query) (head : Head) (query : Query) (cells : Cells) (one : ℕ) → IsTyped q head query → HasValues head cells →
+    one < head.rows → AllByRecursion (IsPart q head query cells one) (groups_of query.shape)
 
 -- an aggregate as it is written and as it is typed, both at one place among the aggregates of a query
 pub record IsAsked (q : tree.Query) (query : Query) (item : tree.Item) (typed : Aggregate) : Type 0 where
@@ -107,4 +122,5 @@ pub record HasGroups (q : tree.Query) (head : Head) (query : Query) (cells : Cel
 
 abbrev pub ResultsMeanTheirTrees : Type 0
 ResultsMeanTheirTrees =
-    (q : tree.Query) (head : Head) (query : Query) (cells : Cells) → IsTyped q head query → HasValues head cells → HasGroups q head query cells
+    (q : tree.Query) (head : Head) (query : Query) (cells : Cells) → IsTyped q head query → HasValues head cells →
+    HasGroups q head query cells

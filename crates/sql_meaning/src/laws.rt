@@ -1,7 +1,7 @@
 //! The laws that typed queries mean what their trees mean. Each stands on a function that does nothing.
 
 ghost use Rattle.sql_meaning.specs.Laws.{AnswersMeanTheirTrees, ArgumentsMeanTheirTrees, AveragesMeanTheirTrees, ConditionsMeanTheirTrees};
-ghost use Rattle.sql_meaning.specs.Laws.{OrdersMeanTheirTrees, ResultsMeanTheirTrees, TablesHaveValues};
+ghost use Rattle.sql_meaning.specs.Laws.{KeysMeanTheirTrees, OrdersMeanTheirTrees, ResultsMeanTheirTrees, TablesHaveValues};
 
 /// Each number of a table stands for a value, where columns of texts without names have nulls alone.
 pub fn tables_have_values()
@@ -36,4 +36,9 @@ pub fn orders_mean_their_trees()
 /// The keys of a typed query's result are those of the rows at which the condition as it is written is true.
 pub fn results_mean_their_trees()
     ensures { ResultsMeanTheirTrees }
+{}
+
+/// The parts of a key are the values that its row has in the columns of GROUP BY.
+pub fn keys_mean_their_trees()
+    ensures { KeysMeanTheirTrees }
 {}
