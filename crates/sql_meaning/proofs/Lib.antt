@@ -14,3 +14,4 @@ pub mod Answered
 pub mod Ordered
 pub mod Resulted
 pub mod Keyed
+pub mod Order

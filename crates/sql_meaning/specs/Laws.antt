@@ -2,6 +2,7 @@
 use Rattle.std.specs.Prelude.{◌≡◌, ◌≢◌, ℕ, ◌<◌, ℤ, Bool, List, [], length, map, slice_get, IsTrue}
 use Rattle.std.specs.declared.option.Option.{Option}
 use Rattle.std.specs.declared.option.Option.TheVariants.{Some, None}
+use Rattle.std.specs.Cmp.{IsTotalOrder}
 use Rattle.std.specs.List.{AllByRecursion, filter_map}
 use Rattle.daq_table.specs.ColumnFacts.{is_text}
 use Rattle.daq_table.specs.Tables.{Cells, IsTable, frame_of, row_of}
@@ -20,11 +21,15 @@ use Rattle.sql_text.specs.declared.tree.Num.{Num}
 use Rattle.sql_text.specs.Tree as tree
 use Rattle.sql_typing.specs.Refusals.{IsTyped}
 use Rattle.sql_meaning.specs.Conditions.{truth_of_where}
-use Rattle.sql_meaning.specs.Values.{Value, unless_null}
+use Rattle.sql_meaning.specs.Values.{Value, compare_decimals, unless_null}
 use Rattle.sql_meaning.specs.Expressions.{value}
 use Rattle.sql_meaning.specs.Answers.{answer, asked, group_of, grouping, is_same, total}
 use Rattle.sql_meaning.specs.Orders.{is_among_first}
 use Rattle.sql_meaning.specs.Rows.{row_at, rows_at, shown, value_at}
+
+-- decimals are in one order, in which those that differ by zeros at the end are one
+abbrev pub DecimalsAreOrdered : Type 0
+DecimalsAreOrdered = IsTotalOrder compare_decimals
 
 -- the numbers of a row in the columns of a typed query
 abbrev pub numbers_at : Query → Head → Cells → ℕ → typed.Row

@@ -1,7 +1,12 @@
 //! The laws that typed queries mean what their trees mean. Each stands on a function that does nothing.
 
 ghost use Rattle.sql_meaning.specs.Laws.{AnswersMeanTheirTrees, ArgumentsMeanTheirTrees, AveragesMeanTheirTrees, ConditionsMeanTheirTrees};
-ghost use Rattle.sql_meaning.specs.Laws.{KeysMeanTheirTrees, OrdersMeanTheirTrees, ResultsMeanTheirTrees, TablesHaveValues};
+ghost use Rattle.sql_meaning.specs.Laws.{DecimalsAreOrdered, KeysMeanTheirTrees, OrdersMeanTheirTrees, ResultsMeanTheirTrees, TablesHaveValues};
+
+/// Decimals are in one total order, however many digits they have behind the point.
+pub fn decimals_are_ordered()
+    ensures { DecimalsAreOrdered }
+{}
 
 /// Each number of a table stands for a value, where columns of texts without names have nulls alone.
 pub fn tables_have_values()
