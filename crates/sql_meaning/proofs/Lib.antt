@@ -15,3 +15,4 @@ pub mod Ordered
 pub mod Resulted
 pub mod Keyed
 pub mod Order
+pub mod Spelled

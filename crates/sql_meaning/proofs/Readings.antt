@@ -83,18 +83,18 @@ names_order names a j k s t e f =
     let own : IsRank k (names_below names t) (is_name names t) Equal = subst (λ o. IsRank k (names_below names t) (is_name names t) o) (list_same t) (ranked names t a k t f) in
     rank_order j k (names_below names t) (is_name names t) (slice_cmp nat_cmp s t) own.0 own.1 (ranked names t a j s e)
 
-record IsTextAt (names : List (List ℕ)) (z : ℤ) (u : Value) : Type 0 where
-  rank : ℕ
-  name : List ℕ
-  number : z ≡ pos rank
-  get : slice_get names rank ≡ Some name
-  is : u ≡ Text name
+pub record IsTextAt (names : List (List ℕ)) (z : ℤ) (u : Value) : Type 0 where
+  pub rank : ℕ
+  pub name : List ℕ
+  pub number : z ≡ pos rank
+  pub get : slice_get names rank ≡ Some name
+  pub is : u ≡ Text name
 
 text_by : (names : List (List ℕ)) (k : ℕ) (o : Option (List ℕ)) (u : Value) → slice_get names k ≡ o → option_map Text o ≡ Some u → IsTextAt names (pos k) u
 text_by names k None u get e = absurd (none-some u e)
 text_by names k (Some name) u get e = record { rank = k; name = name; number = refl; get = get; is = sym (same_Some (Text name) u e) }
 
-text_is : (names : List (List ℕ)) (z : ℤ) (u : Value) → text_at names z ≡ Some u → IsTextAt names z u
+pub text_is : (names : List (List ℕ)) (z : ℤ) (u : Value) → text_at names z ≡ Some u → IsTextAt names z u
 text_is names (pos k) u e = text_by names k (slice_get names k) u refl e
 text_is names (negsuc k) u e = absurd (none-some u e)
 

@@ -5,6 +5,7 @@ use Rattle.std.specs.declared.option.Option.TheVariants.{Some, None}
 use Rattle.std.specs.Cmp.{IsTotalOrder}
 use Rattle.std.specs.List.{AllByRecursion, filter_map}
 use Rattle.daq_table.specs.ColumnFacts.{is_text}
+use Rattle.daq_table.specs.ValueTexts.{text_of_value}
 use Rattle.daq_table.specs.Tables.{Cells, IsTable, frame_of, row_of}
 use Rattle.daq_table.specs.declared.head.ColumnHead.{ColumnHead}
 use Rattle.daq_table.specs.declared.table_head.Head.{Head}
@@ -25,11 +26,16 @@ use Rattle.sql_meaning.specs.Values.{Value, compare_decimals, unless_null}
 use Rattle.sql_meaning.specs.Expressions.{value}
 use Rattle.sql_meaning.specs.Answers.{answer, asked, group_of, grouping, is_same, total}
 use Rattle.sql_meaning.specs.Orders.{is_among_first}
-use Rattle.sql_meaning.specs.Rows.{row_at, rows_at, shown, value_at}
+use Rattle.sql_meaning.specs.Rows.{row_at, rows_at, shown, text_of, value_at, value_of}
 
 -- decimals are in one order, in which those that differ by zeros at the end are one
 abbrev pub DecimalsAreOrdered : Type 0
 DecimalsAreOrdered = IsTotalOrder compare_decimals
+
+-- the text of a number of a column is that of the value for which it stands
+abbrev pub TextsAreOfValues : Type 0
+TextsAreOfValues =
+    (column : ColumnHead) (n : ℤ) (v : Value) → value_of (Some column) (Some n) ≡ Some v → text_of_value column n ≡ text_of v
 
 -- the numbers of a row in the columns of a typed query
 abbrev pub numbers_at : Query → Head → Cells → ℕ → typed.Row

@@ -5,6 +5,8 @@ use Rattle.std.specs.declared.option.Option.TheVariants.{Some, None}
 use Rattle.std.specs.List.{position}
 use Rattle.std.specs.Option.{option_map}
 use Rattle.std.specs.Str.{bytes_eq}
+use Rattle.daq_table.specs.Numbers.{scaled_text}
+use Rattle.daq_table.specs.ValueTexts.{quoted_text, text_of_date}
 use Rattle.daq_table.specs.Tables.{Cells, frame_of, row_of, rows_of}
 use Rattle.daq_table.specs.declared.head.ColumnHead.{ColumnHead}
 use Rattle.daq_table.specs.declared.head.Kind.{Kind}
@@ -48,3 +50,9 @@ row_at head cells r name = unless_null (value_at head cells r) (position (λ col
 -- all rows of a table
 abbrev pub rows_at : Head → Cells → List Row
 rows_at head cells = map (row_at head cells) (rows_of (frame_of head))
+
+-- how a report writes a value
+abbrev pub text_of : Value → List ℕ
+text_of (Number a) = scaled_text a.behind a.digits
+text_of (Day d) = text_of_date d
+text_of (Text t) = quoted_text t

@@ -1,11 +1,17 @@
 //! The laws that typed queries mean what their trees mean. Each stands on a function that does nothing.
 
 ghost use Rattle.sql_meaning.specs.Laws.{AnswersMeanTheirTrees, ArgumentsMeanTheirTrees, AveragesMeanTheirTrees, ConditionsMeanTheirTrees};
-ghost use Rattle.sql_meaning.specs.Laws.{DecimalsAreOrdered, KeysMeanTheirTrees, OrdersMeanTheirTrees, ResultsMeanTheirTrees, TablesHaveValues};
+ghost use Rattle.sql_meaning.specs.Laws.{DecimalsAreOrdered, KeysMeanTheirTrees, OrdersMeanTheirTrees, ResultsMeanTheirTrees};
+ghost use Rattle.sql_meaning.specs.Laws.{TablesHaveValues, TextsAreOfValues};
 
 /// Decimals are in one total order, however many digits they have behind the point.
 pub fn decimals_are_ordered()
     ensures { DecimalsAreOrdered }
+{}
+
+/// The text that a report has for a number of a column is that of its value.
+pub fn texts_are_of_values()
+    ensures { TextsAreOfValues }
 {}
 
 /// Each number of a table stands for a value, where columns of texts without names have nulls alone.
