@@ -20,13 +20,13 @@ use Rattle.sql_typing.specs.Faults.{argument_fault, expr_fault, first_fault}
 use Rattle.sql_typing.specs.Names.{names_in_expr}
 use Rattle.sql_typing.specs.Typing.{bare_column, counted, face_of, scale_of, typed_call, typed_expr, value_face, whole_column}
 use Rattle.sql_typing.specs.Typing as typing
-use Rattle.sql_meaning.specs.Values.{Value, unless_null}
+use Rattle.sql_meaning.specs.Values.{Value}
 use Rattle.sql_meaning.specs.Conditions as meaning
 use Rattle.sql_meaning.specs.Conditions.{truth_of_where}
 use Rattle.sql_meaning.specs.Expressions.{value}
 use Rattle.sql_meaning.specs.Answers.{answer, are_one_group, group_of, grouping, is_same, least, greatest, total, whole}
 use Rattle.sql_meaning.specs.Rows.{row_at, rows_at, shown}
-use Rattle.sql_meaning.specs.Laws.{AnswersMeanTheirTrees, AveragesMeanTheirTrees, IsAverage, HasValues, IsAsked, key_at, numbers_at}
+use Rattle.sql_meaning.specs.Laws.{AnswersMeanTheirTrees, AveragesMeanTheirTrees, HasValues, IsAsked, IsAverage, IsShownAs, key_at, numbers_at}
 use Rattle.sql_meaning.proofs.Asked.{amount_at, any_argument, item_is}
 use Rattle.sql_meaning.proofs.Groups.{passes_is}
 use Rattle.sql_meaning.proofs.Named.{IsRead}
@@ -74,20 +74,20 @@ module _ (q : tree.Query) (head : Head) (cells : Cells) (one : ℕ) (good : firs
       (range_all (λ r. (passes query (key_at query head cells one) (numbers r) ≡ keep (row_at head cells r)) × Related R (val t.arg (numbers r)) (g (row_at head cells r))) 0 head.rows
       (λ r lt. (let r_in : r < head.rows = omega (arith, lt) in (passes_is q head cells r one good values r_in one_in, each r r_in))))
 
-  star_answered : IsTrue (is_same (unless_null (shown table columns counted.face) (answer_on query counted (key_at query head cells one) (frame_of head) cells)) (answer CountAll rows))
+  star_answered : IsShownAs (shown table columns counted.face) (answer_on query counted (key_at query head cells one) (frame_of head) cells) (answer CountAll rows)
   star_answered =
       let related = rows_alike (λ z u. Unit {0}) (λ row. Some (whole 0)) counted (λ r r_in. (whole 0, refl, tt)) in
-      same_count (length (numbers_of counted)) (length rows) (as_many (λ z u. Unit {0}) (numbers_of counted) (filter_map (λ row. Some (whole 0)) rows) related ∙ all_given (whole 0) rows)
+      (whole (length rows), refl, same_count (length (numbers_of counted)) (length rows) (as_many (λ z u. Unit {0}) (numbers_of counted) (filter_map (λ row. Some (whole 0)) rows) related ∙ all_given (whole 0) rows))
 
   sum_answered : (e : Expr) → expr_fault table e ≡ None → AllByRecursion (IsRead q head cells) (names_in_expr e) → (t : Aggregate) → t.arg ≡ typed_expr table columns e
-      → IsTrue (is_same (unless_null (shown table columns (faces.Number (scale_of table e))) (unless_empty (numbers_of t) (typed.total (numbers_of t)))) (total (filter_map (value e) rows)))
+      → IsShownAs (shown table columns (faces.Number (scale_of table e))) (unless_empty (numbers_of t) (typed.total (numbers_of t))) (total (filter_map (value e) rows))
   sum_answered e fine named t arg =
       let related = rows_alike (IsNumber (scale_of table e)) (value e) t (λ r r_in. rw arg (amount_at q head cells e fine named r r_in)) in
       shown_is (shown table columns (faces.Number (scale_of table e))) (IsNumber (scale_of table e)) (numbers_read (scale_of table e))
       (unless_empty (numbers_of t) (typed.total (numbers_of t))) (total (filter_map (value e) rows)) (total_is (scale_of table e) (numbers_of t) (filter_map (value e) rows) related)
 
   call_answered : (kind : CallKind) (e : Expr) → argument_fault table (whole_column kind e) e ≡ None → AllByRecursion (IsRead q head cells) (names_in_expr e)
-      → IsTrue (is_same (unless_null (shown table columns (face_of table columns kind e)) (answer_on query (typed_call table columns kind e) (key_at query head cells one) (frame_of head) cells)) (answer (Call kind e) rows))
+      → IsShownAs (shown table columns (face_of table columns kind e)) (answer_on query (typed_call table columns kind e) (key_at query head cells one) (frame_of head) cells) (answer (Call kind e) rows)
   call_answered calls.Sum e fine named = sum_answered e fine named (typed_call table columns calls.Sum e) refl
   call_answered calls.Avg e fine named = sum_answered e fine named (typed_call table columns calls.Avg e) refl
   call_answered calls.Min e fine named =
@@ -108,23 +108,23 @@ module _ (q : tree.Query) (head : Head) (cells : Cells) (one : ℕ) (good : firs
       let is = any_argument q head cells e (bare_column e) refl fine named in
       let t = typed_call table columns calls.Count e in
       let related = rows_alike (λ z u. Unit {0}) (value e) t (λ r r_in. loosely is.stands (val (typed_expr table columns e) (numbers r)) (value e (row_at head cells r)) (is.related r r_in)) in
-      same_count (length (numbers_of t)) (length (filter_map (value e) rows)) (as_many (λ z u. Unit {0}) (numbers_of t) (filter_map (value e) rows) related)
+      (whole (length (filter_map (value e) rows)), refl, same_count (length (numbers_of t)) (length (filter_map (value e) rows)) (as_many (λ z u. Unit {0}) (numbers_of t) (filter_map (value e) rows) related))
 
   pub item_answered : (item : Item) (t : Aggregate) → IsAsked q query item t
-      → IsTrue (is_same (unless_null (shown table columns t.face) (answer_on query t (key_at query head cells one) (frame_of head) cells)) (answer item rows))
+      → IsShownAs (shown table columns t.face) (answer_on query t (key_at query head cells one) (frame_of head) cells) (answer item rows)
   item_answered (Plain n) t asked = absurd (none-some t (item_is q head cells (Plain n) t good values asked).typed)
   item_answered CountAll t asked =
-      subst (λ (a : Aggregate). IsTrue (is_same (unless_null (shown table columns a.face) (answer_on query a (key_at query head cells one) (frame_of head) cells)) (answer CountAll rows)))
+      subst (λ (a : Aggregate). IsShownAs (shown table columns a.face) (answer_on query a (key_at query head cells one) (frame_of head) cells) (answer CountAll rows))
       (same_Some counted t (item_is q head cells CountAll t good values asked).typed) star_answered
   item_answered (Call kind e) t asked =
       let is = item_is q head cells (Call kind e) t good values asked in
-      subst (λ (a : Aggregate). IsTrue (is_same (unless_null (shown table columns a.face) (answer_on query a (key_at query head cells one) (frame_of head) cells)) (answer (Call kind e) rows)))
+      subst (λ (a : Aggregate). IsShownAs (shown table columns a.face) (answer_on query a (key_at query head cells one) (frame_of head) cells) (answer (Call kind e) rows))
       (same_Some (typed_call table columns kind e) t is.typed) (call_answered kind e is.fine is.named)
 
-  average_by : (values : List Value) (zs : List ℤ) (shows : ℤ → Option Value) → length zs ≡ length values → IsTrue (is_same (unless_null shows (unless_empty zs (typed.total zs))) (total values)) → IsAverage shows (typed.average zs) values
+  average_by : (values : List Value) (zs : List ℤ) (shows : ℤ → Option Value) → length zs ≡ length values → IsShownAs shows (unless_empty zs (typed.total zs)) (total values) → IsAverage shows (typed.average zs) values
   average_by [] [] shows n h = refl
   average_by (v ∷ vs) [] shows n h = absurd (omega (arith, n))
-  average_by values (z ∷ zs) shows n h = (h, n)
+  average_by values (z ∷ zs) shows n h = (rw h.1 h.2, n)
 
   pub average_answered : (e : Expr) (t : Aggregate) → IsAsked q query (Call calls.Avg e) t
       → IsAverage (shown table columns t.face) (average_on query t (key_at query head cells one) (frame_of head) cells) (filter_map (value e) rows)
@@ -146,5 +146,5 @@ averages_mean q head meant cells one e t is values asked one_in =
 pub answers_mean : AnswersMeanTheirTrees
 answers_mean q head meant cells one item t is values asked one_in =
     subst (λ (w : Query). IsAsked q w item t
-    → IsTrue (is_same (unless_null (shown head.columns w.columns t.face) (answer_on w t (key_at w head cells one) (frame_of head) cells)) (answer item (group_of q (row_at head cells one) (rows_at head cells)))))
+    → IsShownAs (shown head.columns w.columns t.face) (answer_on w t (key_at w head cells one) (frame_of head) cells) (answer item (group_of q (row_at head cells one) (rows_at head cells))))
     (sym is.same) (λ found. item_answered q head cells one is.faultless values one_in item t found) asked

@@ -21,11 +21,11 @@ use Rattle.sql_typing.specs.Typing as typing
 use Rattle.sql_typing.proofs.Alls.{all_left, all_right, all_then}
 use Rattle.sql_typing.proofs.Clean.{clean}
 use Rattle.sql_typing.proofs.Firsts.{none_first, none_later}
-use Rattle.sql_meaning.specs.Values.{Value, Number, unless_null}
+use Rattle.sql_meaning.specs.Values.{Value, Number}
 use Rattle.sql_meaning.specs.Expressions.{value}
 use Rattle.sql_meaning.specs.Answers.{asked, is_asked, is_same}
 use Rattle.sql_meaning.specs.Rows.{row_at, shown, value_in, value_of}
-use Rattle.sql_meaning.specs.Laws.{ArgumentsMeanTheirTrees, HasValues, IsAsked, numbers_at}
+use Rattle.sql_meaning.specs.Laws.{ArgumentsMeanTheirTrees, HasValues, IsAsked, IsShownAs, numbers_at}
 use Rattle.sql_meaning.proofs.Amounts.{IsAmount, expr_means}
 use Rattle.sql_meaning.proofs.Named.{IsColumn, IsNamed, IsRead, all_read}
 use Rattle.sql_meaning.proofs.Readings.{IsNumber, IsReading, Related, columns_read, numbers_read, shown_is}
@@ -144,7 +144,7 @@ module _ (q : tree.Query) (head : Head) (cells : Cells) where
   call_argument calls.Count e some fine named = absurd (some refl)
 
   argument_is : (kind : CallKind) (e : Expr) (r : ℕ) → r < head.rows → kind ≢ calls.Count → argument_fault table (whole_column kind e) e ≡ None → AllByRecursion (IsRead q head cells) (names_in_expr e)
-      → IsTrue (is_same (unless_null (shown table columns (face_of table columns kind e)) (val (typed_expr table columns e) (numbers r))) (value e (row_at head cells r)))
+      → IsShownAs (shown table columns (face_of table columns kind e)) (val (typed_expr table columns e) (numbers r)) (value e (row_at head cells r))
   argument_is kind e r r_in some fine named =
       let is = call_argument kind e some fine named in
       shown_is (shown table columns (face_of table columns kind e)) is.stands is.reads (val (typed_expr table columns e) (numbers r)) (value e (row_at head cells r)) (is.related r r_in)
@@ -156,14 +156,14 @@ module _ (q : tree.Query) (head : Head) (cells : Cells) where
       (all_left (IsRead q head cells) (names_in_head q.head) (names_in_filter q.pred) front)
 
   argument_means : (r : ℕ) (kind : CallKind) (e : Expr) (t : Aggregate) → first_fault head.columns q ≡ None → HasValues head cells → r < head.rows → IsAsked q (typing.typed head.columns q) (Call kind e) t → kind ≢ calls.Count
-      → IsTrue (is_same (unless_null (shown table columns t.face) (val t.arg (numbers r))) (value e (row_at head cells r)))
+      → IsShownAs (shown table columns t.face) (val t.arg (numbers r)) (value e (row_at head cells r))
   argument_means r kind e t good values r_in asked some =
       let is = item_is (Call kind e) t good values asked in
-      subst (λ (a : Aggregate). IsTrue (is_same (unless_null (shown table columns a.face) (val a.arg (numbers r))) (value e (row_at head cells r))))
+      subst (λ (a : Aggregate). IsShownAs (shown table columns a.face) (val a.arg (numbers r)) (value e (row_at head cells r)))
       (same_Some (typed_call table columns kind e) t is.typed) (argument_is kind e r r_in some is.fine is.named)
 
 pub arguments_mean : ArgumentsMeanTheirTrees
 arguments_mean q head query cells r kind e item is values r_in asked some =
     subst (λ (query : Query). IsAsked q query (Call kind e) item
-    → IsTrue (is_same (unless_null (shown head.columns query.columns item.face) (val item.arg (numbers_at query head cells r))) (value e (row_at head cells r))))
+    → IsShownAs (shown head.columns query.columns item.face) (val item.arg (numbers_at query head cells r)) (value e (row_at head cells r)))
     (sym is.same) (λ asked. argument_means q head cells r kind e item is.faultless values r_in asked some) asked

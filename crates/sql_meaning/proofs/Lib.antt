@@ -16,3 +16,4 @@ pub mod Resulted
 pub mod Keyed
 pub mod Order
 pub mod Spelled
+pub mod Enclosed

@@ -17,10 +17,11 @@ use Rattle.daq_table.specs.declared.head.Kind.TheVariants as kinds
 use Rattle.query_model.specs.Answers as typed
 use Rattle.query_model.specs.Answers.{same_value, unless_empty}
 use Rattle.sql_typing.specs.Typing.{is_name, names_below}
-use Rattle.sql_meaning.specs.Values.{Decimal, Value, Number, Day, Text, compare, unless_null}
+use Rattle.sql_meaning.specs.Values.{Decimal, Value, Number, Day, Text, compare}
 use Rattle.sql_meaning.specs.Conditions.{Row}
 use Rattle.sql_meaning.specs.Expressions.{plus}
 use Rattle.sql_meaning.specs.Answers.{greater, greatest, is_after, is_same, least, lesser, total}
+use Rattle.sql_meaning.specs.Laws.{IsShownAs}
 use Rattle.sql_meaning.specs.Rows.{text_at, value_in}
 use Rattle.sql_meaning.proofs.Decimals.{IsDecimal, added, is_decimal, ordered}
 use Rattle.sql_meaning.proofs.Spots.{more_by}
@@ -120,9 +121,9 @@ columns_read kind names a = record {
 -- ---- one value
 
 module _ (shows : ℤ → Option Value) (R : ℤ → Value → Type 0) (reads : IsReading shows R) where
-  pub shown_is : (o : Option ℤ) (v : Option Value) → Related R o v → IsTrue (is_same (unless_null shows o) v)
-  shown_is None v h = rw h refl
-  shown_is (Some z) v h = rw h.1 (reads.is_shown z h.0 h.2)
+  pub shown_is : (o : Option ℤ) (v : Option Value) → Related R o v → IsShownAs shows o v
+  shown_is None v h = h
+  shown_is (Some z) v h = (h.0, h.1, reads.is_shown z h.0 h.2)
 
   pub same_is : (o p : Option ℤ) (u v : Option Value) → Related R o u → Related R p v → same_value o p ≡ is_same u v
   same_is None None u v h k = rw (h, k) refl

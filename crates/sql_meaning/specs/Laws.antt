@@ -1,5 +1,5 @@
 -- The laws, as statements. A public function with an empty body has each as its contract.
-use Rattle.std.specs.Prelude.{◌≡◌, ◌≢◌, ℕ, ◌<◌, ℤ, Bool, List, [], length, map, slice_get, IsTrue}
+use Rattle.std.specs.Prelude.{◌≡◌, ◌≢◌, ℕ, ◌<◌, ℤ, Bool, false, List, [], length, map, slice_get, IsTrue}
 use Rattle.std.specs.declared.option.Option.{Option}
 use Rattle.std.specs.declared.option.Option.TheVariants.{Some, None}
 use Rattle.std.specs.Cmp.{IsTotalOrder}
@@ -10,6 +10,9 @@ use Rattle.daq_table.specs.Tables.{Cells, IsTable, frame_of, row_of}
 use Rattle.daq_table.specs.declared.head.ColumnHead.{ColumnHead}
 use Rattle.daq_table.specs.declared.table_head.Head.{Head}
 use Rattle.query_model.specs.Answers.{Key, groups_of}
+use Rattle.query_model.specs.Bounds.{Admits}
+use Rattle.query_model.specs.declared.bounds.Bound.{Bound}
+use Rattle.query_model.specs.declared.bounds.Nullity.TheVariants.{Always, Never}
 use Rattle.query_model.specs.Meaning as typed
 use Rattle.query_model.specs.Meaning.{is_sql_true}
 use Rattle.query_model.specs.Projection.{projected, projected_frame}
@@ -22,9 +25,9 @@ use Rattle.sql_text.specs.declared.tree.Num.{Num}
 use Rattle.sql_text.specs.Tree as tree
 use Rattle.sql_typing.specs.Refusals.{IsTyped}
 use Rattle.sql_meaning.specs.Conditions.{truth_of_where}
-use Rattle.sql_meaning.specs.Values.{Value, compare_decimals, unless_null}
+use Rattle.sql_meaning.specs.Values.{Value, compare_decimals}
 use Rattle.sql_meaning.specs.Expressions.{value}
-use Rattle.sql_meaning.specs.Answers.{answer, asked, group_of, grouping, is_same, total}
+use Rattle.sql_meaning.specs.Answers.{answer, asked, group_of, grouping, is_after, is_same, total}
 use Rattle.sql_meaning.specs.Orders.{is_among_first}
 use Rattle.sql_meaning.specs.Rows.{row_at, rows_at, shown, text_of, value_at, value_of}
 
@@ -36,6 +39,11 @@ DecimalsAreOrdered = IsTotalOrder compare_decimals
 abbrev pub TextsAreOfValues : Type 0
 TextsAreOfValues =
     (column : ColumnHead) (n : ℤ) (v : Value) → value_of (Some column) (Some n) ≡ Some v → text_of_value column n ≡ text_of v
+
+-- the number, as it is shown, is the value; and null is null
+abbrev pub IsShownAs : (ℤ → Option Value) → Option ℤ → Option Value → Type 0
+IsShownAs shows None v = v ≡ None
+IsShownAs shows (Some n) v = (u : Value) × (v ≡ Some u) × IsTrue (is_same (shows n) (Some u))
 
 -- the numbers of a row in the columns of a typed query
 abbrev pub numbers_at : Query → Head → Cells → ℕ → typed.Row
@@ -71,8 +79,7 @@ pub record IsPart (q : tree.Query) (head : Head) (query : Query) (cells : Cells)
   pub place : ℕ
   pub name : tree.Name
   pub grouped : slice_get (grouping q.ending) place ≡ Some name
-  pub same : IsTrue (is_same (unless_null (shown head.columns query.columns (OfColumn c)) (numbers_at query head cells one c))
-      (row_at head cells one name.name))
+  pub same : IsShownAs (shown head.columns query.columns (OfColumn c)) (numbers_at query head cells one c) (row_at head cells one name.name)
 
 -- the parts of keys are the values of the columns of GROUP BY
 abbrev pub KeysMeanTheirTrees : Type 0
@@ -96,17 +103,16 @@ abbrev pub ArgumentsMeanTheirTrees : Type 0
 ArgumentsMeanTheirTrees =
     (q : tree.Query) (head : Head) (query : Query) (cells : Cells) (r : ℕ) (kind : CallKind) (e : tree.Expr) (item : Aggregate) →
     IsTyped q head query → HasValues head cells → r < head.rows → IsAsked q query (tree.Call kind e) item → kind ≢ Count →
-    IsTrue (is_same (unless_null (shown head.columns query.columns item.face) (typed.val item.arg (numbers_at query head cells r)))
-    (value e (row_at head cells r)))
+    IsShownAs (shown head.columns query.columns item.face) (typed.val item.arg (numbers_at query head cells r))
+    (value e (row_at head cells r))
 
 -- the answer of a typed item for the group of a row is the value that the item has over the rows of that group
 abbrev pub AnswersMeanTheirTrees : Type 0
 AnswersMeanTheirTrees =
     (q : tree.Query) (head : Head) (query : Query) (cells : Cells) (one : ℕ) (item : tree.Item) (typed : Aggregate) →
     IsTyped q head query → HasValues head cells → IsAsked q query item typed → (grouping q.ending ≢ [] → one < head.rows) →
-    IsTrue (is_same (unless_null (shown head.columns query.columns typed.face)
-    (answer_on query typed (key_at query head cells one) (frame_of head) cells))
-    (answer item (group_of q (row_at head cells one) (rows_at head cells))))
+    IsShownAs (shown head.columns query.columns typed.face) (answer_on query typed (key_at query head cells one) (frame_of head) cells)
+    (answer item (group_of q (row_at head cells one) (rows_at head cells)))
 
 -- the average of a typed item is the total of its values divided by how many they are, both as they are written
 abbrev pub AveragesMeanTheirTrees : Type 0
@@ -115,6 +121,23 @@ AveragesMeanTheirTrees =
     IsTyped q head query → HasValues head cells → IsAsked q query (tree.Call Avg e) item → (grouping q.ending ≢ [] → one < head.rows) →
     IsAverage (shown head.columns query.columns item.face) (average_on query item (key_at query head cells one) (frame_of head) cells)
     (filter_map (value e) (group_of q (row_at head cells one) (rows_at head cells)))
+
+-- an interval, as its ends are shown, contains a value, or null
+abbrev pub ContainsValue : (ℤ → Option Value) → Bound → Option Value → Type 0
+ContainsValue shows bound None = bound.null ≢ Never
+ContainsValue shows bound (Some v) =
+    (bound.null ≢ Always)
+    × ((u : Value) → shows bound.lo ≡ Some u → is_after u v ≡ false)
+    × ((u : Value) → shows bound.hi ≡ Some u → is_after v u ≡ false)
+
+-- an interval that admits the answer of a typed item contains the value of the item as it is written
+abbrev pub IntervalsMeanTheirTrees : Type 0
+IntervalsMeanTheirTrees =
+    (q : tree.Query) (head : Head) (query : Query) (cells : Cells) (one : ℕ) (item : tree.Item) (typed : Aggregate) (bound : Bound) →
+    IsTyped q head query → HasValues head cells → IsAsked q query item typed → (grouping q.ending ≢ [] → one < head.rows) →
+    Admits bound (answer_on query typed (key_at query head cells one) (frame_of head) cells) →
+    ContainsValue (shown head.columns query.columns typed.face) bound
+    (answer item (group_of q (row_at head cells one) (rows_at head cells)))
 
 -- what is typed of rows in an order says which rows are among the first
 abbrev pub OrdersMeanTheirTrees : Type 0

@@ -1,8 +1,8 @@
 //! The laws that typed queries mean what their trees mean. Each stands on a function that does nothing.
 
 ghost use Rattle.sql_meaning.specs.Laws.{AnswersMeanTheirTrees, ArgumentsMeanTheirTrees, AveragesMeanTheirTrees, ConditionsMeanTheirTrees};
-ghost use Rattle.sql_meaning.specs.Laws.{DecimalsAreOrdered, KeysMeanTheirTrees, OrdersMeanTheirTrees, ResultsMeanTheirTrees};
-ghost use Rattle.sql_meaning.specs.Laws.{TablesHaveValues, TextsAreOfValues};
+ghost use Rattle.sql_meaning.specs.Laws.{DecimalsAreOrdered, IntervalsMeanTheirTrees, KeysMeanTheirTrees, OrdersMeanTheirTrees};
+ghost use Rattle.sql_meaning.specs.Laws.{ResultsMeanTheirTrees, TablesHaveValues, TextsAreOfValues};
 
 /// Decimals are in one total order, however many digits they have behind the point.
 pub fn decimals_are_ordered()
@@ -52,4 +52,9 @@ pub fn results_mean_their_trees()
 /// The parts of a key are the values that its row has in the columns of GROUP BY.
 pub fn keys_mean_their_trees()
     ensures { KeysMeanTheirTrees }
+{}
+
+/// An interval that admits the answer of a typed item contains the value of the item as it is written.
+pub fn intervals_mean_their_trees()
+    ensures { IntervalsMeanTheirTrees }
 {}
