@@ -32,7 +32,7 @@ equal_is Greater h = absurd cc
 
 -- ---- values that are one compare alike
 
-compare_right : (x u w : Value) → is_some_and is_eq (compare x u) ≡ true → compare w x ≡ compare w u
+pub compare_right : (x u w : Value) → is_some_and is_eq (compare x u) ≡ true → compare w x ≡ compare w u
 compare_right (Number a) (Number b) (Number c) h = ap Some (alike_right decimals_ordered a b c (equal_is (compare_decimals a b) h))
 compare_right (Number a) (Number b) (Day e) h = refl
 compare_right (Number a) (Number b) (Text t) h = refl
@@ -49,7 +49,7 @@ compare_right (Text s) (Text t) (Number c) h = refl
 compare_right (Text s) (Text t) (Day f) h = refl
 compare_right (Text s) (Text t) (Text r) h = ap Some (alike_right nat_list_cmp_total s t r (equal_is (slice_cmp nat_cmp s t) h))
 
-compare_left : (x u w : Value) → is_some_and is_eq (compare x u) ≡ true → compare x w ≡ compare u w
+pub compare_left : (x u w : Value) → is_some_and is_eq (compare x u) ≡ true → compare x w ≡ compare u w
 compare_left (Number a) (Number b) (Number c) h = ap Some (decimals_ordered.congr a b c (equal_is (compare_decimals a b) h))
 compare_left (Number a) (Number b) (Day e) h = refl
 compare_left (Number a) (Number b) (Text t) h = refl
@@ -72,7 +72,7 @@ of_column : (o : Option ColumnHead) (x y : ℤ) (u v : Value) → value_of o (So
 of_column None x y u v e f = absurd (none-some u e)
 of_column (Some column) x y u v e f = (columns_read column.kind column.names column.is_column.ascending).in_order x y u v e f
 
-in_order : (table : List ColumnHead) (columns : List ℕ) (face : Face) (x y : ℤ) (u v : Value) → shown table columns face x ≡ Some u → shown table columns face y ≡ Some v → compare u v ≡ Some (int_cmp x y)
+pub in_order : (table : List ColumnHead) (columns : List ℕ) (face : Face) (x y : ℤ) (u v : Value) → shown table columns face x ≡ Some u → shown table columns face y ≡ Some v → compare u v ≡ Some (int_cmp x y)
 in_order table columns (faces.Number s) x y u v e f = numbers_alike s s x y u v refl e f
 in_order table columns (faces.OfColumn c) x y u v e f = of_column (unless_null (slice_get table) (slice_get columns c)) x y u v e f
 

@@ -1,0 +1,20 @@
+//! The headline in the words of SQL. Each law stands on a function that does nothing.
+
+ghost use Rattle.sql_headline.specs.Headline.{IntervalsHoldAnswers};
+
+use query_model::{tables_agree, valid_queries_name_columns};
+use sql_typing::typed_queries_are_valid;
+use table_rounds::{planes_tell_stages, rounds_are_certain, tables_tell_stages};
+
+/// In each round, and for each item that is no average, the interval that is shown encloses the value that the item as it is written has
+/// in each world. It lies inside the one before, and with all planes read it is that value.
+pub fn intervals_hold_answers()
+    ensures { IntervalsHoldAnswers }
+{
+    typed_queries_are_valid();
+    valid_queries_name_columns();
+    tables_agree();
+    planes_tell_stages();
+    tables_tell_stages();
+    rounds_are_certain();
+}

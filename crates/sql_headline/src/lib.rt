@@ -1,0 +1,6 @@
+//! What a report says, in the words of SQL: that its intervals enclose what a query asks for, in each world that has the planes read.
+#![tactic(auto)]
+
+mod laws;
+
+pub use laws::intervals_hold_answers;
