@@ -60,7 +60,7 @@ module _ (table : List ColumnHead) (columns : List ℕ) (P : Name → Type 0) (i
   in_head groups (tree.Items items) k e f fine named = in_list groups items k e f fine named
   in_head groups tree.Star k e f fine named = absurd (none-some item e)
 
-  in_query : (ending : tree.Ending) (h : tree.Head) (k : ℕ) → slice_get (asked h) k ≡ Some item → slice_get (typed_items table columns ending h) k ≡ Some t → items_fault table ending h ≡ None → AllByRecursion P (names_in_head h)
+  pub in_query : (ending : tree.Ending) (h : tree.Head) (k : ℕ) → slice_get (asked h) k ≡ Some item → slice_get (typed_items table columns ending h) k ≡ Some t → items_fault table ending h ≡ None → AllByRecursion P (names_in_head h)
       → IsTypedItem table columns P item t
   in_query tree.Nothing h k e f fine named = in_head [] h k e f fine named
   in_query (tree.Grouped ns) h k e f fine named = in_head ns h k e f fine named

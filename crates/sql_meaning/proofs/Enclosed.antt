@@ -25,7 +25,7 @@ use Rattle.sql_meaning.proofs.Readings.{columns_read}
 use Rattle.sql_meaning.proofs.Spots.{more_by}
 use Rattle.sql_meaning.proofs.Truths.{numbers_alike}
 
-equal_is : (o : Ordering) → is_eq o ≡ true → o ≡ Equal
+pub equal_is : (o : Ordering) → is_eq o ≡ true → o ≡ Equal
 equal_is Less h = absurd cc
 equal_is Equal h = refl
 equal_is Greater h = absurd cc

@@ -17,3 +17,4 @@ pub mod Keyed
 pub mod Order
 pub mod Spelled
 pub mod Enclosed
+pub mod Shares

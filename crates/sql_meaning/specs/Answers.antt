@@ -1,5 +1,5 @@
 -- What the aggregates of a query answer over the rows of a table.
-use Rattle.std.specs.Prelude.{ℕ, pos, Bool, true, false, ◌&&◌, if◌then◌else◌, List, [], ◌∷◌, length, filter}
+use Rattle.std.specs.Prelude.{ℕ, pos, Bool, true, false, not, ◌&&◌, if◌then◌else◌, List, [], ◌∷◌, length, filter}
 use Rattle.std.specs.declared.option.Option.{Option}
 use Rattle.std.specs.declared.option.Option.TheVariants.{Some, None}
 use Rattle.std.specs.List.{filter_map, list_all}
@@ -9,9 +9,9 @@ use Rattle.query_model.specs.Meaning.{is_sql_true}
 use Rattle.sql_text.specs.declared.tree.CallKind.{CallKind}
 use Rattle.sql_text.specs.declared.tree.CallKind.TheVariants as calls
 use Rattle.sql_text.specs.Tree.{Name, Item, Plain, CountAll, Call, Head, Items, Star, Ending, Nothing, Grouped, Ordered, Query}
-use Rattle.sql_meaning.specs.Values.{Value, Number, compare}
+use Rattle.sql_meaning.specs.Values.{Decimal, Value, Number, compare, compare_decimals}
 use Rattle.sql_meaning.specs.Conditions.{Row, truth_of_where}
-use Rattle.sql_meaning.specs.Expressions.{computed, plus, value}
+use Rattle.sql_meaning.specs.Expressions.{computed, plus, times, value}
 
 -- both are null, or one value; 1.5 and 1.50 are one
 abbrev pub is_same : Option Value → Option Value → Bool
@@ -66,6 +66,27 @@ abbrev pub greatest : List Value → Option Value
 greatest [] = None
 greatest (v ∷ []) = Some v
 greatest (v ∷ u ∷ us) = option_map (greater v) (greatest (u ∷ us))
+
+-- what some values add up to, divided by how many they are, as these two
+pub record Share : Type 0 where
+  pub total : Value
+  pub count : ℕ
+
+-- the average of some values, and null of none
+abbrev pub average : List Value → Option Share
+average values = option_map (λ t. record { total = t; count = length values }) (total values)
+
+-- a decimal so many times
+abbrev pub multiplied : Decimal → ℕ → Decimal
+multiplied a n = times a (record { digits = pos n; behind = 0 })
+
+-- one number over the first count is at most another over the second, by cross products
+abbrev pub are_at_most : Value → ℕ → Value → ℕ → Bool
+are_at_most (Number a) m (Number b) n = not (is_gt (compare_decimals (multiplied a n) (multiplied b m)))
+are_at_most u m v n = false
+
+abbrev pub is_share_at_most : Share → Share → Bool
+is_share_at_most a b = are_at_most a.total a.count b.total b.count
 
 -- an aggregate of some values that are not null. AVG is what stands here divided by how many they are
 abbrev pub aggregate : CallKind → List Value → Option Value

@@ -4,13 +4,15 @@ use Rattle.std.specs.declared.option.Option.{Option}
 use Rattle.std.specs.declared.option.Option.TheVariants.{Some, None}
 use Rattle.std.specs.Cmp.{IsTotalOrder}
 use Rattle.std.specs.List.{AllByRecursion, filter_map}
+use Rattle.std.specs.Option.{option_map}
 use Rattle.daq_table.specs.ColumnFacts.{is_text}
 use Rattle.daq_table.specs.ValueTexts.{text_of_value}
 use Rattle.daq_table.specs.Tables.{Cells, IsTable, frame_of, row_of}
 use Rattle.daq_table.specs.declared.head.ColumnHead.{ColumnHead}
 use Rattle.daq_table.specs.declared.table_head.Head.{Head}
 use Rattle.query_model.specs.Answers.{Key, groups_of}
-use Rattle.query_model.specs.Bounds.{Admits}
+use Rattle.interval_calc.specs.Intervals.{Fraction}
+use Rattle.query_model.specs.Bounds.{Admits, AdmitsAverage, AverageBound}
 use Rattle.query_model.specs.declared.bounds.Bound.{Bound}
 use Rattle.query_model.specs.declared.bounds.Nullity.TheVariants.{Always, Never}
 use Rattle.query_model.specs.Meaning as typed
@@ -27,7 +29,7 @@ use Rattle.sql_typing.specs.Refusals.{IsTyped}
 use Rattle.sql_meaning.specs.Conditions.{truth_of_where}
 use Rattle.sql_meaning.specs.Values.{Value, compare_decimals}
 use Rattle.sql_meaning.specs.Expressions.{value}
-use Rattle.sql_meaning.specs.Answers.{answer, asked, group_of, grouping, is_after, is_same, total}
+use Rattle.sql_meaning.specs.Answers.{Share, answer, asked, average, group_of, grouping, is_after, is_same, is_share_at_most, total}
 use Rattle.sql_meaning.specs.Orders.{is_among_first}
 use Rattle.sql_meaning.specs.Rows.{row_at, rows_at, shown, text_of, value_at, value_of}
 
@@ -138,6 +140,27 @@ IntervalsMeanTheirTrees =
     Admits bound (answer_on query typed (key_at query head cells one) (frame_of head) cells) →
     ContainsValue (shown head.columns query.columns typed.face) bound
     (answer item (group_of q (row_at head cells one) (rows_at head cells)))
+
+-- an end of an average, as it is shown: a number over a count
+abbrev pub shown_share : (ℤ → Option Value) → Fraction → Option Share
+shown_share shows end = option_map (λ u. record { total = u; count = end.den }) (shows end.num)
+
+-- an interval of averages, as its ends are shown, contains an average, or null
+abbrev pub ContainsShare : (ℤ → Option Value) → AverageBound → Option Share → Type 0
+ContainsShare shows bound None = bound.null ≢ Never
+ContainsShare shows bound (Some share) =
+    (bound.null ≢ Always)
+    × ((low : Share) × (shown_share shows bound.lo ≡ Some low) × IsTrue (is_share_at_most low share))
+    × ((high : Share) × (shown_share shows bound.hi ≡ Some high) × IsTrue (is_share_at_most share high))
+
+-- an interval that admits the average of a typed item contains that of the values of the item as it is written
+abbrev pub IntervalsOfAveragesMeanTheirTrees : Type 0
+IntervalsOfAveragesMeanTheirTrees =
+    (q : tree.Query) (head : Head) (query : Query) (cells : Cells) (one : ℕ) (e : tree.Expr) (item : Aggregate) (bound : AverageBound) →
+    IsTyped q head query → HasValues head cells → IsAsked q query (tree.Call Avg e) item → (grouping q.ending ≢ [] → one < head.rows) →
+    AdmitsAverage bound (average_on query item (key_at query head cells one) (frame_of head) cells) →
+    ContainsShare (shown head.columns query.columns item.face) bound
+    (average (filter_map (value e) (group_of q (row_at head cells one) (rows_at head cells))))
 
 -- what is typed of rows in an order says which rows are among the first
 abbrev pub OrdersMeanTheirTrees : Type 0

@@ -1,7 +1,8 @@
 //! The laws that typed queries mean what their trees mean. Each stands on a function that does nothing.
 
 ghost use Rattle.sql_meaning.specs.Laws.{AnswersMeanTheirTrees, ArgumentsMeanTheirTrees, AveragesMeanTheirTrees, ConditionsMeanTheirTrees};
-ghost use Rattle.sql_meaning.specs.Laws.{DecimalsAreOrdered, IntervalsMeanTheirTrees, KeysMeanTheirTrees, OrdersMeanTheirTrees};
+ghost use Rattle.sql_meaning.specs.Laws.{DecimalsAreOrdered, IntervalsMeanTheirTrees, IntervalsOfAveragesMeanTheirTrees};
+ghost use Rattle.sql_meaning.specs.Laws.{KeysMeanTheirTrees, OrdersMeanTheirTrees};
 ghost use Rattle.sql_meaning.specs.Laws.{ResultsMeanTheirTrees, TablesHaveValues, TextsAreOfValues};
 
 /// Decimals are in one total order, however many digits they have behind the point.
@@ -57,4 +58,9 @@ pub fn keys_mean_their_trees()
 /// An interval that admits the answer of a typed item contains the value of the item as it is written.
 pub fn intervals_mean_their_trees()
     ensures { IntervalsMeanTheirTrees }
+{}
+
+/// And so does one that admits the average of a typed item.
+pub fn intervals_of_averages_mean_their_trees()
+    ensures { IntervalsOfAveragesMeanTheirTrees }
 {}
