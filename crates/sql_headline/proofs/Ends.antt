@@ -25,12 +25,12 @@ not_above x y h =
     let e : int_lt y x ≡ false = grind (arith, ints) in
     ap not (sym (more_by x y (int_cmp x y) (int_ranks x y)) ∙ e)
 
-never : (w : Nullity) → w ≢ Possibly → w ≢ Always → w ≡ Never
+pub never : (w : Nullity) → w ≢ Possibly → w ≢ Always → w ≡ Never
 never Never h g = refl
 never Possibly h g = absurd (h refl)
 never Always h g = absurd (g refl)
 
-always : (w : Nullity) → w ≢ Possibly → w ≢ Never → w ≡ Always
+pub always : (w : Nullity) → w ≢ Possibly → w ≢ Never → w ≡ Always
 always Never h g = absurd (g refl)
 always Possibly h g = absurd (h refl)
 always Always h g = refl

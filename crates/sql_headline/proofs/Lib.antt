@@ -1,3 +1,6 @@
 pub mod Shown
 pub mod Ends
+pub mod Begun
 pub mod Holding
+pub mod Averaged
+pub mod Resulted

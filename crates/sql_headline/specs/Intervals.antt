@@ -1,5 +1,5 @@
 -- Intervals of values: decimals, days or texts, between which an answer lies, and whether it may be null.
-use Rattle.std.specs.Prelude.{◌≡◌, ◌≢◌, ◌⊎◌, Bool, not, List, [], ℕ, codes, IsTrue}
+use Rattle.std.specs.Prelude.{◌≡◌, ◌≢◌, ◌⊎◌, Bool, not, List, [], ◌++◌, ℕ, codes, decimal, IsTrue}
 use Rattle.std.specs.declared.option.Option.{Option}
 use Rattle.std.specs.declared.option.Option.TheVariants.{Some, None}
 use Rattle.std.specs.Ordering.{is_gt, is_some_and}
@@ -7,7 +7,7 @@ use Rattle.daq_report.specs.Intervals.{ends_text, interval_text}
 use Rattle.query_model.specs.declared.bounds.Nullity.{Nullity}
 use Rattle.query_model.specs.declared.bounds.Nullity.TheVariants.{Always, Never}
 use Rattle.sql_meaning.specs.Values.{Value, compare}
-use Rattle.sql_meaning.specs.Answers.{is_same}
+use Rattle.sql_meaning.specs.Answers.{Share, is_same, is_share_at_most}
 use Rattle.sql_meaning.specs.Rows.{text_of}
 
 -- two ends, and whether the answer is never null, possibly or always. In a column of texts without one text an end is no value
@@ -42,6 +42,33 @@ pub record LiesInside (old new : Interval) : Type 0 where
   pub low : new.null ≢ Always → IsAtMost old.low new.low
   pub high : new.null ≢ Always → IsAtMost new.high old.high
 
+-- ---- averages
+
+-- the same of averages: each end is a value over a count
+pub record Shares : Type 0 where
+  pub null : Nullity
+  pub low : Share
+  pub high : Share
+
+abbrev pub EnclosesShare : Shares → Option Share → Type 0
+EnclosesShare shares None = shares.null ≢ Never
+EnclosesShare shares (Some share) =
+    (shares.null ≢ Always) × IsTrue (is_share_at_most shares.low share) × IsTrue (is_share_at_most share shares.high)
+
+-- one value over one count
+abbrev pub IsSameShare : Share → Share → Type 0
+IsSameShare a b = IsTrue (is_same (Some a.total) (Some b.total)) × (a.count ≡ b.count)
+
+abbrev pub IsShareAlone : Shares → Option Share → Type 0
+IsShareAlone shares None = shares.null ≡ Always
+IsShareAlone shares (Some share) = (shares.null ≡ Never) × IsSameShare shares.low share × IsSameShare shares.high share
+
+pub record ShareLiesInside (old new : Shares) : Type 0 where
+  pub null : new.null ≢ Never → old.null ≢ Never
+  pub full : new.null ≢ Always → old.null ≢ Always
+  pub low : new.null ≢ Always → IsTrue (is_share_at_most old.low new.low)
+  pub high : new.null ≢ Always → IsTrue (is_share_at_most new.high old.high)
+
 -- ---- texts
 
 -- the text of an end is that of its value; what is no value has `-`, or nothing
@@ -58,3 +85,13 @@ pub record Shows (interval : Interval) (text : List ℕ) : Type 0 where
   pub high_end : IsEndText interval.high high
   pub one : IsTrue are_one → interval.low ≡ interval.high
   pub written : text ≡ interval_text interval.null (ends_text are_one low high)
+
+-- a value over a count, as `12.5/3`
+abbrev pub text_of_share : Share → List ℕ
+text_of_share share = text_of share.total ++ (codes "/" ++ decimal share.count)
+
+-- the text shows the averages in the same way
+pub record ShowsShares (shares : Shares) (text : List ℕ) : Type 0 where
+  pub are_one : Bool
+  pub one : IsTrue are_one → shares.low ≡ shares.high
+  pub written : text ≡ interval_text shares.null (ends_text are_one (text_of_share shares.low) (text_of_share shares.high))

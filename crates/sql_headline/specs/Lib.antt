@@ -1,3 +1,5 @@
 pub mod Intervals
 pub mod Worlds
+pub mod Lines
 pub mod Headline
+pub mod Results

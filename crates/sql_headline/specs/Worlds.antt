@@ -1,15 +1,11 @@
 -- A query that is answered round by round, and the worlds of a round: the tables that may be the one that is asked.
-use Rattle.std.specs.Prelude.{◌≡◌, ◌≢◌, ℕ, ◌<◌, ◌⊎◌, List, []}
+use Rattle.std.specs.Prelude.{◌≡◌, ◌≢◌, ℕ, ◌<◌, List, []}
 use Rattle.daq_table.specs.Tables.{Cells, IsTable, frame_of}
 use Rattle.daq_table.specs.declared.table_head.Head.{Head}
-use Rattle.daq_report.specs.Intervals.{bound_text}
 use Rattle.plane_schedule.specs.declared.policy.Plan.{Plan}
 use Rattle.query_model.specs.Answers.{Key}
-use Rattle.query_model.specs.Bounds.{bound_under}
 use Rattle.query_model.specs.Knowledge.{IsAllRead, plane_of}
-use Rattle.query_model.specs.Queries.{Aggregate, Query}
-use Rattle.query_model.specs.declared.query.Shape.TheVariants.{Plain}
-use Rattle.round_engine.specs.Cells.{IsInCell, bound_in_cell, cells_in}
+use Rattle.query_model.specs.Queries.{Query}
 use Rattle.round_engine.specs.Stages.{Stage}
 use Rattle.sql_text.specs.Tree as tree
 use Rattle.sql_typing.specs.Refusals.{IsTyped}
@@ -52,17 +48,3 @@ pub record IsWorld (run : Run) (round : ℕ) (world : Cells) : Type 0 where
 pub record IsGroupOf (run : Run) (world : Cells) (key : Key) (one : ℕ) : Type 0 where
   pub row : grouping run.text.ending ≢ [] → one < run.head.rows
   pub same : key ≡ key_at run.query run.head world one
-
--- the text that a report shows of an item for a key: over all rows, or in the cell of the key
-abbrev pub IsShownOverAll : Run → Stage → Aggregate → List ℕ → Type 0
-IsShownOverAll run stage item text =
-    (stage.query.shape ≡ Plain)
-    × (text ≡ bound_text run.head stage.query item.face (bound_under stage.query item [] stage.frame stage.known))
-
-abbrev pub IsShownInCell : Run → Stage → Aggregate → Key → List ℕ → Type 0
-IsShownInCell run stage item key text =
-    (cell : ℕ) × (cell < cells_in stage) × IsInCell stage cell key
-    × (text ≡ bound_text run.head stage.query item.face (bound_in_cell stage item cell))
-
-abbrev pub IsShownFor : Run → Stage → Aggregate → Key → List ℕ → Type 0
-IsShownFor run stage item key text = IsShownOverAll run stage item text ⊎ IsShownInCell run stage item key text

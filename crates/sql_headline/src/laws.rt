@@ -1,6 +1,7 @@
 //! The headline in the words of SQL. Each law stands on a function that does nothing.
 
-ghost use Rattle.sql_headline.specs.Headline.{IntervalsHoldAnswers};
+ghost use Rattle.sql_headline.specs.Headline.{IntervalsHoldAnswers, IntervalsHoldAverages};
+ghost use Rattle.sql_headline.specs.Results.{KeysAreTold, RowsAreTold};
 
 use query_model::{tables_agree, valid_queries_name_columns};
 use sql_typing::typed_queries_are_valid;
@@ -10,6 +11,43 @@ use table_rounds::{planes_tell_stages, rounds_are_certain, tables_tell_stages};
 /// in each world. It lies inside the one before, and with all planes read it is that value.
 pub fn intervals_hold_answers()
     ensures { IntervalsHoldAnswers }
+{
+    typed_queries_are_valid();
+    valid_queries_name_columns();
+    tables_agree();
+    planes_tell_stages();
+    tables_tell_stages();
+    rounds_are_certain();
+}
+
+/// So it is with averages: the interval that is shown encloses what the values of the item as it is written add up to, divided by how
+/// many they are.
+pub fn intervals_hold_averages()
+    ensures { IntervalsHoldAverages }
+{
+    typed_queries_are_valid();
+    valid_queries_name_columns();
+    tables_agree();
+    planes_tell_stages();
+    tables_tell_stages();
+    rounds_are_certain();
+}
+
+/// Keys that are shown as present are in the written result of each world, and keys without a line in that of none.
+pub fn keys_are_told()
+    ensures { KeysAreTold }
+{
+    typed_queries_are_valid();
+    valid_queries_name_columns();
+    tables_agree();
+    planes_tell_stages();
+    tables_tell_stages();
+    rounds_are_certain();
+}
+
+/// Rows that are shown as certain are among the first, as the query is written, in each world, and excluded rows in none.
+pub fn rows_are_told()
+    ensures { RowsAreTold }
 {
     typed_queries_are_valid();
     valid_queries_name_columns();

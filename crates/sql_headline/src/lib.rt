@@ -3,4 +3,4 @@
 
 mod laws;
 
-pub use laws::intervals_hold_answers;
+pub use laws::{intervals_hold_answers, intervals_hold_averages, keys_are_told, rows_are_told};

@@ -1,0 +1,63 @@
+-- What holds of a run: its rounds are certain, and each world agrees with what is known.
+use Rattle.std.proofs.Common.{◌≡◌, ℕ, ◌≤◌, [], ◌∷◌, length, refl, sym, subst, ◌∙◌}
+use Rattle.daq_table.specs.Tables.{Cells, Frame, frame_of}
+use Rattle.plane_schedule.specs.declared.policy.Plan.{Plan}
+use Rattle.query_model.specs.Answers.{Key, groups_of}
+use Rattle.query_model.specs.Groups.{IsKey}
+use Rattle.query_model.specs.Knowledge.{plane_of}
+use Rattle.query_model.specs.Laws.{TablesAgree, ValidQueriesNameColumns}
+use Rattle.query_model.specs.Queries.{Query}
+use Rattle.query_model.specs.Worlds.{AgreesWith, NamesColumns}
+use Rattle.query_model.specs.declared.query.Shape.TheVariants.{Plain}
+use Rattle.round_engine.specs.Cells.{HasCell}
+use Rattle.round_engine.specs.Stages.{Stage}
+use Rattle.sql_typing.specs.Laws.{IsTypedValid}
+use Rattle.table_rounds.specs.Headline.{AreCertain, IsKeyOn, PlanesTellStages, RoundsAreCertain, TablesTellStages}
+use Rattle.table_rounds.specs.Rounds.{HasPlanes, counts_after}
+use Rattle.table_rounds.proofs.Reached.{is_part, part_of, reads_after}
+use Rattle.sql_headline.specs.Lines.{IsCellOf}
+use Rattle.sql_headline.specs.Worlds.{IsRun, IsWorld, Run, stage_at}
+
+-- the laws of typing, of tables and of rounds
+pub record Laws : Type 0 where
+  pub valid : IsTypedValid
+  pub name : ValidQueriesNameColumns
+  pub agree : TablesAgree
+  pub tell : PlanesTellStages
+  pub tables : TablesTellStages
+  pub certain : RoundsAreCertain
+
+module _ (law : Laws) (run : Run) (plan : Plan) (is : IsRun run plan) where
+  abbrev pub frame : Frame
+  frame = frame_of run.head
+
+  pub named : NamesColumns run.query frame
+  named = law.name run.head run.query (law.valid run.text run.head run.query is.typed)
+
+  itself : HasPlanes run.query frame (plane_of frame run.cells) (counts_after run.query run.reads (length run.reads)) run.cells
+  itself = record { table = is.table; same = λ c number c_in read. refl }
+
+  pub certain : AreCertain run.query frame run.cells run.reads
+  certain = law.certain plan run.query frame (plane_of frame run.cells) run.reads run.cells named is.longs is.rounds itself
+
+  pub agrees : (round : ℕ) → round ≤ length run.reads → (world : Cells) → IsWorld run round world → AgreesWith run.query frame (stage_at run round).known world
+  agrees round h world is_world =
+      let has = is_world.has_planes in
+      let counts = counts_after run.query run.reads round in
+      let are = reads_after plan run.query frame (plane_of frame run.cells) run.reads is.rounds round h in
+      let same = law.tell run.query frame (plane_of frame world) (plane_of frame run.cells) counts has.same in
+      let told = law.tables run.query frame world counts named has.table are in
+      subst (λ (s : Stage). AgreesWith run.query frame s.known world) (sym told ∙ same)
+      (law.agree run.query frame (part_of run.query frame) world counts (is_part run.query frame named) has.table are).agrees
+
+-- the cell of a key is the one that is told of
+pub own_cell : (stage : Stage) (key : Key) (cell : ℕ) → (has : HasCell stage key) → IsCellOf stage key cell → cell ≡ has.cell
+own_cell stage key cell has is = has.only cell is.counted is.belongs
+
+-- without groups there is one key, that of no parts
+pub no_parts : (frame : Frame) (query : Query) (key : Key) → IsKeyOn query frame key → query.shape ≡ Plain → key ≡ []
+no_parts frame query key on plain = none key (subst (λ s. IsKey (part_of query frame) (groups_of s) key) plain on)
+  where
+    none : (key : Key) → IsKey (part_of query frame) [] key → key ≡ []
+    none [] h = refl
+    none (k ∷ ks) h = absurd h

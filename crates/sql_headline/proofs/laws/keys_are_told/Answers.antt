@@ -1,0 +1,14 @@
+-- Keys are told.
+use Rattle.sql_headline.proofs.Resulted.{keys_told}
+use Rattle.sql_headline.proofs.laws.keys_are_told.Goals as goal
+
+pub returns : goal.returns
+returns c = keys_told
+    (record {
+      valid = c.typed_queries_are_valid.ensures;
+      name = c.valid_queries_name_columns.ensures;
+      agree = c.tables_agree.ensures;
+      tell = c.planes_tell_stages.ensures;
+      tables = c.tables_tell_stages.ensures;
+      certain = c.rounds_are_certain.ensures;
+    })
