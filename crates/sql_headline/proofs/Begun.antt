@@ -1,6 +1,7 @@
 -- What holds of a run: its rounds are certain, and each world agrees with what is known.
 use Rattle.std.proofs.Common.{◌≡◌, ℕ, ◌≤◌, [], ◌∷◌, length, refl, sym, subst, ◌∙◌}
-use Rattle.daq_table.specs.Tables.{Cells, Frame, frame_of}
+use Rattle.daq_table.specs.Tables.{Cells, Frame, IsTable, frame_of}
+use Rattle.query_model.specs.Projection.{projected}
 use Rattle.plane_schedule.specs.declared.policy.Plan.{Plan}
 use Rattle.query_model.specs.Answers.{Key, groups_of}
 use Rattle.query_model.specs.Groups.{IsKey}
@@ -39,6 +40,12 @@ module _ (law : Laws) (run : Run) (plan : Plan) (is : IsRun run plan) where
 
   pub certain : AreCertain run.query frame run.cells run.reads
   certain = law.certain plan run.query frame (plane_of frame run.cells) run.reads run.cells named is.longs is.rounds itself
+
+  pub part_there : (round : ℕ) → round ≤ length run.reads → (world : Cells) → IsWorld run round world → IsTable (part_of run.query frame) (projected run.query world)
+  part_there round h world is_world =
+      let counts = counts_after run.query run.reads round in
+      let are = reads_after plan run.query frame (plane_of frame run.cells) run.reads is.rounds round h in
+      (law.agree run.query frame (part_of run.query frame) world counts (is_part run.query frame named) is_world.has_planes.table are).table
 
   pub agrees : (round : ℕ) → round ≤ length run.reads → (world : Cells) → IsWorld run round world → AgreesWith run.query frame (stage_at run round).known world
   agrees round h world is_world =

@@ -4,3 +4,4 @@ pub mod Begun
 pub mod Holding
 pub mod Averaged
 pub mod Resulted
+pub mod Keyed

@@ -1,5 +1,5 @@
 -- A query that is answered round by round, and the worlds of a round: the tables that may be the one that is asked.
-use Rattle.std.specs.Prelude.{◌≡◌, ◌≢◌, ℕ, ◌<◌, List, []}
+use Rattle.std.specs.Prelude.{◌≡◌, ◌≢◌, ℕ, ◌<◌, ◌≤◌, List, [], length}
 use Rattle.daq_table.specs.Tables.{Cells, IsTable, frame_of}
 use Rattle.daq_table.specs.declared.table_head.Head.{Head}
 use Rattle.plane_schedule.specs.declared.policy.Plan.{Plan}
@@ -11,7 +11,7 @@ use Rattle.sql_text.specs.Tree as tree
 use Rattle.sql_typing.specs.Refusals.{IsTyped}
 use Rattle.sql_meaning.specs.Answers.{grouping}
 use Rattle.sql_meaning.specs.Laws.{HasValues, key_at}
-use Rattle.table_rounds.specs.Headline.{AreOfLongs, stage_of}
+use Rattle.table_rounds.specs.Headline.{AreOfLongs, IsKeyOn, stage_of}
 use Rattle.table_rounds.specs.Rounds.{AreRounds, HasPlanes, counts_after}
 
 -- a query as it is written, the table that it is asked of, as what it is typed, and the columns whose planes are read, in order
@@ -48,3 +48,9 @@ pub record IsWorld (run : Run) (round : ℕ) (world : Cells) : Type 0 where
 pub record IsGroupOf (run : Run) (world : Cells) (key : Key) (one : ℕ) : Type 0 where
   pub row : grouping run.text.ending ≢ [] → one < run.head.rows
   pub same : key ≡ key_at run.query run.head world one
+
+-- the group of each row of a world has a key of the query's groups
+abbrev pub RowsHaveKeys : Type 0
+RowsHaveKeys =
+    (run : Run) (plan : Plan) (round : ℕ) (world : Cells) (key : Key) (one : ℕ) → IsRun run plan → round ≤ length run.reads →
+    IsWorld run round world → IsGroupOf run world key one → IsKeyOn run.query (frame_of run.head) key

@@ -2,10 +2,23 @@
 
 ghost use Rattle.sql_headline.specs.Headline.{IntervalsHoldAnswers, IntervalsHoldAverages};
 ghost use Rattle.sql_headline.specs.Results.{KeysAreTold, RowsAreTold};
+ghost use Rattle.sql_headline.specs.Worlds.{RowsHaveKeys};
 
 use query_model::{tables_agree, valid_queries_name_columns};
 use sql_typing::typed_queries_are_valid;
 use table_rounds::{planes_tell_stages, rounds_are_certain, tables_tell_stages};
+
+/// The group of each row of a world has a key, of which the other laws speak.
+pub fn rows_have_keys()
+    ensures { RowsHaveKeys }
+{
+    typed_queries_are_valid();
+    valid_queries_name_columns();
+    tables_agree();
+    planes_tell_stages();
+    tables_tell_stages();
+    rounds_are_certain();
+}
 
 /// In each round, and for each item that is no average, the interval that is shown encloses the value that the item as it is written has
 /// in each world. It lies inside the one before, and with all planes read it is that value.

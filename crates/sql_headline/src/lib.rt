@@ -3,4 +3,6 @@
 
 mod laws;
 
-pub use laws::{intervals_hold_answers, intervals_hold_averages, keys_are_told, rows_are_told};
+pub use laws::{
+    intervals_hold_answers, intervals_hold_averages, keys_are_told, rows_are_told, rows_have_keys,
+};
