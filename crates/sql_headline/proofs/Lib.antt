@@ -5,3 +5,4 @@ pub mod Holding
 pub mod Averaged
 pub mod Resulted
 pub mod Keyed
+pub mod Same

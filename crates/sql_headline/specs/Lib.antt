@@ -1,5 +1,6 @@
 pub mod Intervals
 pub mod Worlds
 pub mod Lines
+pub mod Blocks
 pub mod Headline
 pub mod Results

@@ -1,5 +1,6 @@
 //! The headline in the words of SQL. Each law stands on a function that does nothing.
 
+ghost use Rattle.sql_headline.specs.Blocks.{EqualPlanesGiveEqualBlocks};
 ghost use Rattle.sql_headline.specs.Headline.{IntervalsHoldAnswers, IntervalsHoldAverages};
 ghost use Rattle.sql_headline.specs.Results.{KeysAreTold, RowsAreTold};
 ghost use Rattle.sql_headline.specs.Worlds.{RowsHaveKeys};
@@ -68,4 +69,11 @@ pub fn rows_are_told()
     planes_tell_stages();
     tables_tell_stages();
     rounds_are_certain();
+}
+
+/// Two tables with one head and the same planes read have the same block.
+pub fn equal_planes_give_equal_blocks()
+    ensures { EqualPlanesGiveEqualBlocks }
+{
+    planes_tell_stages();
 }

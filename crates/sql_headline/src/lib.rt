@@ -4,5 +4,6 @@
 mod laws;
 
 pub use laws::{
-    intervals_hold_answers, intervals_hold_averages, keys_are_told, rows_are_told, rows_have_keys,
+    equal_planes_give_equal_blocks, intervals_hold_answers, intervals_hold_averages, keys_are_told,
+    rows_are_told, rows_have_keys,
 };
