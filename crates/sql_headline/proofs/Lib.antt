@@ -6,3 +6,4 @@ pub mod Averaged
 pub mod Resulted
 pub mod Keyed
 pub mod Same
+pub mod Cut

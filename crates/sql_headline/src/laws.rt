@@ -1,6 +1,7 @@
 //! The headline in the words of SQL. Each law stands on a function that does nothing.
 
 ghost use Rattle.sql_headline.specs.Blocks.{EqualPlanesGiveEqualBlocks};
+ghost use Rattle.sql_headline.specs.Cuts.{RoundsAreCut};
 ghost use Rattle.sql_headline.specs.Headline.{IntervalsHoldAnswers, IntervalsHoldAverages};
 ghost use Rattle.sql_headline.specs.Results.{KeysAreTold, RowsAreTold};
 ghost use Rattle.sql_headline.specs.Worlds.{RowsHaveKeys};
@@ -77,3 +78,8 @@ pub fn equal_planes_give_equal_blocks()
 {
     planes_tell_stages();
 }
+
+/// The rounds of a plan with a last round that is wanted are the first rounds of the plan without it, with the same blocks.
+pub fn rounds_are_cut()
+    ensures { RoundsAreCut }
+{}

@@ -5,5 +5,5 @@ mod laws;
 
 pub use laws::{
     equal_planes_give_equal_blocks, intervals_hold_answers, intervals_hold_averages, keys_are_told,
-    rows_are_told, rows_have_keys,
+    rounds_are_cut, rows_are_told, rows_have_keys,
 };
