@@ -7,3 +7,4 @@ pub mod Resulted
 pub mod Keyed
 pub mod Same
 pub mod Cut
+pub mod Lined

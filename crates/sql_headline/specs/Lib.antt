@@ -5,3 +5,4 @@ pub mod Blocks
 pub mod Cuts
 pub mod Headline
 pub mod Results
+pub mod Lined

@@ -3,6 +3,7 @@
 ghost use Rattle.sql_headline.specs.Blocks.{EqualPlanesGiveEqualBlocks};
 ghost use Rattle.sql_headline.specs.Cuts.{RoundsAreCut};
 ghost use Rattle.sql_headline.specs.Headline.{IntervalsHoldAnswers, IntervalsHoldAverages};
+ghost use Rattle.sql_headline.specs.Lined.{BlocksHaveLines};
 ghost use Rattle.sql_headline.specs.Results.{KeysAreTold, RowsAreTold};
 ghost use Rattle.sql_headline.specs.Worlds.{RowsHaveKeys};
 
@@ -82,4 +83,9 @@ pub fn equal_planes_give_equal_blocks()
 /// The rounds of a plan with a last round that is wanted are the first rounds of the plan without it, with the same blocks.
 pub fn rounds_are_cut()
     ensures { RoundsAreCut }
+{}
+
+/// A block of totals has a line for each item, with the text that is shown of it. Lines that are wanted besides change none of these.
+pub fn blocks_have_lines()
+    ensures { BlocksHaveLines }
 {}

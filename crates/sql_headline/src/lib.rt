@@ -4,6 +4,6 @@
 mod laws;
 
 pub use laws::{
-    equal_planes_give_equal_blocks, intervals_hold_answers, intervals_hold_averages, keys_are_told,
-    rounds_are_cut, rows_are_told, rows_have_keys,
+    blocks_have_lines, equal_planes_give_equal_blocks, intervals_hold_answers,
+    intervals_hold_averages, keys_are_told, rounds_are_cut, rows_are_told, rows_have_keys,
 };
