@@ -30,7 +30,7 @@ all_keep query kinds round (part ∷ parts) (later ∷ laters) h has =
     let one = keeps query kinds round part later h.0 each.0 in
     rw (one.has, all_keep query kinds round parts laters h.1 each.1) refl
 
-same_answers : (query : List ℕ) (kinds : List ItemKind) (round item : ℕ) (parts laters : List Told) → AllReach query kinds parts laters →
+pub same_answers : (query : List ℕ) (kinds : List ItemKind) (round item : ℕ) (parts laters : List Told) → AllReach query kinds parts laters →
     list_all (has_block round) parts ≡ true → answers_in round item laters ≡ answers_in round item parts
 same_answers query kinds round item [] [] h has = refl
 same_answers query kinds round item [] (later ∷ laters) h has = absurd h

@@ -106,7 +106,7 @@ not_all_yet query kinds round (part ∷ parts) (later ∷ laters) h over fails =
     (λ none. not_all_yet query kinds round parts laters h.1 each.1 none)
 
 -- the report that goes on behind the round, and ends there with more lines, had no block behind it
-none_behind_yet : (query : List ℕ) (kinds : List ItemKind) (narrow last over now : Bool) (round : ℕ) (parts laters : List Told) (end : ReportEnd) →
+pub none_behind_yet : (query : List ℕ) (kinds : List ItemKind) (narrow last over now : Bool) (round : ℕ) (parts laters : List Told) (end : ReportEnd) →
     list_all (is_over round) parts ≡ over → list_all (is_over round) laters ≡ now → AllReach query kinds parts laters →
     end_behind narrow last round parts ≡ None → end_behind narrow last round laters ≡ Some end → list_all (has_block (round + 1)) parts ≡ false
 none_behind_yet query kinds true last over now round parts laters end o n h none some = absurd (none-some _ (sym none))
@@ -126,20 +126,20 @@ nothing_yet wanted parts round text end (ends r e has there) fails = absurd (fal
 nothing_yet wanted parts round text end (goes r rest e has there k) fails = absurd (false≢true (sym fails ∙ has))
 
 -- whether the block is narrow does not change
-same_end : (query : List ℕ) (wanted : Wanted) (round : ℕ) (parts laters : List Told) → AllReach query wanted.kinds parts laters →
+pub same_end : (query : List ℕ) (wanted : Wanted) (round : ℕ) (parts laters : List Told) → AllReach query wanted.kinds parts laters →
     list_all (has_block round) parts ≡ true →
     end_at wanted round laters ≡ end_behind (wanted.narrow (answers_over round 0 wanted.kinds parts)) (wanted.last round) round laters
 same_end query wanted round parts laters h has =
     ap (λ (answers : List Answer). end_behind (wanted.narrow answers) (wanted.last round) round laters) (same_over query wanted.kinds wanted.kinds round 0 parts laters h has)
 
-end_stays : (query : List ℕ) (wanted : Wanted) (round : ℕ) (parts laters : List Told) (end : ReportEnd) → AllReach query wanted.kinds parts laters →
+pub end_stays : (query : List ℕ) (wanted : Wanted) (round : ℕ) (parts laters : List Told) (end : ReportEnd) → AllReach query wanted.kinds parts laters →
     list_all (has_block round) parts ≡ true → end_at wanted round parts ≡ Some end → end_at wanted round laters ≡ Some end
 end_stays query wanted round parts laters end h has e =
     same_end query wanted round parts laters h has
     ∙ end_rests query wanted.kinds (wanted.narrow (answers_over round 0 wanted.kinds parts)) (wanted.last round) (list_all (is_over round) parts) round parts laters end
     refl h e
 
-some_same : (a b : ReportEnd) → Some a ≡ Some b → a ≡ b
+pub some_same : (a b : ReportEnd) → Some a ≡ Some b → a ≡ b
 some_same a b e = cc
 
 pub written_stays : WrittenStays

@@ -8,4 +8,5 @@ pub mod Kept
 pub mod Ordered
 pub mod Splits
 pub mod Stays
+pub mod Telling
 pub mod Turns

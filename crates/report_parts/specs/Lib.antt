@@ -8,5 +8,6 @@ pub mod Passed
 pub mod Reports
 pub mod Rounds
 pub mod Tags
+pub mod Telling
 pub mod Told
 pub mod Written

@@ -3,6 +3,7 @@
 ghost use Rattle.report_parts.specs.Course.{OrderIsFree, StandsIsCombined, TextIsOne};
 ghost use Rattle.report_parts.specs.Headline.{CombinedAveragesAreCertain, CombinedIsCertain};
 ghost use Rattle.report_parts.specs.Laws.{AnswersContain, AnswersNest, AnswersTell, AveragesContain, LinesOnlyAdd, ReportsOnlyGrow, ToldBlocksStay};
+ghost use Rattle.report_parts.specs.Telling.{EndedStays, TellingIsOne};
 ghost use Rattle.report_parts.specs.Written.{WrittenStays};
 
 use shard_bounds::{
@@ -64,6 +65,16 @@ pub fn order_of_lines_is_free()
 /// What the parts tell is one text, with one end.
 pub fn combined_text_is_one()
     ensures { TextIsOne }
+{}
+
+/// Behind the same lines all parts have told the same.
+pub fn tellings_are_one()
+    ensures { TellingIsOne }
+{}
+
+/// A combined report that has ended stays as it is, whatever lines come behind.
+pub fn ended_reports_stay()
+    ensures { EndedStays }
 {}
 
 /// Where the report of each part is certain of its rows, each block of the combined report is certain of all rows together: what it prints

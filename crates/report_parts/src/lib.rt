@@ -24,8 +24,9 @@ pub use ends::{end_behind, may_end};
 pub use fault::{BlockFault, CombineFault, CourseFault, EndFault, InputFault, LineFault};
 pub use laws::{
     answers_contain, answers_nest, answers_tell, averages_contain, combined_averages_are_certain,
-    combined_is_certain, combined_text_is_one, lines_only_add, order_of_lines_is_free,
-    reports_only_grow, stands_are_combined, told_blocks_stay, written_stays,
+    combined_is_certain, combined_text_is_one, ended_reports_stay, lines_only_add,
+    order_of_lines_is_free, reports_only_grow, stands_are_combined, tellings_are_one,
+    told_blocks_stay, written_stays,
 };
 pub use narrowness::is_narrow;
 pub use part::{Block, Part, Place};

@@ -1,5 +1,6 @@
 pub mod DigitTexts
 pub mod EndPlaces
 pub mod NumberTexts
+pub mod OneAnswer
 pub mod RoundLines
 pub mod ShownTexts

@@ -1,6 +1,7 @@
 -- The lines of a report of totals, each without its line feed.
 use Rattle.std.specs.Prelude.{◌≡◌, ℕ, List, [], ◌∷◌, ◌++◌, codes, decimal}
-use Rattle.report_text.specs.Answers.{answer_text}
+use Rattle.query_model.specs.declared.query.ItemKind.{ItemKind}
+use Rattle.report_text.specs.Answers.{IsAnswerOf, answer_text}
 use Rattle.report_text.specs.declared.answers.Answer.{Answer}
 use Rattle.report_text.specs.declared.lines.ReportEnd.{ReportEnd}
 use Rattle.report_text.specs.declared.lines.ReportEnd.TheVariants.{Narrow, Reads, Rounds}
@@ -32,3 +33,9 @@ abbrev pub end_line : ReportEnd → List ℕ
 end_line Narrow = codes "end narrow"
 end_line Rounds = codes "end rounds"
 end_line Reads = codes "end reads"
+
+-- the line of an item says one answer of its kind
+abbrev pub LinesSayOne : Type 0
+LinesSayOne =
+    (kind : ItemKind) (number : ℕ) (answer other : Answer) → IsAnswerOf kind answer → IsAnswerOf kind other →
+    item_line number answer ≡ item_line number other → answer ≡ other

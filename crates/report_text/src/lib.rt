@@ -7,6 +7,7 @@ mod averages;
 mod bounds;
 mod counts;
 mod digits;
+mod laws;
 mod layouts;
 mod lines;
 mod numbers;
@@ -14,6 +15,7 @@ mod numbers;
 pub use answers::{Answer, read_answer, written_answer};
 pub use averages::{Ratio, ShownAverage, read_average, written_average};
 pub use bounds::{ShownBound, read_bound, written_bound};
+pub use laws::lines_say_one;
 pub use lines::{
     ReportEnd, is_round_line, read_end, read_item, read_parts, text_of_item, written_item,
 };

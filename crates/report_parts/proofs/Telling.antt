@@ -1,0 +1,198 @@
+-- That lines tell one thing, and that a report which has ended stays as it is.
+use Rattle.std.proofs.Common.{◌≡◌, ℕ, suc, ◌+◌, ◌<◌, ◌≤◌, true, get_or, Option, Some, List, [], ◌∷◌, ◌++◌, length, codes, decimal, refl, sym, ap, subst, ◌∙◌, inl, inr, ◌⊎◌, arith}
+use Rattle.std.proofs.lemmas.Bool.{false≢true}
+use Rattle.std.proofs.lemmas.Option.{none-some, same_Some}
+use Rattle.std.specs.List.{list_all}
+use Rattle.query_model.specs.declared.query.ItemKind.{ItemKind}
+use Rattle.report_text.proofs.OneAnswer.{lines_say_one}
+use Rattle.report_text.specs.Answers.{IsAnswerOf}
+use Rattle.report_text.specs.Lines.{end_line}
+use Rattle.report_text.specs.declared.answers.Answer.{Answer}
+use Rattle.report_text.specs.declared.lines.ReportEnd.{ReportEnd}
+use Rattle.report_text.specs.declared.lines.ReportEnd.TheVariants.{Narrow, Reads, Rounds}
+use Rattle.report_parts.proofs.Courses.{all_reach, few_told, longer}
+use Rattle.report_parts.proofs.Grows.{all_keep, same_block}
+use Rattle.report_parts.proofs.Kept.{end_stays, none_behind_yet, same_end, some_same}
+use Rattle.report_parts.specs.Course.{Combines, Task, Tell, wanted_of}
+use Rattle.report_parts.specs.Laws.{AllReach, Reaches}
+use Rattle.report_parts.specs.Laws.Reaches.{goes as reaches, stays as remains}
+use Rattle.report_parts.specs.Reports.{block_text}
+use Rattle.report_parts.specs.Rounds.{has_block, is_over}
+use Rattle.report_parts.specs.Tags.{TakesTagged, behind_tag, tag_of, told_of, with_part}
+use Rattle.report_parts.specs.Telling.{EndedStays, TellingIsOne}
+use Rattle.report_parts.specs.Told.{BeginsRound, Ends, TakesAt, TellsParts, Told, at_place, with_answer}
+use Rattle.report_parts.specs.Written.{Wanted, Writes, end_text, is_narrow_at}
+use Rattle.report_parts.specs.Written.Writes.{ends, goes, waits}
+use Rattle.report_parts.specs.declared.part.Place.{Place}
+use Rattle.report_parts.specs.declared.part.Place.TheVariants.{Query, Opened, Round, Items, Ended}
+
+-- ---- a line
+
+-- a text that begins with a byte begins with no other
+other_byte : {P : Type 0} (x y : ℕ) (xs ys : List ℕ) → x ∷ xs ≡ y ∷ ys → (x ≡ y → ⊥) → P
+other_byte x y xs ys e apart = absurd (let same : x ≡ y = cc in apart same)
+
+parts_or_round : {P : Type 0} (told : Told) (line : List ℕ) (a b : Told) → TellsParts told line a → BeginsRound told line b → P
+parts_or_round told line a b h k =
+    other_byte 112 114 (codes "arts " ++ decimal h.parts) (codes "ound " ++ (decimal (length told.blocks) ++ k.is_round.named)) (h.is_line ∙ k.is_round.split) (λ e. omega (arith, e))
+
+round_or_end : {P : Type 0} (told : Told) (line : List ℕ) (a b : Told) → BeginsRound told line a → Ends told line b → P
+round_or_end told line a b h k = by k.end k.is_line
+  where
+    by : {P : Type 0} (end : ReportEnd) → end_line end ≡ line → P
+    by Narrow e = other_byte 101 114 (codes "nd narrow") (codes "ound " ++ (decimal (length told.blocks) ++ h.is_round.named)) (e ∙ h.is_round.split) (λ f. omega (arith, f))
+    by Rounds e = other_byte 101 114 (codes "nd rounds") (codes "ound " ++ (decimal (length told.blocks) ++ h.is_round.named)) (e ∙ h.is_round.split) (λ f. omega (arith, f))
+    by Reads e = other_byte 101 114 (codes "nd reads") (codes "ound " ++ (decimal (length told.blocks) ++ h.is_round.named)) (e ∙ h.is_round.split) (λ f. omega (arith, f))
+
+-- the sixth byte tells them apart
+apart : {P : Type 0} (x y : List ℕ) → x ≡ y → (get_or x 5 0 ≡ get_or y 5 0 → ⊥) → P
+apart x y e other = absurd (other (ap (λ (v : List ℕ). get_or v 5 0) e))
+
+end_one : (a b : ReportEnd) → end_line a ≡ end_line b → b ≡ a
+end_one Narrow Narrow e = refl
+end_one Rounds Rounds e = refl
+end_one Reads Reads e = refl
+end_one Narrow Rounds e = apart (end_line Narrow) (end_line Rounds) e (λ (f : ◌≡◌ {A = ℕ} 97 111). omega (arith, f))
+end_one Narrow Reads e = apart (end_line Narrow) (end_line Reads) e (λ (f : ◌≡◌ {A = ℕ} 97 101). omega (arith, f))
+end_one Rounds Narrow e = apart (end_line Rounds) (end_line Narrow) e (λ (f : ◌≡◌ {A = ℕ} 111 97). omega (arith, f))
+end_one Rounds Reads e = apart (end_line Rounds) (end_line Reads) e (λ (f : ◌≡◌ {A = ℕ} 111 101). omega (arith, f))
+end_one Reads Narrow e = apart (end_line Reads) (end_line Narrow) e (λ (f : ◌≡◌ {A = ℕ} 101 97). omega (arith, f))
+end_one Reads Rounds e = apart (end_line Reads) (end_line Rounds) e (λ (f : ◌≡◌ {A = ℕ} 101 111). omega (arith, f))
+
+takes_one : (place : Place) (query : List ℕ) (kinds : List ItemKind) (told : Told) (line : List ℕ) (a b : Told) →
+    TakesAt place query kinds told line a → TakesAt place query kinds told line b → b ≡ a
+takes_one Query query kinds told line a b h k = k.opened ∙ sym h.opened
+takes_one Opened query kinds told line a b (inl h) (inl k) = k.passed ∙ sym h.passed
+takes_one Opened query kinds told line a b (inl h) (inr k) = parts_or_round told line a b h k
+takes_one Opened query kinds told line a b (inr h) (inl k) = parts_or_round told line b a k h
+takes_one Opened query kinds told line a b (inr h) (inr k) = k.begun ∙ sym h.begun
+takes_one Round query kinds told line a b (inl h) (inl k) = k.begun ∙ sym h.begun
+takes_one Round query kinds told line a b (inl h) (inr k) = round_or_end told line a b h k
+takes_one Round query kinds told line a b (inr h) (inl k) = round_or_end told line b a k h
+takes_one Round query kinds told line a b (inr h) (inr k) =
+    k.ended ∙ ap (λ (end : ReportEnd). at_place told (Ended end)) (end_one h.end k.end (h.is_line ∙ sym k.is_line)) ∙ sym h.ended
+takes_one Items query kinds told line a b h k =
+    let kind = same_Some h.kind k.kind (sym h.is_next.there ∙ k.is_next.there) in
+    let mine : IsAnswerOf k.kind h.answer = subst (λ (x : ItemKind). IsAnswerOf x h.answer) kind h.is_next.of_kind in
+    let answer = lines_say_one k.kind (length told.current + 1) h.answer k.answer mine k.is_next.of_kind (h.is_next.is_line ∙ sym k.is_next.is_line) in
+    k.told_so ∙ ap (λ (x : Answer). with_answer (length kinds) told x) (sym answer) ∙ sym h.told_so
+takes_one (Ended end) query kinds told line a b h k = absurd h
+
+tagged_one : (query : List ℕ) (kinds : List ItemKind) (parts : List Told) (line : List ℕ) (a b : List Told) →
+    TakesTagged query kinds parts line a → TakesTagged query kinds parts line b → b ≡ a
+tagged_one query kinds parts line a b h k =
+    let own = told_of (tag_of line) parts in
+    k.put ∙ ap (λ (told : Told). with_part told parts) (takes_one own.place query kinds own (behind_tag line) h.told k.told h.taken k.taken) ∙ sym h.put
+
+pub telling_one : TellingIsOne
+telling_one task parts [] last other h k = k ∙ sym h
+telling_one task parts (line ∷ lines) last other h k =
+    let next = tagged_one task.query task.kinds parts line h.0 k.0 h.1.taken k.1.taken in
+    telling_one task h.0 lines last other h.2 (subst (λ (ps : List Told). Tell task ps lines other) next k.2)
+
+-- ---- some lines and more
+
+pub tells_split : (task : Task) (parts : List Told) (lines more : List (List ℕ)) (last : List Told) → Tell task parts (lines ++ more) last →
+    (mid : List Told) × Tell task parts lines mid × Tell task mid more last
+tells_split task parts [] more last h = (parts, refl, h)
+tells_split task parts (line ∷ lines) more last h =
+    let (mid, before, behind) = tells_split task h.0 lines more last h.2 in
+    (mid, (h.0, h.1, before), behind)
+
+reaches_both : (query : List ℕ) (kinds : List ItemKind) (a b c : Told) → Reaches query kinds a b → Reaches query kinds b c → Reaches query kinds a c
+reaches_both query kinds a b c (remains same) k = k
+reaches_both query kinds a b c (reaches from line next last h rest) k = reaches from line next c h (reaches_both query kinds next last c rest k)
+
+all_both : (query : List ℕ) (kinds : List ItemKind) (xs ys zs : List Told) → AllReach query kinds xs ys → AllReach query kinds ys zs → AllReach query kinds xs zs
+all_both query kinds [] [] [] h k = tt
+all_both query kinds [] [] (c ∷ zs) h k = absurd k
+all_both query kinds [] (b ∷ ys) zs h k = absurd h
+all_both query kinds (a ∷ xs) [] zs h k = absurd h
+all_both query kinds (a ∷ xs) (b ∷ ys) [] h k = absurd k
+all_both query kinds (a ∷ xs) (b ∷ ys) (c ∷ zs) h k = (reaches_both query kinds a b c h.0 k.0, all_both query kinds xs ys zs h.1 k.1)
+
+all_here : (query : List ℕ) (kinds : List ItemKind) (parts : List Told) → AllReach query kinds parts parts
+all_here query kinds [] = tt
+all_here query kinds (part ∷ parts) = (remains part, all_here query kinds parts)
+
+-- once there are all parts, whatever lines come behind are theirs
+pub tells_reach : (task : Task) (parts : List Told) (lines : List (List ℕ)) (last : List Told) → length parts ≡ task.count → Tell task parts lines last →
+    AllReach task.query task.kinds parts last
+tells_reach task parts [] last all h = subst (λ (ps : List Told). AllReach task.query task.kinds parts ps) (sym h) (all_here task.query task.kinds parts)
+tells_reach task parts (line ∷ lines) last all h =
+    let few = h.1.few in
+    let first = all_reach task.query task.kinds parts line h.0 h.1.taken (omega (arith, few, all)) in
+    let grown = longer task.query task.kinds parts line h.0 h.1.taken in
+    all_both task.query task.kinds parts h.0 last first (tells_reach task h.0 lines last (omega (arith, few, all, grown)) h.2)
+
+-- a report that has ended has a part for each that there is to be
+pub ended_all : (task : Task) (lines : List (List ℕ)) (text : List ℕ) (end : ReportEnd) → (h : Combines task lines text (Some end)) → length h.parts ≡ task.count
+ended_all task lines text end h =
+    let few = few_told task [] lines h.parts (omega arith) h.told in
+    elim (cases (length h.parts) task.count) [
+      | inl less ↦ absurd (none-some end (sym (h.is_text.early less).1))
+      | inr all ↦ omega (arith, few, all)
+    ]
+  where
+    cases : (a b : ℕ) → (a < b) ⊎ (b ≤ a)
+    cases a b = grind arith
+
+-- ---- what has ended
+
+has_when_some : (wanted : Wanted) (parts : List Told) (round : ℕ) (text : List ℕ) (o : Option ReportEnd) (end : ReportEnd) → Writes wanted parts round text o → o ≡ Some end →
+    list_all (has_block round) parts ≡ true
+has_when_some wanted parts round text o end (waits r h) e = absurd (none-some end e)
+has_when_some wanted parts round text o end (ends r other has there) e = has
+has_when_some wanted parts round text o end (goes r rest behind has none k) e = has
+
+stays_ended : (query : List ℕ) (wanted : Wanted) (parts laters : List Told) (round : ℕ) (text longer : List ℕ) (o later : Option ReportEnd) (end : ReportEnd) →
+    AllReach query wanted.kinds parts laters → Writes wanted parts round text o → o ≡ Some end → Writes wanted laters round longer later →
+    (longer ≡ text) × (later ≡ Some end)
+stays_ended query wanted parts laters round text longer o later end h (waits r fails) e now = absurd (none-some end e)
+stays_ended query wanted parts laters round text longer o later end h (ends r mine has there) e (waits s fails) =
+    absurd (false≢true (sym fails ∙ all_keep query wanted.kinds round parts laters h has))
+stays_ended query wanted parts laters round text longer o later end h (ends r mine has there) e (ends s other now f) =
+    let same : other ≡ mine = some_same other mine (sym f ∙ end_stays query wanted round parts laters mine h has there) in (
+      ap (λ (x : ReportEnd). block_text round wanted.kinds laters ++ end_text x) same
+          ∙ ap (λ (block : List ℕ). block ++ end_text mine) (same_block query wanted.kinds round parts laters h has),
+      ap (λ (x : ReportEnd). Some x) same ∙ e,
+    )
+stays_ended query wanted parts laters round text longer o later end h (ends r mine has there) e (goes s rest behind now none k) =
+    absurd (none-some mine (sym none ∙ end_stays query wanted round parts laters mine h has there))
+stays_ended query wanted parts laters round text longer o later end h (goes r rest behind has none k) e (waits s fails) =
+    absurd (false≢true (sym fails ∙ all_keep query wanted.kinds round parts laters h has))
+stays_ended query wanted parts laters round text longer o later end h (goes r rest behind has none k) e (ends s mine now f) =
+    let gone = none_behind_yet query wanted.kinds (is_narrow_at wanted round parts) (wanted.last round) (list_all (is_over round) parts) (list_all (is_over round) laters) round parts laters mine
+    refl refl h none (sym (same_end query wanted round parts laters h has) ∙ f) in
+    absurd (false≢true (sym gone ∙ has_when_some wanted parts (round + 1) rest behind end k e))
+stays_ended query wanted parts laters round text longer o later end h (goes r rest behind has none k) e (goes s rest_now behind_now now none_now k_now) =
+    let after = stays_ended query wanted parts laters (round + 1) rest rest_now behind behind_now end h k e k_now in (
+      ap (λ (block : List ℕ). block ++ rest_now) (same_block query wanted.kinds round parts laters h has)
+          ∙ ap (λ (x : List ℕ). block_text round wanted.kinds parts ++ x) after.0,
+      after.1,
+    )
+
+-- the parts of some lines, and those of more, where there are all
+pub record Grown (task : Task) (parts : List Told) (more : List (List ℕ)) (laters : List Told) : Type 0 where
+  pub all : length laters ≡ task.count
+  pub reach : AllReach task.query task.kinds parts laters
+
+pub grown : (task : Task) (parts laters : List Told) (lines more : List (List ℕ)) → length parts ≡ task.count → Tell task [] lines parts → Tell task [] (lines ++ more) laters →
+    Grown task parts more laters
+grown task parts laters lines more all h k =
+    let (mid, before, behind) = tells_split task [] lines more laters k in
+    let own : Tell task parts more laters = subst (λ (ps : List Told). Tell task ps more laters) (telling_one task [] lines parts mid h before) behind in
+    let reach = tells_reach task parts more laters all own in
+    record { all = same_length parts laters reach ∙ all; reach = reach }
+  where
+    same_length : (xs ys : List Told) → AllReach task.query task.kinds xs ys → length ys ≡ length xs
+    same_length [] [] h = refl
+    same_length [] (b ∷ ys) h = absurd h
+    same_length (a ∷ xs) [] h = absurd h
+    same_length (a ∷ xs) (b ∷ ys) h = ap (λ n. suc n) (same_length xs ys h.1)
+
+pub ended_stays : EndedStays
+ended_stays task lines more text longer end later h k =
+    let all = ended_all task lines text end h in
+    let g = grown task h.parts k.parts lines more all h.told k.told in
+    stays_ended task.query (wanted_of task) h.parts k.parts 0 text longer (Some end) later end g.reach (h.is_text.whole all) refl (k.is_text.whole g.all)
