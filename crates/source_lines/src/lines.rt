@@ -90,6 +90,7 @@ impl SourceLines {
     pub fn pass(&mut self)
         ensures pending { self.new.pending ≡ behind_line self.old.pending }
         ensures total { self.new.total ≡ self.old.total }
+        ensures within { self.new.total ≤ 1073741824 }
     {
         let length = self.line_length();
         self.passed = if length < self.pending().len() {
@@ -142,7 +143,7 @@ impl SourceLines {
         ensures line { result ≡ Ok true → Stands self.old self.new (S.state source.old) (S.state source.new) }
         ensures ended { result ≡ Ok false → Ends self.old self.new (S.state source.old) (S.state source.new) }
         ensures stopped { IfErr result (StopsLines self.old (S.state source.old) (S.state source.new)) }
-        ensures idle { has_line self.old.pending ≡ true → source.new ≡ source.old }
+        ensures idle { has_line self.old.pending ≡ true → (self.new ≡ self.old) × (source.new ≡ source.old) }
         ensures faults { (S.state source.old).faults ≤ (S.state source.new).faults }
     {
         while !self.has_line() {
