@@ -1,0 +1,17 @@
+pub mod Counts
+pub mod Lines
+pub mod Steps
+pub mod Parts
+pub mod Passed
+pub mod NoLines
+pub mod Runs
+pub mod Goes
+pub mod Refused
+pub mod Ended
+pub mod Begun
+pub mod Takes
+pub mod LineTexts
+pub mod Taken
+pub mod Tasks
+pub mod Accepted
+pub mod Shown

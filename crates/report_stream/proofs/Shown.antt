@@ -1,0 +1,559 @@
+-- That what the bytes of an input show is told.
+use Rattle.std.proofs.Common.{◌≡◌, ◌≢◌, ℕ, ◌+◌, ◌<◌, ◌≤◌, false, List, [], ◌∷◌, ◌++◌, length, Some, None, refl, sym, ap, ◌∙◌, subst, inl, inr, ◌⊎◌, arith, append_assoc, append-nil, length-append}
+use Rattle.std.proofs.lemmas.Option.{none-some}
+use Rattle.std.specs.Io.KnownBytes.{IsAtEnd}
+use Rattle.outer_world.specs.Device.{Rose, SinkState, SourceState}
+use Rattle.query_kinds.specs.Kinds.{Asks, AsksOther, IsNoQuery, KindsAreOne}
+use Rattle.query_model.specs.declared.query.ItemKind.{ItemKind}
+use Rattle.report_parts.proofs.Telling.{ended_stays, telling_one, tells_split}
+use Rattle.report_parts.specs.Course.{Combines, IsLineFault, IsStopped, TakesLine, Task, Tell}
+use Rattle.report_parts.specs.Ends.{first_open}
+use Rattle.report_parts.specs.Tags.{HasTab, IsRefused, IsTag, behind_tag, part_at, tag_of, told_of}
+use Rattle.report_parts.specs.Told.{Takes, TakesAt, Told as PartTold, at_place, nothing_told}
+use Rattle.report_parts.specs.declared.combination.Until.{Until}
+use Rattle.report_parts.specs.declared.fault.InputFault.{InputFault}
+use Rattle.report_parts.specs.declared.fault.InputFault.TheVariants as i
+use Rattle.report_parts.specs.declared.fault.LineFault.TheVariants as l
+use Rattle.report_parts.specs.declared.part.Place.{Place}
+use Rattle.report_parts.specs.declared.part.Place.TheVariants.{Opened, Query}
+use Rattle.source_lines.specs.Lines.{has_line, line_length, most_bytes, most_line}
+use Rattle.report_stream.proofs.LineTexts.{all_before, front_line, last_line, line_more, no_earlier, not_long, not_rest, plain, same_line, which_goes_on}
+use Rattle.report_stream.proofs.Taken.{asks_some, not_refused, refuses_block, refuses_line, tell_started}
+use Rattle.report_stream.proofs.Tasks.{IsOpen, Told, either, first_not_refused, some_lines, task_of_more, told_by, written_open}
+use Rattle.report_stream.specs.Faults.{of_block, of_input}
+use Rattle.report_stream.specs.Shown.{ComesNext, FaultsAreTold, GoesRight, IsRest, IsTold, ShowsFault, ends_early, more_parts, no_line, no_query, no_totals, other_count, other_line}
+use Rattle.report_stream.specs.Streams.{AreLines, Combined, Ends, IsFirstRefused, IsFull, IsLine, IsTask, ReadsLines, RefusesBlock, RefusesFirst, RefusesLength, RefusesLine, StreamCause, first_line, lines_text}
+use Rattle.report_stream.specs.declared.fault.LineRefusal.{LineRefusal}
+use Rattle.report_stream.specs.declared.fault.LineRefusal.TheVariants as r
+use Rattle.report_stream.specs.declared.fault.StreamFault.{StreamFault}
+use Rattle.report_stream.specs.declared.fault.StreamFault.TheVariants.{EndsEarly, Line, NoMemory, OtherCount, ReadFault, TooLong, WriteFault}
+
+-- ---- lists
+
+nothing_longer : (own : List (List ℕ)) (line : List ℕ) (others : List (List ℕ)) → [] ≡ own ++ line ∷ others → ⊥
+nothing_longer [] line others e = absurd cc
+nothing_longer (first ∷ own) line others e = absurd cc
+
+-- ---- a run over an input that tells all
+
+module _ (kinds : KindsAreOne) (count : ℕ) (until : Until) (bytes : List ℕ) (few : length bytes ≤ most_bytes)
+    (input input' : SourceState) (out out' : SinkState) (left : input.left ≡ Some bytes) where
+  read_told : (lines : List (List ℕ)) (rest : List ℕ) → ReadsLines input input' lines rest → Told input'.left bytes (lines_text lines ++ rest)
+  read_told lines rest read = told_by input.left input'.left bytes (lines_text lines ++ rest) left read.came
+
+  split_by : (lines : List (List ℕ)) (rest : List ℕ) (read : ReadsLines input input' lines rest) → bytes ≡ lines_text lines ++ (rest ++ (read_told lines rest read).behind)
+  split_by lines rest read = let t = read_told lines rest read in t.split ∙ append_assoc (lines_text lines) rest t.behind
+
+  split_line : (lines : List (List ℕ)) (line rest : List ℕ) (read : ReadsLines input input' (lines ++ line ∷ []) rest) →
+      bytes ≡ lines_text lines ++ (line ++ 10 ∷ (rest ++ (read_told (lines ++ line ∷ []) rest read).behind))
+  split_line lines line rest read =
+      split_by (lines ++ line ∷ []) rest read ∙ line_more lines line (rest ++ (read_told (lines ++ line ∷ []) rest read).behind)
+
+  -- at its end all was read
+  all_read : (lines : List (List ℕ)) (rest : List ℕ) (read : ReadsLines input input' lines rest) → IsAtEnd input'.left → rest ++ (read_told lines rest read).behind ≡ rest
+  all_read lines rest read ended =
+      let t = read_told lines rest read in
+      ap (λ (v : List ℕ). rest ++ v) (subst IsAtEnd t.is_left ended) ∙ append-nil rest
+
+  -- not too many bytes came
+  not_full : IsFull count until input input' out out' → ⊥
+  not_full h =
+      let t = read_told h.lines (h.rest ++ h.last ∷ []) h.read in
+      let long = ap length t.split in
+      let one = length-append (lines_text h.lines ++ (h.rest ++ h.last ∷ [])) t.behind in
+      let two = length-append (lines_text h.lines) (h.rest ++ h.last ∷ []) in
+      let three = length-append h.rest (h.last ∷ []) in
+      let four = length-append (lines_text h.lines) h.rest in
+      let full = h.full in
+      omega (arith, few, long, one, two, three, four, full)
+
+  abbrev Out : StreamFault → StreamFault → Type 0
+  Out fault why = (why ≡ fault) ⊎ (why ≡ NoMemory) ⊎ Rose input.faults input'.faults ⊎ ((why ≡ WriteFault) × Rose out.faults out'.faults)
+
+  -- ---- behind lines that are right
+
+  module _ (own : List (List ℕ)) (rest : List ℕ) (g : GoesRight count until bytes own rest) where
+    -- of these lines this comes next
+    record Before (lines : List (List ℕ)) (x : List ℕ) : Type 0 where
+      next : List ℕ
+      others : List (List ℕ)
+      lines_are : own ≡ lines ++ next ∷ others
+      rest_is : x ≡ next ++ 10 ∷ (lines_text others ++ rest)
+      is_line : IsLine next
+
+    -- behind them came this
+    record Behind (lines : List (List ℕ)) (x : List ℕ) : Type 0 where
+      line : List ℕ
+      others : List (List ℕ)
+      after : List ℕ
+      lines_are : lines ≡ own ++ line ∷ others
+      rest_is : rest ≡ line ++ 10 ∷ after
+      is_line : IsLine line
+
+    abbrev Where : List (List ℕ) → List ℕ → Type 0
+    Where lines x = Before lines x ⊎ ((lines ≡ own) × (x ≡ rest)) ⊎ Behind lines x
+
+    goes_by : (lines : List (List ℕ)) (x : List ℕ) (more : List (List ℕ)) → own ≡ lines ++ more → x ≡ lines_text more ++ rest → AreLines more → Where lines x
+    goes_by lines x [] e f all = inr (inl (sym (e ∙ append-nil lines), f))
+    goes_by lines x (next ∷ others) e f all =
+        inl (record { next = next; others = others; lines_are = e; rest_is = f ∙ front_line next (lines_text others) rest; is_line = all.0 })
+
+    came_by : (lines : List (List ℕ)) (x : List ℕ) (more : List (List ℕ)) → lines ≡ own ++ more → rest ≡ lines_text more ++ x → AreLines more → Where lines x
+    came_by lines x [] e f all = inr (inl (e ∙ append-nil own, sym f))
+    came_by lines x (line ∷ others) e f all =
+        inr (inr (record { line = line; others = others; after = lines_text others ++ x; lines_are = e; rest_is = f ∙ front_line line (lines_text others) x; is_line = all.0 }))
+
+    where_is : (lines : List (List ℕ)) (x : List ℕ) → AreLines lines → bytes ≡ lines_text lines ++ x → Where lines x
+    where_is lines x are split =
+        either (which_goes_on lines x own rest are g.are_lines (sym split ∙ g.split)) (λ h. goes_by lines x h.more h.lines_are h.rest_is h.are_lines)
+        (λ h. came_by lines x h.more h.lines_are h.rest_is h.are_lines)
+
+    some : own ≢ []
+    some = some_lines count until own g.task g.is_task
+
+    -- no line comes that the parts take
+    abbrev Stuck : Type 0
+    Stuck = (line behind : List ℕ) (next : List PartTold) → rest ≡ line ++ 10 ∷ behind → IsLine line → TakesLine g.task g.combines.parts line next → ⊥
+
+    not_told : Stuck → (lines : List (List ℕ)) (x : List ℕ) → Behind lines x → (task : Task) (parts : List PartTold) → IsTask count until (first_line lines) task → Tell task [] lines parts → ⊥
+    not_told stuck lines x h task parts is told =
+        let same = task_of_more kinds count until own (h.line ∷ h.others) g.task task g.is_task (subst (λ (ls : List (List ℕ)). IsTask count until (first_line ls) task) h.lines_are is) in
+        let all : Tell g.task [] (own ++ h.line ∷ h.others) parts =
+        subst (λ (t : Task). Tell t [] (own ++ h.line ∷ h.others) parts) (sym same) (subst (λ (ls : List (List ℕ)). Tell task [] ls parts) h.lines_are told) in
+        let (mid, before, (next, takes, after)) = tells_split g.task [] own (h.line ∷ h.others) parts all in
+        let parts_same = telling_one g.task [] own g.combines.parts mid g.combines.told before in
+        stuck h.line h.after next h.rest_is h.is_line (subst (λ (ps : List PartTold). TakesLine g.task ps h.line next) parts_same takes)
+
+    not_open : Stuck → (lines : List (List ℕ)) (x : List ℕ) → Behind lines x → IsOpen kinds count until lines → ⊥
+    not_open stuck lines x h (inl none) = nothing_longer own h.line h.others (sym none ∙ h.lines_are)
+    not_open stuck lines x h (inr (task, body, is, combines)) = not_told stuck lines x h task combines.parts is combines.told
+
+    -- a line more was read
+    one_more : (lines : List (List ℕ)) (line y : List ℕ) → IsLine line → ((lines ≡ own) × (line ++ 10 ∷ y ≡ rest)) ⊎ Behind lines (line ++ 10 ∷ y) → Behind (lines ++ line ∷ []) y
+    one_more lines line y is (inl (e, f)) =
+        record { line = line; others = []; after = y; lines_are = ap (λ (ls : List (List ℕ)). ls ++ line ∷ []) e; rest_is = sym f; is_line = is }
+    one_more lines line y is (inr h) = record {
+      line = h.line;
+      others = h.others ++ line ∷ [];
+      after = h.after;
+      lines_are = ap (λ (ls : List (List ℕ)). ls ++ line ∷ []) h.lines_are ∙ append_assoc own (h.line ∷ h.others) (line ∷ []);
+      rest_is = h.rest_is;
+      is_line = h.is_line;
+    }
+
+    -- the line that was read is the next
+    same_next : (lines : List (List ℕ)) (line y : List ℕ) → IsLine line → (h : Before lines (line ++ 10 ∷ y)) → own ≡ lines ++ line ∷ h.others
+    same_next lines line y is h =
+        let same = (same_line line h.next y (lines_text h.others ++ rest) (plain line is.plain) (plain h.next h.is_line.plain) h.rest_is).0 in
+        h.lines_are ∙ ap (λ (n : List ℕ). lines ++ n ∷ h.others) (sym same)
+
+    next_task : (lines others : List (List ℕ)) (line : List ℕ) (task : Task) → own ≡ lines ++ line ∷ others → IsTask count until (first_line (lines ++ line ∷ [])) task → task ≡ g.task
+    next_task lines others line task e is =
+        task_of_more kinds count until (lines ++ line ∷ []) others task g.task is
+        (subst (λ (ls : List (List ℕ)). IsTask count until (first_line ls) g.task) (e ∙ sym (append_assoc lines (line ∷ []) others)) g.is_task)
+
+    next_told : (lines others : List (List ℕ)) (line : List ℕ) → own ≡ lines ++ line ∷ others → Tell g.task [] (lines ++ line ∷ others) g.combines.parts
+    next_told lines others line e = subst (λ (ls : List (List ℕ)). Tell g.task [] ls g.combines.parts) e g.combines.told
+
+    -- what comes of each cause right behind the lines
+    record Here (fault : StreamFault) : Type 0 where
+      stuck : Stuck
+      line : (line behind : List ℕ) (number : ℕ) (why : LineRefusal) (f : InputFault) → rest ≡ line ++ 10 ∷ behind → IsLine line → number ≡ length own + 1 →
+          Line number why ≡ of_input number f → IsRefused f g.task.query g.task.kinds g.task.count g.combines.parts line → Line number why ≡ fault
+      long : (read behind : List ℕ) → read ++ behind ≡ rest → most_line < line_length read → ⊥
+      early : (place : ℕ) (tag : List ℕ) → has_line rest ≡ false → first_open g.combines.parts ≡ Some place → tag ≡ (part_at place g.combines.parts).tag → EndsEarly tag ≡ fault
+      other : (number : ℕ) → has_line rest ≡ false → first_open g.combines.parts ≡ None → number ≡ length g.combines.parts → OtherCount number ≡ fault
+
+    module _ (fault : StreamFault) (here : Here fault) where
+      undone : Combined count until input input' out out' → ⊥
+      undone d = by (where_is d.lines (d.last ++ 10 ∷ y) (last_line d.lines d.last d.read.are_lines).0 (split_line d.lines d.last d.rest d.read))
+        where
+          y : List ℕ
+          y = d.rest ++ (read_told (d.lines ++ d.last ∷ []) d.rest d.read).behind
+
+          is : IsLine d.last
+          is = (last_line d.lines d.last d.read.are_lines).1
+
+          before : Before d.lines (d.last ++ 10 ∷ y) → ⊥
+          before h =
+              let e = same_next d.lines d.last y is h in
+              let same = next_task d.lines h.others d.last d.task e d.is_task in
+              let mine : Combines g.task (d.lines ++ d.last ∷ []) d.body (Some d.end) = subst (λ (t : Task). Combines t (d.lines ++ d.last ∷ []) d.body (Some d.end)) same d.combines in
+              let all : Combines g.task ((d.lines ++ d.last ∷ []) ++ h.others) g.body None =
+              subst (λ (ls : List (List ℕ)). Combines g.task ls g.body None) (e ∙ sym (append_assoc d.lines (d.last ∷ []) h.others)) g.combines in
+              none-some d.end (ended_stays g.task (d.lines ++ d.last ∷ []) h.others d.body g.body d.end None mine all).1
+
+          by : Where d.lines (d.last ++ 10 ∷ y) → ⊥
+          by (inl h) = before h
+          by (inr h) = not_told here.stuck (d.lines ++ d.last ∷ []) y (one_more d.lines d.last y is h) d.task d.combines.parts d.is_task d.combines.told
+
+      stops_first : (number : ℕ) (why : LineRefusal) → RefusesFirst input input' out out' number why → ⊥
+      stops_first number why h = by (where_is [] (h.first ++ 10 ∷ y) tt (split_line [] h.first h.rest h.read))
+        where
+          y : List ℕ
+          y = h.rest ++ (read_told (h.first ∷ []) h.rest h.read).behind
+
+          by : Where [] (h.first ++ 10 ∷ y) → ⊥
+          by (inl b) =
+              let e = same_next [] h.first y h.read.are_lines.0 b in
+              first_not_refused kinds count until why h.first g.task (subst (λ (ls : List (List ℕ)). IsTask count until (first_line ls) g.task) e g.is_task) h.refused
+          by (inr (inl (e, f))) = some (sym e)
+          by (inr (inr b)) = nothing_longer own b.line b.others b.lines_are
+
+      stops_line : (number : ℕ) (why : LineRefusal) → RefusesLine count until input input' out out' number why → Line number why ≡ fault
+      stops_line number why h = by (where_is h.lines (h.line ++ 10 ∷ y) (last_line h.lines h.line h.read.are_lines).0 (split_line h.lines h.line h.rest h.read))
+        where
+          y : List ℕ
+          y = h.rest ++ (read_told (h.lines ++ h.line ∷ []) h.rest h.read).behind
+
+          is : IsLine h.line
+          is = (last_line h.lines h.line h.read.are_lines).1
+
+          by : Where h.lines (h.line ++ 10 ∷ y) → Line number why ≡ fault
+          by (inl b) =
+              let e = same_next h.lines h.line y is b in
+              let same = next_task h.lines b.others h.line h.task e h.is_task in
+              absurd (refuses_line g.task h.lines b.others h.line g.combines.parts h.fault (asks_some g.task.query g.task.kinds g.is_task.asks) (next_told h.lines b.others h.line e)
+              (λ n. absurd (let f : Line number why ≡ NoMemory = h.is ∙ ap (of_input number) n in cc)) (subst (λ (t : Task). IsLineFault t h.lines h.line h.fault) same h.refused))
+          by (inr (inl (e, f))) =
+              let mine : IsTask count until (first_line (own ++ h.line ∷ [])) h.task = subst (λ (ls : List (List ℕ)). IsTask count until (first_line (ls ++ h.line ∷ [])) h.task) e h.is_task in
+              let same = task_of_more kinds count until own (h.line ∷ []) g.task h.task g.is_task mine in
+              let refused : IsLineFault g.task own h.line h.fault =
+              subst (λ (t : Task). IsLineFault t own h.line h.fault) (sym same) (subst (λ (ls : List (List ℕ)). IsLineFault h.task ls h.line h.fault) e h.refused) in
+              let parts = telling_one g.task [] own g.combines.parts refused.parts g.combines.told refused.told in
+              here.line h.line y number why h.fault (sym f) is (h.counted ∙ ap (λ (ls : List (List ℕ)). length ls + 1) e) h.is
+              (subst (λ (ps : List PartTold). IsRefused h.fault g.task.query g.task.kinds g.task.count ps h.line) parts refused.refused)
+          by (inr (inr b)) = absurd (not_open here.stuck h.lines (h.line ++ 10 ∷ y) b (written_open kinds count until out out' h.lines h.written))
+
+      stops_block : (number : ℕ) (why : LineRefusal) → RefusesBlock count until input input' out out' number why → ⊥
+      stops_block number why h = by (where_is h.lines (h.line ++ 10 ∷ y) (last_line h.lines h.line h.read.are_lines).0 (split_line h.lines h.line h.rest h.read))
+        where
+          y : List ℕ
+          y = h.rest ++ (read_told (h.lines ++ h.line ∷ []) h.rest h.read).behind
+
+          is : IsLine h.line
+          is = (last_line h.lines h.line h.read.are_lines).1
+
+          by : Where h.lines (h.line ++ 10 ∷ y) → ⊥
+          by (inl b) =
+              let e = same_next h.lines h.line y is b in
+              let same = next_task h.lines b.others h.line h.task e h.is_task in
+              let told : Tell g.task [] ((h.lines ++ h.line ∷ []) ++ b.others) g.combines.parts =
+              subst (λ (ls : List (List ℕ)). Tell g.task [] ls g.combines.parts) (sym (append_assoc h.lines (h.line ∷ []) b.others)) (next_told h.lines b.others h.line e) in
+              refuses_block g.task h.lines b.others h.line h.body h.more g.combines.parts h.fault g.fit told
+              (λ n. absurd (let f : Line number why ≡ NoMemory = h.is ∙ ap (of_block number) n in cc))
+              (subst (λ (t : Task). IsStopped t (h.lines ++ h.line ∷ []) h.body [] h.more h.fault) same h.stopped)
+          by (inr b) = not_told here.stuck (h.lines ++ h.line ∷ []) y (one_more h.lines h.line y is b) h.task h.stopped.parts h.is_task h.stopped.told
+
+      stops_length : (number : ℕ) (why : LineRefusal) → RefusesLength count until input input' out out' number why → ⊥
+      stops_length number why h = by (where_is h.lines x h.read.are_lines (split_by h.lines h.rest h.read))
+        where
+          behind : List ℕ
+          behind = (read_told h.lines h.rest h.read).behind
+
+          x : List ℕ
+          x = h.rest ++ behind
+
+          by : Where h.lines x → ⊥
+          by (inl b) = not_long h.rest behind b.next (lines_text b.others ++ rest) b.rest_is b.is_line h.long
+          by (inr (inl (e, f))) = here.long h.rest behind f h.long
+          by (inr (inr b)) = not_open here.stuck h.lines x b (written_open kinds count until out out' h.lines h.written)
+
+      -- the input ends there
+      ends_there : (lines : List (List ℕ)) → Ends count until input input' out out' lines → (lines ≡ own) × (has_line rest ≡ false)
+      ends_there lines h = by (where_is lines x h.read.are_lines (split_by lines h.rest h.read))
+        where
+          x : List ℕ
+          x = h.rest ++ (read_told lines h.rest h.read).behind
+
+          same : x ≡ h.rest
+          same = all_read lines h.rest h.read h.ended
+
+          by : Where lines x → (lines ≡ own) × (has_line rest ≡ false)
+          by (inl b) = absurd (not_rest h.rest b.next (lines_text b.others ++ rest) (sym same ∙ b.rest_is) b.is_line h.no_line)
+          by (inr (inl (e, f))) = (e, ap has_line (sym f ∙ same) ∙ h.no_line)
+          by (inr (inr b)) = absurd (not_open here.stuck lines x b (written_open kinds count until out out' lines h.written))
+
+      own_parts : (lines : List (List ℕ)) (task : Task) (parts : List PartTold) → lines ≡ own → IsTask count until (first_line lines) task → Tell task [] lines parts → parts ≡ g.combines.parts
+      own_parts lines task parts e is told =
+          let mine : IsTask count until (first_line (own ++ [])) task = subst (λ (ls : List (List ℕ)). IsTask count until (first_line ls) task) (e ∙ sym (append-nil own)) is in
+          let same = task_of_more kinds count until own [] g.task task g.is_task mine in
+          telling_one g.task [] own g.combines.parts parts g.combines.told
+          (subst (λ (t : Task). Tell t [] own parts) (sym same) (subst (λ (ls : List (List ℕ)). Tell task [] ls parts) e told))
+
+      stopped : (why : StreamFault) → StreamCause count until input input' out out' why → Out fault why
+      stopped (Line number why) (inl h) = absurd (stops_first number why h)
+      stopped (Line number why) (inr (inl h)) = inl (stops_line number why h)
+      stopped (Line number why) (inr (inr (inl h))) = absurd (stops_block number why h)
+      stopped (Line number why) (inr (inr (inr h))) = absurd (stops_length number why h)
+      stopped (EndsEarly tag) h =
+          let there = ends_there h.ends.lines h.ends.ends in
+          let same = own_parts h.ends.lines h.ends.task h.parts there.0 h.ends.is_task h.ends.told in
+          inl (here.early h.place tag there.1 (ap first_open (sym same) ∙ h.is_open) (h.tagged ∙ ap (λ (ps : List PartTold). (part_at h.place ps).tag) same))
+      stopped (OtherCount number) (inl (none, h)) = absurd (some (sym (ends_there [] h).0))
+      stopped (OtherCount number) (inr h) =
+          let there = ends_there h.ends.lines h.ends.ends in
+          let same = own_parts h.ends.lines h.ends.task h.parts there.0 h.ends.is_task h.ends.told in
+          inl (here.other number there.1 (ap first_open (sym same) ∙ h.other.0) (sym h.other.1 ∙ ap length same))
+      stopped TooLong h = absurd (not_full h)
+      stopped ReadFault h = inr (inr (inl h.rose))
+      stopped WriteFault h = inr (inr (inr (refl, h.written.cause.failed)))
+      stopped NoMemory h = inr (inl refl)
+
+      is_told : IsTold count until input input' out out' fault
+      is_told = record { undone = undone; stopped = stopped }
+
+-- ---- what is shown
+
+module _ (kinds : KindsAreOne) (count : ℕ) (until : Until) (bytes : List ℕ) (few : length bytes ≤ most_bytes)
+    (input input' : SourceState) (out out' : SinkState) (left : input.left ≡ Some bytes) where
+  -- a rest has no line
+  rest_here : (own : List (List ℕ)) (rest : List ℕ) (g : GoesRight count until bytes own rest) (fault : StreamFault) → IsRest rest →
+      ((place : ℕ) (tag : List ℕ) → first_open g.combines.parts ≡ Some place → tag ≡ (part_at place g.combines.parts).tag → EndsEarly tag ≡ fault) →
+      ((number : ℕ) → first_open g.combines.parts ≡ None → number ≡ length g.combines.parts → OtherCount number ≡ fault) →
+      Here kinds count until bytes few input input' out out' left own rest g fault
+  rest_here own rest g fault is early other = record {
+    stuck = λ line behind next e line_is takes. not_rest rest line behind e line_is is.no_line;
+    line = λ line behind number why f e line_is counted same refused. absurd (not_rest rest line behind e line_is is.no_line);
+    long = λ read behind e many.
+        let before = no_earlier read behind in
+        let same = ap line_length e in
+        let all = all_before rest is.no_line in
+        let short = is.short in
+        omega (arith, many, before, same, all, short);
+    early = λ place tag none open_there tagged. early place tag open_there tagged;
+    other = λ number none ended counted. other number ended counted;
+  }
+
+  -- a line that is not taken comes next
+  line_here : (own : List (List ℕ)) (rest line behind : List ℕ) (g : GoesRight count until bytes own rest) (fault : StreamFault) → ComesNext rest line behind →
+      ((next : List PartTold) → TakesLine g.task g.combines.parts line next → ⊥) →
+      ((number : ℕ) (why : LineRefusal) (f : InputFault) → number ≡ length own + 1 → Line number why ≡ of_input number f →
+      IsRefused f g.task.query g.task.kinds g.task.count g.combines.parts line → Line number why ≡ fault) →
+      Here kinds count until bytes few input input' out out' left own rest g fault
+  line_here own rest line behind g fault comes none refused = record {
+    stuck = λ other after next e is takes. none next (subst (λ (v : List ℕ). TakesLine g.task g.combines.parts v next) (sym (same line other behind after comes.is_line is (sym comes.split ∙ e))) takes);
+    line = λ other after number why f e is counted said refuted.
+        refused number why f counted said
+        (subst (λ (v : List ℕ). IsRefused f g.task.query g.task.kinds g.task.count g.combines.parts v) (sym (same line other behind after comes.is_line is (sym comes.split ∙ e))) refuted);
+    long = λ read after e many. not_long read after line behind (e ∙ comes.split) comes.is_line many;
+    early = λ place tag refuted open_there tagged. absurd (not_rest rest line behind comes.split comes.is_line refuted);
+    other = λ number refuted ended counted. absurd (not_rest rest line behind comes.split comes.is_line refuted);
+  }
+    where
+      same : (a b x y : List ℕ) → IsLine a → IsLine b → a ++ 10 ∷ x ≡ b ++ 10 ∷ y → a ≡ b
+      same a b x y h k e = (same_line a b x y (plain a h.plain) (plain b k.plain) e).0
+
+  some_tag : {a b : ℕ} → Some a ≡ Some b → a ≡ b
+  some_tag e = cc
+
+  -- ---- each
+
+  -- the part's report ends early
+  early_told : (own : List (List ℕ)) (rest : List ℕ) (g : GoesRight count until bytes own rest) (place : ℕ) (tag : List ℕ) → IsRest rest → first_open g.combines.parts ≡ Some place →
+      tag ≡ (part_at place g.combines.parts).tag → IsTold count until input input' out out' (EndsEarly tag)
+  early_told own rest g place tag is open_there tagged =
+      is_told kinds count until bytes few input input' out out' left own rest g (EndsEarly tag)
+      (rest_here own rest g (EndsEarly tag) is
+      (λ other named at names.
+      let places : other ≡ place = some_tag (sym at ∙ open_there) in
+      ap (λ (t : List ℕ). EndsEarly t) (names ∙ ap (λ (n : ℕ). (part_at n g.combines.parts).tag) places ∙ sym tagged))
+      (λ number none counted. absurd (none-some place (sym none ∙ open_there))))
+
+  other_told : (own : List (List ℕ)) (rest : List ℕ) (g : GoesRight count until bytes own rest) (number : ℕ) → IsRest rest → first_open g.combines.parts ≡ None →
+      number ≡ length g.combines.parts → IsTold count until input input' out out' (OtherCount number)
+  other_told own rest g number is none counted =
+      is_told kinds count until bytes few input input' out out' left own rest g (OtherCount number)
+      (rest_here own rest g (OtherCount number) is
+      (λ place tag at names. absurd (none-some place (sym none ∙ at)))
+      (λ other ended so_many. ap (λ (n : ℕ). OtherCount n) (so_many ∙ sym counted)))
+
+  line_number : (a b : ℕ) (why other : LineRefusal) → a ≡ b → why ≡ other → Line a why ≡ Line b other
+  line_number a b why other e f = ap (λ (n : ℕ). Line n why) e ∙ ap (λ (w : LineRefusal). Line b w) f
+
+  why_is : (number : ℕ) (why other : LineRefusal) → Line number why ≡ Line number other → why ≡ other
+  why_is number why other e = cc
+
+  -- the report of a part that has begun does not go on so
+  line_told : (own : List (List ℕ)) (rest line behind : List ℕ) (g : GoesRight count until bytes own rest) (number : ℕ) → ComesNext rest line behind →
+      (told_of (tag_of line) g.combines.parts).place ≢ Query → ((next : PartTold) → Takes g.task.query g.task.kinds (told_of (tag_of line) g.combines.parts) (behind_tag line) next → ⊥) →
+      number ≡ length own + 1 → IsTold count until input input' out out' (Line number r.OtherLine)
+  line_told own rest line behind g number comes begun cannot counted =
+      is_told kinds count until bytes few input input' out out' left own rest g (Line number r.OtherLine)
+      (line_here own rest line behind g (Line number r.OtherLine) comes (λ next takes. cannot takes.taken.told takes.taken.taken) only)
+    where
+      only : (n : ℕ) (why : LineRefusal) (f : InputFault) → n ≡ length own + 1 → Line n why ≡ of_input n f → IsRefused f g.task.query g.task.kinds g.task.count g.combines.parts line →
+          Line n why ≡ Line number r.OtherLine
+      only n why i.NoTab e said refuted = absurd (refuted comes.has_tab)
+      only n why i.NoTag e said refuted = absurd (refuted comes.is_tag)
+      only n why i.OtherPart e said refuted = absurd (begun (ap (λ (t : PartTold). t.place) refuted.1))
+      only n why (i.Line l.OtherQuery) e said refuted = absurd (begun refuted.0)
+      only n why (i.Line l.OtherLine) e said refuted = line_number n number why r.OtherLine (e ∙ sym counted) (why_is n why r.OtherLine said)
+      only n why (i.Line l.NoMemory) e said refuted = absurd (let f : Line n why ≡ NoMemory = said in cc)
+
+  -- there is one part more
+  more_told : (own : List (List ℕ)) (rest line behind : List ℕ) (g : GoesRight count until bytes own rest) (number : ℕ) → ComesNext rest line behind →
+      told_of (tag_of line) g.combines.parts ≡ nothing_told (tag_of line) → count ≤ length g.combines.parts → behind_tag line ≡ g.task.query → number ≡ length own + 1 →
+      IsTold count until input input' out out' (Line number r.MoreParts)
+  more_told own rest line behind g number comes new many query counted =
+      is_told kinds count until bytes few input input' out out' left own rest g (Line number r.MoreParts)
+      (line_here own rest line behind g (Line number r.MoreParts) comes full only)
+    where
+      full : (next : List PartTold) → TakesLine g.task g.combines.parts line next → ⊥
+      full next takes = not_refused i.OtherPart g.task g.combines.parts line next (asks_some g.task.query g.task.kinds g.is_task.asks) (tell_started g.task [] own g.combines.parts tt g.combines.told) takes
+          (λ e. absurd cc) (subst (λ (n : ℕ). n ≤ length g.combines.parts) (sym g.is_task.count) many, new)
+
+      mine : PartTold
+      mine = told_of (tag_of line) g.combines.parts
+
+      can : Takes g.task.query g.task.kinds mine (behind_tag line) (at_place mine Opened)
+      can =
+          let there : mine.place ≡ Query = ap (λ (t : PartTold). t.place) new in
+          subst (λ (p : Place). TakesAt p g.task.query g.task.kinds mine (behind_tag line) (at_place mine Opened)) (sym there) (record { is_query = sym query; opened = refl })
+
+      only : (n : ℕ) (why : LineRefusal) (f : InputFault) → n ≡ length own + 1 → Line n why ≡ of_input n f → IsRefused f g.task.query g.task.kinds g.task.count g.combines.parts line →
+          Line n why ≡ Line number r.MoreParts
+      only n why i.NoTab e said refuted = absurd (refuted comes.has_tab)
+      only n why i.NoTag e said refuted = absurd (refuted comes.is_tag)
+      only n why i.OtherPart e said refuted = line_number n number why r.MoreParts (e ∙ sym counted) (why_is n why r.MoreParts said)
+      only n why (i.Line l.OtherQuery) e said refuted = absurd (refuted.1 (at_place mine Opened) can)
+      only n why (i.Line l.OtherLine) e said refuted = absurd (refuted (at_place mine Opened) can)
+      only n why (i.Line l.NoMemory) e said refuted = absurd (let f : Line n why ≡ NoMemory = said in cc)
+
+  -- ---- where no line was taken
+
+  abbrev here_read : (lines : List (List ℕ)) (rest : List ℕ) → ReadsLines input input' lines rest → Told input'.left bytes (lines_text lines ++ rest)
+  here_read lines rest read = read_told kinds count until bytes few input input' out out' left lines rest read
+
+  here_split : (lines : List (List ℕ)) (rest : List ℕ) (read : ReadsLines input input' lines rest) → bytes ≡ lines_text lines ++ (rest ++ (here_read lines rest read).behind)
+  here_split lines rest read = split_by kinds count until bytes few input input' out out' left lines rest read
+
+  some_more : (lines : List (List ℕ)) (line : List ℕ) → lines ++ line ∷ [] ≢ []
+  some_more [] line e = absurd cc
+  some_more (first ∷ lines) line e = absurd cc
+
+  no_lines : (lines : List (List ℕ)) (x : List ℕ) → has_line bytes ≡ false → AreLines lines → bytes ≡ lines_text lines ++ x → lines ≡ []
+  no_lines [] x none are e = refl
+  no_lines (line ∷ lines) x none are e = absurd (not_rest bytes line (lines_text lines ++ x) (e ∙ front_line line (lines_text lines) x) are.0 none)
+
+  module _ (is : IsRest bytes) where
+    none_read : (lines : List (List ℕ)) (rest : List ℕ) → ReadsLines input input' lines rest → lines ≡ []
+    none_read lines rest read = no_lines lines (rest ++ (here_read lines rest read).behind) is.no_line read.are_lines (here_split lines rest read)
+
+    none_asked : (lines : List (List ℕ)) (rest : List ℕ) (task : Task) → ReadsLines input input' lines rest → IsTask count until (first_line lines) task → ⊥
+    none_asked lines rest task read asked = some_lines count until lines task asked (none_read lines rest read)
+
+    too_short : (lines : List (List ℕ)) (rest : List ℕ) → ReadsLines input input' lines rest → most_line < line_length rest → ⊥
+    too_short lines rest read long =
+        let t = here_read lines rest read in
+        let e : bytes ≡ rest ++ t.behind = subst (λ (ls : List (List ℕ)). bytes ≡ lines_text ls ++ (rest ++ t.behind)) (none_read lines rest read) (here_split lines rest read) in
+        let same = ap line_length e in
+        let before = no_earlier rest t.behind in
+        let all = all_before bytes is.no_line in
+        let short = is.short in
+        omega (arith, long, same, before, all, short)
+
+    none_stopped : (why : StreamFault) → StreamCause count until input input' out out' why → (why ≡ OtherCount 0) ⊎ (why ≡ NoMemory) ⊎ Rose input.faults input'.faults ⊎ ((why ≡ WriteFault) × Rose out.faults out'.faults)
+    none_stopped (Line number why) (inl h) = absurd (some_more [] h.first (none_read (h.first ∷ []) h.rest h.read))
+    none_stopped (Line number why) (inr (inl h)) = absurd (some_more h.lines h.line (none_read (h.lines ++ h.line ∷ []) h.rest h.read))
+    none_stopped (Line number why) (inr (inr (inl h))) = absurd (some_more h.lines h.line (none_read (h.lines ++ h.line ∷ []) h.rest h.read))
+    none_stopped (Line number why) (inr (inr (inr h))) = absurd (too_short h.lines h.rest h.read h.long)
+    none_stopped (EndsEarly tag) h = absurd (none_asked h.ends.lines h.ends.ends.rest h.ends.task h.ends.ends.read h.ends.is_task)
+    none_stopped (OtherCount number) (inl (none, h)) = inl (ap (λ (n : ℕ). OtherCount n) none)
+    none_stopped (OtherCount number) (inr h) = absurd (none_asked h.ends.lines h.ends.ends.rest h.ends.task h.ends.ends.read h.ends.is_task)
+    none_stopped TooLong h = absurd (not_full kinds count until bytes few input input' out out' left h)
+    none_stopped ReadFault h = inr (inr (inl h.rose))
+    none_stopped WriteFault h = inr (inr (inr (refl, h.written.cause.failed)))
+    none_stopped NoMemory h = inr (inl refl)
+
+    none_told : IsTold count until input input' out out' (OtherCount 0)
+    none_told = record { undone = λ d. none_asked (d.lines ++ d.last ∷ []) d.rest d.task d.read d.is_task; stopped = none_stopped }
+
+  -- ---- where the first line asks nothing
+
+  module _ (first behind : List ℕ) (comes : ComesNext bytes first behind) (asks_none : (items : List ItemKind) → Asks (behind_tag first) items → ⊥)
+      (fault : StreamFault) (only : (why : LineRefusal) → IsFirstRefused why first → Line 1 why ≡ fault) where
+    first_is : (lines : List (List ℕ)) (x : List ℕ) → lines ≢ [] → AreLines lines → bytes ≡ lines_text lines ++ x → first_line lines ≡ first
+    first_is [] x there are e = absurd (there refl)
+    first_is (line ∷ lines) x there are e =
+        (same_line line first (lines_text lines ++ x) behind (plain line are.0.plain) (plain first comes.is_line.plain)
+        (sym (front_line line (lines_text lines) x) ∙ sym e ∙ comes.split)).0
+
+    no_task : (lines : List (List ℕ)) (rest : List ℕ) (task : Task) → ReadsLines input input' lines rest → IsTask count until (first_line lines) task → ⊥
+    no_task lines rest task read asked =
+        let same = first_is lines (rest ++ (here_read lines rest read).behind) (some_lines count until lines task asked) read.are_lines (here_split lines rest read) in
+        asks_none task.kinds (subst (λ (q : List ℕ). Asks q task.kinds) (asked.query ∙ ap behind_tag same) asked.asks)
+
+    none_taken : (lines : List (List ℕ)) (rest : List ℕ) → ReadsLines input input' lines rest → IsOpen kinds count until lines → lines ≡ []
+    none_taken lines rest read (inl none) = none
+    none_taken lines rest read (inr (task, body, asked, combines)) = absurd (no_task lines rest task read asked)
+
+    first_stands : (lines : List (List ℕ)) (rest : List ℕ) (read : ReadsLines input input' lines rest) → lines ≡ [] → rest ++ (here_read lines rest read).behind ≡ first ++ 10 ∷ behind
+    first_stands lines rest read none =
+        sym (subst (λ (ls : List (List ℕ)). bytes ≡ lines_text ls ++ (rest ++ (here_read lines rest read).behind)) none (here_split lines rest read)) ∙ comes.split
+
+    first_length : (number : ℕ) (why : LineRefusal) → RefusesLength count until input input' out out' number why → ⊥
+    first_length number why h =
+        let none = none_taken h.lines h.rest h.read (written_open kinds count until out out' h.lines h.written) in
+        not_long h.rest (here_read h.lines h.rest h.read).behind first behind (first_stands h.lines h.rest h.read none) comes.is_line h.long
+
+    first_ends : Ends count until input input' out out' [] → ⊥
+    first_ends h =
+        not_rest h.rest first behind (sym (all_read kinds count until bytes few input input' out out' left [] h.rest h.read h.ended) ∙ first_stands [] h.rest h.read refl) comes.is_line h.no_line
+
+    first_stopped : (why : StreamFault) → StreamCause count until input input' out out' why → (why ≡ fault) ⊎ (why ≡ NoMemory) ⊎ Rose input.faults input'.faults ⊎ ((why ≡ WriteFault) × Rose out.faults out'.faults)
+    first_stopped (Line number why) (inl h) =
+        let same = first_is (h.first ∷ []) (h.rest ++ (here_read (h.first ∷ []) h.rest h.read).behind) (some_more [] h.first) h.read.are_lines (here_split (h.first ∷ []) h.rest h.read) in
+        inl (line_number number 1 why why h.counted refl ∙ only why (subst (IsFirstRefused why) same h.refused))
+    first_stopped (Line number why) (inr (inl h)) = absurd (no_task (h.lines ++ h.line ∷ []) h.rest h.task h.read h.is_task)
+    first_stopped (Line number why) (inr (inr (inl h))) = absurd (no_task (h.lines ++ h.line ∷ []) h.rest h.task h.read h.is_task)
+    first_stopped (Line number why) (inr (inr (inr h))) = absurd (first_length number why h)
+    first_stopped (EndsEarly tag) h = absurd (no_task h.ends.lines h.ends.ends.rest h.ends.task h.ends.ends.read h.ends.is_task)
+    first_stopped (OtherCount number) (inl (none, h)) = absurd (first_ends h)
+    first_stopped (OtherCount number) (inr h) = absurd (no_task h.ends.lines h.ends.ends.rest h.ends.task h.ends.ends.read h.ends.is_task)
+    first_stopped TooLong h = absurd (not_full kinds count until bytes few input input' out out' left h)
+    first_stopped ReadFault h = inr (inr (inl h.rose))
+    first_stopped WriteFault h = inr (inr (inr (refl, h.written.cause.failed)))
+    first_stopped NoMemory h = inr (inl refl)
+
+    first_told : IsTold count until input input' out out' fault
+    first_told = record { undone = λ d. no_task (d.lines ++ d.last ∷ []) d.rest d.task d.read d.is_task; stopped = first_stopped }
+
+  query_only : (first : List ℕ) → HasTab first → IsTag (tag_of first) → IsNoQuery (behind_tag first) → (why : LineRefusal) → IsFirstRefused why first → Line 1 why ≡ Line 1 r.NoQuery
+  query_only first tab tag none r.NoTab h = absurd (h tab)
+  query_only first tab tag none r.NoTag h = absurd (h tag)
+  query_only first tab tag none r.NoQuery h = refl
+  query_only first tab tag none r.NoTotals h = absurd (none h.1.query h.1.is_line)
+  query_only first tab tag none r.MoreParts h = absurd h
+  query_only first tab tag none r.OtherQuery h = absurd h
+  query_only first tab tag none r.OtherLine h = absurd h
+  query_only first tab tag none (r.OtherDecimals item) h = absurd h
+  query_only first tab tag none (r.TooWide item) h = absurd h
+  query_only first tab tag none r.TooLong h = absurd h
+
+  totals_only : (first : List ℕ) → HasTab first → IsTag (tag_of first) → AsksOther (behind_tag first) → (why : LineRefusal) → IsFirstRefused why first → Line 1 why ≡ Line 1 r.NoTotals
+  totals_only first tab tag other r.NoTab h = absurd (h tab)
+  totals_only first tab tag other r.NoTag h = absurd (h tag)
+  totals_only first tab tag other r.NoQuery h = absurd (h.1 other.query other.is_line)
+  totals_only first tab tag other r.NoTotals h = refl
+  totals_only first tab tag other r.MoreParts h = absurd h
+  totals_only first tab tag other r.OtherQuery h = absurd h
+  totals_only first tab tag other r.OtherLine h = absurd h
+  totals_only first tab tag other (r.OtherDecimals item) h = absurd h
+  totals_only first tab tag other (r.TooWide item) h = absurd h
+  totals_only first tab tag other r.TooLong h = absurd h
+
+  -- what is shown is told
+  pub shown_told : (fault : StreamFault) → ShowsFault count until bytes fault → IsTold count until input input' out out' fault
+  shown_told fault (no_line is) = none_told is
+  shown_told fault (ends_early lines rest g place tag is at named) = early_told lines rest g place tag is at named
+  shown_told fault (other_count lines rest g number is none counted) = other_told lines rest g number is none counted
+  shown_told fault (no_query first behind comes none) =
+      first_told first behind comes (λ items asks. kinds.not_none (behind_tag first) items asks none) (Line 1 r.NoQuery) (query_only first comes.has_tab comes.is_tag none)
+  shown_told fault (no_totals first behind comes other) =
+      first_told first behind comes (λ items asks. kinds.not_other (behind_tag first) items asks other) (Line 1 r.NoTotals) (totals_only first comes.has_tab comes.is_tag other)
+  shown_told fault (more_parts lines rest line behind g number comes new many query counted) = more_told lines rest line behind g number comes new many query counted
+  shown_told fault (other_line lines rest line behind g number comes begun cannot counted) = line_told lines rest line behind g number comes begun cannot counted
+
+pub are_told : KindsAreOne → FaultsAreTold
+are_told kinds count until input input' out out' bytes fault left few shows = shown_told kinds count until bytes few input input' out out' left fault shows

@@ -1,0 +1,201 @@
+-- That a line which the parts take is not refused.
+use Rattle.std.proofs.Common.{◌≡◌, ◌≢◌, ℕ, zero, suc, ◌+◌, ◌<◌, ◌≤◌, nat_lt, ◌==◌, Bool, true, false, if◌then◌else◌, List, [], ◌∷◌, ◌++◌, length, codes, decimal, refl, sym, ap, ◌∙◌, subst, inl, inr, arith, length-append}
+use Rattle.std.proofs.lemmas.Bool.Decides.{nat_tests}
+use Rattle.std.proofs.lemmas.List.{drop_all}
+use Rattle.std.specs.List.{position_or_len}
+use Rattle.std.specs.declared.cmp.Ordering.{Ordering}
+use Rattle.std.specs.declared.cmp.Ordering.TheVariants.{Less, Equal, Greater}
+use Rattle.query_kinds.specs.Kinds.{Asks}
+use Rattle.query_model.specs.declared.query.ItemKind.{ItemKind}
+use Rattle.report_text.specs.Answers.{answer_text}
+use Rattle.report_text.specs.Lines.{end_line}
+use Rattle.report_text.specs.declared.lines.ReportEnd.{ReportEnd}
+use Rattle.report_text.specs.declared.lines.ReportEnd.TheVariants.{Narrow, Reads, Rounds}
+use Rattle.report_text.specs.declared.answers.Answer.{Answer}
+use Rattle.report_parts.proofs.Courses.{passes_on, tag_of_told, tag_stays}
+use Rattle.report_parts.proofs.Grows.{all_keep, same_answers}
+use Rattle.report_parts.proofs.Telling.{grown, telling_one, tells_split}
+use Rattle.report_parts.specs.Combined.{AreAlike, FitsOver}
+use Rattle.report_parts.specs.Course.{IsLineFault, IsStopped, StopsBy, TakesLine, Task, Tell, wanted_of}
+use Rattle.report_parts.specs.Laws.{AllReach}
+use Rattle.report_parts.specs.Tags.{HasTab, IsRefused, IsTag, against, behind_tag, by_order, part_at, tag_of, told_of, with_part}
+use Rattle.report_parts.specs.Told.{TakesAt, Told, nothing_told}
+use Rattle.report_parts.specs.declared.fault.BlockFault.{BlockFault}
+use Rattle.report_parts.specs.declared.fault.BlockFault.TheVariants as b
+use Rattle.report_parts.specs.declared.fault.InputFault.{InputFault}
+use Rattle.report_parts.specs.declared.fault.InputFault.TheVariants as i
+use Rattle.report_parts.specs.declared.fault.LineFault.TheVariants as l
+use Rattle.report_parts.specs.declared.part.Place.{Place}
+use Rattle.report_parts.specs.declared.part.Place.TheVariants.{Query, Opened, Round, Items, Ended}
+use Rattle.report_stream.specs.Accepted.{BlocksFit}
+
+-- ---- a line without a tab
+
+none_before : (a b : ℕ) → nat_lt a b ≡ false → b ≤ a + 1
+none_before a b e = grind (arith, nat_tests)
+
+pub no_tab : (line : List ℕ) → ¬ HasTab line → behind_tag line ≡ []
+no_tab line none = by (nat_lt (position_or_len (λ c. c == 9) line) (length line)) refl
+  where
+    by : (b : Bool) → nat_lt (position_or_len (λ c. c == 9) line) (length line) ≡ b → behind_tag line ≡ []
+    by true e = absurd (none (position_or_len (λ c. c == 9) line, rw e refl))
+    by false e = drop_all (position_or_len (λ c. c == 9) line + 1) line (none_before (position_or_len (λ c. c == 9) line) (length line) e)
+
+pub asks_some : (query : List ℕ) (kinds : List ItemKind) → Asks query kinds → query ≢ []
+asks_some query kinds asks none = absurd (let e : [] ≡ codes "query " ++ asks.is_line.text = sym none ∙ asks.is_line.spelled in cc)
+
+-- no report has an empty line
+no_empty : (place : Place) (query : List ℕ) (kinds : List ItemKind) (told next : Told) → query ≢ [] → TakesAt place query kinds told [] next → ⊥
+no_empty Query query kinds told next some h = some h.is_query
+no_empty Opened query kinds told next some (inl h) = absurd (let e = h.is_line in cc)
+no_empty Opened query kinds told next some (inr h) = absurd (let e = h.is_round.split in cc)
+no_empty Round query kinds told next some (inl h) = absurd (let e = h.is_round.split in cc)
+no_empty Round query kinds told next some (inr h) = by h.end h.is_line
+  where
+    by : (end : ReportEnd) → end_line end ≡ [] → ⊥
+    by Narrow e = absurd cc
+    by Rounds e = absurd cc
+    by Reads e = absurd cc
+no_empty Items query kinds told next some h =
+    let number = decimal (length told.current + 1) in
+    let rest = codes " " ++ answer_text h.answer in
+    let long : length (number ++ rest) ≡ 0 = ap length h.is_next.is_line in
+    let parts : length (number ++ rest) ≡ length number + length rest = length-append number rest in
+    omega (arith, long, parts)
+no_empty (Ended end) query kinds told next some h = absurd h
+
+-- ---- a part more
+
+each_way : (P : List Told → Type 0) (o : Ordering) (a b c : List Told) → P a → P b → P c → P (by_order o a b c)
+each_way P Less a b c x y z = x
+each_way P Equal a b c x y z = y
+each_way P Greater a b c x y z = z
+
+abbrev pub AllStarted : List Told → Type 0
+AllStarted [] = Unit {0}
+AllStarted (part ∷ parts) = (part.place ≢ Query) × AllStarted parts
+
+items_next : (last : Bool) (told a b : Told) → a.place ≢ Query → b.place ≢ Query → (if last then a else b).place ≢ Query
+items_next true told a b h k = h
+items_next false told a b h k = k
+
+started : (place : Place) (query : List ℕ) (kinds : List ItemKind) (told : Told) (line : List ℕ) (next : Told) → TakesAt place query kinds told line next → next.place ≢ Query
+started Query query kinds told line next h = λ e. absurd (let f : Opened ≡ Query = sym (ap (λ (t : Told). t.place) h.opened) ∙ e in cc)
+started Opened query kinds told line next (inl h) = λ e. absurd (let f : Round ≡ Query = sym (ap (λ (t : Told). t.place) h.passed) ∙ e in cc)
+started Opened query kinds told line next (inr h) = λ e. absurd (let f : Items ≡ Query = sym (ap (λ (t : Told). t.place) h.begun) ∙ e in cc)
+started Round query kinds told line next (inl h) = λ e. absurd (let f : Items ≡ Query = sym (ap (λ (t : Told). t.place) h.begun) ∙ e in cc)
+started Round query kinds told line next (inr h) = λ e. absurd (let f : Ended h.end ≡ Query = sym (ap (λ (t : Told). t.place) h.ended) ∙ e in cc)
+started Items query kinds told line next h =
+    λ e. items_next (length told.current + 1 == length kinds) told _ _ (λ f. absurd cc) (λ f. absurd cc) (sym (ap (λ (t : Told). t.place) h.told_so) ∙ e)
+started (Ended end) query kinds told line next h = absurd h
+
+put_started : (told : Told) (parts : List Told) → told.place ≢ Query → AllStarted parts → AllStarted (with_part told parts)
+put_started told [] h all = (h, tt)
+put_started told (part ∷ parts) h all =
+    each_way AllStarted (against told.tag part) (part ∷ with_part told parts) (told ∷ parts) (told ∷ part ∷ parts) (all.0, put_started told parts h all.1) (h, all.1) (h, all)
+
+pub tell_started : (task : Task) (parts : List Told) (lines : List (List ℕ)) (last : List Told) → AllStarted parts → Tell task parts lines last → AllStarted last
+tell_started task parts [] last all h = subst AllStarted (sym h) all
+tell_started task parts (line ∷ lines) last all h =
+    let own = told_of (tag_of line) parts in
+    let taken = h.1.taken in
+    tell_started task h.0 lines last
+    (subst AllStarted (sym taken.put) (put_started taken.told parts (started own.place task.query task.kinds own (behind_tag line) taken.told taken.taken) all)) h.2
+
+-- where no part has told anything by that tag, it is one part more
+pub new_part : (told : Told) (parts : List Told) → AllStarted parts → told_of told.tag parts ≡ nothing_told told.tag → length (with_part told parts) ≡ suc (length parts)
+new_part told [] all none = refl
+new_part told (part ∷ parts) all none = by (against told.tag part) (new_part told parts all.1) none
+  where
+    by : (o : Ordering) → (told_of told.tag parts ≡ nothing_told told.tag → length (with_part told parts) ≡ suc (length parts)) →
+        by_order o (told_of told.tag parts) part (nothing_told told.tag) ≡ nothing_told told.tag →
+        length (by_order o (part ∷ with_part told parts) (told ∷ parts) (told ∷ part ∷ parts)) ≡ suc (suc (length parts))
+    by Less rest e = ap suc (rest e)
+    by Equal rest e = absurd (all.0 (ap (λ (t : Told). t.place) e))
+    by Greater rest e = refl
+
+-- ---- a line that is taken
+
+pub not_refused : (fault : InputFault) (task : Task) (parts : List Told) (line : List ℕ) (next : List Told) → task.query ≢ [] → AllStarted parts →
+    TakesLine task parts line next → fault ≢ i.Line l.NoMemory → IsRefused fault task.query task.kinds task.count parts line → ⊥
+not_refused i.NoTab task parts line next some all h memory none =
+    let own = told_of (tag_of line) parts in
+    let taken : TakesAt own.place task.query task.kinds own [] h.taken.told =
+    subst (λ (v : List ℕ). TakesAt own.place task.query task.kinds own v h.taken.told) (no_tab line none) h.taken.taken in
+    no_empty own.place task.query task.kinds own h.taken.told some taken
+not_refused i.NoTag task parts line next some all h memory none = none h.taken.is_tag
+not_refused i.OtherPart task parts line next some all h memory (many, none) =
+    let own = told_of (tag_of line) parts in
+    let told = h.taken.told in
+    let tag : told.tag ≡ tag_of line = tag_stays own.place task.query task.kinds own (behind_tag line) told h.taken.taken ∙ tag_of_told (tag_of line) parts in
+    let mine : told_of told.tag parts ≡ nothing_told told.tag = subst (λ (t : List ℕ). told_of t parts ≡ nothing_told t) (sym tag) none in
+    let grown = new_part told parts all mine in
+    let long : length next ≡ length (with_part told parts) = ap length h.taken.put in
+    let few = h.few in
+    omega (arith, grown, long, few, many)
+not_refused (i.Line l.OtherQuery) task parts line next some all h memory (place, cannot) = cannot h.taken.told h.taken.taken
+not_refused (i.Line l.OtherLine) task parts line next some all h memory cannot = cannot h.taken.told h.taken.taken
+not_refused (i.Line l.NoMemory) task parts line next some all h memory any = memory refl
+
+-- ---- behind lines that tell something
+
+-- a line that is taken with those behind it is not refused
+pub refuses_line : (task : Task) (lines others : List (List ℕ)) (line : List ℕ) (parts : List Told) (fault : InputFault) → task.query ≢ [] →
+    Tell task [] (lines ++ line ∷ others) parts → fault ≢ i.Line l.NoMemory → IsLineFault task lines line fault → ⊥
+refuses_line task lines others line parts fault some told memory f =
+    let (mid, before, (next, takes, rest)) = tells_split task [] lines (line ∷ others) parts told in
+    let same = telling_one task [] lines f.parts mid f.told before in
+    not_refused fault task f.parts line next some (tell_started task [] lines f.parts tt f.told) (subst (λ (ps : List Told). TakesLine task ps line next) same takes) memory f.refused
+
+-- a block that is not written is none that fits
+blocks_stand : (task : Task) (parts laters : List Told) (body more : List ℕ) (fault : BlockFault) → BlocksFit task laters → AllReach task.query task.kinds parts laters →
+    fault ≢ b.NoMemory → StopsBy fault task parts body [] more → ⊥
+blocks_stand task parts laters body more (b.OtherDecimals item) fit reach memory s =
+    let same = same_answers task.query task.kinds s.round item parts laters reach s.has in
+    fit s.round (body ++ s.more) (b.OtherDecimals item) (passes_on task.query (wanted_of task) parts laters s.round (body ++ s.more) reach s.passed)
+    (all_keep task.query task.kinds s.round parts laters reach s.has) memory
+    (λ alike. s.fault (subst AreAlike same alike))
+blocks_stand task parts laters body more (b.TooWide item) fit reach memory s =
+    let same = same_answers task.query task.kinds s.round item parts laters reach s.has in
+    fit s.round (body ++ s.more) (b.TooWide item) (passes_on task.query (wanted_of task) parts laters s.round (body ++ s.more) reach s.passed)
+    (all_keep task.query task.kinds s.round parts laters reach s.has) memory
+    (record {
+      kind = s.fault.kind;
+      there = s.fault.there;
+      alike = subst AreAlike (sym same) s.fault.alike;
+      wide = λ fits. s.fault.wide (subst (λ (answers : List Answer). FitsOver s.fault.kind answers) same fits);
+    })
+blocks_stand task parts laters body more b.NoMemory fit reach memory s = memory refl
+
+pub refuses_block : (task : Task) (lines others : List (List ℕ)) (line body more : List ℕ) (laters : List Told) (fault : BlockFault) → BlocksFit task laters →
+    Tell task [] ((lines ++ line ∷ []) ++ others) laters → fault ≢ b.NoMemory → IsStopped task (lines ++ line ∷ []) body [] more fault → ⊥
+refuses_block task lines others line body more laters fault fit told memory s =
+    blocks_stand task s.parts laters body more fault fit (grown task s.parts laters (lines ++ line ∷ []) others s.all s.told told).reach memory s.stops
+
+-- ---- tags
+
+abbrev pub AllTagged : List Told → Type 0
+AllTagged [] = Unit {0}
+AllTagged (part ∷ parts) = IsTag part.tag × AllTagged parts
+
+put_tagged : (told : Told) (parts : List Told) → IsTag told.tag → AllTagged parts → AllTagged (with_part told parts)
+put_tagged told [] h all = (h, tt)
+put_tagged told (part ∷ parts) h all =
+    each_way AllTagged (against told.tag part) (part ∷ with_part told parts) (told ∷ parts) (told ∷ part ∷ parts) (all.0, put_tagged told parts h all.1) (h, all.1) (h, all)
+
+tell_tagged : (task : Task) (parts : List Told) (lines : List (List ℕ)) (last : List Told) → AllTagged parts → Tell task parts lines last → AllTagged last
+tell_tagged task parts [] last all h = subst AllTagged (sym h) all
+tell_tagged task parts (line ∷ lines) last all h =
+    let own = told_of (tag_of line) parts in
+    let taken = h.1.taken in
+    let tag = tag_stays own.place task.query task.kinds own (behind_tag line) taken.told taken.taken ∙ tag_of_told (tag_of line) parts in
+    tell_tagged task h.0 lines last (subst AllTagged (sym taken.put) (put_tagged taken.told parts (subst IsTag (sym tag) taken.is_tag) all)) h.2
+
+tag_there : (parts : List Told) (place : ℕ) → AllTagged parts → place < length parts → IsTag (part_at place parts).tag
+tag_there [] place all h = absurd (omega (arith, h))
+tag_there (part ∷ parts) zero all h = all.0
+tag_there (part ∷ parts) (suc place) all h = tag_there parts place all.1 (omega (arith, h))
+
+-- the tag of a part that has told something is one
+pub tell_tag : (task : Task) (lines : List (List ℕ)) (parts : List Told) (place : ℕ) → Tell task [] lines parts → place < length parts → IsTag (part_at place parts).tag
+tell_tag task lines parts place h within = tag_there parts place (tell_tagged task [] lines parts tt h) within

@@ -1,0 +1,86 @@
+-- What is asked by the lines of an input, what was read of it, and where its report goes on.
+use Rattle.std.proofs.Common.{◌≡◌, ◌≢◌, ℕ, Option, List, [], ◌∷◌, ◌++◌, Some, None, refl, sym, ap, ◌∙◌, subst, inl, inr, ◌⊎◌, arith}
+use Rattle.std.proofs.lemmas.Option.{none-some, same_Some}
+use Rattle.std.specs.Io.KnownBytes.{Consumes}
+use Rattle.outer_world.specs.Device.{SinkState}
+use Rattle.query_kinds.specs.Kinds.{Asks, KindsAreOne}
+use Rattle.query_model.specs.declared.query.ItemKind.{ItemKind}
+use Rattle.report_parts.specs.Course.{Combines, Task}
+use Rattle.report_parts.specs.declared.combination.Until.{Until}
+use Rattle.report_parts.specs.Tags.{behind_tag}
+use Rattle.report_stream.proofs.Taken.{asks_some, no_tab}
+use Rattle.report_stream.specs.Streams.{HasWritten, IsFirstRefused, IsTask, first_line}
+use Rattle.report_stream.specs.declared.fault.LineRefusal.{LineRefusal}
+use Rattle.report_stream.specs.declared.fault.LineRefusal.TheVariants as r
+
+pub either : {A B C : Type 0} → A ⊎ B → (A → C) → (B → C) → C
+either (inl a) f g = f a
+either (inr b) f g = g b
+
+-- ---- what was read of an input that tells all
+
+-- the bytes are those that were read, and those that are left
+pub record Told (left' : Option (List ℕ)) (bytes read : List ℕ) : Type 0 where
+  pub behind : List ℕ
+  pub is_left : left' ≡ Some behind
+  pub split : bytes ≡ read ++ behind
+
+pub told_by : (left left' : Option (List ℕ)) (bytes read : List ℕ) → left ≡ Some bytes → Consumes left left' read → Told left' bytes read
+told_by None left' bytes read e c = absurd (none-some bytes e)
+told_by (Some xs) None bytes read e c = absurd c
+told_by (Some xs) (Some ys) bytes read e c = record { behind = ys; is_left = refl; split = sym (same_Some xs bytes e) ∙ c }
+
+-- ---- what is asked
+
+pub same_task : KindsAreOne → (count : ℕ) (until : Until) (first : List ℕ) (a b : Task) → IsTask count until first a → IsTask count until first b → a ≡ b
+same_task kinds count until first a b h k =
+    let query = h.query ∙ sym k.query in
+    let mine : Asks b.query a.kinds = subst (λ (q : List ℕ). Asks q a.kinds) query h.asks in
+    let items = kinds.same b.query a.kinds b.kinds mine k.asks in
+    ap (λ (q : List ℕ). record { query = q; kinds = a.kinds; count = a.count; width = a.width; last = a.last }) query
+    ∙ ap (λ (x : List ItemKind). record { query = b.query; kinds = x; count = a.count; width = a.width; last = a.last }) items
+    ∙ ap (λ (n : ℕ). record { query = b.query; kinds = b.kinds; count = n; width = a.width; last = a.last }) (h.count ∙ sym k.count)
+    ∙ ap (λ (n : ℕ). record { query = b.query; kinds = b.kinds; count = b.count; width = n; last = a.last }) (h.width ∙ sym k.width)
+    ∙ ap (λ (o : Option ℕ). record { query = b.query; kinds = b.kinds; count = b.count; width = b.width; last = o }) (h.last ∙ sym k.last)
+
+-- a task is that of a line
+pub some_lines : (count : ℕ) (until : Until) (lines : List (List ℕ)) (task : Task) → IsTask count until (first_line lines) task → lines ≢ []
+some_lines count until [] task is none = let some = is.is_tag.0 in omega (arith, some)
+some_lines count until (line ∷ lines) task is none = absurd cc
+
+pub first_of_more : (lines more : List (List ℕ)) → lines ≢ [] → first_line (lines ++ more) ≡ first_line lines
+first_of_more [] more some = absurd (some refl)
+first_of_more (line ∷ lines) more some = refl
+
+module _ (kinds : KindsAreOne) (count : ℕ) (until : Until) where
+  -- the task of the first lines is that of all
+  pub task_of_more : (lines more : List (List ℕ)) (a b : Task) → IsTask count until (first_line lines) a → IsTask count until (first_line (lines ++ more)) b → a ≡ b
+  task_of_more lines more a b h k =
+      same_task kinds count until (first_line lines) a b h
+      (subst (λ (f : List ℕ). IsTask count until f b) (first_of_more lines more (some_lines count until lines a h)) k)
+
+  -- no line was taken, or the report goes on behind those that were
+  abbrev pub IsOpen : List (List ℕ) → Type 0
+  IsOpen lines = (lines ≡ []) ⊎ ((task : Task) × (body : List ℕ) × IsTask count until (first_line lines) task × Combines task lines body None)
+
+  pub written_open : (out out' : SinkState) (lines : List (List ℕ)) → HasWritten count until out out' lines → IsOpen lines
+  written_open out out' lines (inl (none, same)) = inl none
+  written_open out out' lines (inr g) = inr (g.task, g.body, g.is_task, g.combines)
+
+  pub block_open : (lines : List (List ℕ)) (line : List ℕ) (task : Task) (body : List ℕ) → IsTask count until (first_line (lines ++ line ∷ [])) task →
+      Combines task lines body None → IsOpen lines
+  block_open [] line task body is combines = inl refl
+  block_open (first ∷ lines) line task body is combines = inr (task, body, is, combines)
+
+  -- a line that asks is not refused as the first
+  pub first_not_refused : (why : LineRefusal) (first : List ℕ) (task : Task) → IsTask count until first task → IsFirstRefused why first → ⊥
+  first_not_refused r.NoTab first task is none = asks_some task.query task.kinds is.asks (is.query ∙ no_tab first none)
+  first_not_refused r.NoTag first task is none = none is.is_tag
+  first_not_refused r.NoQuery first task is (tag, none) = kinds.not_none (behind_tag first) task.kinds (subst (λ (q : List ℕ). Asks q task.kinds) is.query is.asks) none
+  first_not_refused r.NoTotals first task is (tag, other) = kinds.not_other (behind_tag first) task.kinds (subst (λ (q : List ℕ). Asks q task.kinds) is.query is.asks) other
+  first_not_refused r.MoreParts first task is h = absurd h
+  first_not_refused r.OtherQuery first task is h = absurd h
+  first_not_refused r.OtherLine first task is h = absurd h
+  first_not_refused (r.OtherDecimals item) first task is h = absurd h
+  first_not_refused (r.TooWide item) first task is h = absurd h
+  first_not_refused r.TooLong first task is h = absurd h

@@ -1,0 +1,5 @@
+pub mod Accepted
+pub mod Faults
+pub mod Shown
+pub mod Steps
+pub mod Streams

@@ -1,0 +1,73 @@
+-- What bytes of an input show: why they are refused, where the lines before are right.
+use Rattle.std.specs.Prelude.{◌≡◌, ◌≢◌, ◌⊎◌, ℕ, ◌+◌, ◌≤◌, false, List, ◌∷◌, ◌++◌, length}
+use Rattle.std.specs.declared.option.Option.TheVariants.{Some, None}
+use Rattle.outer_world.specs.Device.{Rose, SinkState, SourceState}
+use Rattle.query_kinds.specs.Kinds.{AsksOther, IsNoQuery}
+use Rattle.report_parts.specs.Course.{Combines, Task}
+use Rattle.report_parts.specs.Ends.{first_open}
+use Rattle.report_parts.specs.Tags.{CannotTake, HasTab, IsTag, behind_tag, part_at, tag_of, told_of}
+use Rattle.report_parts.specs.Told.{nothing_told}
+use Rattle.report_parts.specs.declared.combination.Until.{Until}
+use Rattle.report_parts.specs.declared.part.Place.TheVariants.{Query}
+use Rattle.source_lines.specs.Lines.{has_line, most_bytes, most_line}
+use Rattle.report_stream.specs.Accepted.{BlocksFit}
+use Rattle.report_stream.specs.Streams.{AreLines, Combined, IsLine, IsTask, StreamCause, first_line, lines_text}
+use Rattle.report_stream.specs.declared.fault.LineRefusal.TheVariants as r
+use Rattle.report_stream.specs.declared.fault.StreamFault.{StreamFault}
+use Rattle.report_stream.specs.declared.fault.StreamFault.TheVariants.{EndsEarly, Line, NoMemory, OtherCount, WriteFault}
+
+-- the bytes begin with these lines, which the parts take; each block that they complete fits, and their combined report goes on
+pub record GoesRight (wanted : ℕ) (until : Until) (bytes : List ℕ) (lines : List (List ℕ)) (rest : List ℕ) : Type 0 where
+  pub task : Task
+  pub body : List ℕ
+  pub split : bytes ≡ lines_text lines ++ rest
+  pub are_lines : AreLines lines
+  pub is_task : IsTask wanted until (first_line lines) task
+  pub combines : Combines task lines body None
+  pub fit : BlocksFit task combines.parts
+
+-- no line stands there
+pub record IsRest (rest : List ℕ) : Type 0 where
+  pub no_line : has_line rest ≡ false
+  pub short : length rest ≤ most_line
+
+-- this line comes next, with a tag and a tab
+pub record ComesNext (rest line behind : List ℕ) : Type 0 where
+  pub split : rest ≡ line ++ 10 ∷ behind
+  pub is_line : IsLine line
+  pub has_tab : HasTab line
+  pub is_tag : IsTag (tag_of line)
+
+pub data ShowsFault (wanted : ℕ) (until : Until) (bytes : List ℕ) : StreamFault → Type 0 where
+  no_line : IsRest bytes → ShowsFault wanted until bytes (OtherCount 0)
+  ends_early : (lines : List (List ℕ)) (rest : List ℕ) (g : GoesRight wanted until bytes lines rest) (place : ℕ) (tag : List ℕ) →
+      IsRest rest → first_open g.combines.parts ≡ Some place → tag ≡ (part_at place g.combines.parts).tag → ShowsFault wanted until bytes (EndsEarly tag)
+  other_count : (lines : List (List ℕ)) (rest : List ℕ) (g : GoesRight wanted until bytes lines rest) (count : ℕ) → IsRest rest →
+      first_open g.combines.parts ≡ None → count ≡ length g.combines.parts → ShowsFault wanted until bytes (OtherCount count)
+  no_query : (first behind : List ℕ) → ComesNext bytes first behind → IsNoQuery (behind_tag first) →
+      ShowsFault wanted until bytes (Line 1 r.NoQuery)
+  no_totals : (first behind : List ℕ) → ComesNext bytes first behind → AsksOther (behind_tag first) →
+      ShowsFault wanted until bytes (Line 1 r.NoTotals)
+  -- one part more tells the same query
+  more_parts : (lines : List (List ℕ)) (rest line behind : List ℕ) (g : GoesRight wanted until bytes lines rest) (number : ℕ) →
+      ComesNext rest line behind → told_of (tag_of line) g.combines.parts ≡ nothing_told (tag_of line) →
+      wanted ≤ length g.combines.parts → behind_tag line ≡ g.task.query → number ≡ length lines + 1 →
+      ShowsFault wanted until bytes (Line number r.MoreParts)
+  -- the report of a part that has begun does not go on so
+  other_line : (lines : List (List ℕ)) (rest line behind : List ℕ) (g : GoesRight wanted until bytes lines rest) (number : ℕ) →
+      ComesNext rest line behind → (told_of (tag_of line) g.combines.parts).place ≢ Query →
+      CannotTake g.task.query g.task.kinds (told_of (tag_of line) g.combines.parts) (behind_tag line) → number ≡ length lines + 1 →
+      ShowsFault wanted until bytes (Line number r.OtherLine)
+
+-- the report is not written to its end, and nothing but this is told, or that memory ran out, unless a device fails
+pub record IsTold (wanted : ℕ) (until : Until) (input input' : SourceState) (out out' : SinkState) (fault : StreamFault) : Type 0 where
+  pub undone : Combined wanted until input input' out out' → ⊥
+  pub stopped : (why : StreamFault) → StreamCause wanted until input input' out out' why →
+      (why ≡ fault) ⊎ (why ≡ NoMemory) ⊎ Rose input.faults input'.faults ⊎ ((why ≡ WriteFault) × Rose out.faults out'.faults)
+
+-- so it is where an input of not too many bytes tells them
+abbrev pub FaultsAreTold : Type 0
+FaultsAreTold =
+    (wanted : ℕ) (until : Until) (input input' : SourceState) (out out' : SinkState) (bytes : List ℕ) (fault : StreamFault) →
+    input.left ≡ Some bytes → length bytes ≤ most_bytes → ShowsFault wanted until bytes fault →
+    IsTold wanted until input input' out out' fault

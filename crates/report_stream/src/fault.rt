@@ -1,0 +1,186 @@
+//! Why reports are not combined to their end.
+
+ghost use Rattle.std.specs.Prelude.{◌≡◌, ◌≤◌, length};
+ghost use Rattle.report_stream.specs.Faults.{of_block, of_input, of_kinds, of_source};
+ghost use Rattle.report_stream.specs.declared.fault.StreamFault.TheVariants.{NoMemory, WriteFault};
+
+use outer_world::Failed;
+use query_kinds::KindsFault;
+use report_parts::{BlockFault, InputFault, LineFault};
+use source_lines::LineFault as SourceFault;
+use std::alloc::{AllocError, AllocFailed};
+use std::marker::Model;
+use thiserror::Error;
+
+/// The tag of a part.
+#[derive(Debug, Drop)]
+pub struct Tag {
+    bytes: Vec<u8>,
+}
+
+impl Model for Tag {
+    ghost use Rattle.std.specs.Prelude.{ℕ, List, ◌≤◌, length};
+
+    ghost Value = { List ℕ };
+
+    ghost view = { λ t. t.bytes.items };
+
+    ghost invariant = { λ t. length t.bytes.items ≤ 255 };
+}
+
+impl Tag {
+    /// The tag of these bytes, at most 255.
+    pub(crate) fn new(bytes: Vec<u8>) -> Tag
+        requires { length bytes.items ≤ 255 }
+        ensures { result ≡ bytes.items }
+    {
+        Tag { bytes }
+    }
+
+    /// The tag's bytes.
+    pub fn bytes(&self) -> &[u8]
+        ensures text { result.now ≡ self.now }
+        ensures within { length result.now ≤ 255 }
+    {
+        &self.bytes
+    }
+}
+
+/// Why a line is refused, or what is to be written behind it. Items count from 0.
+#[derive(Clone, Copy, Debug, PartialEq, Eq, Drop, Error)]
+pub enum LineRefusal {
+    /// No tab stands in it.
+    #[error("no tab")]
+    NoTab,
+    /// Before the tab stands no byte, or more than 255.
+    #[error("a tag of no byte or more than 255")]
+    NoTag,
+    /// It is of one part more than there are to be.
+    #[error("more parts")]
+    MoreParts,
+    /// It is the first, and no line of a query stands behind the tag.
+    #[error("no query")]
+    NoQuery,
+    /// It is the first, and the query asks for groups or for rows.
+    #[error("no query of totals")]
+    NoTotals,
+    /// It is the first of its part, and is not the line of the query.
+    #[error("another query")]
+    OtherQuery,
+    /// At its place no report of the query has this line.
+    #[error("no line of a report at this place")]
+    OtherLine,
+    /// The numbers that two parts say of the item have other decimals.
+    #[error("scales of item {0} differ")]
+    OtherDecimals(usize),
+    /// An end of the item has more than 128 bits, or a number of rows more than 64.
+    #[error("item {0} too wide")]
+    TooWide(usize),
+    /// It has more bytes than a line may have.
+    #[error("too long")]
+    TooLong,
+}
+
+/// Why reports are not combined to their end. Lines count from 1.
+#[derive(Debug, Drop, Error)]
+pub enum StreamFault {
+    /// The line is refused, or a block that it completes.
+    #[error("line {line}: {why}")]
+    Line { line: usize, why: LineRefusal },
+    /// The input ended, and the report of the part with this tag had not, nor had that of a part with a lesser tag.
+    #[error("a part ends early")]
+    EndsEarly { tag: Tag },
+    /// The input ended, and so had the reports of so many parts, which are not as many as there are to be.
+    #[error("{count} parts")]
+    OtherCount { count: usize },
+    /// More bytes came than may come.
+    #[error("the input is too long")]
+    TooLong,
+    /// The source failed.
+    #[error("the input failed")]
+    ReadFault,
+    /// The sink failed.
+    #[error("the output failed")]
+    WriteFault,
+    /// Memory ran out.
+    #[error("no memory")]
+    NoMemory,
+}
+
+impl From<Failed> for StreamFault {
+    ghost from_gives = { λ _ e. e ≡ WriteFault };
+
+    fn from(_: Failed) -> Self {
+        StreamFault::WriteFault
+    }
+}
+
+impl From<AllocError> for StreamFault {
+    ghost from_gives = { λ _ e. e ≡ NoMemory };
+
+    fn from(_: AllocError) -> Self {
+        StreamFault::NoMemory
+    }
+}
+
+impl<T: Drop> From<AllocFailed<T>> for StreamFault {
+    ghost from_gives = { λ _ e. e ≡ NoMemory };
+
+    fn from(_: AllocFailed<T>) -> Self {
+        StreamFault::NoMemory
+    }
+}
+
+/// What the refusal of a line by the parts is to the stream.
+pub(crate) fn of_input(line: usize, fault: InputFault) -> StreamFault
+    ensures { result ≡ of_input line fault }
+{
+    let why = match fault {
+        InputFault::NoTab => LineRefusal::NoTab,
+        InputFault::NoTag => LineRefusal::NoTag,
+        InputFault::OtherPart => LineRefusal::MoreParts,
+        InputFault::Line(LineFault::OtherQuery) => LineRefusal::OtherQuery,
+        InputFault::Line(LineFault::OtherLine) => LineRefusal::OtherLine,
+        InputFault::Line(LineFault::NoMemory) => return StreamFault::NoMemory,
+    };
+    StreamFault::Line { line, why }
+}
+
+/// What the refusal of a query is to the stream, of which it is the first line.
+pub(crate) fn of_kinds(fault: KindsFault) -> StreamFault
+    ensures { result ≡ of_kinds fault }
+{
+    let why = match fault {
+        KindsFault::NoQuery => LineRefusal::NoQuery,
+        KindsFault::NoTotals => LineRefusal::NoTotals,
+        KindsFault::NoMemory => return StreamFault::NoMemory,
+    };
+    StreamFault::Line { line: 1, why }
+}
+
+/// What a block that is not written is to the stream.
+pub(crate) fn of_block(line: usize, fault: BlockFault) -> StreamFault
+    ensures { result ≡ of_block line fault }
+{
+    let why = match fault {
+        BlockFault::OtherDecimals(item) => LineRefusal::OtherDecimals(item),
+        BlockFault::TooWide(item) => LineRefusal::TooWide(item),
+        BlockFault::NoMemory => return StreamFault::NoMemory,
+    };
+    StreamFault::Line { line, why }
+}
+
+/// What a line that does not come is to the stream.
+pub(crate) fn of_source(line: usize, fault: SourceFault) -> StreamFault
+    ensures { result ≡ of_source line fault }
+{
+    match fault {
+        SourceFault::Fault => StreamFault::ReadFault,
+        SourceFault::LineTooLong => StreamFault::Line {
+            line,
+            why: LineRefusal::TooLong,
+        },
+        SourceFault::TooLong => StreamFault::TooLong,
+        SourceFault::NoMemory => StreamFault::NoMemory,
+    }
+}

@@ -1,0 +1,29 @@
+//! What holds of the bytes of an input whose lines are combined. Each law stands on a function that calls others alone.
+
+ghost use Rattle.report_stream.specs.Accepted.{ReportsAreAnswered, ReportsAreOne};
+ghost use Rattle.report_stream.specs.Shown.{FaultsAreTold};
+
+use query_kinds::kinds_are_one;
+
+/// Bytes have one combined report at most.
+pub fn reports_are_one()
+    ensures { ReportsAreOne }
+{
+    kinds_are_one();
+}
+
+/// Where an input tells bytes that are accepted, what is written is their combined report, and nothing but want of memory and faults of
+/// devices stops before its end.
+pub fn reports_are_answered()
+    ensures { ReportsAreAnswered }
+{
+    kinds_are_one();
+}
+
+/// Where an input tells bytes that are refused behind lines that are right, nothing but that refusal stops the report, or want of memory
+/// and faults of devices do.
+pub fn faults_are_told()
+    ensures { FaultsAreTold }
+{
+    kinds_are_one();
+}
