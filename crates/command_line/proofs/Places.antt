@@ -1,10 +1,10 @@
 -- Where words that are no command go wrong.
 use Rattle.std.proofs.Common.{◌≡◌, ℕ, zero, suc, ◌+◌, ◌≤◌, Option, Some, None, Ok, Err, List, [], ◌∷◌, ◌++◌, length, take, option_map, refl, sym, ap, ◌∙◌, codes, arith, rules}
 use Rattle.std.specs.Option.{option_map_or}
-use Rattle.command_line.specs.Commands.{IsNumber, Command, GoesWrong, options_given}
-use Rattle.command_line.specs.Reading.{Next, name, word, number, policy, option, done, after, after_ask, answer, at_end}
+use Rattle.command_line.specs.Commands.{IsNumber, IsPartsNumber, Command, GoesWrong, options_given}
+use Rattle.command_line.specs.Reading.{Next, name, word, number, policy, option, parts, limiting, done, after, after_ask, answer, at_end}
 use Rattle.plane_schedule.specs.declared.policies.FixedPolicy.TheVariants.{Widest}
-use Rattle.command_line.proofs.Numbers.{number_some}
+use Rattle.command_line.proofs.Numbers.{number_some, parts_some}
 use Rattle.command_line.proofs.Steps.{answer-none, answer-step}
 use Rattle.command_line.proofs.Whole.{command_whole, policy_some, after_name_ask}
 use Rattle.command_line.proofs.Sound.{command_is}
@@ -26,6 +26,12 @@ completes_more next behind at w e c = record {
 zero_is : (limit : ℕ) → IsNumber limit (codes "0") 0
 zero_is limit = record { digits = search rules; value = refl; small = omega arith }
 
+one_is : IsPartsNumber (codes "1") 1
+one_is = record {
+  is_number = record { digits = search rules; value = refl; small = omega arith };
+  some = omega arith;
+}
+
 completes : (next : Next) (at : ℕ) → Completes next at
 completes name at =
     completes_more name after_ask at (codes "ask") after_name_ask
@@ -39,6 +45,9 @@ completes (number limit k) at = completes_more (number limit k) (k 0) at (codes 
 completes (policy k) at = completes_more (policy k) (k Widest) at (codes "widest")
     (ap (option_map k) (policy_some (codes "widest") Widest refl)) (completes (k Widest) (at + 1))
 completes (option by_name g k) at = record { rest = []; command = k (options_given g); whole = answer-none (option by_name g k) at }
+completes (parts k) at =
+    completes_more (parts k) (k 1) at (codes "1") (ap (option_map k) (parts_some (codes "1") 1 one_is)) (completes (k 1) (at + 1))
+completes (limiting g k) at = record { rest = []; command = k g; whole = answer-none (limiting g k) at }
 completes (done c) at = record { rest = []; command = c; whole = answer-none (done c) at }
 
 -- the longest list of first words with which something goes on, where the place is one past it
@@ -96,6 +105,8 @@ missing (word k) at place e = cc
 missing (number limit k) at place e = cc
 missing (policy k) at place e = cc
 missing (option by_name g k) at place e = cc
+missing (parts k) at place e = cc
+missing (limiting g k) at place e = cc
 missing (done c) at place e = cc
 
 stuck : (next : Next) (at : ℕ) (words : List (List ℕ)) (place : ℕ) → answer next at words ≡ Err place → Stuck next at words place

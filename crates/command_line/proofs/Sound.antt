@@ -5,13 +5,13 @@ use Rattle.std.proofs.Common.{◌≡◌, ◌≢◌, ℕ, zero, suc, ◌+◌, ◌
 use Rattle.std.specs.Option.{option_map_or}
 use Rattle.std.specs.Str.{bytes_eq}
 use Rattle.std.proofs.lemmas.Slice.Eq.{bytes_eq-Decides}
-use Rattle.command_line.specs.Commands.{ReadOrder, fixed, reads, IsPolicy, IsNumber, Given, Gives, no_more, more_width, more_rounds, more_policy, more_reads, more_list, more_clip, more_exact, Options, Command, ask, query, session, load, info, upgrade, demo, help, version, IsCommand, IsHelp, IsVersion, AreOptions, nothing_given, options_given, most_seed, most_rows, most_width, most_rounds}
-use Rattle.command_line.specs.Reading.{Next, name, word, number, policy, option, done, after, after_ask, after_query, after_session, after_load, after_info, after_upgrade, after_demo, after_name, after_flag, behind, is_free, flag_of, flag_text, at_end, answer, lone_command, number_of}
+use Rattle.command_line.specs.Commands.{ReadOrder, fixed, reads, IsPolicy, IsNumber, Given, Gives, no_more, more_width, more_rounds, more_policy, more_reads, more_list, more_clip, more_exact, Options, Command, ask, query, session, load, info, upgrade, demo, combine, help, version, IsCommand, IsPartsNumber, Limits, Limit, no_limit, limit_width, limit_rounds, IsHelp, IsVersion, AreOptions, nothing_given, options_given, most_seed, most_rows, most_width, most_rounds}
+use Rattle.command_line.specs.Reading.{Next, name, word, number, policy, option, parts, limiting, done, after, after_ask, after_query, after_session, after_load, after_info, after_upgrade, after_demo, after_combine, after_name, after_flag, after_limit, behind, is_free, flag_of, flag_text, at_end, answer, lone_command, number_of, parts_of}
 use Rattle.plane_schedule.specs.Choices.{policy_named}
 use Rattle.plane_schedule.specs.declared.policies.FixedPolicy.{FixedPolicy}
 use Rattle.plane_schedule.specs.declared.policies.FixedPolicy.TheVariants.{Widest}
 use Rattle.plane_schedule.proofs.One.{named_word}
-use Rattle.command_line.proofs.Numbers.{number_is, both}
+use Rattle.command_line.proofs.Numbers.{number_is, parts_is, both}
 use Rattle.command_line.proofs.Steps.{Allowed}
 
 -- ---- cases on tests
@@ -93,6 +93,19 @@ read_number limit k at ws c e =
       whole = ap (λ n. answer n (at + 1) s.tail) (sym same) ∙ s.whole;
     }
 
+read_parts : (k : ℕ → Next) (at : ℕ) (ws : List (List ℕ)) (c : Command) → answer (parts k) at ws ≡ Ok c → Reads k IsPartsNumber at ws c
+read_parts k at ws c e =
+    let s = steps (parts k) at ws c refl e in
+    let (n, is, same) = some_map k (parts_of s.first) s.behind s.leads in
+    record {
+      first = s.first;
+      tail = s.tail;
+      said = n;
+      words = s.words;
+      meant = parts_is s.first n is;
+      whole = ap (λ n. answer n (at + 1) s.tail) (sym same) ∙ s.whole;
+    }
+
 read_policy : (k : FixedPolicy → Next) (at : ℕ) (ws : List (List ℕ)) (c : Command) → answer (policy k) at ws ≡ Ok c → Reads k IsPolicy at ws c
 read_policy k at ws c e =
     let s = steps (policy k) at ws c refl e in
@@ -146,10 +159,15 @@ ReadBelow by_name n k = (g : Given) (at : ℕ) (ws : List (List ℕ)) (c : Comma
 shorter : (n : ℕ) (w first : List ℕ) (ws tail : List (List ℕ)) → length (w ∷ ws) ≤ suc n → ws ≡ first ∷ tail → length tail ≤ n
 shorter n w first ws tail h e = let long : length ws ≡ suc (length tail) = ap length e in omega arith
 
+-- what holds of words under their own names
+renamed : (P : List (List ℕ) → Type 0) (w flag first : List ℕ) (ws tail : List (List ℕ)) → w ≡ flag → ws ≡ first ∷ tail →
+    P (flag ∷ first ∷ tail) → P (w ∷ ws)
+renamed P w flag first ws tail a b holds = rw (a, b) holds
+
 -- words under their own names
 moved : (g h : Given) (w flag first : List ℕ) (ws tail : List (List ℕ)) → w ≡ flag → ws ≡ first ∷ tail → Gives g (flag ∷ first ∷ tail) h →
     Gives g (w ∷ ws) h
-moved g h w flag first ws tail a b gives = rw (a, b) gives
+moved g h w flag first ws tail a b gives = renamed (λ v. Gives g v h) w flag first ws tail a b gives
 
 -- a policy is no list of names
 policy_allowed : (by_name : Bool) (g : Given) (p : FixedPolicy) → Allowed by_name (record g { order = Some (fixed p) })
@@ -220,6 +238,53 @@ read_options by_name k n g at [] c h e = record { end = g; gives = no_more; allo
 read_options by_name k zero g at (w ∷ ws) c h e = absurd (omega arith)
 read_options by_name k (suc n) g at (w ∷ ws) c h e = read_option by_name n k (read_options by_name k n) g at w ws c (flag_of w) h (flag_is w) e
 
+-- ---- limits
+
+-- what the words limit, and the command with it
+record Limited_by (g : Limits) (k : Limits → Command) (ws : List (List ℕ)) (c : Command) : Type 0 where
+  end : Limits
+  gives : Limit g ws end
+  same : c ≡ k end
+
+-- words shorter than so many that are read whole as limits
+abbrev LimitBelow : ℕ → (Limits → Command) → Type 0
+LimitBelow n k = (g : Limits) (at : ℕ) (ws : List (List ℕ)) (c : Command) → length ws ≤ n → answer (limiting g k) at ws ≡ Ok c →
+    Limited_by g k ws c
+
+read_limit : (n : ℕ) (k : Limits → Command) → LimitBelow n k →
+    (g : Limits) (at : ℕ) (w : List ℕ) (ws : List (List ℕ)) (c : Command) (o : Option Flag) → length (w ∷ ws) ≤ suc n →
+    IsFlag w o → option_map_or (λ next. answer next (at + 1) ws) (after_limit g k o) (Err (at + 1)) ≡ Ok c → Limited_by g k (w ∷ ws) c
+read_limit n k ih g at w ws c (Some f.Width) h same e =
+    let (free, whole) = free_some (is_none g.width) _ at ws c e in
+    let r = read_number most_width _ (at + 1) ws c whole in
+    let b = ih _ (at + 1 + 1) r.tail c (shorter n w r.first ws r.tail h r.words) r.whole in
+    record {
+      end = b.end;
+      gives = renamed (λ v. Limit g v b.end) w _ r.first ws r.tail same r.words (limit_width (unset g.width free) r.meant b.gives);
+      same = b.same;
+    }
+read_limit n k ih g at w ws c (Some f.Rounds) h same e =
+    let (free, whole) = free_some (is_none g.rounds) _ at ws c e in
+    let r = read_number most_rounds _ (at + 1) ws c whole in
+    let b = ih _ (at + 1 + 1) r.tail c (shorter n w r.first ws r.tail h r.words) r.whole in
+    record {
+      end = b.end;
+      gives = renamed (λ v. Limit g v b.end) w _ r.first ws r.tail same r.words (limit_rounds (unset g.rounds free) r.meant b.gives);
+      same = b.same;
+    }
+read_limit n k ih g at w ws c (Some f.Policy) h same e = cc
+read_limit n k ih g at w ws c (Some f.Reads) h same e = cc
+read_limit n k ih g at w ws c (Some f.List) h same e = cc
+read_limit n k ih g at w ws c (Some f.Clip) h same e = cc
+read_limit n k ih g at w ws c (Some f.Exact) h same e = cc
+read_limit n k ih g at w ws c None h same e = cc
+
+read_limits : (k : Limits → Command) (n : ℕ) → LimitBelow n k
+unfolding answer
+read_limits k n g at [] c h e = record { end = g; gives = no_limit; same = cc }
+read_limits k zero g at (w ∷ ws) c h e = absurd (omega arith)
+read_limits k (suc n) g at (w ∷ ws) c h e = read_limit n k (read_limits k n) g at w ws c (flag_of w) h (flag_is w) e
+
 -- ---- commands
 
 data IsName (w : List ℕ) : Option Next → Type 0 where
@@ -230,6 +295,7 @@ data IsName (w : List ℕ) : Option Next → Type 0 where
   is_info : w ≡ codes "info" → IsName w (Some after_info)
   is_upgrade : w ≡ codes "upgrade" → IsName w (Some after_upgrade)
   is_demo : w ≡ codes "demo" → IsName w (Some after_demo)
+  is_combine : w ≡ codes "combine" → IsName w (Some after_combine)
   is_lone : (c : Command) → lone_command w ≡ Some c → IsName w (Some (done c))
   is_no_name : lone_command w ≡ None → IsName w None
 
@@ -246,7 +312,8 @@ name_is w =
     (if_cases (IsName w) (bytes_eq w (codes "load")) _ _ (λ t. is_load (same_bytes w _ t))
     (if_cases (IsName w) (bytes_eq w (codes "info")) _ _ (λ t. is_info (same_bytes w _ t))
     (if_cases (IsName w) (bytes_eq w (codes "upgrade")) _ _ (λ t. is_upgrade (same_bytes w _ t))
-    (if_cases (IsName w) (bytes_eq w (codes "demo")) _ _ (λ t. is_demo (same_bytes w _ t)) (lone_name w (lone_command w) refl)))))))
+    (if_cases (IsName w) (bytes_eq w (codes "demo")) _ _ (λ t. is_demo (same_bytes w _ t))
+    (if_cases (IsName w) (bytes_eq w (codes "combine")) _ _ (λ t. is_combine (same_bytes w _ t)) (lone_name w (lone_command w) refl))))))))
 
 said : (words : List (List ℕ)) (given : Given) → Gives nothing_given words given → AreOptions words (options_given given)
 said words given gives = record { given = given; gives = gives; say = refl }
@@ -375,6 +442,29 @@ demo_is ws c e =
     } in
     subst (IsCommand (codes "demo" ∷ ws)) (sym o.same) is
 
+combine_is : (ws : List (List ℕ)) (c : Command) → answer after_combine 1 ws ≡ Ok c → IsCommand (codes "combine" ∷ ws) c
+combine_is ws c e =
+    let count = read_parts _ 1 ws c e in
+    let reports = read_word _ 2 count.tail c count.whole in
+    let l = read_limits _ (length reports.tail) _ 3 reports.tail c (omega arith) reports.whole in
+    let is : IsCommand (codes "combine" ∷ ws) (combine (record {
+      parts = count.said;
+      reports = reports.said;
+      width = unwrap_or l.end.width 0;
+      rounds = l.end.rounds;
+    })) =
+    record {
+      parts = count.first;
+      tail = reports.tail;
+      given = l.end;
+      spelled = ap (λ v. codes "combine" ∷ v) (two_words count.first reports.said ws count.tail reports.tail count.words (word_there reports));
+      is_parts = count.meant;
+      limits = l.gives;
+      width = refl;
+      rounds = refl;
+    } in
+    subst (IsCommand (codes "combine" ∷ ws)) (sym l.same) is
+
 -- a command of one word is that word
 lone_is : (w : List ℕ) (c : Command) → lone_command w ≡ Some c → IsCommand (w ∷ []) c
 unfolding lone_command
@@ -413,6 +503,7 @@ named_is w ws c (Some _) (is_load same) e = subst (λ v. IsCommand (v ∷ ws) c)
 named_is w ws c (Some _) (is_info same) e = subst (λ v. IsCommand (v ∷ ws) c) (sym same) (info_is ws c e)
 named_is w ws c (Some _) (is_upgrade same) e = subst (λ v. IsCommand (v ∷ ws) c) (sym same) (upgrade_is ws c e)
 named_is w ws c (Some _) (is_demo same) e = subst (λ v. IsCommand (v ∷ ws) c) (sym same) (demo_is ws c e)
+named_is w ws c (Some _) (is_combine same) e = subst (λ v. IsCommand (v ∷ ws) c) (sym same) (combine_is ws c e)
 named_is w ws c (Some _) (is_lone k named) e = lone_ends w ws k c named e
 named_is w ws c None (is_no_name unnamed) e = cc
 
@@ -431,6 +522,7 @@ pub record IsNoName (w : List ℕ) : Type 0 where
   pub info : w ≢ codes "info"
   pub upgrade : w ≢ codes "upgrade"
   pub demo : w ≢ codes "demo"
+  pub combine : w ≢ codes "combine"
 
 next_lone : (w : List ℕ) (o : Option Next) → IsName w o → IsNoName w → o ≡ option_map done (lone_command w)
 next_lone w (Some _) (is_ask same) none = absurd (none.ask same)
@@ -440,6 +532,7 @@ next_lone w (Some _) (is_load same) none = absurd (none.load same)
 next_lone w (Some _) (is_info same) none = absurd (none.info same)
 next_lone w (Some _) (is_upgrade same) none = absurd (none.upgrade same)
 next_lone w (Some _) (is_demo same) none = absurd (none.demo same)
+next_lone w (Some _) (is_combine same) none = absurd (none.combine same)
 next_lone w (Some _) (is_lone c named) none = ap (option_map done) (sym named)
 next_lone w None (is_no_name unnamed) none = ap (option_map done) (sym unnamed)
 

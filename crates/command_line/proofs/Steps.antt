@@ -3,8 +3,8 @@ use Rattle.command_line.specs.declared.reader.Flag.{Flag}
 use Rattle.command_line.specs.declared.reader.Flag.TheVariants as f
 use Rattle.std.proofs.lemmas.Option.{slice_get_within, get_or_from_slice_get}
 use Rattle.std.proofs.Common.{length, ◌==◌, rules, drop, drop-cons, slice_get, suc, arith, Bool, true, false, is_none, not, if◌then◌else◌, ◌≡◌, ℕ, ◌+◌, Option, Some, None, Ok, Err, List, [], ◌∷◌, refl, sym, ap, ◌∙◌}
-use Rattle.command_line.specs.Commands.{Given, Options, Command, reads}
-use Rattle.command_line.specs.Reading.{Next, option, done, Left, Takes, Lacks, HasMore, after, after_flag, behind, is_free, flag_of, flag_text, at_end, answer, answers}
+use Rattle.command_line.specs.Commands.{Given, Limits, Options, Command, reads}
+use Rattle.command_line.specs.Reading.{Next, option, done, limiting, Left, Takes, Lacks, HasMore, after, after_flag, after_limit, behind, behind_limit, is_free, may_limit, flag_of, flag_text, at_end, answer, answers}
 
 pub answer-none : (next : Next) (at : ℕ) → answer next at [] ≡ at_end next at
 unfolding answer
@@ -72,6 +72,14 @@ is_none_at (Some x) e = cc
 pub not_at : (b : Bool) → b ≡ false → not b ≡ true
 not_at false e = refl
 not_at true e = cc
+
+-- ---- limits
+
+-- the name of a limit that was not given yet
+pub after_limit_name : (g : Limits) (k : Limits → Command) (flag : Flag) → may_limit flag g ≡ true →
+    after (limiting g k) (flag_text flag) ≡ Some (behind_limit flag g k)
+after_limit_name g k flag free =
+    ap (after_limit g k) (text_of_flag flag) ∙ ap (λ b. if b then Some (behind_limit flag g k) else None) free
 
 -- a list of names was given only where it may be
 abbrev pub Allowed : Bool → Given → Type 0

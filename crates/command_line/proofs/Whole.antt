@@ -1,14 +1,14 @@
 -- Each command of the grammar is read whole.
 use Rattle.command_line.specs.declared.reader.Flag.TheVariants as f
 use Rattle.std.proofs.Common.{◌≡◌, ◌≢◌, ℕ, ◌+◌, Bool, true, false, ◌&&◌, Option, None, Some, Ok, List, [], ◌∷◌, option_map, unwrap_or, refl, sym, ap, inl, inr, ◌∙◌, codes}
-use Rattle.command_line.specs.Commands.{ReadOrder, fixed, reads, IsPolicy, Given, Gives, no_more, more_width, more_rounds, more_policy, more_reads, more_list, more_clip, more_exact, Options, Command, ask, query, session, load, info, upgrade, demo, help, version, IsCommand, options_given, most_seed, most_rows, most_width, most_rounds}
-use Rattle.command_line.specs.Reading.{name, option, done, after_ask, after_query, after_session, after_load, after_info, after_upgrade, after_demo, after_name, answer, lone_command}
+use Rattle.command_line.specs.Commands.{ReadOrder, fixed, reads, IsPolicy, Given, Gives, no_more, more_width, more_rounds, more_policy, more_reads, more_list, more_clip, more_exact, Options, Command, ask, query, session, load, info, upgrade, demo, combine, help, version, IsCommand, Limits, Limit, no_limit, limit_width, limit_rounds, options_given, most_seed, most_rows, most_width, most_rounds}
+use Rattle.command_line.specs.Reading.{name, option, limiting, done, after_ask, after_query, after_session, after_load, after_info, after_upgrade, after_demo, after_combine, after_name, answer, lone_command}
 use Rattle.plane_schedule.specs.Choices.{policy_named}
 use Rattle.plane_schedule.specs.declared.policies.FixedPolicy.{FixedPolicy}
 use Rattle.plane_schedule.specs.declared.policies.FixedPolicy.TheVariants.{Widest}
 use Rattle.plane_schedule.proofs.One.{word_named}
-use Rattle.command_line.proofs.Numbers.{number_some}
-use Rattle.command_line.proofs.Steps.{answer-none, answer-step, after_free, is_none_at, not_at, Allowed}
+use Rattle.command_line.proofs.Numbers.{number_some, parts_some}
+use Rattle.command_line.proofs.Steps.{answer-none, answer-step, after_free, after_limit_name, is_none_at, not_at, Allowed}
 
 pub policy_some : (w : List ℕ) (p : FixedPolicy) → IsPolicy w p → policy_named w ≡ Some p
 policy_some w p e = ap policy_named e ∙ word_named p
@@ -57,6 +57,17 @@ options_whole (more_clip {g} {h} {words} unset more) by_name may k at =
 options_whole (more_exact {g} {h} {words} unset more) by_name may k at =
     answer-step _ _ at _ _ (after_free by_name g k f.Exact (not_at g.exact unset)) ∙ options_whole more by_name may k (at + 1)
 
+limits_whole : {g h : Limits} {ws : List (List ℕ)} → Limit g ws h → (k : Limits → Command) (at : ℕ) → answer (limiting g k) at ws ≡ Ok (k h)
+limits_whole (no_limit {g}) k at = answer-none (limiting g k) at
+limits_whole (limit_width {g} {h} {word = w} {words} {number = n} unset is more) k at =
+    answer-step _ _ at _ _ (after_limit_name g k f.Width (is_none_at g.width unset))
+    ∙ answer-step _ _ (at + 1) w words (ap (option_map _) (number_some most_width w n is))
+    ∙ limits_whole more k (at + 1 + 1)
+limits_whole (limit_rounds {g} {h} {word = w} {words} {number = n} unset is more) k at =
+    answer-step _ _ at _ _ (after_limit_name g k f.Rounds (is_none_at g.rounds unset))
+    ∙ answer-step _ _ (at + 1) w words (ap (option_map _) (number_some most_rounds w n is))
+    ∙ limits_whole more k (at + 1 + 1)
+
 pub after_name_ask : after_name (codes "ask") ≡ Some after_ask
 unfolding after_name
 after_name_ask = refl
@@ -84,6 +95,10 @@ after_name_upgrade = refl
 pub after_name_demo : after_name (codes "demo") ≡ Some after_demo
 unfolding after_name
 after_name_demo = refl
+
+pub after_name_combine : after_name (codes "combine") ≡ Some after_combine
+unfolding after_name
+after_name_combine = refl
 
 -- the words of commands of one word
 after_name_help : after_name (codes "help") ≡ Some (done help)
@@ -162,6 +177,14 @@ command_whole words (demo d) is =
     ∙ answer-step _ _ 3 _ _ refl
     ∙ options_whole is.options.gives true (λ names e. refl) (λ o. demo (record { seed = d.seed; rows = d.rows; sql = d.sql; options = o })) 4
     ∙ ap (λ o. Ok (demo (record { seed = d.seed; rows = d.rows; sql = d.sql; options = o }))) (sym is.options.say)
+command_whole words (combine c) is =
+    ap (answer name 0) is.spelled
+    ∙ answer-step name after_combine 0 _ _ after_name_combine
+    ∙ answer-step after_combine _ 1 _ _ (ap (option_map _) (parts_some is.parts c.parts is.is_parts))
+    ∙ answer-step _ _ 2 _ _ refl
+    ∙ limits_whole is.limits (λ l. combine (record { parts = c.parts; reports = c.reports; width = unwrap_or l.width 0; rounds = l.rounds })) 3
+    ∙ ap (λ w. Ok (combine (record { parts = c.parts; reports = c.reports; width = w; rounds = is.given.rounds }))) (sym is.width)
+    ∙ ap (λ r. Ok (combine (record { parts = c.parts; reports = c.reports; width = c.width; rounds = r }))) (sym is.rounds)
 command_whole words help (inl is) = lone_whole words _ help is after_name_help
 command_whole words help (inr (inl is)) = lone_whole words _ help is after_name_long_help
 command_whole words help (inr (inr is)) = lone_whole words _ help is after_name_short_help

@@ -62,6 +62,13 @@ pub record Upgrade : Type 0 where
   pub older : List ℕ
   pub newer : List ℕ
 
+-- what follows the word `combine`
+pub record Combine : Type 0 where
+  pub parts : ℕ
+  pub reports : List ℕ
+  pub width : ℕ
+  pub rounds : Option ℕ
+
 pub data Command : Type 0 where
   ask : Ask → Command
   query : Query → Command
@@ -70,6 +77,7 @@ pub data Command : Type 0 where
   info : Info → Command
   upgrade : Upgrade → Command
   demo : Demo → Command
+  combine : Combine → Command
   help : Command
   version : Command
 
@@ -86,6 +94,9 @@ most_width = 2 ^ 63 - 1
 
 abbrev pub most_rounds : ℕ
 most_rounds = 2 ^ 32 - 1
+
+abbrev pub most_parts : ℕ
+most_parts = 2 ^ 16
 
 -- the word is digits, zeros in front allowed, that write the number; and this is at most the limit
 pub record IsNumber (limit : ℕ) (word : List ℕ) (number : ℕ) : Type 0 where
@@ -146,6 +157,24 @@ pub record AreOptions (words : List (List ℕ)) (options : Options) : Type 0 whe
   pub gives : Gives nothing_given words given
   pub say : options ≡ options_given given
 
+-- ---- limits
+
+-- what limits say, where each says it once
+pub record Limits : Type 0 where
+  pub width : Option ℕ
+  pub rounds : Option ℕ
+
+-- {limit}, each limit giving what was not given before
+pub data Limit : Limits → List (List ℕ) → Limits → Type 0 where
+  no_limit : {g : Limits} → Limit g [] g
+  limit_width : {g h : Limits} {word : List ℕ} {words : List (List ℕ)} {number : ℕ} → g.width ≡ None → IsNumber most_width word number →
+      Limit (record g { width = Some number }) words h → Limit g (codes "--width" ∷ word ∷ words) h
+  limit_rounds : {g h : Limits} {word : List ℕ} {words : List (List ℕ)} {number : ℕ} → g.rounds ≡ None → IsNumber most_rounds word number →
+      Limit (record g { rounds = Some number }) words h → Limit g (codes "--rounds" ∷ word ∷ words) h
+
+abbrev pub no_limits : Limits
+no_limits = record { width = None; rounds = None }
+
 -- ---- commands
 
 -- "ask" csv schema sql {option}
@@ -189,6 +218,22 @@ pub record IsDemo (words : List (List ℕ)) (d : Demo) : Type 0 where
   pub is_rows : IsNumber most_rows rows d.rows
   pub options : AreOptions tail d.options
 
+-- the word is a number of parts, of which there is one at least
+pub record IsPartsNumber (word : List ℕ) (number : ℕ) : Type 0 where
+  pub is_number : IsNumber most_parts word number
+  pub some : 1 ≤ number
+
+-- "combine" parts reports {limit}
+pub record IsCombine (words : List (List ℕ)) (c : Combine) : Type 0 where
+  pub parts : List ℕ
+  pub tail : List (List ℕ)
+  pub given : Limits
+  pub spelled : words ≡ codes "combine" ∷ parts ∷ c.reports ∷ tail
+  pub is_parts : IsPartsNumber parts c.parts
+  pub limits : Limit no_limits tail given
+  pub width : c.width ≡ unwrap_or given.width 0
+  pub rounds : c.rounds ≡ given.rounds
+
 -- "help" | "--help" | "-h"
 abbrev pub IsHelp : List (List ℕ) → Type 0
 IsHelp words = (words ≡ codes "help" ∷ []) ⊎ (words ≡ codes "--help" ∷ []) ⊎ (words ≡ codes "-h" ∷ [])
@@ -206,6 +251,7 @@ IsCommand words (load l) = IsLoad words l
 IsCommand words (info i) = IsInfo words i
 IsCommand words (upgrade u) = IsUpgrade words u
 IsCommand words (demo d) = IsDemo words d
+IsCommand words (combine c) = IsCombine words c
 IsCommand words help = IsHelp words
 IsCommand words version = IsVersion words
 

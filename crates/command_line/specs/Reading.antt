@@ -1,6 +1,6 @@
 -- How words are read one by one: what may come next, and what a word leads to.
 use Rattle.std.specs.Prelude.{◌≡◌, ◌≢◌, ℕ, ◌+◌, nat_le, Bool, true, false, not, ◌&&◌, if◌then◌else◌}
-use Rattle.std.specs.Prelude.{Option, Some, None, is_none, option_map, Result, Ok, Err, List, [], ◌∷◌, length, codes}
+use Rattle.std.specs.Prelude.{Option, Some, None, is_none, option_map, unwrap_or, Result, Ok, Err, List, [], ◌∷◌, length, codes}
 use Rattle.std.specs.Option.{option_map_or}
 use Rattle.std.specs.Char.{is_ascii_digit}
 use Rattle.std.specs.List.{list_all}
@@ -11,8 +11,8 @@ use Rattle.plane_schedule.specs.declared.policies.FixedPolicy.{FixedPolicy}
 use Rattle.command_line.specs.declared.reader.Flag.{Flag}
 use Rattle.command_line.specs.declared.reader.Flag.TheVariants as f
 use Rattle.command_line.specs.Commands.{fixed, reads, Given, Options}
-use Rattle.command_line.specs.Commands.{Command, ask, query, session, load, info, upgrade, demo, help, version, nothing_given}
-use Rattle.command_line.specs.Commands.{options_given, most_seed, most_rows, most_width, most_rounds}
+use Rattle.command_line.specs.Commands.{Command, ask, query, session, load, info, upgrade, demo, combine, help, version, nothing_given}
+use Rattle.command_line.specs.Commands.{Limits, no_limits, options_given, most_parts, most_seed, most_rows, most_width, most_rounds}
 
 -- what comes next, and for each such word what comes behind it; options come by name where a list of names may be one of them
 pub data Next : Type 0 where
@@ -21,12 +21,18 @@ pub data Next : Type 0 where
   number : ℕ → (ℕ → Next) → Next
   policy : (FixedPolicy → Next) → Next
   option : Bool → Given → (Options → Command) → Next
+  parts : (ℕ → Next) → Next
+  limiting : Limits → (Limits → Command) → Next
   done : Command → Next
 
 -- the number that the word writes, if it is one and at most the limit
 unfoldable pub number_of : ℕ → List ℕ → Option ℕ
 number_of limit w =
     if list_all is_ascii_digit w && nat_le 1 (length w) && nat_le (digits_value 10 w) limit then Some (digits_value 10 w) else None
+
+-- the number of parts that the word writes
+unfoldable pub parts_of : List ℕ → Option ℕ
+parts_of w = if nat_le 1 (digits_value 10 w) then number_of most_parts w else None
 
 abbrev pub options : (Options → Command) → Next
 options k = option true nothing_given k
@@ -56,6 +62,11 @@ after_demo =
     number most_seed (λ seed. number most_rows (λ rows.
     word (λ sql. options (λ o. demo (record { seed = seed; rows = rows; sql = sql; options = o })))))
 
+abbrev pub after_combine : Next
+after_combine =
+    parts (λ n. word (λ reports. limiting no_limits (λ limits.
+    combine (record { parts = n; reports = reports; width = unwrap_or limits.width 0; rounds = limits.rounds }))))
+
 -- a command of one word
 unfoldable pub lone_command : List ℕ → Option Command
 lone_command w =
@@ -73,7 +84,8 @@ after_name w =
     else (if bytes_eq w (codes "load") then Some after_load
     else (if bytes_eq w (codes "info") then Some after_info
     else (if bytes_eq w (codes "upgrade") then Some after_upgrade
-    else (if bytes_eq w (codes "demo") then Some after_demo else option_map done (lone_command w)))))))
+    else (if bytes_eq w (codes "demo") then Some after_demo
+    else (if bytes_eq w (codes "combine") then Some after_combine else option_map done (lone_command w))))))))
 
 -- ---- options
 
@@ -120,6 +132,22 @@ abbrev pub after_flag : Bool → Given → (Options → Command) → Option Flag
 after_flag by_name g k None = None
 after_flag by_name g k (Some flag) = if is_free by_name flag g then Some (behind by_name flag g k) else None
 
+-- it is a limit, which was not given yet
+abbrev pub may_limit : Flag → Limits → Bool
+may_limit f.Width g = is_none g.width
+may_limit f.Rounds g = is_none g.rounds
+may_limit other g = false
+
+-- what comes behind it; behind what is no limit nothing does
+abbrev pub behind_limit : Flag → Limits → (Limits → Command) → Next
+behind_limit f.Width g k = number most_width (λ n. limiting (record g { width = Some n }) k)
+behind_limit f.Rounds g k = number most_rounds (λ n. limiting (record g { rounds = Some n }) k)
+behind_limit other g k = done (k g)
+
+abbrev pub after_limit : Limits → (Limits → Command) → Option Flag → Option Next
+after_limit g k None = None
+after_limit g k (Some flag) = if may_limit flag g then Some (behind_limit flag g k) else None
+
 -- ---- all that may come
 
 abbrev pub after : Next → List ℕ → Option Next
@@ -128,6 +156,8 @@ after (word k) w = Some (k w)
 after (number limit k) w = option_map k (number_of limit w)
 after (policy k) w = option_map k (policy_named w)
 after (option by_name g k) w = after_flag by_name g k (flag_of w)
+after (parts k) w = option_map k (parts_of w)
+after (limiting g k) w = after_limit g k (flag_of w)
 after (done c) w = None
 
 -- what it is where no word is left: a command, or a word is missing at the next place
@@ -137,6 +167,8 @@ at_end (word k) at = Err (at + 1)
 at_end (number limit k) at = Err (at + 1)
 at_end (policy k) at = Err (at + 1)
 at_end (option by_name g k) at = Ok (k (options_given g))
+at_end (parts k) at = Err (at + 1)
+at_end (limiting g k) at = Ok (k g)
 at_end (done c) at = Ok c
 
 -- the command of the words, of which so many were read before, or the place of the first that may not come
@@ -190,3 +222,19 @@ Says by_name g old said = (k : Options → Command) → answers (option by_name 
 -- an option goes wrong there
 abbrev pub Fails : Bool → Given → Left → ℕ → Type 0
 Fails by_name g old place = (k : Options → Command) → answers (option by_name g k) old ≡ Err place
+
+-- the words left begin with the name of a limit that was not given yet, and these are left behind it
+abbrev pub NamesLimit : Limits → Left → Flag → Left → Type 0
+NamesLimit g old flag new = (k : Limits → Command) → answers (limiting g k) old ≡ answers (behind_limit flag g k) new
+
+-- the words left begin with a limit that was not given yet, which makes `h` of what was given, and these are left behind it
+abbrev pub AddsLimit : Limits → Left → Limits → Left → Type 0
+AddsLimit g old h new = (k : Limits → Command) → answers (limiting g k) old ≡ answers (limiting h k) new
+
+-- all words left are limits, and these are theirs
+abbrev pub AllLimit : Limits → Left → Limits → Type 0
+AllLimit g old said = (k : Limits → Command) → answers (limiting g k) old ≡ Ok (k said)
+
+-- a limit goes wrong there
+abbrev pub LimitFails : Limits → Left → ℕ → Type 0
+LimitFails g old place = (k : Limits → Command) → answers (limiting g k) old ≡ Err place

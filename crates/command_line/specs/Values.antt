@@ -5,6 +5,7 @@ use Rattle.command_line.specs.declared.command.ReadOrder.{ReadOrder}
 use Rattle.command_line.specs.declared.command.ReadOrder.TheVariants.{By, Reads}
 use Rattle.command_line.specs.declared.command.Options.{Options}
 use Rattle.command_line.specs.declared.command.Ask.{Ask}
+use Rattle.command_line.specs.declared.command.Combine.{Combine}
 use Rattle.command_line.specs.declared.command.Demo.{Demo}
 use Rattle.command_line.specs.declared.command.Info.{Info}
 use Rattle.command_line.specs.declared.command.Load.{Load}
@@ -14,6 +15,7 @@ use Rattle.command_line.specs.declared.command.Upgrade.{Upgrade}
 use Rattle.command_line.specs.declared.command.Command.{Command}
 use Rattle.command_line.specs.declared.command.Command.TheVariants as c
 use Rattle.command_line.specs.declared.reader.Given.{Given}
+use Rattle.command_line.specs.declared.reader.Limits.{Limits}
 
 abbrev pub order_of : ReadOrder → spec.ReadOrder
 order_of (By policy) = spec.fixed policy
@@ -44,6 +46,9 @@ upgrade_of u = record { older = u.older.now; newer = u.newer.now }
 abbrev pub demo_of : Demo → spec.Demo
 demo_of d = record { seed = d.seed; rows = d.rows; sql = d.sql.now; options = options_of d.options }
 
+abbrev pub combine_of : Combine → spec.Combine
+combine_of c = record { parts = c.parts; reports = c.reports.now; width = c.width; rounds = c.rounds }
+
 abbrev pub command_of : Command → spec.Command
 command_of (c.Ask a) = spec.ask (ask_of a)
 command_of (c.Query q) = spec.query (query_of q)
@@ -52,9 +57,13 @@ command_of (c.Load l) = spec.load (load_of l)
 command_of (c.Info i) = spec.info (info_of i)
 command_of (c.Upgrade u) = spec.upgrade (upgrade_of u)
 command_of (c.Demo d) = spec.demo (demo_of d)
+command_of (c.Combine b) = spec.combine (combine_of b)
 command_of c.Help = spec.help
 command_of c.Version = spec.version
 
 abbrev pub given_of : Given → spec.Given
 given_of g =
     record { width = g.width; rounds = g.rounds; order = option_map order_of g.order; list = g.list; clip = g.clip; exact = g.exact }
+
+abbrev pub limits_of : Limits → spec.Limits
+limits_of l = record { width = l.width; rounds = l.rounds }

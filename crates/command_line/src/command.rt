@@ -110,6 +110,19 @@ pub struct Demo<'a> {
     pub options: Options<'a>,
 }
 
+/// `combine`: the reports of the parts of a table become one.
+#[derive(Clone, Copy, Debug, PartialEq, Eq)]
+pub struct Combine<'a> {
+    /// How many parts there are.
+    pub parts: u32,
+    /// The path of their reports.
+    pub reports: &'a str,
+    /// How wide an interval may be that counts as narrow: 0 where it is not given.
+    pub width: u64,
+    /// The most rounds, if they are limited.
+    pub rounds: Option<u32>,
+}
+
 /// What words ask for. Its texts are those of the words.
 #[derive(Clone, Copy, Debug, PartialEq, Eq)]
 pub enum Command<'a> {
@@ -127,6 +140,8 @@ pub enum Command<'a> {
     Upgrade(Upgrade<'a>),
     /// A query over a generated table.
     Demo(Demo<'a>),
+    /// The reports of the parts of a table become one.
+    Combine(Combine<'a>),
     /// What the commands and their options are.
     Help,
     /// Which version of the program this is.
@@ -155,6 +170,7 @@ impl<'a> Command<'a> {
             "info" => Ok(Command::Info(reader.info()?)),
             "upgrade" => Ok(Command::Upgrade(reader.upgrade()?)),
             "demo" => Ok(Command::Demo(reader.demo()?)),
+            "combine" => Ok(Command::Combine(reader.combine()?)),
             other => match lone_command(other) {
                 Some(command) => {
                     reader.end()?;

@@ -6,6 +6,7 @@ mod reader;
 mod words;
 
 pub use command::{
-    Ask, Command, Demo, Info, Load, Options, Query, ReadOrder, Session, Upgrade, Usage, one_command,
+    Ask, Combine, Command, Demo, Info, Load, Options, Query, ReadOrder, Session, Upgrade, Usage,
+    one_command,
 };
 pub use words::Words;

@@ -1,20 +1,23 @@
 //! Reads the words of a command one by one.
 
 ghost use Rattle.std.specs.Prelude.{◌≡◌, ◌≢◌, ◌==◌, ◌+◌, ◌^◌, ◌<◌};
-ghost use Rattle.std.specs.Prelude.{◌≤◌, [], length, Ok, Err, IfOk, IfErr, OnOk, option_map};
+ghost use Rattle.std.specs.Prelude.{◌≤◌, [], true, length, Ok, Err, IfOk, IfErr, OnOk, option_map};
 ghost use Rattle.std.specs.Char.{is_ascii_digit};
 ghost use Rattle.std.specs.List.{list_all};
 ghost use Rattle.std.specs.Option.{SomeIff};
 ghost use Rattle.std.specs.Str.Parse.{IsNumeral, digits_value};
-ghost use Rattle.command_line.specs.Commands.{ask, demo, info, load, nothing_given, options_given, query, session, upgrade};
+ghost use Rattle.command_line.specs.Commands.{ask, combine, demo, info, load, query, session, upgrade};
+ghost use Rattle.command_line.specs.Commands.{no_limits, nothing_given, options_given};
 ghost use Rattle.command_line.specs.Reading.{Adds, Fails, HasMore, Lacks, LeadsTo, Names, Says, StopsAt, Takes};
+ghost use Rattle.command_line.specs.Reading.{AddsLimit, AllLimit, LimitFails, NamesLimit};
 ghost use Rattle.command_line.specs.Reading.{after_ask, after_demo, after_info, after_load, after_query, after_session};
-ghost use Rattle.command_line.specs.Reading.{after_upgrade, answers, flag_of, is_free, lone_command, number, policy};
-ghost use Rattle.command_line.specs.Values.{ask_of, command_of, demo_of, given_of, info_of, load_of};
+ghost use Rattle.command_line.specs.Reading.{after_combine, after_upgrade, answers, flag_of, is_free, lone_command, may_limit};
+ghost use Rattle.command_line.specs.Reading.{number, parts, parts_of, policy};
+ghost use Rattle.command_line.specs.Values.{ask_of, combine_of, command_of, demo_of, given_of, info_of, limits_of, load_of};
 ghost use Rattle.command_line.specs.Values.{options_of, query_of, session_of, upgrade_of};
 
 use crate::command::{
-    Ask, Command, Demo, Info, Load, Options, Query, ReadOrder, Session, Upgrade, Usage,
+    Ask, Combine, Command, Demo, Info, Load, Options, Query, ReadOrder, Session, Upgrade, Usage,
 };
 use crate::words::Words;
 use plane_schedule::FixedPolicy;
@@ -22,6 +25,9 @@ use std::marker::Model;
 
 // The greatest width.
 const MOST_WIDTH: u64 = 9_223_372_036_854_775_807;
+
+// The most parts.
+const MOST_PARTS: u64 = 65_536;
 
 // The options by their names.
 #[derive(Clone, Copy)]
@@ -44,6 +50,13 @@ pub(crate) struct Given<'a> {
     list: bool,
     clip: bool,
     exact: bool,
+}
+
+// What the limits so far give.
+#[derive(Clone, Copy)]
+pub(crate) struct Limits {
+    width: Option<u64>,
+    rounds: Option<u32>,
 }
 
 // The words from a place on.
@@ -78,6 +91,23 @@ fn number_of(word: &str) -> Option<u64>
         word.parse::<u64>().ok()
     } else {
         None
+    }
+}
+
+// The number of parts that the word writes, of which there is one at least.
+#[tactic(auto, using(crate::proofs::Numbers::parts_there, crate::proofs::Numbers::parts_missing))]
+fn parts_of(word: &str) -> Option<u32>
+    ensures { result ≡ parts_of word.now }
+{
+    match number_of(word) {
+        Some(number) => {
+            if number == 0 || number > MOST_PARTS {
+                None
+            } else {
+                Some(number as u32)
+            }
+        }
+        None => None,
     }
 }
 
@@ -154,6 +184,19 @@ impl<'a> Given<'a> {
     }
 }
 
+impl Limits {
+    // Whether the option is a limit, which was not given yet.
+    fn may_take(&self, flag: Flag) -> bool
+        ensures { result ≡ may_limit flag (limits_of self.now) }
+    {
+        match flag {
+            Flag::Width => self.width.is_none(),
+            Flag::Rounds => self.rounds.is_none(),
+            Flag::Policy | Flag::Reads | Flag::List | Flag::Clip | Flag::Exact => false,
+        }
+    }
+}
+
 impl<'a> Reader<'a> {
     pub(crate) fn new(words: &'a Words) -> Reader<'a>
         ensures at { result.at ≡ 0 }
@@ -212,6 +255,18 @@ impl<'a> Reader<'a> {
         match number_of(self.word()?) {
             Some(number) if number <= limit => Ok(number),
             _ => Err(refusal),
+        }
+    }
+
+    // A number of parts.
+    fn parts(&mut self) -> Result<u32, Usage>
+        ensures ok { IfOk result (λ n. LeadsTo parts self.old n self.new) }
+        ensures err { IfErr result (λ usage. StopsAt parts self.old usage.place) }
+    {
+        let refusal = self.refusal();
+        match parts_of(self.word()?) {
+            Some(parts) => Ok(parts),
+            None => Err(refusal),
         }
     }
 
@@ -357,6 +412,66 @@ impl<'a> Reader<'a> {
             rows: self.number(u64::MAX)?,
             sql: self.word()?,
             options: self.options(true)?,
+        })
+    }
+    // The name of a limit that was not given yet.
+    fn limit_name(&mut self, limits: &Limits) -> Result<Flag, Usage>
+        requires { self.old.words ≢ [] }
+        ensures ok { IfOk result (λ flag. NamesLimit (limits_of limits.now) self.old flag self.new) }
+        ensures limit { IfOk result (λ flag. may_limit flag (limits_of limits.now) ≡ true) }
+        ensures shorter { OnOk result (length self.new.words < length self.old.words) }
+        ensures err { IfErr result (λ usage. LimitFails (limits_of limits.now) self.old usage.place) }
+    {
+        let refusal = self.refusal();
+        match flag_of(self.word()?) {
+            Some(flag) if limits.may_take(flag) => Ok(flag),
+            _ => Err(refusal),
+        }
+    }
+
+    // A limit that was not given yet.
+    fn limit(&mut self, limits: &mut Limits) -> Result<(), Usage>
+        requires { self.old.words ≢ [] }
+        ensures ok { OnOk result (AddsLimit (limits_of limits.old) self.old (limits_of limits.new) self.new) }
+        ensures shorter { OnOk result (length self.new.words < length self.old.words) }
+        ensures err { IfErr result (λ usage. LimitFails (limits_of limits.old) self.old usage.place) }
+    {
+        match self.limit_name(limits)? {
+            Flag::Width => limits.width = Some(self.number(MOST_WIDTH)?),
+            Flag::Rounds => limits.rounds = Some(self.number(u32::MAX as u64)? as u32),
+            Flag::Policy | Flag::Reads | Flag::List | Flag::Clip | Flag::Exact => (),
+        }
+        Ok(())
+    }
+
+    // All words that are left, as limits.
+    fn limits(&mut self) -> Result<Limits, Usage>
+        ensures ok { IfOk result (λ limits. AllLimit no_limits self.old (limits_of limits)) }
+        ensures err { IfErr result (λ usage. LimitFails no_limits self.old usage.place) }
+    {
+        let mut limits = Limits {
+            width: None,
+            rounds: None,
+        };
+        while !self.is_done() {
+            self.limit(&mut limits)?;
+        }
+        Ok(limits)
+    }
+
+    // What follows the word `combine`.
+    pub(crate) fn combine(&mut self) -> Result<Combine<'a>, Usage>
+        ensures ok { IfOk result (λ c. answers after_combine self.old ≡ Ok (combine (combine_of c))) }
+        ensures err { IfErr result (λ usage. answers after_combine self.old ≡ Err usage.place) }
+    {
+        let parts = self.parts()?;
+        let reports = self.word()?;
+        let limits = self.limits()?;
+        Ok(Combine {
+            parts,
+            reports,
+            width: limits.width.unwrap_or(0),
+            rounds: limits.rounds,
         })
     }
 }

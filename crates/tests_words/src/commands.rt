@@ -1,7 +1,8 @@
 //! Lists of words, and the place where they go wrong or the command that they ask for.
 
 use command_line::{
-    Ask, Command, Demo, Info, Load, Options, Query, ReadOrder, Session, Upgrade, Usage, Words,
+    Ask, Combine, Command, Demo, Info, Load, Options, Query, ReadOrder, Session, Upgrade, Usage,
+    Words,
 };
 use plane_schedule::FixedPolicy;
 use std::alloc::{AllocError, Global};
@@ -17,7 +18,7 @@ fn words_of(alloc: Global, line: &str) -> Result<Words, AllocError> {
 }
 
 // Words that are no command, and the place where they go wrong.
-const WRONG: [(&str, usize); 47] = [
+const WRONG: [(&str, usize); 55] = [
     ("", 1),
     ("sum p.csv s q", 1),
     ("Ask p.csv s q", 1),
@@ -60,6 +61,14 @@ const WRONG: [(&str, usize); 47] = [
     ("upgrade p.daq q.daq --clip", 4),
     ("upgrade p.daq", 3),
     ("upgrade p.daq q.daq r.daq", 4),
+    ("combine", 2),
+    ("combine 0 r.txt", 2),
+    ("combine 65537 r.txt", 2),
+    ("combine 2", 3),
+    ("combine 2 r.txt more", 4),
+    ("combine 2 r.txt --list", 4),
+    ("combine 2 r.txt --width 1 --width 2", 6),
+    ("combine 2 r.txt --rounds 4294967296", 5),
     ("help query", 2),
     ("--help --help", 2),
     ("-V 1", 2),
@@ -182,6 +191,32 @@ fn commands_over_whole_plane_files(rt: HostRuntime) -> Result<(), Fail> {
     for (line, command) in commands {
         let words = words_of(rt.alloc(), line)?;
         assert_eq!(rt; Command::parse(&words), Ok(command));
+    }
+    Ok(())
+}
+
+#[test]
+fn reports_of_parts(rt: HostRuntime) -> Result<(), Fail> {
+    let commands = [
+        ("combine 1 --width", 1, "--width", 0, None),
+        ("combine 065536 r.txt --width 7", 65_536, "r.txt", 7, None),
+        (
+            "combine 12 r.txt --rounds 0 --width 9223372036854775807",
+            12,
+            "r.txt",
+            9_223_372_036_854_775_807,
+            Some(0),
+        ),
+    ];
+    for (line, parts, reports, width, rounds) in commands {
+        let words = words_of(rt.alloc(), line)?;
+        let combine = Combine {
+            parts,
+            reports,
+            width,
+            rounds,
+        };
+        assert_eq!(rt; Command::parse(&words), Ok(Command::Combine(combine)));
     }
     Ok(())
 }

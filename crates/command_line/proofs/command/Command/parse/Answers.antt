@@ -1,10 +1,10 @@
 -- The first word names what follows it, and what follows says how the words end.
 use Rattle.std.proofs.Common.{◌≡◌, ◌+◌, ℕ, List, Ok, Err, None, Some, option_map, refl, ap, sym, ◌∙◌, rules}
-use Rattle.command_line.specs.Commands.{Command, ask, query, session, load, info, upgrade, demo, GoesWrong, IsCommand}
-use Rattle.command_line.specs.Values.{command_of, ask_of, query_of, session_of, load_of, info_of, upgrade_of, demo_of}
-use Rattle.command_line.specs.Reading.{HasMore, Left, Lacks, Next, Takes, name, done, lone_command, after_ask, after_query, after_session, after_load, after_info, after_upgrade, after_demo, after_name, answer, answers}
+use Rattle.command_line.specs.Commands.{Command, ask, query, session, load, info, upgrade, demo, combine, GoesWrong, IsCommand}
+use Rattle.command_line.specs.Values.{command_of, ask_of, query_of, session_of, load_of, info_of, upgrade_of, demo_of, combine_of}
+use Rattle.command_line.specs.Reading.{HasMore, Left, Lacks, Next, Takes, name, done, lone_command, after_ask, after_query, after_session, after_load, after_info, after_upgrade, after_demo, after_combine, after_name, answer, answers}
 use Rattle.command_line.proofs.Steps.{ends, goes, goes_on, stops, lacks}
-use Rattle.command_line.proofs.Whole.{after_name_ask, after_name_query, after_name_session, after_name_load, after_name_info, after_name_upgrade, after_name_demo}
+use Rattle.command_line.proofs.Whole.{after_name_ask, after_name_query, after_name_session, after_name_load, after_name_info, after_name_upgrade, after_name_demo, after_name_combine}
 use Rattle.command_line.proofs.Sound.{IsNoName, after_lone, command_is}
 use Rattle.command_line.proofs.Places.{goes_wrong}
 use Rattle.command_line.proofs.command.Command.parse.Goals as goal
@@ -102,6 +102,16 @@ returns-in_ok-demo-in-demo-clause-ok c =
     right_behind c.args.words.now c.new-reader.result c.word.new.self c.in_ok-other.other.now c.new-reader.ensures.at c.new-reader.ensures.words c.in_ok-other.ensures.ok after_demo (ap after_name c.in-demo.is ∙ after_name_demo)
     (demo (demo_of c.in_ok-demo-in-demo.field-0)) c.in_ok-demo-in-demo.ensures.ok
 
+pub returns-in_err-combine-in-combine-clause-usage : goal.returns-in_err-combine-in-combine-clause-usage
+returns-in_err-combine-in-combine-clause-usage c =
+    let wrong = wrong_behind c.args.words.now c.new-reader.result c.word.new.self c.in_ok-other.other.now c.new-reader.ensures.at c.new-reader.ensures.words c.in_ok-other.ensures.ok after_combine (ap after_name c.in-combine.is ∙ after_name_combine) in
+    search (rules, wrong)
+
+pub returns-in_ok-combine-in-combine-clause-ok : goal.returns-in_ok-combine-in-combine-clause-ok
+returns-in_ok-combine-in-combine-clause-ok c =
+    right_behind c.args.words.now c.new-reader.result c.word.new.self c.in_ok-other.other.now c.new-reader.ensures.at c.new-reader.ensures.words c.in_ok-other.ensures.ok after_combine (ap after_name c.in-combine.is ∙ after_name_combine)
+    (combine (combine_of c.in_ok-combine-in-combine.field-0)) c.in_ok-combine-in-combine.ensures.ok
+
 -- a command of one word, behind which something or nothing stands
 pub returns-in_err-end-in-Some-clause-usage : goal.returns-in_err-end-in-Some-clause-usage
 returns-in_err-end-in-Some-clause-usage c =
@@ -113,6 +123,7 @@ returns-in_err-end-in-Some-clause-usage c =
       info = c.in_default.not-info;
       upgrade = c.in_default.not-upgrade;
       demo = c.in_default.not-demo;
+      combine = c.in_default.not-combine;
     } in
     let named : lone_command c.in_ok-other.other.now ≡ Some (command_of c.in-Some.command) = sym c.lone_command.ensures ∙ ap (option_map command_of) c.in-Some.is in
     let wrong : (place : ℕ) → HasMore c.word.new.self place → GoesWrong c.args.words.now place = λ place more.
@@ -130,6 +141,7 @@ returns-in_ok-end-in-Some-clause-ok c =
       info = c.in_default.not-info;
       upgrade = c.in_default.not-upgrade;
       demo = c.in_default.not-demo;
+      combine = c.in_default.not-combine;
     } in
     let named : lone_command c.in_ok-other.other.now ≡ Some (command_of c.in-Some.command) = sym c.lone_command.ensures ∙ ap (option_map command_of) c.in-Some.is in
     right_behind c.args.words.now c.new-reader.result c.word.new.self c.in_ok-other.other.now c.new-reader.ensures.at c.new-reader.ensures.words c.in_ok-other.ensures.ok
@@ -147,6 +159,7 @@ returns-in-None-clause-usage c =
       info = c.in_default.not-info;
       upgrade = c.in_default.not-upgrade;
       demo = c.in_default.not-demo;
+      combine = c.in_default.not-combine;
     } in
     let unnamed : lone_command c.in_ok-other.other.now ≡ None = sym c.lone_command.ensures ∙ ap (option_map command_of) c.in-None.is in
     goes_wrong c.args.words.now 1
