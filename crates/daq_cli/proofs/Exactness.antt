@@ -15,6 +15,8 @@ use Rattle.plane_reads.specs.declared.fault.ReadsFault.TheVariants as r
 use Rattle.plane_schedule.specs.Laws.{ChoicesAreOne}
 use Rattle.plane_schedule.specs.declared.policy.Policy.{Policy}
 use Rattle.query_model.specs.declared.query.TypedQuery.{TypedQuery}
+use Rattle.report_stream.specs.Accepted.{ReportsAreAnswered}
+use Rattle.report_stream.specs.Shown.{FaultsAreTold}
 use Rattle.session_script.specs.Answers as script_laws
 use Rattle.sql_text.specs.Answer.{Breaks, IsFault, IsText, fault_of}
 use Rattle.sql_text.specs.Tree as sql
@@ -65,6 +67,8 @@ pub record Laws : Type 0 where
   pub good_files : file_laws.FilesShowNoFault
   pub choices : ChoicesAreOne
   pub scripts : script_laws.AnswersAreOne
+  pub reports : ReportsAreAnswered
+  pub stream_faults : FaultsAreTold
 
 -- ---- the SQL
 
@@ -257,4 +261,6 @@ steps_exact law = record {
   report = report_exact law;
   script = session.queries_exact (sessions_law law);
   session = session.report_exact (sessions_law law);
+  reports = law.reports;
+  faults = law.stream_faults;
 }

@@ -23,6 +23,7 @@ pub mod Demo
 pub mod Files
 pub mod Info
 pub mod Upgrade
+pub mod Combine
 pub mod Query
 pub mod Session
 pub mod Notices

@@ -1,14 +1,15 @@
 -- What the words and a told input show or accept is what the run comes to.
 use Rattle.std.proofs.Common.{◌≡◌, ◌≢◌, ℕ, Bool, List, IsFalse, IsTrue, refl, sym, ap, ◌∙◌, subst, inl, inr, ◌⊎◌}
-use Rattle.command_line.specs.Commands.{Ask, Command, Demo, GoesWrong, IsCommand, Load, Session, ask, demo, help, info, load, query, session, upgrade, version}
+use Rattle.command_line.specs.Commands.{Ask, Combine, Command, Demo, GoesWrong, IsCommand, Load, Session, ask, combine, demo, help, info, load, query, session, upgrade, version}
 use Rattle.command_line.specs.Commands as line
 use Rattle.outer_world.specs.Device.{Rose, SinkState, SourceState, StoreState}
 use Rattle.daq_cli.specs.Notices.{NoticeCause}
 use Rattle.daq_cli.specs.Refusals.{IsTold, status_of}
-use Rattle.daq_cli.specs.Runs.{Accepts, BeginsRounds, CommandAccepts, CommandShows, Completes, Does, EndsSo, IsCause, IsDone, IsFulfilled, IsRefused, IsUnwritten, ReadFails, Shows, StopsFor, Task, Uses, of_ask, of_demo, of_help, of_info, of_load, of_query, of_session, of_upgrade, of_version, in_query, in_session, uses}
+use Rattle.daq_cli.specs.Runs.{Accepts, BeginsRounds, CommandAccepts, CommandShows, Completes, Does, EndsSo, IsCause, IsDone, IsFulfilled, IsRefused, IsUnwritten, ReadFails, Shows, StopsFor, Task, Uses, of_ask, of_combine, of_demo, of_help, of_info, of_load, of_query, of_session, of_upgrade, of_version, in_combine, in_query, in_session, uses}
 use Rattle.daq_cli.specs.Worlds.{Device, IsSame, WorldState}
 use Rattle.daq_cli.specs.Worlds as device
 use Rattle.daq_cli.specs.commands.Ask.{AskCause}
+use Rattle.daq_cli.specs.commands.Combine.{BeginsReport, CombineCause}
 use Rattle.daq_cli.specs.commands.Demo.{DemoCause}
 use Rattle.daq_cli.specs.commands.Help.{help_text}
 use Rattle.daq_cli.specs.commands.Info.{InfoCause}
@@ -22,6 +23,7 @@ use Rattle.daq_cli.specs.declared.refusal.Refusal.TheVariants.{NoMemory, Usage, 
 use Rattle.daq_cli.specs.declared.status.Status.{Status}
 use Rattle.daq_cli.specs.declared.status.Status.TheVariants as s
 use Rattle.daq_cli.proofs.Ask.{ask_accepted, ask_shown, ask_unwritten, asks_apart, asks_question}
+use Rattle.daq_cli.proofs.Combine.{combine_accepted, combine_shown, combine_unwritten, combines_apart, combines_text}
 use Rattle.daq_cli.proofs.Demo.{demo_accepted, demo_apart, demo_question, demo_shown, demo_unwritten}
 use Rattle.daq_cli.proofs.Info.{info_accepted, info_shown, info_unwritten, informs_apart, informs_file}
 use Rattle.daq_cli.proofs.Load.{load_accepted, load_shown, load_unwritten, loads_apart, loads_table}
@@ -52,10 +54,11 @@ Excused before after command why =
     ⊎ (IsTrue (uses command device.made) × Rose before.made.faults after.made.faults)
     ⊎ (IsTrue (uses command device.out) × Rose before.out.faults after.out.faults)
 
--- rounds of the command were begun: it is a `query`, or a `session`
+-- rounds of the command were begun: it is a `query`, or a `session`; or its report can begin: it is a `combine`
 pub data HasBegun (before : WorldState) : Command → Type 0 where
   rounds : (q : line.Query) (opened : StoreState) → Begins q before.planes opened → HasBegun before (query q)
   steps : (s : Session) (read : SourceState) (opened : StoreState) → BeginsSteps s before.side read before.planes opened → HasBegun before (session s)
+  reports : (c : Combine) (read : SourceState) → BeginsReport c before.input read → HasBegun before (combine c)
 
 -- its report was not written to its end
 abbrev pub FailsToReport : WorldState → WorldState → Command → Refusal → Type 0
@@ -77,6 +80,7 @@ by_store before after command used (inr (inr rose)) = inr (inr (inl (inr (inl (u
 module _ (law : StepsAreExact) (before after : WorldState) where
   command_apart : (command : Command) (other : Refusal) → Does command before after → CommandShows command before other → ⊥
   command_apart (ask a) other does shows = asks_apart law a before.input after.input before.out after.out _ other does shows
+  command_apart (combine c) other does shows = combines_apart law c before.input after.input before.out after.out other does shows
   command_apart (demo d) other does shows = demo_apart law d before.out after.out _ other does shows
   command_apart (load l) other does shows = loads_apart law l before.input after.input before.made after.made before.out after.out other does shows
   command_apart (query q) other does shows = queries_apart law q before.planes after.planes before.out after.out other does shows
@@ -92,6 +96,14 @@ module _ (law : StepsAreExact) (before after : WorldState) where
 
   command_shown : (command : Command) (why other : Refusal) → StopsFor command before after why → CommandShows command before other → Shown command why other
   command_shown (ask a) why other cause shows = by_input before after (ask a) refl (ask_shown law a before.input after.input before.out after.out why other cause shows)
+  command_shown (combine c) why other cause shows = more (combine_shown law c before.input after.input before.out after.out why other cause shows)
+    where
+      more : (why ≡ other) ⊎ (why ≡ NoMemory) ⊎ Rose before.input.faults after.input.faults ⊎ (BeginsReport c before.input after.input × Rose before.out.faults after.out.faults × (why ≡ WriteFault)) →
+          Shown (combine c) why other
+      more (inl e) = inl e
+      more (inr (inl e)) = inr (inl e)
+      more (inr (inr (inl rose))) = inr (inr (inl (inl (refl, rose))))
+      more (inr (inr (inr (begins, rose, e)))) = inr (inr (inr (reports c after.input begins, rose, e)))
   command_shown (demo d) why other cause shows = more (demo_shown law d before.out after.out why other cause shows)
     where
       more : (why ≡ other) ⊎ (why ≡ NoMemory) → Shown (demo d) why other
@@ -124,6 +136,7 @@ module _ (law : StepsAreExact) (before after : WorldState) where
 
   command_fulfils : {command : Command} {task : Task} → CommandAccepts before command task → Does command before after → IsFulfilled task before after
   command_fulfils (of_ask a question accepted) does = asks_question law a before.input after.input before.out after.out _ question does accepted
+  command_fulfils (of_combine c text accepted) does = combines_text law c before.input after.input before.out after.out text does accepted
   command_fulfils (of_demo d question accepted) does = demo_question law d before.out after.out _ question does accepted
   command_fulfils (of_load l table accepted) does = loads_table law l before.input after.input before.made after.made before.out after.out table does accepted
   command_fulfils (of_query q text accepted) does = queries_text law q before.planes after.planes before.out after.out text does accepted
@@ -137,6 +150,12 @@ module _ (law : StepsAreExact) (before after : WorldState) where
   command_accepted why (of_ask a question accepted) cause = more (ask_accepted law a before.input after.input before.out after.out why question cause accepted)
     where
       more : (why ≡ NoMemory) ⊎ Rose before.input.faults after.input.faults ⊎ Rose before.out.faults after.out.faults → Excused before after (ask a) why
+      more (inl e) = inl e
+      more (inr (inl rose)) = inr (inl (inl (refl, rose)))
+      more (inr (inr rose)) = inr (inr (inr (refl, rose)))
+  command_accepted why (of_combine c text accepted) cause = more (combine_accepted law c before.input after.input before.out after.out why text cause accepted)
+    where
+      more : (why ≡ NoMemory) ⊎ Rose before.input.faults after.input.faults ⊎ Rose before.out.faults after.out.faults → Excused before after (combine c) why
       more (inl e) = inl e
       more (inr (inl rose)) = inr (inl (inl (refl, rose)))
       more (inr (inr rose)) = inr (inr (inr (refl, rose)))
@@ -218,6 +237,12 @@ module _ (before after : WorldState) (why : Refusal) where
       by (inl o) = inl (stays device.made refl, o)
       by (inr (inl (opened, begun))) = inr (inl (steps s after.side opened begun))
       by (inr (inr e)) = inr (inr e)
+  command_unwritten (combine c) stays cause = by (combine_unwritten c _ _ _ _ why cause)
+    where
+      by : (after.out ≡ before.out) ⊎ BeginsReport c before.input after.input ⊎ (why ≡ WriteFault) → IsEarly before after (combine c) why
+      by (inl o) = inl (stays device.made refl, o)
+      by (inr (inl begins)) = inr (inl (reports c after.input begins))
+      by (inr (inr e)) = inr (inr e)
 
 -- ---- for the words
 
@@ -225,6 +250,7 @@ module _ (before after : WorldState) (why : Refusal) where
 begun_by : (words : List (List ℕ)) (before : WorldState) {command : Command} → HasBegun before command → IsCommand words command → BeginsRounds words before
 begun_by words before (rounds q opened begun) is = in_query q opened is begun
 begun_by words before (steps s read opened begun) is = in_session s read opened is begun
+begun_by words before (reports c read begins) is = in_combine c read is begins
 
 -- a read of its failed
 fails_by : (words : List (List ℕ)) (before after : WorldState) (command : Command) → IsCommand words command → FailsToRead before after command → ReadFails words before after
@@ -316,6 +342,7 @@ same_cause words before mid after why i s p m o (IsCause.of_command command is c
   where
     by : (c : Command) → StopsFor c before mid why → StopsFor c before after why
     by (ask a) cause = subst (λ x. AskCause a before.input x before.out after.out why) (sym i) (subst (λ x. AskCause a before.input mid.input before.out x why) (sym o) cause)
+    by (combine c) cause = subst (λ x. CombineCause c before.input x before.out after.out why) (sym i) (subst (λ x. CombineCause c before.input mid.input before.out x why) (sym o) cause)
     by (demo d) cause = subst (λ x. DemoCause d before.out x why) (sym o) cause
     by (load l) cause =
         subst (λ x. LoadCause l before.input x before.made after.made before.out after.out why) (sym i)

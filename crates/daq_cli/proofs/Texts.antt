@@ -14,3 +14,12 @@ with_three a b c front lent middle next whole p q r x y z px qy rz f l m n w =
     ∙ ap (λ i. ((((a ++ number i) ++ b) ++ number q) ++ c) ++ number r) px
     ∙ ap (λ i. ((((a ++ number x) ++ b) ++ number i) ++ c) ++ number r) qy
     ∙ ap (λ i. ((((a ++ number x) ++ b) ++ number y) ++ c) ++ number i) rz
+
+-- and two
+pub with_two : (a b front lent whole : List ℕ) (p q x y : ℕ) → p ≡ x → q ≡ y → front ≡ (a ++ number p) ++ b → lent ≡ front →
+    whole ≡ (lent ++ number q) ++ [] → whole ≡ ((a ++ number x) ++ b) ++ number y
+with_two a b front lent whole p q x y px qy f l w =
+    w ∙ append-nil (lent ++ number q)
+    ∙ ap (λ t. t ++ number q) (l ∙ f)
+    ∙ ap (λ i. ((a ++ number i) ++ b) ++ number q) px
+    ∙ ap (λ i. ((a ++ number x) ++ b) ++ number i) qy

@@ -25,6 +25,8 @@ use Rattle.sql_text.specs.declared.fault.SqlFault.TheVariants as q
 use Rattle.sql_typing.specs.declared.fault.TypeFault.{TypeFault}
 use Rattle.sql_typing.specs.declared.fault.TypeFault.TheVariants as y
 use Rattle.table_gen.specs.declared.fault.GenFault.{GenFault}
+use Rattle.report_stream.specs.declared.fault.StreamFault.{StreamFault}
+use Rattle.report_stream.specs.declared.fault.StreamFault.TheVariants as p
 use Rattle.plane_course.specs.declared.reading.StepFault.{StepFault}
 use Rattle.plane_course.specs.declared.reading.StepFault.TheVariants as steps
 use Rattle.plane_course.specs.declared.reading.StepFault.TheVariants.{Source}
@@ -34,7 +36,7 @@ use Rattle.table_gen.specs.declared.fault.GenFault.TheVariants as g
 use Rattle.daq_cli.specs.declared.refusal.Refusal.{Refusal}
 use Rattle.daq_cli.specs.declared.refusal.Refusal.TheVariants.{Query, Schema, TooLong, Table, TooManyRows, Typing}
 use Rattle.daq_cli.specs.declared.refusal.Refusal.TheVariants.{Reads, File, PadBits, OverTop, Script, LineQuery}
-use Rattle.daq_cli.specs.declared.refusal.Refusal.TheVariants.{LineTyping, Session, ReadFault, WriteFault, NoMemory}
+use Rattle.daq_cli.specs.declared.refusal.Refusal.TheVariants.{LineTyping, Session, Report, ReadFault, WriteFault, NoMemory}
 
 -- want of memory is the run's, and any other fault is shown as it stands
 abbrev pub text : SqlFault → Refusal
@@ -115,3 +117,10 @@ step (steps.OverTop column number row) = OverTop column number row
 abbrev pub stop : Stop PlaneFault → Refusal
 stop Failed = WriteFault
 stop (Step fault) = step fault
+
+-- the reports of so many parts are not combined
+abbrev pub reports : ℕ → StreamFault → Refusal
+reports parts p.ReadFault = ReadFault
+reports parts p.WriteFault = WriteFault
+reports parts p.NoMemory = NoMemory
+reports parts fault = Report parts fault

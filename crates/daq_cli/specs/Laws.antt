@@ -2,6 +2,8 @@
 use Rattle.std.specs.Prelude.{◌≢◌, ℕ, List}
 use Rattle.command_line.specs.Commands.{Ask, Demo, Load, Query, Session, reads}
 use Rattle.plane_file.specs.Bytes.{AreBytes}
+use Rattle.report_stream.specs.Accepted.{ReportsAreAnswered}
+use Rattle.report_stream.specs.Shown.{FaultsAreTold}
 use Rattle.daq_cli.specs.Files.{file_step}
 use Rattle.daq_cli.specs.Inputs.{schema_step}
 use Rattle.daq_cli.specs.Questions.{sql_step}
@@ -15,7 +17,8 @@ use Rattle.daq_cli.specs.commands.Session as together
 use Rattle.daq_cli.specs.commands.Upgrade.{upgrade_step}
 
 -- words, words with an input, a script or a store, the bytes of a script and those of a store are accepted as one question, report, table,
--- list of queries or file at most or show one refusal at most, and never both
+-- list of queries or file at most or show one refusal at most, and never both; reports that are accepted are answered,
+-- and those that show a fault are refused
 pub record StepsAreExact : Type 0 where
   pub words : (ask : Ask) → IsExact (words_step ask)
   pub ask : (ask : Ask) (bytes : List ℕ) → IsExact (ask_step ask bytes)
@@ -29,6 +32,8 @@ pub record StepsAreExact : Type 0 where
   pub report : (query : Query) (bytes : List ℕ) → IsExact (report_step query bytes)
   pub script : (script : List ℕ) → IsExact (queries_step script)
   pub session : (session : Session) (script bytes : List ℕ) → IsExact (together.report_step session script bytes)
+  pub reports : ReportsAreAnswered
+  pub faults : FaultsAreTold
 
 -- words alone, words with an input, a script or a store, words of a `demo`, the bytes of a script and those of a store are accepted or
 -- show a refusal

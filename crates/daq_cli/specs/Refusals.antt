@@ -13,6 +13,10 @@ use Rattle.plane_file.specs.declared.file_fault.FileFault.{FileFault}
 use Rattle.plane_file.specs.declared.file_fault.FileFault.TheVariants as file
 use Rattle.plane_reads.specs.declared.fault.ReadsFault.{ReadsFault}
 use Rattle.plane_reads.specs.declared.fault.ReadsFault.TheVariants as reads
+use Rattle.report_stream.specs.declared.fault.LineRefusal.{LineRefusal}
+use Rattle.report_stream.specs.declared.fault.LineRefusal.TheVariants as refusal
+use Rattle.report_stream.specs.declared.fault.StreamFault.{StreamFault}
+use Rattle.report_stream.specs.declared.fault.StreamFault.TheVariants as stream
 use Rattle.session_script.specs.declared.fault.ScriptFault.{ScriptFault}
 use Rattle.session_script.specs.declared.fault.ScriptFault.TheVariants as script
 use Rattle.sql_text.specs.declared.fault.SqlFault.{SqlFault}
@@ -23,7 +27,7 @@ use Rattle.daq_cli.specs.Worlds.{partly, whole}
 use Rattle.daq_cli.specs.declared.refusal.Refusal.{Refusal}
 use Rattle.daq_cli.specs.declared.refusal.Refusal.TheVariants.{Usage, Query, Schema, TooLong, Table, TooManyRows}
 use Rattle.daq_cli.specs.declared.refusal.Refusal.TheVariants.{Typing, Reads, File, PadBits, OverTop, Script, LineQuery}
-use Rattle.daq_cli.specs.declared.refusal.Refusal.TheVariants.{LineTyping, Session, ReadFault, WriteFault, NoMemory}
+use Rattle.daq_cli.specs.declared.refusal.Refusal.TheVariants.{LineTyping, Session, Report, ReadFault, WriteFault, NoMemory}
 use Rattle.daq_cli.specs.declared.status.Status.{Status}
 use Rattle.daq_cli.specs.declared.status.Status.TheVariants as s
 
@@ -121,6 +125,31 @@ plane_text column plane =
 abbrev pub over_top_text : ℕ → ℕ → ℕ → List ℕ
 over_top_text column plane row = plane_text column plane ++ codes " row " ++ signed_decimal (pos (row + 1)) ++ codes " passes its top"
 
+-- why a line of the reports of so many parts is refused; items count from 1
+abbrev pub line_refusal_text : ℕ → LineRefusal → List ℕ
+line_refusal_text parts refusal.NoTab = codes "no tab"
+line_refusal_text parts refusal.NoTag = codes "a tag of no byte or more than 255"
+line_refusal_text parts refusal.MoreParts = codes "more than " ++ signed_decimal (pos parts) ++ codes " parts"
+line_refusal_text parts refusal.NoQuery = codes "no query"
+line_refusal_text parts refusal.NoTotals = codes "no query of totals"
+line_refusal_text parts refusal.OtherQuery = codes "another query"
+line_refusal_text parts refusal.OtherLine = codes "no line of a report at this place"
+line_refusal_text parts (refusal.OtherDecimals item) = codes "scales of item " ++ signed_decimal (pos (item + 1)) ++ codes " differ"
+line_refusal_text parts (refusal.TooWide item) = codes "item " ++ signed_decimal (pos (item + 1)) ++ codes " too wide"
+line_refusal_text parts refusal.TooLong = codes "longer than 65536 bytes"
+
+-- lines of the input count from 1, and a tag is shown byte by byte as it stands
+abbrev pub report_fault_text : ℕ → StreamFault → List ℕ
+report_fault_text parts (stream.Line number why) =
+    codes "report refused: line " ++ signed_decimal (pos number) ++ codes ": " ++ line_refusal_text parts why
+report_fault_text parts (stream.EndsEarly tag) = codes "report refused: part " ++ tag ++ codes " ends early"
+report_fault_text parts (stream.OtherCount count) =
+    codes "report refused: " ++ signed_decimal (pos count) ++ codes " parts, not " ++ signed_decimal (pos parts)
+report_fault_text parts stream.TooLong = codes "report refused: longer than 1073741824 bytes"
+report_fault_text parts stream.ReadFault = codes "read fault"
+report_fault_text parts stream.WriteFault = codes "write fault"
+report_fault_text parts stream.NoMemory = codes "no memory"
+
 abbrev pub fault_text : Refusal → List ℕ
 fault_text (Usage place) = codes "usage: word " ++ signed_decimal (pos place)
 fault_text (Query fault) = text_fault_text fault
@@ -137,6 +166,7 @@ fault_text (Script fault) = script_fault_text fault
 fault_text (LineQuery line fault) = line_fault_text line (text_fault_text fault)
 fault_text (LineTyping line fault) = line_fault_text line (type_fault_text fault)
 fault_text (Session fault) = session_fault_text fault
+fault_text (Report parts fault) = report_fault_text parts fault
 fault_text ReadFault = codes "read fault"
 fault_text WriteFault = codes "write fault"
 fault_text NoMemory = codes "no memory"
@@ -160,6 +190,7 @@ status_of (Script fault) = s.QueryRefused
 status_of (LineQuery line fault) = s.QueryRefused
 status_of (LineTyping line fault) = s.QueryRefused
 status_of (Session fault) = s.QueryRefused
+status_of (Report parts fault) = s.ReportRefused
 status_of ReadFault = s.ReadFault
 status_of WriteFault = s.WriteFault
 status_of NoMemory = s.NoMemory
@@ -174,6 +205,7 @@ code_of s.FileRefused = 5
 code_of s.ReadFault = 6
 code_of s.WriteFault = 7
 code_of s.NoMemory = 8
+code_of s.ReportRefused = 9
 
 -- the refusal's line was written and the status is its own, or a part of the line was written and the status is WriteFault
 abbrev pub IsTold : Refusal → Status → SinkState → SinkState → Type 0

@@ -1,7 +1,7 @@
 -- What a run comes to, by the words of the command line and what the devices tell before and after.
 use Rattle.std.specs.Prelude.{◌≡◌, ◌⊎◌, ℕ, Bool, true, false, ⊤, IsTrue, List}
-use Rattle.command_line.specs.Commands.{Ask, Command, Demo, GoesWrong, Info, IsCommand, Load, Session}
-use Rattle.command_line.specs.Commands.{Upgrade, ask, demo, help, info, load, query, session, upgrade, version}
+use Rattle.command_line.specs.Commands.{Ask, Combine, Command, Demo, GoesWrong, Info, IsCommand, Load, Session}
+use Rattle.command_line.specs.Commands.{Upgrade, ask, combine, demo, help, info, load, query, session, upgrade, version}
 use Rattle.command_line.specs.Commands as line
 use Rattle.daq_table.specs.Tables.{Contents}
 use Rattle.outer_world.specs.Device.{Rose, SourceState, StoreState}
@@ -18,6 +18,7 @@ use Rattle.daq_cli.specs.Stores.{WritesTable}
 use Rattle.daq_cli.specs.Worlds.{Device, WorldState, whole}
 use Rattle.daq_cli.specs.Worlds as device
 use Rattle.daq_cli.specs.commands.Ask.{AcceptsWords, AskAccepts, AskCause, AskShows, Asks}
+use Rattle.daq_cli.specs.commands.Combine.{BeginsReport, CombineAccepts, CombineCause, CombineShows, CombinesReports}
 use Rattle.daq_cli.specs.commands.Demo.{DemoCause, Demonstrates, demo_step}
 use Rattle.daq_cli.specs.commands.Help.{help_text}
 use Rattle.daq_cli.specs.commands.Info.{InfoAccepts, InfoCause, InfoShows, Informs, info_text}
@@ -36,6 +37,7 @@ use Rattle.daq_cli.specs.declared.status.Status.TheVariants as s
 -- what it has done
 abbrev pub Does : Command → WorldState → WorldState → Type 0
 Does (ask a) before after = Asks a whole before.input after.input before.out after.out
+Does (combine c) before after = CombinesReports c before.input after.input before.out after.out
 Does (demo d) before after = Demonstrates d whole before.out after.out
 Does (load l) before after = Loads l before.input after.input before.made after.made before.out after.out
 Does (query q) before after = Queries q before.planes after.planes before.out after.out
@@ -48,6 +50,7 @@ Does version before after = Writes whole before.out after.out version_text
 -- why it stops
 abbrev pub StopsFor : Command → WorldState → WorldState → Refusal → Type 0
 StopsFor (ask a) before after why = AskCause a before.input after.input before.out after.out why
+StopsFor (combine c) before after why = CombineCause c before.input after.input before.out after.out why
 StopsFor (demo d) before after why = DemoCause d before.out after.out why
 StopsFor (load l) before after why = LoadCause l before.input after.input before.made after.made before.out after.out why
 StopsFor (query q) before after why = QueryCause q before.planes after.planes before.out after.out why
@@ -60,6 +63,7 @@ StopsFor version before after why = NoticeCause version_text before.out after.ou
 -- the refusal that it shows, by itself or with what its input, its script or its store tells
 abbrev pub CommandShows : Command → WorldState → Refusal → Type 0
 CommandShows (ask a) before why = AskShows a before.input.left why
+CommandShows (combine c) before why = CombineShows c before.input.left why
 CommandShows (demo d) before why = (demo_step d).shows why
 CommandShows (load l) before why = LoadShows l before.input.left why
 CommandShows (query q) before why = QueryShows q before.planes.held why
@@ -69,8 +73,8 @@ CommandShows (upgrade u) before why = UpgradeShows before.planes.held why
 CommandShows help before why = ⊥
 CommandShows version before why = ⊥
 
--- what is asked for: the report of a question, a report of a file's table by its text, the file of a table with a line of that word, the
--- lines of a file, or a text of the program's own
+-- what is asked for: the report of a question, a report of a file's table or of parts by its text, the file of a table with a line of
+-- that word, the lines of a file, or a text of the program's own
 pub data Task : Type 0 where
   report : Question → Task
   inquire : List ℕ → Task
@@ -81,6 +85,7 @@ pub data Task : Type 0 where
 -- a command is accepted, and asks for this
 pub data CommandAccepts (before : WorldState) : Command → Task → Type 0 where
   of_ask : (a : Ask) (question : Question) → AskAccepts a before.input.left question → CommandAccepts before (ask a) (report question)
+  of_combine : (c : Combine) (text : List ℕ) → CombineAccepts c before.input.left text → CommandAccepts before (combine c) (inquire text)
   of_demo : (d : Demo) (question : Question) → (demo_step d).accepts question → CommandAccepts before (demo d) (report question)
   of_load : (l : Load) (table : Contents) → LoadAccepts l before.input.left table → CommandAccepts before (load l) (store loaded table)
   of_query : (q : line.Query) (text : List ℕ) → QueryAccepts q before.planes.held text → CommandAccepts before (query q) (inquire text)
@@ -103,6 +108,7 @@ IsFulfilled (tell text) before after = Writes whole before.out after.out text
 -- its words alone are not refused
 abbrev pub IsReadable : Command → Type 0
 IsReadable (ask a) = AcceptsWords a
+IsReadable (combine c) = ⊤
 IsReadable (demo d) = (query : Query) × IsText d.sql query
 IsReadable (load l) = IsSchema l.schema
 IsReadable (query q) = (query : Query) × IsText q.sql query
@@ -121,6 +127,8 @@ IsReadableAside command before = IsReadable command
 abbrev pub uses : Command → Device → Bool
 uses (ask a) device.input = true
 uses (ask a) device.out = true
+uses (combine c) device.input = true
+uses (combine c) device.out = true
 uses (demo d) device.out = true
 uses (load l) device.input = true
 uses (load l) device.made = true
@@ -180,11 +188,13 @@ Uses words one = (command : Command) × IsCommand words command × IsTrue (uses 
 abbrev pub IsUnwritten : WorldState → WorldState → Type 0
 IsUnwritten before after = (after.made ≡ before.made) × (after.out ≡ before.out)
 
--- the words are a `query` whose rounds can begin, or a `session` whose steps can
+-- the words are a `query` whose rounds can begin, a `session` whose steps can, or a `combine` whose report can
 pub data BeginsRounds (words : List (List ℕ)) (before : WorldState) : Type 0 where
   in_query : (q : line.Query) (opened : StoreState) → IsCommand words (query q) → Begins q before.planes opened → BeginsRounds words before
   in_session : (s : Session) (read : SourceState) (opened : StoreState) → IsCommand words (session s) →
       BeginsSteps s before.side read before.planes opened → BeginsRounds words before
+  in_combine : (c : Combine) (read : SourceState) → IsCommand words (combine c) → BeginsReport c before.input read →
+      BeginsRounds words before
 
 -- the command of the words uses the device, whose count of faults rose
 abbrev pub Failed : List (List ℕ) → Device → ℕ → ℕ → Type 0

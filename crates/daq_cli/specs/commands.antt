@@ -1,4 +1,5 @@
 pub mod Ask
+pub mod Combine
 pub mod Demo
 pub mod Help
 pub mod Info

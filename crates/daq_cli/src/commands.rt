@@ -1,6 +1,7 @@
 //! The commands, each in a file of its own.
 
 pub(crate) mod ask;
+pub(crate) mod combine;
 pub(crate) mod demo;
 pub(crate) mod help;
 pub(crate) mod info;

@@ -250,14 +250,14 @@ fn written_lengths(entry: usize, got: usize, want: usize) -> TextBuf
 }
 
 // A count as a number.
-fn counted(count: usize) -> u128
+pub(crate) fn counted(count: usize) -> u128
     ensures { result ≡ count }
 {
     count as u128
 }
 
 // The place of what stands behind so many, counted from 1.
-fn after(count: usize) -> u128
+pub(crate) fn after(count: usize) -> u128
     ensures { result ≡ count + 1 }
 {
     count as u128 + 1

@@ -11,6 +11,7 @@ use plane_file::{
 use plane_reads::{answers_are_one, words_have_answers};
 use plane_schedule::{choices_are_one, policies_choose};
 use query_model::{taken_is_knowledge, valid_queries_name_columns};
+use report_stream::{faults_are_told, reports_are_answered};
 use session_script::scripts_have_answers;
 use sql_text::{one_answer, some_answer};
 use sql_typing::{trees_have_typings, typed_queries_are_valid, typing_is_exact};
@@ -35,6 +36,8 @@ pub fn steps_are_exact()
     file_faults_are_exact();
     choices_are_one();
     session_script::answers_are_one();
+    reports_are_answered();
+    faults_are_told();
 }
 
 /// Whatever the words, the input, the script and the store are, they are accepted or they show a refusal: there is no third case.

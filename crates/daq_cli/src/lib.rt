@@ -11,6 +11,7 @@ mod lines;
 mod question;
 mod refusal;
 mod report;
+mod report_faults;
 mod scripts;
 mod session_report;
 mod status;

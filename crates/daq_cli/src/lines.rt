@@ -9,16 +9,17 @@ use crate::fault_lines::{
     written_table_fault, written_text_fault, written_type_fault,
 };
 use crate::refusal::{Refusal, status_of};
+use crate::report_faults::written_report_fault;
 use crate::status::Status;
 use daq_table::TextBuf;
 use outer_world::{Sink, write_whole};
 
 // Writes the line of a refusal, and gives the status.
-pub(crate) fn refuse<K: Sink>(why: &Refusal, err: &mut K) -> Status
-    ensures { IsTold why.now result (K.state err.old) (K.state err.new) }
+pub(crate) fn refuse<K: Sink>(why: Refusal, err: &mut K) -> Status
+    ensures { IsTold why result (K.state err.old) (K.state err.new) }
 {
-    match write_whole(err, written_line(why).bytes()) {
-        Ok(()) => status_of(why),
+    match write_whole(err, written_line(&why).bytes()) {
+        Ok(()) => status_of(&why),
         Err(_) => Status::WriteFault,
     }
 }
@@ -63,6 +64,7 @@ fn written_cause(why: &Refusal) -> TextBuf
             written_at_line(*line, written_type_fault(fault).bytes())
         }
         Refusal::Session(fault) => written_session_fault(fault),
+        Refusal::Report { parts, fault } => written_report_fault(*parts, fault),
         Refusal::ReadFault => plain(b"read fault"),
         Refusal::WriteFault => plain(b"write fault"),
         Refusal::NoMemory => plain(b"no memory"),

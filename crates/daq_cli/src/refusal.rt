@@ -15,6 +15,7 @@ use outer_world::{Failed, ReadAllFault};
 use plane_course::StepFault;
 use plane_file::{FileFault, FileWriteFault, PlaneFault, TableReadFault};
 use plane_reads::ReadsFault;
+use report_stream::StreamFault;
 use session_script::ScriptFault;
 use sql_text::SqlFault;
 use sql_typing::TypeFault;
@@ -22,7 +23,7 @@ use std::alloc::{AllocError, AllocFailed};
 use table_gen::GenFault;
 
 /// Why a run stops. Want of memory in a step is `NoMemory`, and never that step's own fault.
-#[derive(Debug, PartialEq, Eq, Drop)]
+#[derive(Debug, Drop)]
 pub enum Refusal {
     /// The words are no command from this word on, counted from 1.
     Usage {
@@ -67,6 +68,11 @@ pub enum Refusal {
     },
     /// The queries of a script pass a limit of sessions.
     Session(SessionFault),
+    /// The reports of so many parts are not combined.
+    Report {
+        parts: u32,
+        fault: StreamFault,
+    },
     ReadFault,
     WriteFault,
     NoMemory,
@@ -270,6 +276,18 @@ impl From<Failed> for Refusal {
     }
 }
 
+// Why the reports of so many parts are not combined.
+pub(crate) fn refused_reports(parts: u32, fault: StreamFault) -> Refusal
+    ensures { result ≡ of.reports parts fault }
+{
+    match fault {
+        StreamFault::ReadFault => Refusal::ReadFault,
+        StreamFault::WriteFault => Refusal::WriteFault,
+        StreamFault::NoMemory => Refusal::NoMemory,
+        fault => Refusal::Report { parts, fault },
+    }
+}
+
 // The status that a refusal ends with.
 pub(crate) fn status_of(why: &Refusal) -> Status
     ensures { result ≡ status_of why.now }
@@ -284,6 +302,7 @@ pub(crate) fn status_of(why: &Refusal) -> Status
         Refusal::Schema(_) | Refusal::TooLong { .. } | Refusal::Table(_) | Refusal::TooManyRows =>
             Status::TableRefused,
         Refusal::File(_) | Refusal::PadBits { .. } | Refusal::OverTop { .. } => Status::FileRefused,
+        Refusal::Report { .. } => Status::ReportRefused,
         Refusal::ReadFault => Status::ReadFault,
         Refusal::WriteFault => Status::WriteFault,
         Refusal::NoMemory => Status::NoMemory,

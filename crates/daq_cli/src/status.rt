@@ -18,6 +18,8 @@ pub enum Status {
     ReadFault = 6,
     WriteFault = 7,
     NoMemory = 8,
+    /// The lines of the reports of parts do not combine.
+    ReportRefused = 9,
 }
 
 /// The number that the process ends with.
@@ -33,5 +35,6 @@ pub fn code(status: Status) -> u8
         Status::ReadFault => 6,
         Status::WriteFault => 7,
         Status::NoMemory => 8,
+        Status::ReportRefused => 9,
     }
 }

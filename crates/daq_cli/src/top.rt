@@ -8,7 +8,7 @@ ghost use Rattle.daq_cli.specs.Runs.{IsRefused, IsRefusedAside, IsUnwritten, Sho
 ghost use Rattle.daq_cli.specs.Worlds.{Device, IsSame, side};
 ghost use Rattle.daq_cli.specs.declared.refusal.Refusal.{Refusal};
 
-use crate::commands::{ask, demo, help, info, load, query, session, upgrade, version};
+use crate::commands::{ask, combine, demo, help, info, load, query, session, upgrade, version};
 use crate::laws::steps_are_exact;
 use crate::lines::refuse;
 use crate::refusal::Refusal;
@@ -33,6 +33,9 @@ fn perform<S: Source, P: Store, K: Sink>(
 {
     match Command::parse(words) {
         Ok(Command::Ask(asked)) => ask::carry_out(alloc, &asked, &mut world.input, &mut world.out),
+        Ok(Command::Combine(asked)) => {
+            combine::carry_out(alloc, &asked, &mut world.input, &mut world.out)
+        }
         Ok(Command::Demo(asked)) => demo::carry_out(alloc, &asked, &mut world.out),
         Ok(Command::Load(asked)) => {
             load::carry_out(
@@ -89,6 +92,6 @@ pub fn run<S: Source, P: Store, K: Sink>(
     one_command();
     match perform(alloc, words, world) {
         Ok(()) => Status::Done,
-        Err(why) => refuse(&why, &mut world.err),
+        Err(why) => refuse(why, &mut world.err),
     }
 }

@@ -25,4 +25,6 @@ returns c = steps_exact (record {
   good_files = c.file_faults_are_exact.ensures.none;
   choices = c.choices_are_one.ensures;
   scripts = c.answers_are_one-2.ensures;
+  reports = c.reports_are_answered.ensures;
+  stream_faults = c.faults_are_told.ensures;
 })

@@ -1,11 +1,12 @@
 -- Each command does what it says, or stops with its cause.
 use Rattle.std.proofs.Common.{sym, ap, ◌∙◌, subst, arith}
-use Rattle.command_line.specs.Commands.{IsCommand, ask, demo, help, info, load, query, session, upgrade, version}
-use Rattle.command_line.specs.Values.{ask_of, command_of, demo_of, info_of, load_of, query_of, session_of, upgrade_of}
+use Rattle.command_line.specs.Commands.{IsCommand, ask, combine, demo, help, info, load, query, session, upgrade, version}
+use Rattle.command_line.specs.Values.{ask_of, combine_of, command_of, demo_of, info_of, load_of, query_of, session_of, upgrade_of}
 use Rattle.daq_cli.specs.Runs.{IsCause}
 use Rattle.daq_cli.specs.Scripts.{AcceptsScript}
 use Rattle.daq_cli.specs.commands.Help.{help_text}
 use Rattle.daq_cli.specs.commands.Version.{version_text}
+use Rattle.daq_cli.proofs.Combine.{combine_stops}
 use Rattle.daq_cli.proofs.Results.{if_err}
 use Rattle.daq_cli.proofs.Runs.{apart_same, ask_stops, demo_stops, info_stops, load_stops, notice_stops, query_stops, session_stops, upgrade_stops}
 use Rattle.daq_cli.proofs.Widths.{ask_width, demo_width, query_width, session_width}
@@ -15,6 +16,12 @@ pub carry_out-requires : goal.carry_out-requires
 carry_out-requires g c =
     let small = ask_width c.args.words.now (ask_of c.in-Ok-Ask.asked) (subst (λ f. IsCommand c.args.words.now (command_of f)) c.in-Ok-Ask.field-0-is c.in-Ok-Ask.ensures.ok) in
     record { width = omega (arith, small) }
+
+pub carry_out-requires-in-Ok-Combine : goal.carry_out-requires-in-Ok-Combine
+carry_out-requires-in-Ok-Combine g c =
+    let is : IsCommand c.args.words.now (combine (combine_of c.in-Ok-Combine.asked)) = subst (λ f. IsCommand c.args.words.now (command_of f)) c.in-Ok-Combine.field-0-is c.in-Ok-Combine.ensures.ok in
+    let some = is.is_parts.some in
+    record { parts = omega (arith, some) }
 
 pub carry_out-requires-in-Ok-Demo : goal.carry_out-requires-in-Ok-Demo
 carry_out-requires-in-Ok-Demo g c =
@@ -66,6 +73,14 @@ returns-in-Ok-Ask-clause-refused g c =
     (λ why cause. IsCause.of_command (ask (ask_of c.in-Ok-Ask.asked)) is
     (ask_stops (ask_of c.in-Ok-Ask.asked) (g.S.Source.state c.world.inside.input) c.args.world.now.input (g.S.Source.state c.carry_out.new.input)
     (g.K.Sink.state c.world.inside.out) c.args.world.now.out (g.K.Sink.state c.carry_out.new.out) why (ap (λ w. w.input) c.world.view_is) (ap (λ w. w.out) c.world.view_is) cause)) c.carry_out.ensures.refused
+
+pub returns-in-Ok-Combine-clause-refused : goal.returns-in-Ok-Combine-clause-refused
+returns-in-Ok-Combine-clause-refused g c =
+    let is : IsCommand c.args.words.now (combine (combine_of c.in-Ok-Combine.asked)) = subst (λ f. IsCommand c.args.words.now (command_of f)) c.in-Ok-Combine.field-0-is c.in-Ok-Combine.ensures.ok in
+    if_err _ _ c.carry_out-in-Ok-Combine.result _ _
+    (λ why cause. IsCause.of_command (combine (combine_of c.in-Ok-Combine.asked)) is
+    (combine_stops (combine_of c.in-Ok-Combine.asked) (g.S.Source.state c.world.inside.input) c.args.world.now.input (g.S.Source.state c.carry_out-in-Ok-Combine.new.input)
+    (g.K.Sink.state c.world.inside.out) c.args.world.now.out (g.K.Sink.state c.carry_out-in-Ok-Combine.new.out) why (ap (λ w. w.input) c.world.view_is) (ap (λ w. w.out) c.world.view_is) cause)) c.carry_out-in-Ok-Combine.ensures.refused
 
 pub returns-in-Ok-Demo-clause-refused : goal.returns-in-Ok-Demo-clause-refused
 returns-in-Ok-Demo-clause-refused g c =

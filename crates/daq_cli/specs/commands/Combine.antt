@@ -1,0 +1,69 @@
+-- `combine`: the reports of the parts of a table, line by line, become one report of the whole.
+use Rattle.std.specs.Prelude.{◌≡◌, ◌≢◌, ℕ, ◌≤◌, ℤ, List, [], length, slice_get, Some}
+use Rattle.std.specs.declared.option.Option.{Option}
+use Rattle.command_line.specs.Commands.{Combine}
+use Rattle.outer_world.specs.Device.{SinkState, SourceState}
+use Rattle.query_model.specs.declared.query.ItemKind.{ItemKind}
+use Rattle.query_model.specs.declared.query.ItemKind.TheVariants.{Avg}
+use Rattle.report_parts.specs.Course.{Task, Tell}
+use Rattle.report_parts.specs.Headline.{AreCertainAverages, AreCertainOf, IsAverageIn, IsCertainIn}
+use Rattle.report_parts.specs.Told.{Told}
+use Rattle.report_parts.specs.declared.combination.Until.{Until}
+use Rattle.source_lines.specs.Lines.{most_bytes}
+use Rattle.report_stream.specs.Accepted.{AreReports}
+use Rattle.report_stream.specs.Shown.{ShowsFault}
+use Rattle.report_stream.specs.Streams.{Combined, IsTask, ReadsLines, StreamCause, first_line}
+use Rattle.report_stream.specs.declared.fault.StreamFault.{StreamFault}
+use Rattle.daq_cli.specs.Faults as of
+use Rattle.daq_cli.specs.declared.refusal.Refusal.{Refusal}
+
+-- up to which round
+abbrev pub until_of : Combine → Until
+until_of c = record { width = c.width; rounds = c.rounds }
+
+-- where an input tells these bytes, why they are refused, behind lines that are right
+pub record ShowsReports (c : Combine) (bytes : List ℕ) (why : Refusal) : Type 0 where
+  pub fault : StreamFault
+  pub is : why ≡ of.reports c.parts fault
+  pub few : length bytes ≤ most_bytes
+  pub shown : ShowsFault c.parts (until_of c) bytes fault
+
+-- what an input shows that tells its bytes
+abbrev pub CombineShows : Combine → Option (List ℕ) → Refusal → Type 0
+CombineShows c told why = (bytes : List ℕ) × (told ≡ Some bytes) × ShowsReports c bytes why
+
+-- such an input is accepted, and this is the combined report of its lines
+abbrev pub CombineAccepts : Combine → Option (List ℕ) → List ℕ → Type 0
+CombineAccepts c told text = (bytes : List ℕ) × (told ≡ Some bytes) × AreReports c.parts (until_of c) bytes text
+
+-- ---- what becomes of a `combine`
+
+-- where the report of each part is certain of an item over the part's own rows, so is each block that is printed over the rows of all parts
+-- together: it contains the answer, lies within the block before, and is the answer where each part says its own. Of an average it
+-- contains the answer
+pub record AreCertainTogether (kinds : List ItemKind) (parts : List Told) : Type 0 where
+  pub items : (item : ℕ) (kind : ItemKind) (tables : List (List ℤ)) (round : ℕ) → kind ≢ Avg → slice_get kinds item ≡ Some kind →
+      AreCertainOf item kind parts tables → IsCertainIn round item kind kinds parts tables
+  pub averages : (item : ℕ) (tables : List (List ℤ)) (round : ℕ) → slice_get kinds item ≡ Some Avg → AreCertainAverages item parts tables →
+      IsAverageIn round item kinds parts tables
+
+-- the combined report of the lines that were read was written to its end. Each interval in it is certain, where those of the parts are
+pub record CombinesReports (c : Combine) (input input' : SourceState) (out out' : SinkState) : Type 0 where
+  pub combined : Combined c.parts (until_of c) input input' out out'
+  pub headline : AreCertainTogether combined.task.kinds combined.combines.parts
+
+-- why a `combine` stops, and with that what was read and written
+pub record CombineCause (c : Combine) (input input' : SourceState) (out out' : SinkState) (why : Refusal) : Type 0 where
+  pub fault : StreamFault
+  pub is : why ≡ of.reports c.parts fault
+  pub cause : StreamCause c.parts (until_of c) input input' out out' fault
+
+-- the parts take the lines that were read, of which there are some: so the combined report can begin
+pub record BeginsReport (c : Combine) (input input' : SourceState) : Type 0 where
+  pub lines : List (List ℕ)
+  pub rest : List ℕ
+  pub task : Task
+  pub parts : List Told
+  pub read : ReadsLines input input' lines rest
+  pub is_task : IsTask c.parts (until_of c) (first_line lines) task
+  pub told : Tell task [] lines parts
