@@ -17,3 +17,5 @@ mod report_lines;
 mod scripts;
 #[cfg(test)]
 mod sql_words;
+#[cfg(test)]
+mod streamed_reports;
