@@ -5,13 +5,14 @@
     result = table.sql("SELECT city, SUM(price) FROM t GROUP BY city", within="1%")
 """
 from .errors import CutError, DaqError, FileError, ProgramError, QueryError, ReportError, TableError
+from .parts import Parts
+from .parts import open_table as open
 from .report import Block, KeyRange, Ranking, Report
 from .result import Result, Row, rows_of
 from .table import Column, Table, load
-from .table import open_table as open
 from .values import Interval
 
 __all__ = [
-    "Block", "Column", "CutError", "DaqError", "FileError", "Interval", "KeyRange", "ProgramError", "QueryError", "Ranking", "Report",
+    "Block", "Column", "CutError", "DaqError", "FileError", "Interval", "KeyRange", "Parts", "ProgramError", "QueryError", "Ranking", "Report",
     "ReportError", "Result", "Row", "Table", "TableError", "load", "open", "rows_of",
 ]

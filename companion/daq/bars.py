@@ -162,7 +162,7 @@ def head_text(block: Block) -> str:
 
 def read_text(block: Block) -> str:
     """How many planes were read, and their bytes where a plane has any."""
-    planes = planes_text(block.planes_read)
+    planes = planes_text(block)
     return planes.replace(" read", ", %s read" % bytes_text(block.bytes_read)) if block.bytes_read else planes
 
 

@@ -6,8 +6,9 @@ import re
 import shutil
 import subprocess
 import tempfile
+from contextlib import suppress
 from pathlib import Path
-from typing import Iterator, Optional, Sequence
+from typing import IO, Iterator, Optional, Sequence
 
 from .errors import CutError, DaqError, FileError, ProgramError, QueryError, TableError
 from .hints import query_hint, table_hint
@@ -35,11 +36,11 @@ def find_program(given: Optional[str] = None) -> str:
 class Run:
     """A run of the program whose output is read as it comes."""
 
-    def __init__(self, program: str, words: Sequence[str]) -> None:
+    def __init__(self, program: str, words: Sequence[str], is_fed: bool = False) -> None:
         self._words, self._errors = words, tempfile.TemporaryFile()
+        given = subprocess.PIPE if is_fed else subprocess.DEVNULL
         try:
-            self._process = subprocess.Popen(
-                [program, *words], stdin=subprocess.DEVNULL, stdout=subprocess.PIPE, stderr=self._errors)
+            self._process = subprocess.Popen([program, *words], stdin=given, stdout=subprocess.PIPE, stderr=self._errors)
         except (OSError, ValueError) as error:
             self._errors.close()
             raise ProgramError("the program did not start: %s" % error) from error
@@ -53,6 +54,21 @@ class Run:
             self.finish()
             raise
         self.finish()
+
+    @property
+    def output(self) -> IO[bytes]:
+        """What it prints, for whoever does not read it by `lines`."""
+        return self._process.stdout
+
+    def feed(self, given: bytes) -> None:
+        """Hands bytes to its standard input."""
+        self._process.stdin.write(given)
+        self._process.stdin.flush()
+
+    def close_feed(self) -> None:
+        """Says that no more is handed to it. Whether it has ended before, is no matter."""
+        with suppress(BrokenPipeError):
+            self._process.stdin.close()
 
     def finish(self) -> None:
         """Waits for the end; a status other than 0 is a Failed with the line that the program wrote."""

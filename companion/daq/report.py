@@ -101,7 +101,8 @@ class Block:
     """A round of a query: the next of the `planes` of `column` was read, and `plane` of them are read now. Round 0 read none.
 
     `planes_read` counts the planes that are read altogether, in a session by all its queries, and `bytes_read` their bytes; `number` is the
-    query's in a session.
+    query's in a session. A block of a table in many parts has their number in `parts`, and no column: of each part at most so many planes
+    and bytes are read.
     """
 
     query: Query
@@ -114,6 +115,7 @@ class Block:
     planes_read: int
     number: int = 1
     bytes_read: int = 0
+    parts: int = 0
 
 
 class Report:
@@ -129,6 +131,7 @@ class Report:
         self._heads: dict[int, Block] = {}
         self._planes: dict[tuple[int, Optional[str]], tuple[int, int]] = {}
         self.end: Optional[str] = None
+        self.parts = 0
         first = self._next()
         self.is_session = first.startswith("queries ")
         self.queries = self._session_queries(first) if self.is_session else [parse_query(_behind("query ", first))]
@@ -145,6 +148,8 @@ class Report:
 
     def __iter__(self) -> Iterator[Block]:
         line = self._next()
+        if line.startswith("parts ") and not self.is_session:
+            self.parts, line = _count(_behind("parts ", line)), self._next()
         while not line.startswith("end "):
             block, behind = self._block(line)
             yield block
@@ -193,14 +198,14 @@ class Report:
             raise _unknown(line)
         query, before = self.queries[number - 1], self._heads.get(number)
         place, column = int(head[1]), head[2]
-        if place != (before.round + 1 if before else 0) or (place == 0) != (column is None):
+        if place != (before.round + 1 if before else 0) or (place == 0 or self.parts > 0) != (column is None):
             raise ReportError("a round out of turn: %s" % _shown(line))
         plane, planes = self._plane(number, line, column, head[3], head[4])
         reader = _Body(query, body)
         groups, ranking = ((), reader.ranking()) if query.order is not None else (reader.groups(), None)
         reader.finish()
         read = place if planes_read is None else planes_read
-        block = Block(query, place, column, plane, planes, groups, ranking, read, number, read * self._plane_bytes)
+        block = Block(query, place, column, plane, planes, groups, ranking, read, number, read * self._plane_bytes, self.parts)
         self._heads[number] = block
         return block
 

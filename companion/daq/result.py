@@ -208,11 +208,13 @@ def end_text(result: Result) -> str:
     """One line that says how far the rounds went."""
     ranking = result.block.ranking
     found = "%d of %d rows certain, %d possible; " % (ranking.certain, ranking.limit, ranking.possible) if ranking else ""
-    return "%s%s, %s" % (found, planes_text(result.block.planes_read), end_word(result.end))
+    return "%s%s, %s" % (found, planes_text(result.block), end_word(result.end))
 
 
-def planes_text(count: int) -> str:
-    return "1 plane read" if count == 1 else "%d planes read" % count
+def planes_text(block: Block) -> str:
+    """How many planes were read, of each part at most."""
+    planes = "1 plane" if block.planes_read == 1 else "%d planes" % block.planes_read
+    return "at most %s of each of %d parts read" % (planes, block.parts) if block.parts and block.planes_read else planes + " read"
 
 
 def csv_text(query: Query, rows: Sequence[Row], history: bool = False, head: bool = True) -> str:

@@ -7,7 +7,7 @@ from contextlib import contextmanager
 from dataclasses import dataclass
 from typing import Callable, Iterator, Optional, Sequence, Union
 
-from .errors import CutError, FileError, QueryError, ReportError
+from .errors import CutError, DaqError, FileError, QueryError, ReportError
 from .goal import Goal, Within
 from .guess import can_skip, guess_schema, with_skips
 from .program import Failed, Run, file_error, find_program, load_error, output_of, query_error
@@ -55,6 +55,14 @@ class Table:
 
     def __repr__(self) -> str:
         return "<daq.Table %s: %d rows, %d columns>" % (self.path, self.rows, len(self.columns))
+
+    def run(self, text: str, words: Sequence[str]) -> Run:
+        """Begins to ask a query with these options."""
+        return Run(self.program, ["query", self.path, text, *words])
+
+    def error(self, failed: Failed, text: str) -> DaqError:
+        """What is wrong where that ended so."""
+        return query_error(failed, self.path, text, [column.name for column in self.columns])
 
     def sql(self, text: str, within: Optional[Within] = None, policy: Optional[str] = None, rounds: Optional[int] = None,
             reads: Reads = None, list: bool = False, clip: bool = False, exact_avg: bool = False) -> Result:
@@ -129,7 +137,7 @@ class Asked:
     def __iter__(self) -> Iterator[Block]:
         if self.end == "stopped":
             return
-        run = self._run = Run(self.table.program, ["query", self.table.path, self.text, *self.words])
+        run = self._run = self.table.run(self.text, self.words)
         try:
             sharper = "--clip" in self.words or "--exact-avg" in self.words
             report = Report(run.lines(), sharper, "--list" in self.words, self.table.plane_bytes)
@@ -145,14 +153,9 @@ class Asked:
                 return
             if isinstance(failed, CutError):
                 raise
-            raise query_error(failed, self.table.path, self.text, [column.name for column in self.table.columns]) from None
+            raise self.table.error(failed, self.text) from None
         finally:
             run.stop()
-
-
-def open_table(file: Union[str, os.PathLike], program: Optional[str] = None) -> Table:
-    """Opens a plane file. The program is `program`, or that of the variable DAQ, or the one installed."""
-    return Table(os.fspath(file), find_program(program))
 
 
 def load(csv: Union[str, os.PathLike], file: Union[str, os.PathLike], schema: Optional[str] = None, skip: Sequence[str] = (),

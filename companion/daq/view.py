@@ -10,10 +10,11 @@ from .errors import DaqError, FileError, ProgramError, QueryError, TableError
 from .guess import Guesses, records_of
 from .page import PageServer
 from .picture import Picture, svg_of, text_of
-from .program import Failed, Run, query_error
+from .parts import open_table
+from .program import Failed
 from .report import Block, whole_lines
 from .result import Result, csv_text, end_text, json_lines, rows_of, table_text
-from .table import POLICIES, Asked, Table, open_table, options
+from .table import POLICIES, Asked, Table, options
 from .watch import watch
 
 STATUSES = ((QueryError, 3), (TableError, 4), (FileError, 5))
@@ -78,7 +79,7 @@ def add_command(commands, name: str, what: str, call: Callable[[argparse.Namespa
 def add_query(commands, name: str, what: str, call: Callable[[argparse.Namespace], Optional[int]], count: Optional[str] = None
               ) -> argparse.ArgumentParser:
     command = add_command(commands, name, what, call)
-    command.add_argument("file", metavar="FILE", nargs=count, help="a plane file, as daq load writes it")
+    command.add_argument("file", metavar="FILE", nargs=count, help="a plane file, as daq load writes it, or a pattern of those of the parts")
     command.add_argument("sql", metavar="SQL", nargs=count, help="a query of the table t")
     command.add_argument("--within", metavar="W", help="stop once each interval is so narrow: 1%%, or a number in the units of the values")
     command.add_argument("--policy", help="which column is read next: %s" % ", ".join(POLICIES))
@@ -153,11 +154,11 @@ def picture(given: argparse.Namespace) -> None:
 
 def picture_of(given: argparse.Namespace) -> Picture:
     table = table_of(given)
-    run = Run(table.program, ["query", table.path, given.sql, *words_of(given)])
+    run = table.run(given.sql, words_of(given))
     try:
         return Picture(run.lines(), table.columns)
     except Failed as failed:
-        raise query_error(failed, table.path, given.sql, [column.name for column in table.columns]) from None
+        raise table.error(failed, given.sql) from None
     finally:
         run.stop()
 

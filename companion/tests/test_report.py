@@ -102,6 +102,8 @@ def printed(report, blocks):
         yield from ("%d %s" % (number, query.text) for number, query in enumerate(report.queries, 1))
     else:
         yield "query " + report.queries[0].text
+    if report.parts:
+        yield "parts %d" % report.parts
     for block in blocks:
         yield from block_lines(report, block)
     yield "end " + report.end

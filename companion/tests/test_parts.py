@@ -1,0 +1,170 @@
+"""Tables in many parts: their columns, their answers, and how their processes end."""
+import contextlib
+import io
+import json
+import os
+import time
+import unittest
+
+from support import TOP, FakeTest, daq, read
+from test_program import is_running
+
+from daq import view
+
+INFO = "version 2 rows 2 columns 1\ncolumn 1 price int width %d from %d to %d\n"
+FIRST = """query SELECT SUM(price) FROM t
+round 0
+1 [10, 18]
+round 1 price 1/3
+1 [14, 17]
+round 2 price 2/3
+1 [14, 15]
+round 3 price 3/3
+1 14
+end narrow
+"""
+SECOND = """query SELECT SUM(price) FROM t
+round 0
+1 [6, 24]
+round 1 price 1/4
+1 [14, 22]
+round 2 price 2/4
+1 [14, 18]
+round 3 price 3/4
+1 [14, 16]
+round 4 price 4/4
+1 15
+end narrow
+"""
+SQL = "SELECT SUM(price) FROM t"
+
+
+class Parts(FakeTest):
+    def setUp(self):
+        super().setUp()
+        for name in ("a.daq", "b.daq"):
+            open(self.path(name), "w").close()
+
+    def play_parts(self, first=None, second=None, **combine):
+        """Sets the scene of two parts: what their queries print, and more of it."""
+        a, b = self.path("a.daq"), self.path("b.daq")
+        queries = {
+            "query " + a: dict({"out": FIRST, "log": self.path("log")}, **(first or {})),
+            "query " + b: dict({"out": SECOND, "log": self.path("log.b")}, **(second or {}))}
+        self.scene(**{"info " + a: {"out": INFO % (3, 5, 9)}, "info " + b: {"out": INFO % (4, 3, 12)}, **queries,
+                      "combine": dict({"by": str(TOP / "tests"), "log": self.path("log.combine")}, **combine)})
+        return daq.open(self.path("*.daq"))
+
+    def processes(self):
+        for name in ("log", "log.b", "log.combine"):
+            path = self.path(name)
+            if os.path.exists(path):
+                with open(path, encoding="utf-8") as file:
+                    yield json.load(file)
+
+    def assert_all_ended(self):
+        self.assertEqual([told["words"] for told in self.processes() if is_running(told["pid"])], [])
+
+    def test_the_columns_of_all_parts(self):
+        table = self.play_parts()
+        self.assertEqual((table.rows, table.plane_bytes), (4, 16))
+        self.assertEqual([(column.name, column.type, column.planes, column.least, column.greatest) for column in table.columns],
+                         [("price", "int", 4, 3, 12)])
+        self.assertIn("2 parts, 4 rows", repr(table))
+
+    def test_an_answer(self):
+        for table in (self.play_parts(), daq.open([self.path("a.daq"), self.path("b.daq")])):
+            answer = table.sql(SQL)
+            self.assertEqual((answer.end, [row.low for row in answer.history()]), ("narrow", [16, 28, 28, 28, 29]))
+            self.assertEqual((answer.rows[0].column, answer.block.parts, answer.block.planes_read), (None, 2, 4))
+            self.assertIn("at most 4 planes of each of 2 parts read, finished", repr(answer))
+            self.assert_all_ended()
+
+    def test_the_words_of_each_process(self):
+        self.play_parts().sql(SQL, policy="balanced", rounds=2)
+        told = sorted(told["words"] for told in self.processes())
+        self.assertEqual(told[0], ["combine", "2", "/dev/stdin", "--rounds", "2"])
+        self.assertEqual(told[1:], [["query", self.path(name), SQL, "--policy", "balanced", "--rounds", "2"] for name in ("a.daq", "b.daq")])
+
+    def test_enough_is_enough(self):
+        answer = self.play_parts(first={"pause": 0.05}, second={"pause": 0.1}).sql(SQL, within="20%")
+        self.assertEqual((answer.end, answer.rows[0].low, answer.rows[0].high), ("within", 28, 33))
+        self.assert_all_ended()
+
+    def test_blocks_come_while_the_parts_go_on(self):
+        begun, times = time.monotonic(), []
+        for _ in self.play_parts(first={"pause": 0.1}, second={"pause": 0.3}).rounds(SQL):
+            times.append(time.monotonic() - begun)
+        self.assertEqual(len(times), 5)
+        self.assertGreater(times[4] - times[0], 1.0)
+
+    def test_leaving_the_loop_ends_all_processes(self):
+        for block in self.play_parts(first={"pause": 0.1}, second={"pause": 0.2}).rounds(SQL):
+            if block.round == 1:
+                break
+        self.assert_all_ended()
+
+    def test_a_part_that_fails(self):
+        cut = FIRST[: FIRST.index("round 3")]
+        for told, status, error in (("daq: query refused: unknown column at 11\n", 3, daq.QueryError),
+                                    ("daq: file refused: size 194, not 195\n", 5, daq.FileError), ("daq: no memory\n", 8, daq.ProgramError)):
+            table = self.play_parts(first={"out": cut, "err": told, "status": status}, second={"pause": 0.2})
+            with self.subTest(told), self.assertRaises(error):
+                table.sql(SQL)
+            self.assert_all_ended()
+        table = self.play_parts(second={"out": cut, "signal": 9})
+        with self.assertRaisesRegex(daq.ProgramError, "signal 9"):
+            table.sql(SQL)
+
+    def test_reports_that_are_not_combined(self):
+        table = self.play_parts(second={"out": SECOND.replace("round 0", "round 1")})
+        with self.assertRaisesRegex(daq.ReportError, "no line of a report"):
+            table.sql(SQL)
+        self.assert_all_ended()
+
+    def test_options_of_other_forms(self):
+        table = self.play_parts()
+        for option in ("list", "clip", "exact_avg"):
+            with self.subTest(option), self.assertRaises(ValueError):
+                table.sql(SQL, **{option: True})
+
+    def test_a_program_that_does_not_start(self):
+        table = self.play_parts()
+        table.program = self.path("none")
+        with self.assertRaises(daq.ProgramError):
+            table.sql(SQL)
+
+    def test_files_that_are_no_parts(self):
+        table = self.play_parts()
+        self.assertEqual(len(table.tables), 2)
+        with self.assertRaises(daq.FileError):
+            daq.open(self.path("*.nosuch"))
+        with self.assertRaises(ValueError):
+            daq.open([])
+        self.scene(**{"info " + self.path("a.daq"): {"out": INFO % (3, 5, 9)},
+                      "info " + self.path("b.daq"): {"out": (INFO % (4, 3, 12)).replace("price", "cost")}})
+        with self.assertRaisesRegex(daq.FileError, "one schema"):
+            daq.open(self.path("*.daq"))
+
+    def test_the_view(self):
+        self.play_parts()
+        with contextlib.redirect_stdout(io.StringIO()) as told:
+            self.assertEqual(view.main(["csv", self.path("*.daq"), SQL, "--all"]), 0)
+        self.assertEqual(told.getvalue().splitlines()[-1], "4,,0,0,64,SUM(price),29,29,29,0.000000,false,")
+
+
+class CombinedReports(unittest.TestCase):
+    COMBINED = "query SELECT SUM(price) FROM t\nparts 2\nround 0\n1 [16, 42]\nround 1\n1 29\nend narrow\n"
+
+    def test_a_combined_report(self):
+        report, blocks = read(self.COMBINED)
+        self.assertEqual((report.parts, report.end, [block.column for block in blocks]), (2, "narrow", [None, None]))
+
+    def test_other_lines_are_refused(self):
+        for old, new in (("parts 2", "parts"), ("parts 2", "parts 02"), ("round 1", "round 1 price 1/4"), ("round 1", "parts 2")):
+            with self.subTest(new), self.assertRaises(daq.ReportError):
+                read(self.COMBINED.replace(old, new))
+
+
+if __name__ == "__main__":
+    unittest.main()
