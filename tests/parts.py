@@ -2,14 +2,20 @@
 """Reports of the parts of a table, combined by the definitions alone, apart from the program.
 
 parts.py PARTS REPORTS [--width W] [--rounds N]  prints the combined report of PARTS parts; each line of REPORTS is a tag, a tab and a line
-                                                 of that part's report. A refusal is told on standard error, with status 9
+                                                 of that part's report. A refusal is told on standard error, with status 9. As the program,
+                                                 it takes no extremes of dates and texts
 parts.py --certain [COUNT [SEED]]                cuts tables made by chance into parts, combines the parts' reports in several orders of
                                                  their lines, and looks whether each interval holds what the uncut table answers
+parts.py --program DAQ [COUNT [SEED]]            loads the parts of such tables by the program DAQ, asks them side by side, combines them by it,
+                                                 and looks at the same, and whether it prints what is worked out here
 """
 import datetime
+import os
 import random
 import re
+import subprocess
 import sys
+import tempfile
 from fractions import Fraction
 
 import reports
@@ -17,6 +23,8 @@ import reports
 EPOCH = datetime.date(1970, 1, 1).toordinal()
 DATE, TEXT = r"\d{4}-\d{2}-\d{2}", r"'(?:[^']|'')*'"
 CALL = re.compile(r"(COUNT|SUM|AVG|MIN|MAX)\(")
+ITEMS = re.compile(r"query SELECT (\*|.+?) FROM \w+(?: (?:WHERE|GROUP BY|ORDER BY) .+)?")
+LONGEST_LINE = 65536
 
 
 class Refused(Exception):
@@ -79,23 +87,25 @@ class Known:
 NOTHING = Known("always", 0, 0, None)
 
 
-def forms_of(kind, text):
-    """The forms that the text of an item's answer may have."""
+def forms_of(kind, text, any_kind):
+    """The forms that the text of an item's answer may have; those of dates and texts only where any kind is read."""
     decimals = [len(part) - 1 for part in re.findall(r"\.\d+", text)][:1] or [0]
+    if decimals[0] > 18:
+        return []
     if kind == "AVG":
         return [ratio_form(decimals[0])]
-    return [number_form(decimals[0])] + ([DATES, TEXTS] if kind in ("MIN", "MAX") else [])
+    return [number_form(decimals[0])] + ([DATES, TEXTS] if any_kind and kind in ("MIN", "MAX") else [])
 
 
 def order(kind, end):
     return Fraction(*end) if kind == "AVG" else end
 
 
-def read(kind, text):
+def read(kind, text, any_kind):
     """What the text says of an answer, or None where no report says so."""
-    if text == "null" and kind != "COUNT" or text == NO_TEXTS and kind in ("MIN", "MAX"):
+    if text == "null" and kind != "COUNT" or any_kind and text == NO_TEXTS and kind in ("MIN", "MAX"):
         return NOTHING
-    for form in forms_of(kind, text):
+    for form in forms_of(kind, text, any_kind):
         match = form.interval.fullmatch(text)
         if match:
             try:
@@ -104,7 +114,7 @@ def read(kind, text):
                 return None
             known = Known("possibly" if match.group(4) else "never", low, high, form)
             ordered = kind == "AVG" or low <= high
-            right = ordered and known.text() == text and (kind != "COUNT" or form.name == 0 and known.word == "never")
+            right = ordered and known.text() == text and (kind != "COUNT" or form.name == 0 and known.word == "never") and fits(known)
             return known if right else None
     return None
 
@@ -117,7 +127,7 @@ def combined(kind, parts):
     told = [part for part in parts if part.word != "always"]
     forms = {part.form.name for part in told}
     if len(forms) > 1:
-        raise Refused("other decimals")
+        raise Refused("scales of item %d differ")
     if kind == "COUNT":
         return fitting(Known("never", sum(p.low for p in parts), sum(p.high for p in parts), number_form(0)))
     if not told:
@@ -144,11 +154,18 @@ def hull(told):
     return Known(word, low, high, told[0].form)
 
 
-def fitting(known):
+def fits(known):
+    """Whether both ends are numbers of 128 bits, over numbers of rows of 64."""
     for end in (known.low, known.high):
         number, rows = end if isinstance(end, tuple) else (end, 1)
         if isinstance(number, int) and not (-(2**127) <= number < 2**127 and rows < 2**64):
-            raise Refused("too wide")
+            return False
+    return True
+
+
+def fitting(known):
+    if not fits(known):
+        raise Refused("item %d too wide")
     return known
 
 
@@ -168,9 +185,20 @@ def kinds_of(query):
     return CALL.findall(re.sub(TEXT, "''", query).partition(" FROM ")[0])
 
 
+def look_at_query(line):
+    """Refuses a first line that is none of a query of totals."""
+    items = ITEMS.fullmatch(re.sub(TEXT, "''", line))
+    if not items:
+        raise Refused("no query")
+    calls = all(CALL.match(item) for item in items[1].split(", "))
+    if not calls or re.search(r" (GROUP|ORDER) BY ", re.sub(TEXT, "''", line)):
+        raise Refused("no query of totals")
+
+
 class Part:
-    def __init__(self, query):
+    def __init__(self, query, any_kind=True):
         self.query, self.kinds, self.blocks, self.current, self.end, self.place = query, kinds_of(query), [], None, None, "query"
+        self.any_kind = any_kind
 
     def take(self, line):
         if self.place == "query":
@@ -179,14 +207,14 @@ class Part:
             self.place = "opened"
             return
         if self.end is not None or not (self.takes_item(line) or self.takes_round(line)):
-            raise Refused("no line of a report")
+            raise Refused("no line of a report at this place")
 
     def takes_item(self, line):
         if self.current is None:
             return False
         place = len(self.current)
         if place < len(self.kinds) and line.startswith("%d " % (place + 1)):
-            known = read(self.kinds[place], line.partition(" ")[2])
+            known = read(self.kinds[place], line.partition(" ")[2], self.any_kind)
             if known:
                 self.current.append(known)
             if known and len(self.current) == len(self.kinds):
@@ -224,8 +252,8 @@ class Part:
 
 
 class Combined:
-    def __init__(self, count, width, rounds):
-        self.count, self.width, self.rounds = count, width, rounds
+    def __init__(self, count, width, rounds, any_kind):
+        self.count, self.width, self.rounds, self.any_kind = count, width, rounds, any_kind
         self.query, self.parts, self.lines, self.number, self.ended, self.blocks = None, {}, [], 0, False, []
 
     def in_order(self):
@@ -236,15 +264,24 @@ class Combined:
         if not tab:
             raise Refused("no tab")
         if not 1 <= len(tag) <= 255:
-            raise Refused("no tag of 1 to 255 bytes")
+            raise Refused("a tag of no byte or more than 255")
         if tag not in self.parts:
             if len(self.parts) == self.count:
                 raise Refused("more than %d parts" % self.count)
-            self.query = self.query or rest.decode(errors="surrogateescape")
-            self.parts[tag] = Part(self.query)
-        self.parts[tag].take(rest.decode(errors="surrogateescape"))
+            self.begin(tag, rest.decode(errors="surrogateescape"))
+        else:
+            self.parts[tag].take(rest.decode(errors="surrogateescape"))
         while len(self.parts) == self.count and not self.ended and self.goes_on():
             pass
+
+    def begin(self, tag, line):
+        """Takes the first line of a part; behind that of the first part the report begins."""
+        part = Part(line if self.query is None else self.query, self.any_kind)
+        if self.query is None:
+            look_at_query(line)
+            self.query, self.lines = line, [line, "parts %d" % self.count]
+        part.take(line)
+        self.parts[tag] = part
 
     def goes_on(self):
         parts = self.in_order()
@@ -263,9 +300,7 @@ class Combined:
             try:
                 block.append(combined(kind, [b[place] for b in blocks]))
             except Refused as why:
-                raise Refused("item %d: %s" % (place + 1, why))
-        if self.number == 0:
-            self.lines += [self.query, "parts %d" % self.count]
+                raise Refused(str(why) % (place + 1))
         self.lines += ["round %d" % self.number] + ["%d %s" % (i, known.text()) for i, known in enumerate(block, 1)]
         self.blocks.append(block)
         if all(is_near(known, self.width) for known in block):
@@ -287,12 +322,14 @@ class Combined:
         raise Refused("%d parts, not %d" % (len(self.parts), self.count))
 
 
-def combine(count, text, width=0, rounds=None):
+def combine(count, text, width=0, rounds=None, any_kind=True):
     """The combined report, and the refusal if there is one. A last line without its end is none."""
-    whole = Combined(count, width, rounds)
+    whole = Combined(count, width, rounds, any_kind)
     try:
         for number, line in enumerate(text.split(b"\n")[:-1], 1):
             try:
+                if len(line) > LONGEST_LINE:
+                    raise Refused("longer than %d bytes" % LONGEST_LINE)
                 whole.take(line)
             except Refused as why:
                 raise Refused("line %d: %s" % (number, why))
@@ -398,12 +435,91 @@ def certain(count, seed):
     return 1 if wrong else 0
 
 
+# ---- by the program
+
+
+def told_by(program, folder, texts, schema, sql, chance):
+    """What the program's `combine` prints of the parts, which it loads and asks side by side: lines come as they come."""
+    started = []
+    for number, text in enumerate(texts):
+        path = os.path.join(folder, "p%04d" % number)
+        with open(path + ".csv", "w", newline="") as file:
+            file.write(text)
+        subprocess.run([program, "load", path + ".csv", path + ".daq", schema], check=True, stdout=subprocess.DEVNULL)
+        started.append((path + ".daq", chance.choice(["widest", "order", "filter", "balanced"])))
+    words = [program, "combine", str(len(texts)), "/dev/stdin"]
+    ask = '"$1" query "$2" "$3" --policy "$4" | sed -u "s,^,$5\t,"'
+    with tempfile.TemporaryFile() as out:
+        combined = subprocess.Popen(words, stdin=subprocess.PIPE, stdout=out, stderr=subprocess.PIPE)
+        asking = [subprocess.Popen(["sh", "-c", ask, "ask", program, path, sql, policy, "p%04d" % number], stdout=combined.stdin)
+                  for number, (path, policy) in enumerate(started)]
+        combined.stdin.close()
+        refusal = combined.stderr.read().decode()
+        status = combined.wait()
+        for one in asking:
+            one.wait()
+        out.seek(0)
+        return status, out.read().decode(), refusal, started
+
+
+def has_numbers_alone(sql, schema):
+    """Whether no extreme of the query is one of dates or texts."""
+    kinds = dict(item.split(":") for item in schema.split(","))
+    return all(kinds.get(name, "int")[:3] in ("int", "dec") for name in re.findall(r"(?:MIN|MAX)\((\w+)\)", sql))
+
+
+def read_back(sql, text):
+    """The blocks of a combined report, by the reader of reports."""
+    report = Part("query " + sql)
+    for line in text.splitlines():
+        report.take(line)
+    return report
+
+
+def faults_of_program(program, folder, chance, text, schema, sql, count):
+    """What is wrong with what the program says of a table that is cut."""
+    texts = cut(chance, text, count)
+    status, told, refusal, started = told_by(program, folder, texts, schema, sql, chance)
+    if status or refusal:
+        return ["status %d: %s" % (status, refusal)]
+    lists = [[b"p%04d\t" % number + line.encode() for line in reports.report(part, schema, sql, ["--policy", policy]).splitlines(True)]
+             for number, (part, (_, policy)) in enumerate(zip(texts, started))]
+    wanted, refusal = combine(count, b"".join(line for lines in lists for line in lines), any_kind=False)
+    wrong = [] if told.splitlines() == wanted.lines else ["not what is worked out: %s" % (refusal or wanted.lines)]
+    answers, kinds = read_back(sql, reports.report(text, schema, sql, [])).blocks[-1], kinds_of("query " + sql)
+    blocks = read_back(sql, told).blocks
+    wrong += ["block %d item %d" % (number, place + 1) for number, block in enumerate(blocks) for place, kind in enumerate(kinds)
+              if not holds(kind, block[place], answers[place]) or not is_within(kind, block[place], blocks[max(number - 1, 0)][place])]
+    if not all(is_same(kind, known, answer) for kind, known, answer in zip(kinds, blocks[-1], answers)):
+        wrong.append("at the end %s" % told.splitlines()[-1 - len(kinds):])
+    return wrong
+
+
+def by_program(program, count, seed):
+    chance, wrong, number = random.Random(seed), 0, 0
+    with tempfile.TemporaryDirectory() as folder:
+        while number < count and wrong < 3:
+            text, schema, columns = reports.some_table(chance)
+            sql = some_query(chance, columns)
+            if not has_numbers_alone(sql, schema):
+                continue
+            number += 1
+            found = faults_of_program(program, folder, chance, text, schema, sql, chance.choice([1, 2, 2, 3, 5, 8]))
+            if found:
+                wrong += 1
+                print("wrong (%d): %s\n%s%s\n%s" % (number, schema, text, sql, "\n".join(found)))
+    print("%d tables cut, loaded, asked and combined by the program, %d wrong" % (number, wrong))
+    return 1 if wrong else 0
+
+
 def main(words):
+    if words[0] == "--program":
+        return by_program(words[1], int(words[2]) if len(words) > 2 else 1000, int(words[3]) if len(words) > 3 else 1)
     if words[0] == "--certain":
         return certain(int(words[1]) if len(words) > 1 else 1000, int(words[2]) if len(words) > 2 else 1)
     options = dict(zip(words[2::2], map(int, words[3::2])))
     with open(words[1], "rb") as file:
-        whole, refusal = combine(int(words[0]), file.read(), options.get("--width", 0), options.get("--rounds"))
+        whole, refusal = combine(int(words[0]), file.read(), options.get("--width", 0), options.get("--rounds"), False)
     sys.stdout.write("".join(line + "\n" for line in whole.lines))
     if refusal:
         print(refusal, file=sys.stderr)
