@@ -38,9 +38,13 @@ LIMITS = {
     "queries": ("multi_session/src/limits.rt", r"MOST_QUERIES: usize = "),
     "different columns of all": ("multi_session/src/limits.rt", r"MOST_COLUMNS: usize = "),
     "cells: the rows of the table": ("multi_session/src/limits.rt", r"MOST_CELLS: u64 = "),
+    "parts of a table": ("command_line/src/reader.rt", r"MOST_PARTS: u64 = "),
+    "bytes of all reports": ("source_lines/src/lines.rt", r"MOST_BYTES: usize = "),
+    "bytes of a line": ("source_lines/src/lines.rt", r"MOST_LINE: usize = "),
+    "bytes of a tag": ("report_parts/src/tags.rt", r"MOST_BYTES: usize = "),
 }
 # The rows whose numbers are those of a type or of the calendar, and stand in no constant.
-UNCOUNTED = ("a number |", "decimals of a column", "dates", "units of a number", "an aggregate's values")
+UNCOUNTED = ("a number |", "decimals of a column", "dates", "units of a number", "an aggregate's values", "the sum of an aggregate")
 
 
 def read(path):
