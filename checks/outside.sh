@@ -189,6 +189,53 @@ refused 'a long script' 3 'daq: query refused: script longer than 131072 bytes' 
 refused 'a missing script' 6 'daq: read fault' session "$planes" "$work/missing.sql"
 refused 'a session by a list of reads' 2 'daq: usage: word 4' session "$planes" "$work/many" --reads price
 
+# ---- parts
+
+# The report of a part, each line behind its tag: a tag, and a CSV as printf writes it.
+part() {
+    printf '%b' "$2" >"$work/$1.csv"
+    "$program" ask "$work/$1.csv" price:int "$sum" </dev/null | awk -v tag="$1" '{ print tag "\t" $0 }'
+}
+
+opening="query $sum
+parts 2
+"
+combined="${opening}round 0
+1 [16, 42]
+round 1
+1 [28, 39]
+round 2
+1 [28, 33]
+round 3
+1 [28, 30]
+round 4
+1 29
+end narrow
+"
+{ part a 'price\n5\n9\n' && part b 'price\n12\n3\n'; } >"$work/reports"
+run combine 2 "$work/reports"
+holds 'parts in a file' 0 "$combined" ''
+{ sleep 0.1 && cat "$work/reports"; } | "$program" combine 2 /dev/stdin >"$work/out" 2>"$work/err"
+ended=$?
+holds 'parts through a pipe' 0 "$combined" ''
+# What comes behind the end is not read: the pipe closes, which ends whoever writes it.
+{ cat "$work/reports"; yes; } 2>/dev/null | "$program" combine 2 /dev/stdin --rounds 0 >"$work/out" 2>"$work/err"
+ended=$?
+holds 'a pipe without end' 0 "${opening}round 0
+1 [16, 42]
+end rounds
+" ''
+head -n 3 "$work/reports" >"$work/cut"
+run combine 2 "$work/cut"
+holds 'a part that ends early' 9 "$opening" 'daq: report refused: part a ends early'
+head -n 10 "$work/reports" >"$work/first"
+run combine 2 "$work/first"
+holds 'too few parts' 9 "$opening" 'daq: report refused: 1 parts, not 2'
+refused 'a line without a tab' 9 'daq: report refused: line 1: no tab' combine 2 "$prices"
+refused 'no number of parts' 2 'daq: usage: word 2' combine 0 "$work/reports"
+refused 'a policy for parts' 2 'daq: usage: word 4' combine 2 "$work/reports" --policy order
+refused 'reports that are missing' 6 'daq: read fault' combine 2 "$work/missing"
+
 # The second plane of the price gives its third row a value past the top.
 { head -c 139 "$planes"; printf '\006'; tail -c 55 "$planes"; } >"$work/damaged.daq"
 run query "$work/damaged.daq" "$sum"

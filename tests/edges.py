@@ -36,7 +36,7 @@ def unreadable(trials):
     paths = {"missing": trials.path("no such file"), "a directory": trials.folder.name, "a path through a file": closed + "/x",
              "no name": "", "a name of 5,000 bytes": "x" * 5000, "a file without rights": closed}
     for what, path in paths.items():
-        for command, words in commands(path, path, trials.path("made"), path).items():
+        for command, words in {**commands(path, path, trials.path("made"), path), "combine": ["combine", "1", path]}.items():
             trials.same("%s, %s" % (command, what), trials.run(words, **user_without_rights()), Left(6, b"", READ_FAULT))
 
 
@@ -76,6 +76,10 @@ def full(trials):
             ended = subprocess.run([trials.daq] + words, stdout=out, stderr=subprocess.PIPE)
         told = Left(ended.returncode, b"", ended.stderr, trials.get("made"))
         trials.same("%s, out full" % command, told, Left(7, b"", WRITE_FAULT))
+    reports = trials.put("reports", "a\tquery %s\na\tround 0\na\t1 29\na\tend narrow\n" % SQL)
+    with open("/dev/full", "wb") as out:
+        ended = subprocess.run([trials.daq, "combine", "1", reports], stdout=out, stderr=subprocess.PIPE)
+    trials.same("combine, out full", Left(ended.returncode, b"", ended.stderr), Left(7, b"", WRITE_FAULT))
     with open("/dev/full", "wb") as err:
         ended = subprocess.run([trials.daq, "ask"], stdout=subprocess.PIPE, stderr=err)
     trials.check("usage, err full", ended, ended.returncode == 7 and ended.stdout == b"")

@@ -188,7 +188,7 @@ def kinds_of(query):
 def look_at_query(line):
     """Refuses a first line that is none of a query of totals."""
     items = ITEMS.fullmatch(re.sub(TEXT, "''", line))
-    if not items:
+    if not items or items[1].count("(") != items[1].count(")"):
         raise Refused("no query")
     calls = all(CALL.match(item) for item in items[1].split(", "))
     if not calls or re.search(r" (GROUP|ORDER) BY ", re.sub(TEXT, "''", line)):

@@ -46,6 +46,11 @@ TOLD = [
      "price:int,qty\n            ^\n  a column is its name, a colon, and int, dec0 to dec9, date or text, with ? behind it where fields may be empty, or skip"),
     ("session FILE SCRIPT", "query refused: line 2: unknown column at 11",
      "SELECT SUM(cost) FROM t\n             ^\n  no column is named \"cost\"; the columns are price, qty, city"),
+    ("combine 2 REPORTS", "report refused: line 3: no line of a report at this place",
+     "a 1 'Oslo'\n  the report has no such line there: ask each part once, by a tag of its own, without --clip and --exact-avg"),
+    ("combine 2 CUT", "report refused: part a ends early",
+     "the process of that part failed or was cut off: look at its own message, and run it again"),
+    ("combine 0 CUT", "usage: word 2", "\"0\" is no number of parts, from 1 to 65536\n  daq combine PARTS REPORTS [--width NUMBER] [--rounds NUMBER]"),
     ("info CSV", "file refused: not a plane file", "daq load makes a plane file of a CSV, and daq ask asks a CSV as it is"),
 ]
 
@@ -74,6 +79,8 @@ def main(words):
         "FILE": trials.put("t.daq", plane_file(TEXT, SCHEMA)[0]), "CSV": trials.put("t.csv", TEXT), "FOLDER": trials.folder.name, "SCHEMA": SCHEMA,
         "BAD": trials.put("bad.csv", "price,qty,city\n5,2,Oslo\n\n9,two,Rome\n"), "SHORT": trials.put("short.csv", "price,qty,city\n5,2\n"),
         "SCRIPT": trials.put("t.sql", "SELECT COUNT(*) FROM t\nSELECT SUM(cost) FROM t\n"),
+        "REPORTS": trials.put("reports", "a\tquery SELECT MAX(city) FROM t\na\tround 0\na\t1 'Oslo'\n"),
+        "CUT": trials.put("cut", "a\tquery SELECT MAX(city) FROM t\na\tround 0\n"),
     }
 
     def filled(text):
