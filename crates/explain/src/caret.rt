@@ -18,7 +18,7 @@ fn last_signs(text: &str, most: usize) -> &str {
 }
 
 // The first so many signs of a text.
-fn first_signs(text: &str, most: usize) -> &str {
+pub(crate) fn first_signs(text: &str, most: usize) -> &str {
     match text.char_indices().nth(most) {
         Some((place, _)) => text.get(..place).unwrap_or(text),
         None => text,

@@ -10,6 +10,7 @@ mod follow;
 mod parts;
 mod queries;
 mod records;
+mod reports;
 mod scene;
 mod tables;
 mod usage;

@@ -209,15 +209,6 @@ fn query_of<'a>(scene: &Scene<'a>) -> &'a str {
     }
 }
 
-// The line of the script with this number, counted from 1.
-fn script_line<'a>(scene: &Scene<'a>, number: usize) -> &'a str {
-    let script = text_or_nothing(scene.input);
-    script
-        .split('\n')
-        .nth(number.saturating_sub(1))
-        .unwrap_or("")
-}
-
 // What is told of a refused query.
 pub(crate) fn explain_query(
     alloc: Global,
@@ -232,7 +223,7 @@ pub(crate) fn explain_query(
         Some(line) => {
             let (number, alone) = line.split_once(": ").unwrap_or(("", line));
             let number = number.parse::<usize>().unwrap_or(1);
-            (script_line(scene, number), alone)
+            (scene.input_line(number), alone)
         }
         None => (query_of(scene), why),
     };

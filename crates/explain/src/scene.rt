@@ -1,7 +1,9 @@
 //! What is known of a refusal, and what is told of it.
 
 use crate::faults::{explain_file, explain_trouble};
+use crate::parts::text_or_nothing;
 use crate::queries::explain_query;
+use crate::reports::explain_report;
 use crate::tables::explain_table;
 use crate::usage::explain_usage;
 use std::alloc::{AllocError, Global};
@@ -24,7 +26,7 @@ pub struct Scene<'a> {
     pub trouble: Option<Trouble<'a>>,
     /// The columns of the table, as a schema.
     pub schema: &'a str,
-    /// The bytes of the CSV, or of the script.
+    /// The bytes of the CSV, of the script, or of the reports.
     pub input: &'a [u8],
 }
 
@@ -38,6 +40,14 @@ impl<'a> Scene<'a> {
     // The word with this number, or nothing.
     pub(crate) fn word_or_nothing(&self, number: usize) -> &'a str {
         self.word(number).unwrap_or("")
+    }
+
+    // The line of the input with this number, counted from 1, or nothing.
+    pub(crate) fn input_line(&self, number: usize) -> &'a str {
+        text_or_nothing(self.input)
+            .split('\n')
+            .nth(number.saturating_sub(1))
+            .unwrap_or("")
     }
 }
 
@@ -53,9 +63,10 @@ pub fn wanted_for(line: &str) -> Wants {
     let is_of_script = line.starts_with("daq: query refused: line ");
     let is_of_record = line.starts_with("daq: table refused: record ")
         || line.starts_with("daq: table refused: header differs");
+    let is_of_report = line.starts_with("daq: report refused: line ");
     Wants {
         schema: line.starts_with("daq: query refused: "),
-        input: is_of_script || is_of_record,
+        input: is_of_script || is_of_record || is_of_report,
     }
 }
 
@@ -70,6 +81,7 @@ pub fn explain(alloc: Global, scene: &Scene<'_>) -> Result<String, AllocError> {
         Some(("query refused", why)) => explain_query(alloc, &mut out, scene, why)?,
         Some(("table refused", why)) => explain_table(alloc, &mut out, scene, why)?,
         Some(("file refused", why)) => explain_file(&mut out, why)?,
+        Some(("report refused", why)) => explain_report(&mut out, scene, why)?,
         _ => explain_trouble(&mut out, scene, cause)?,
     }
     Ok(out)

@@ -5,7 +5,7 @@ use crate::scene::Scene;
 use std::alloc::AllocError;
 
 // The line of each command's words.
-const USAGES: [(&str, &str); 7] = [
+const USAGES: [(&str, &str); 8] = [
     ("load", "daq load CSV FILE SCHEMA"),
     ("query", "daq query FILE SQL [OPTION ..]"),
     ("session", "daq session FILE SCRIPT [OPTION ..]"),
@@ -13,6 +13,10 @@ const USAGES: [(&str, &str); 7] = [
     ("upgrade", "daq upgrade OLD NEW"),
     ("ask", "daq ask CSV SCHEMA SQL [OPTION ..]"),
     ("demo", "daq demo SEED ROWS SQL [OPTION ..]"),
+    (
+        "combine",
+        "daq combine PARTS REPORTS [--width NUMBER] [--rounds NUMBER]",
+    ),
 ];
 
 // The options, and what stands behind each.
@@ -55,7 +59,7 @@ fn push_reason(out: &mut String, scene: &Scene<'_>, number: usize) -> Result<(),
     match scene.word(number) {
         Some(word) if wanted.is_empty() => {
             push_quoted(out, word)?;
-            out.push_str(told_of(scene, word))
+            out.push_str(told_of(scene, number, word))
         }
         Some(word) => {
             push_quoted(out, word)?;
@@ -74,7 +78,10 @@ fn push_reason(out: &mut String, scene: &Scene<'_>, number: usize) -> Result<(),
 }
 
 // What is wrong with a word behind which no option asks for something.
-fn told_of(scene: &Scene<'_>, word: &str) -> &'static str {
+fn told_of(scene: &Scene<'_>, number: usize, word: &str) -> &'static str {
+    if number == 2 && scene.word_or_nothing(1) == "combine" {
+        return " is no number of parts, from 1 to 65536";
+    }
     match beside(&OPTIONS, word) {
         Some(_) if word == "--reads" && scene.word_or_nothing(1) == "session" => {
             " may not stand in a session"
