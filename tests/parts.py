@@ -147,10 +147,10 @@ def combined_average(parts, told):
 
 
 def hull(told):
-    """From the least low to the greatest high; of equal ones that of the first part."""
+    """From the least low to the greatest high; of equal lows that of the first part, of equal highs that of the last."""
     word = "never" if any(part.word == "never" for part in told) else "possibly"
     low = min((part.low for part in told), key=lambda end: Fraction(*end))
-    high = max((part.high for part in told), key=lambda end: Fraction(*end))
+    high = max((part.high for part in reversed(told)), key=lambda end: Fraction(*end))
     return Known(word, low, high, told[0].form)
 
 

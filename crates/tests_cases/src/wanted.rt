@@ -20,6 +20,7 @@ pub fn status_of(case: &Case) -> Result<Status, CaseFault> {
         "ReadFault" => Ok(Status::ReadFault),
         "WriteFault" => Ok(Status::WriteFault),
         "NoMemory" => Ok(Status::NoMemory),
+        "ReportRefused" => Ok(Status::ReportRefused),
         _ => Err(CaseFault::at(entry.line, "no such status")),
     }
 }
