@@ -2,7 +2,7 @@
 # A table in many parts: cut by rows, loaded and asked side by side by GNU parallel, and combined round by round; beside sqlite3.
 #   shards.sh [PROGRAM [SCALE]]                 a table in the shape of TPC-H's lineitem; at scale 11.19, which is usual, 2^26 rows
 #   shards.sh PROGRAM CSV SCHEMA SQL [WIDTH]    a table of your own; the SQL as sqlite3 takes it, too
-# PROGRAM is daq at the top where none is named. At the usual scale it takes 8 GB of the temporary folder.
+# PROGRAM is daq at the top where none is named. At the usual scale it takes 5 GB of the temporary folder.
 #
 # Over many machines: where each has daq and the CSV's parts are to be spread from here,
 #   parallel --sshlogin alpha,beta --transferfile {} --cleanup --tag --line-buffer daq query {} "'SELECT ..'" ::: part*.daq | daq combine 12 /dev/stdin
