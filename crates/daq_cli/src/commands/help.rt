@@ -26,6 +26,7 @@ fn write_help<K: Sink>(out: &mut K) -> Result<(), Failed>
             b"  daq upgrade OLD NEW                  writes the table of a plane file in the newest version of the format\n",
             b"  daq ask CSV SCHEMA SQL [OPTION ..]   asks a CSV\n",
             b"  daq demo SEED ROWS SQL [OPTION ..]   asks a table that is made from a seed\n",
+            b"  daq combine PARTS REPORTS [LIMIT ..] joins the reports of the parts of a table; a limit is --width or --rounds\n",
             b"  daq help                             prints this help, as do daq --help and daq -h\n",
             b"  daq --version                        prints the version, as does daq -V\n\n",
             b"  --width NUMBER    ends once each interval is this narrow, in units of the last digit shown\n",
