@@ -7,6 +7,7 @@ import re
 import sys
 
 import files
+import parts
 import reports
 from trials import NO_MEMORY, READ_FAULT, WRITE_FAULT, Left, Trials, plane_file
 
@@ -28,6 +29,8 @@ def scenes(trials):
     new, line = plane_file(TEXT, SCHEMA)
     older = new[:8] + b"\1" + new[9:]
     csv, file, old, made = trials.put("t.csv", TEXT), trials.put("t.daq", new), trials.put("old.daq", older), trials.path("made")
+    tagged = b"".join(b"a\t%s\n" % line.encode() for line in reports.report(TEXT, SCHEMA, SQL, []).splitlines())
+    combined = "".join(line + "\n" for line in parts.combine(1, tagged)[0].lines).encode()
     report, together = reports.report(TEXT, SCHEMA, SQL, []).encode(), reports.session_report(TEXT, SCHEMA, SCRIPT, []).encode()
     return [
         Scene("ask", ["ask", csv, SCHEMA, SQL], Left(0, report), "t.csv"),
@@ -36,6 +39,7 @@ def scenes(trials):
         Scene("load", ["load", csv, made, SCHEMA], Left(0, line, b"", new), "t.csv"),
         Scene("info", ["info", file], Left(0, files.info(new)[0].encode()), "t.daq"),
         Scene("upgrade", ["upgrade", old, made], Left(0, files.upgrade(older)[0].encode(), b"", new), "old.daq"),
+        Scene("combine", ["combine", "1", trials.put("reports", tagged)], Left(0, combined), "reports"),
         Scene("refusal", ["ask", csv, "price", SQL], Left(4, b"", b"daq: table refused: schema item at 0\n")),
     ]
 
@@ -97,19 +101,25 @@ def writes(trials, scene, name):
         trials.check(what, told, good)
 
 
+def starved(scene):
+    """What the run may leave where no more memory is given: nothing, and of a `combine` also the opening and whole blocks."""
+    fronts = [mark.start() for mark in re.finditer(rb"^(?:round|end) ", scene.left.out, re.M)] if scene.name == "combine" else []
+    return [Left(8, scene.left.out[:place], NO_MEMORY) for place in [0] + fronts]
+
+
 def memory(trials, scene):
-    """A block of memory that is not given, alone or with all later ones: nothing was written, and no more is wanted, or the run is done."""
+    """A block of memory that is not given, alone or with all later ones: no more stands than may stand then, or the run is done."""
     told, calls = traced(trials, scene, None)
     trials.same("%s by blocks" % scene.name, told, scene.left)
     # Before its first call the program is loaded.
     loaded = calls[:calls.index("rt_sigaction")]
-    refused, heap = Left(8, b"", NO_MEMORY), ["-e", "inject=brk:error=ENOMEM:when=%d+" % (loaded.count("brk") + 1)]
+    refused, heap = starved(scene), ["-e", "inject=brk:error=ENOMEM:when=%d+" % (loaded.count("brk") + 1)]
     for call in ("mmap", "mremap"):
         for place in range(loaded.count(call) + 1, calls.count(call) + 1):
             # The C library asks twice.
             for places in ("%d..%d" % (place, place + 1), "%d+" % place):
                 told, _ = traced(trials, scene, None, "-e", "inject=%s:error=ENOMEM:when=%s" % (call, places), *heap)
-                trials.check("%s, %s %s" % (scene.name, call, places), told, told in (scene.left, refused), refused)
+                trials.check("%s, %s %s" % (scene.name, call, places), told, told in [scene.left, *refused], refused[0])
 
 
 def main(words):
