@@ -178,7 +178,7 @@ def open_table(file: Files, program: Optional[str] = None) -> Table:
         paths = [os.fspath(path) for path in file]
         if not paths:
             raise ValueError("a table has one part at least")
-        return Parts("of a list", paths, found)
+        return Parts(", ".join(paths[:2]) + ", .." * (len(paths) > 2), paths, found)
     path = os.fspath(file)
     if not glob.has_magic(path) or os.path.exists(path):
         return Table(path, found)
