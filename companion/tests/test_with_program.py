@@ -58,6 +58,28 @@ class WithTheProgram(unittest.TestCase):
         self.assertEqual((raised.exception.record, raised.exception.column), (2, 3))
         self.assertFalse(os.path.exists(os.path.join(self.folder, "bad.daq")))
 
+    def test_a_table_in_parts(self):
+        with open(TOP / "examples" / "zones.csv", encoding="utf-8") as file:
+            head, *records = file.readlines()
+        schema = "country:text,area:text,zone:text,latitude:dec4,longitude:dec4,part:text?"
+        for number, begin in enumerate(range(0, len(records), 150)):
+            path = os.path.join(self.folder, "part%d" % number)
+            with open(path + ".csv", "w", encoding="utf-8") as file:
+                file.writelines([head, *records[begin : begin + 150]])
+            daq.load(path + ".csv", path + ".daq", schema)
+        parts = daq.open(os.path.join(self.folder, "part?.daq"))
+        self.assertEqual((len(parts.tables), parts.rows), (3, 418))
+        sql = "SELECT COUNT(*), SUM(latitude), AVG(longitude), MAX(latitude) FROM t WHERE area = 'America'"
+        whole, answer = self.zones.sql(sql), parts.sql(sql, policy="balanced")
+        self.assertEqual([(row.low, row.high) for row in answer.rows], [(row.low, row.high) for row in whole.rows])
+        for row in answer.history():
+            end = next(last for last in whole.rows if last.item == row.item)
+            self.assertTrue(row.low <= end.low <= end.high <= row.high)
+        self.assertEqual(parts.sql(sql, within="20%").end, "within")
+        with self.assertRaises(daq.QueryError) as raised:
+            parts.sql("SELECT SUM(pris) FROM t")
+        self.assertEqual((raised.exception.place, raised.exception.cause), (11, "unknown column"))
+
     def test_the_tour_of_the_readme(self):
         with tempfile.TemporaryDirectory() as folder:
             self.assertEqual(tour(folder).failed, 0)
