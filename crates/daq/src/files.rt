@@ -16,6 +16,7 @@ pub fn input_of<'a>(rt: &HostRuntime, command: &Command<'a>) -> FileSource<'a>
     match command {
         Command::Ask(ask) => FileSource::open(rt, ask.csv),
         Command::Load(load) => FileSource::open(rt, load.csv),
+        Command::Combine(combine) => FileSource::open(rt, combine.reports),
         _ => FileSource::closed(),
     }
 }

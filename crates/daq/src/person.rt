@@ -15,7 +15,7 @@ use std::io::ErrorKind;
 use std::str::from_utf8;
 use system_devices::{FileSource, FileStore, Trouble};
 
-// The most bytes of a CSV or a script.
+// The most bytes of a CSV, a script or reports.
 const MOST_BYTES: usize = 1_073_741_824;
 
 // The columns of the table that `demo` makes.
@@ -47,7 +47,7 @@ fn trouble_of<'a>(world: &Devices<'a>) -> Option<(Trouble, &'a str)> {
         .or(at(world.out.trouble(), "standard output"))
 }
 
-// The path of the text that is read: of the script, else of the CSV.
+// The path of the text that is read: of the script, else of the CSV or the reports.
 fn text_path<'a>(world: &Devices<'a>) -> &'a str {
     let script = world.side.path();
     if script.is_empty() {
