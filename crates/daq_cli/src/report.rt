@@ -50,7 +50,7 @@ pub(crate) fn write_round<K: Sink>(
         (block_text head.now plan.now.list plan.now.extras engine.now (planes_read engine.now.known) last) }
 {
     let round = engine.progress().done;
-    write_block(engine, head, round, last, plan.list, plan.extras, out)
+    write_block(engine, head, round, last, plan, out)
 }
 
 impl Shows for Engine {

@@ -16,7 +16,7 @@ use crate::small::item;
 use daq_report::write_block;
 use daq_table::{ColumnHead, ColumnHeads, Dictionary, Head, Kind, Name, Text};
 use outer_world::MemSink;
-use plane_schedule::Extras;
+use plane_schedule::{Extras, Plan};
 use query_model::{
     Atom, Comparison, Expr, Face, ItemKind, Items, Pred, Shape, TableColumns, TypedQuery,
 };
@@ -132,8 +132,7 @@ fn sink_after(
     engine: &EngineView<'_>,
     head: &Head,
     last: Option<usize>,
-    list: bool,
-    extras: Extras,
+    plan: &Plan,
     room: usize,
 ) -> Result<MemSink, AllocError>
     requires fits { FitsHead engine.now.query engine.now.frame head.now }
@@ -141,7 +140,7 @@ fn sink_after(
     requires last { IfSome last (λ c. c < length engine.now.query.columns) }
 {
     let mut sink = MemSink::with_room(alloc, room, 7, Vec::new(alloc))?;
-    let _done = write_block(engine, head, 3, last, list, extras, &mut sink).is_ok();
+    let _done = write_block(engine, head, 3, last, plan, &mut sink).is_ok();
     Ok(sink)
 }
 
@@ -156,7 +155,11 @@ fn round_shown(
 {
     let head = market(alloc)?;
     let engine = opened(alloc, &head)?;
-    sink_after(alloc, &engine.view(), &head, last, false, extras, room)
+    let plan = Plan {
+        extras,
+        ..Plan::widest()
+    };
+    sink_after(alloc, &engine.view(), &head, last, &plan, room)
 }
 
 #[test]
@@ -197,15 +200,11 @@ fn ranking_shown(alloc: Global, limit: u32, list: bool) -> Result<MemSink, Alloc
 {
     let head = market(alloc)?;
     let engine = ranked(alloc, &head, limit)?;
-    sink_after(
-        alloc,
-        &engine.view(),
-        &head,
-        None,
+    let plan = Plan {
         list,
-        Extras::none(),
-        300,
-    )
+        ..Plan::widest()
+    };
+    sink_after(alloc, &engine.view(), &head, None, &plan, 300)
 }
 
 #[test]
