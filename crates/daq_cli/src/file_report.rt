@@ -1,6 +1,6 @@
 //! The report of a course over a file. The planes of its rounds are read, each before its block.
 
-ghost use Rattle.std.specs.Prelude.{◌≡◌, [], List, ℕ, length};
+ghost use Rattle.std.specs.Prelude.{◌≡◌, [], length};
 ghost use Rattle.plane_course.specs.Told.{HoldsFile};
 ghost use Rattle.outer_world.specs.Whole.{HoldsSame};
 ghost use Rattle.table_rounds.specs.Rounds.{Planes};

@@ -3,7 +3,7 @@
 ghost use Rattle.std.specs.Prelude.{◌≡◌, ◌≢◌, ◌⊎◌, OnOk, IfErr};
 ghost use Rattle.command_line.specs.Commands.{Command};
 ghost use Rattle.daq_cli.specs.Refusals.{IsTold};
-ghost use Rattle.daq_cli.specs.Runs.{Accepts, BeginsRounds, Completes, Does, EndsSo, IsCause, IsDone};
+ghost use Rattle.daq_cli.specs.Runs.{Accepts, BeginsRounds, Completes, EndsSo, IsCause, IsDone};
 ghost use Rattle.daq_cli.specs.Runs.{IsRefused, IsRefusedAside, IsUnwritten, Shows, Task, Uses};
 ghost use Rattle.daq_cli.specs.Worlds.{Device, IsSame, side};
 ghost use Rattle.daq_cli.specs.declared.refusal.Refusal.{Refusal};
