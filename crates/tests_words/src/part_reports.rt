@@ -32,9 +32,8 @@ fn value(null: Nullity, lo: i128, hi: i128) -> Result<Answer, CombineFault> {
     Ok(value_within(null, lo, hi))
 }
 
-#[test]
-fn a_part_that_has_ended_stands_by_its_last_block(rt: HostRuntime) {
-    let alloc = rt.alloc();
+/// A part that ends behind its second block, and one that ends behind its first.
+fn two_ended_parts(alloc: Global) -> Result<[Part; 2], LineFault> {
     let first = part_of(
         alloc,
         &[
@@ -47,7 +46,7 @@ fn a_part_that_has_ended_stands_by_its_last_block(rt: HostRuntime) {
             b"2 2",
             b"end rounds",
         ],
-    );
+    )?;
     let second = part_of(
         alloc,
         &[
@@ -58,23 +57,17 @@ fn a_part_that_has_ended_stands_by_its_last_block(rt: HostRuntime) {
             b"2 [0, 1]",
             b"end reads",
         ],
-    );
-    let (Ok(first), Ok(second)) = (first, second) else {
+    )?;
+    Ok([first, second])
+}
+
+#[test]
+fn a_part_that_has_ended_stands_by_its_last_block(rt: HostRuntime) {
+    let alloc = rt.alloc();
+    let Ok(parts) = two_ended_parts(alloc) else {
         panic!(rt; "a line is refused");
     };
-    let parts = [first, second];
     assert!(rt; all_have_block(1, &parts));
-    assert!(rt; !have_all_ended(0, &parts));
-    assert!(rt; have_all_ended(1, &parts));
-    assert_eq!(rt; may_end(2, &parts), Ok(()));
-    assert_eq!(rt; may_end(3, &parts), Err(EndFault::OtherCount(2)));
-    assert_eq!(rt; end_behind(false, false, 0, &parts), None);
-    assert_eq!(rt; end_behind(false, true, 0, &parts), Some(ReportEnd::Rounds));
-    assert_eq!(rt; end_behind(true, true, 0, &parts), Some(ReportEnd::Narrow));
-    assert_eq!(rt;
-        end_behind(false, false, 1, &parts),
-        Some(ReportEnd::Rounds)
-    );
     assert_eq!(rt;
         combine_item(alloc, ItemKind::Sum, 0, 0, &parts),
         value(Nullity::Never, 3, 29)
@@ -86,6 +79,25 @@ fn a_part_that_has_ended_stands_by_its_last_block(rt: HostRuntime) {
     assert_eq!(rt;
         combine_item(alloc, ItemKind::Count, 1, 1, &parts),
         value(Nullity::Never, 2, 3)
+    );
+}
+
+#[test]
+fn a_combination_ends_where_all_parts_have(rt: HostRuntime) {
+    let alloc = rt.alloc();
+    let Ok(parts) = two_ended_parts(alloc) else {
+        panic!(rt; "a line is refused");
+    };
+    assert!(rt; !have_all_ended(0, &parts));
+    assert!(rt; have_all_ended(1, &parts));
+    assert_eq!(rt; may_end(2, &parts), Ok(()));
+    assert_eq!(rt; may_end(3, &parts), Err(EndFault::OtherCount(2)));
+    assert_eq!(rt; end_behind(false, false, 0, &parts), None);
+    assert_eq!(rt; end_behind(false, true, 0, &parts), Some(ReportEnd::Rounds));
+    assert_eq!(rt; end_behind(true, true, 0, &parts), Some(ReportEnd::Narrow));
+    assert_eq!(rt;
+        end_behind(false, false, 1, &parts),
+        Some(ReportEnd::Rounds)
     );
 }
 
