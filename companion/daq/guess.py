@@ -4,6 +4,7 @@ from __future__ import annotations
 import csv
 import datetime
 import re
+import shlex
 from dataclasses import dataclass, field as default_of
 from decimal import Decimal
 from fractions import Fraction
@@ -101,8 +102,9 @@ class Guess:
         """What another type would take."""
         narrow = self.narrow_type()
         if self.nothings and narrow:
-            told = " and ".join(sorted(self.nothings))
-            yield "all but %s is %s: where that stands for nothing, leave the field empty and write %s?" % (told, narrow, narrow)
+            told = sorted(self.nothings)
+            nulls = " ".join("--null %s" % shlex.quote(text) for text in told)
+            yield "all but %s is %s: if that means nothing, daq-view load %s gives it the type %s?" % (" and ".join(told), narrow, nulls, narrow)
         if self.any and self.numbers and self.scale > 9:
             yield "its numbers have %d decimals, and a column has at most 9: round them for a dec9" % self.scale
         if self.kind().startswith("int") and self.zeros:

@@ -1,4 +1,4 @@
-"""The commands of daq-view: a live view of a query, its answers in other forms, pictures, schemas, and a page for a browser."""
+"""The commands of daq-view: a live view of a query, its answers in other forms, pictures, loading, schemas, and a page for a browser."""
 from __future__ import annotations
 
 import argparse
@@ -14,7 +14,7 @@ from .parts import open_table
 from .program import Failed
 from .report import Block, whole_lines
 from .result import Result, csv_text, end_text, json_lines, rows_of, table_text
-from .table import POLICIES, Asked, Table, options
+from .table import POLICIES, Asked, Column, Table, load, options
 from .watch import watch
 
 STATUSES = ((QueryError, 3), (TableError, 4), (FileError, 5))
@@ -63,6 +63,14 @@ def parser() -> argparse.ArgumentParser:
     guessed = add_command(commands, "schema", "the schema of a CSV, guessed, and what would be refused", schema)
     guessed.add_argument("csv", metavar="CSV", help="a CSV with a header")
     guessed.add_argument("--delimiter", default=",", metavar="D", help="what separates its fields")
+    loaded = add_command(commands, "load", "a plane file of a CSV, by a guessed schema", load_csv, "Makes")
+    loaded.add_argument("csv", metavar="CSV", help="a CSV with a header")
+    loaded.add_argument("file", metavar="FILE", help="the new plane file")
+    loaded.add_argument("--schema", metavar="S", help="the schema of the columns that are kept; else it is guessed")
+    loaded.add_argument("--skip", action="append", default=[], metavar="NAME", help="leave this column out; may be repeated")
+    loaded.add_argument("--null", action="append", metavar="TEXT", help="a text that stands for nothing, as NA; may be repeated")
+    loaded.add_argument("--delimiter", default=",", metavar="D", help="what separates the fields of the CSV")
+    loaded.add_argument("--program", metavar="PATH", help="the program daq")
     served = add_command(commands, "page", "a page for a browser on this machine: columns, a query, and bars that narrow", page)
     served.add_argument("file", metavar="FILE", help="a plane file, as daq load writes it")
     served.add_argument("--port", type=int, default=0, metavar="N", help="the port; else any that is free")
@@ -70,8 +78,9 @@ def parser() -> argparse.ArgumentParser:
     return whole
 
 
-def add_command(commands, name: str, what: str, call: Callable[[argparse.Namespace], Optional[int]]) -> argparse.ArgumentParser:
-    command = commands.add_parser(name, help=what, description="Shows %s." % what)
+def add_command(commands, name: str, what: str, call: Callable[[argparse.Namespace], Optional[int]], does: str = "Shows"
+                ) -> argparse.ArgumentParser:
+    command = commands.add_parser(name, help=what, description="%s %s." % (does, what))
     command.set_defaults(call=call)
     return command
 
@@ -175,6 +184,20 @@ def schema(given: argparse.Namespace) -> int:
         name = guesses.names[number - 1] if number <= len(guesses.names) else ""
         print("daq-view: column %d%s: %s" % (number, name and " " + name, why), file=sys.stderr)
     return SCHEMA_REFUSED if refusals else 0
+
+
+def load_csv(given: argparse.Namespace) -> None:
+    """Makes a plane file of a CSV and prints its schema; standard error names the columns that it leaves out."""
+    table = load(given.csv, given.file, given.schema, given.skip, given.null, given.delimiter, given.program)
+    print("loaded %d rows: %s" % (table.rows, ",".join(map(schema_item, table.columns))))
+    kept = {column.name for column in table.columns}
+    left_out = [name for name in next(records_of(given.csv, given.delimiter), []) if name not in kept]
+    if left_out:
+        print("daq-view: left out: %s; daq-view schema says why" % ", ".join(left_out), file=sys.stderr)
+
+
+def schema_item(column: Column) -> str:
+    return "%s:%s%s" % (column.name, column.type, "?" * column.nullable)
 
 
 def page(given: argparse.Namespace) -> None:

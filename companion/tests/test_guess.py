@@ -59,7 +59,8 @@ class Schemas(unittest.TestCase):
         self.assertEqual((asked.schema, asked.advice(), asked.skipped()), ("a:int,b:skip", [], []))
 
     def test_advice(self):
-        for text, told in (("a\n1\nNA\n", "all but NA is int"), ("a\n2024-02-29\nNULL\n", "all but NULL is date"), ("a\n1.0000000001\n", "10 decimals"),
+        for text, told in (("a\n1\nNA\n", "load --null NA gives it the type int?"),
+                           ("a\n2024-02-29\nNULL\n-\n", "all but - and NULL is date"), ("a\n1.0000000001\n", "10 decimals"),
                            ("a\n007\n", "zeros in front")):
             with self.subTest(text):
                 (number, why), = self.guesses(text).advice()

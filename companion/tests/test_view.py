@@ -96,6 +96,19 @@ class Commands(FakeTest):
         lines = self.view("jsonl", "shop.daq", ASK, "--all").stdout.splitlines()
         self.assertEqual([json.loads(line)["high"] for line in lines], [48, 42, 34, 32, 29])
 
+    def test_load(self):
+        with open(self.path("my.csv"), "w", encoding="utf-8") as file:
+            file.write("id;price;city\n1;NA;Oslo\n2;7;Rome\n")
+        loaded = {"made": "new", "out": "loaded 2 rows, 2 columns, 2 planes, 100 bytes\n", "log": self.path("log"), "copy": self.path("given.csv")}
+        self.scene(load=loaded, info={"out": "version 2 rows 2 columns 2\ncolumn 1 price int? width 0 from 7 to 7\n"
+                                             "column 2 city text width 1 from 'Oslo' to 'Rome'\n"})
+        ran = self.view("load", self.path("my.csv"), self.path("my.daq"), "--skip", "id", "--null", "NA", "--delimiter", ";")
+        self.assertEqual((ran.returncode, ran.stdout), (0, "loaded 2 rows: price:int?,city:text\n"))
+        self.assertIn("left out: id", ran.stderr)
+        self.assertEqual(self.logged()["words"][-1], "price:int?,city:text")
+        with open(self.path("given.csv"), encoding="utf-8") as file:
+            self.assertEqual(file.read(), "price,city\n,Oslo\n7,Rome\n")
+
     def test_refusals(self):
         self.play("", err="daq: query refused: syntax at 17\n", status=3)
         told = self.view("watch", "shop.daq", "SELECT SUM(price FROM t")
