@@ -1,4 +1,5 @@
-# What the scripts that time plane files share. They run this in their own shell, with `here` set to the repository's top.
+# What the scripts that time plane files share. They run this in their own shell, with `here` set to the repository's top. Where the variable
+# TABLES names a folder, the tables of `daq demo` are made once and kept there; it has to be an absolute path.
 # shellcheck shell=sh
 folder=$(mktemp -d) || exit 1
 trap 'rm -rf "$folder"' EXIT
@@ -22,7 +23,7 @@ least() {
 # The CSV of the table that `daq demo 1` makes of so many rows.
 make_table() {
     rm -f "$planes" "$database"
-    awk -v seed=1 -v rows="$1" -f "$here/bench/table.awk" >"$csv" || exit 1
+    "$here/bench/table.sh" 1 "$1" "$csv" || exit 1
 }
 
 # Its database, by sqlite3.

@@ -23,7 +23,7 @@ milliseconds() {
     echo "$figures" | cut -d ' ' -f 2
 }
 
-each 'awk -v seed="$1" -v rows="$rows" -f "$here/bench/table.awk" >"$folder/$1.csv"' || exit 1
+each '"$here/bench/table.sh" "$1" "$rows" "$folder/$1.csv"' || exit 1
 cat >"$folder/load" <<'END'
 seq 8 | xargs -P "$1" -I{} "$program" load "$folder/{}.csv" "$folder/{}.daq" "$schema"
 END
