@@ -8,6 +8,8 @@ bin = $(DESTDIR)$(PREFIX)/bin
 man = $(DESTDIR)$(PREFIX)/share/man/man1
 completions = $(DESTDIR)$(PREFIX)/share/bash-completion/completions
 share = $(DESTDIR)$(PREFIX)/share/daq
+# Folders that an install may make, the inner ones first. An uninstall removes those that are empty then.
+folders = $(man) $(completions) $(addprefix $(DESTDIR)$(PREFIX)/, share/man share/bash-completion share bin)
 
 # The script proves and builds what is missing or older than its sources.
 build:
@@ -24,6 +26,7 @@ install: build
 uninstall:
 	rm -f $(bin)/daq $(bin)/daq-view $(man)/daq.1 $(completions)/daq
 	rm -rf $(share)
+	rmdir $(folders) 2>/dev/null || true
 
 test:
 	.ci/run
