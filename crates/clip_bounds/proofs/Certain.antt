@@ -1,16 +1,15 @@
 -- What holds of a clipped bound on whole tables.
-use Rattle.std.proofs.Common.{◌≡◌, ◌≢◌, ℤ, [], IsTrue, Option, Some, None, refl, ap, subst, sym, ◌∙◌, arith}
+use Rattle.std.proofs.Common.{◌≡◌, ◌≢◌, ℤ, [], Option, Some, None, refl, ap, subst, sym, ◌∙◌, arith}
 use Rattle.std.proofs.lemmas.Int.{ints}
 use Rattle.daq_table.specs.Tables.{Cells, Frame}
 use Rattle.query_model.specs.declared.bounds.Bound.{Bound}
-use Rattle.query_model.specs.declared.bounds.Nullity.TheVariants.{Always}
+use Rattle.query_model.specs.declared.bounds.Nullity.TheVariants.{Always, Possibly}
 use Rattle.query_model.specs.Answers.{answer_of}
-use Rattle.query_model.specs.Bounds.{Admits, IsExtremes, IsNested, Occurs, bound_under}
+use Rattle.query_model.specs.Attaining.{AttainsTruths}
+use Rattle.query_model.specs.Bounds.{Admits, IsExtremes, IsNested, Occurs, bound_of, bound_under}
 use Rattle.query_model.specs.Knowledge.{IsCompletion, IsKnowledge, Knowledge}
-use Rattle.query_model.specs.Meaning.{columns_of_pred}
 use Rattle.query_model.specs.Projection.{projected, projected_frame}
 use Rattle.query_model.specs.Queries.{Aggregate, Query}
-use Rattle.query_model.specs.Validity.{no_repeats}
 use Rattle.query_model.specs.Worlds.{AgreesWith, IsPart, answer_on}
 use Rattle.query_model.proofs.Exact.{words_become_exact}
 use Rattle.query_model.proofs.Queries.{none_where_possible, tells_from_admits}
@@ -20,7 +19,7 @@ use Rattle.clip_bounds.specs.declared.clip.Clip.{Clip}
 use Rattle.clip_bounds.specs.Clips.{clip_of}
 use Rattle.clip_bounds.specs.Clipped.{clipped_in, clipped_pairs, clipped_under, pairs_in}
 use Rattle.clip_bounds.specs.ClipLaws.{ClipsAreCertain, IsOfLongs}
-use Rattle.clip_bounds.proofs.ClipBounds.{clips_are_extremes, clips_contain, clips_lie_within}
+use Rattle.clip_bounds.proofs.ClipBounds.{always_possibly, by_numbers, nothing_is_null, clips_are_extremes, clips_contain, clips_lie_within}
 use Rattle.clip_bounds.proofs.ClippedEnds.{nullity_clipped}
 use Rattle.clip_bounds.proofs.Rows.{clipped_by, not_average}
 
@@ -29,12 +28,12 @@ certain_there : (query : Query) (i : Aggregate) (clip : Clip) (frame : Frame) (k
     (world : Cells) → AgreesWith query frame known world → Admits (clipped_under query i clip (projected_frame query frame) known) (answer_on query i [] frame world)
 certain_there query i clip frame known has longs k world agrees = clips_contain query i clip (projected_frame query frame) known (projected query world) has longs k agrees.part
 
-extremes_there : (query : Query) (i : Aggregate) (clip : Clip) (frame part : Frame) (known : Knowledge) → clip_of query i ≡ Some clip → IsPart query frame part → IsOfLongs part clip.column → IsTrue (no_repeats (columns_of_pred query.pred)) → IsKnowledge part known →
+extremes_there : (query : Query) (i : Aggregate) (clip : Clip) (frame part : Frame) (known : Knowledge) → clip_of query i ≡ Some clip → IsPart query frame part → IsOfLongs part clip.column → AttainsTruths query.pred [] → IsKnowledge part known →
     ((world : Cells) → AgreesWith query frame known world → Admits (clipped_under query i clip part known) (answer_on query i [] frame world)) →
     IsExtremes (AgreesWith query frame known) (answer_on query i [] frame) (clipped_under query i clip part known)
-extremes_there query i clip frame part known has is longs once k admits =
+extremes_there query i clip frame part known has is longs attains k admits =
     let bound = clipped_under query i clip part known in
-    let law = clips_are_extremes query i clip part known has longs once k in
+    let law = clips_are_extremes query i clip part known has longs attains k in
     let occurs : (a : Option ℤ) → Occurs (λ (cells : Cells). IsCompletion part known cells) (answer_of query i [] part) a → Occurs (AgreesWith query frame known) (answer_on query i [] frame) a =
     λ a found. (let whole = completions_have_tables query frame part known found.0 is found.1 in
     (whole.0, whole.1, ap (answer_of query i [] (projected_frame query frame)) whole.2 ∙ ap (λ (w : Frame). answer_of query i [] w found.0) is.same ∙ found.2)) in
@@ -69,10 +68,12 @@ clips_are_certain stage i clip frame has part longs k =
     (λ longs k. certain_there query i clip frame stage.known has longs k) longs k in
     record {
       contains = contains;
-      tight = λ once. extremes_there query i clip frame stage.frame stage.known has part longs once k contains;
+      tight = λ attains. extremes_there query i clip frame stage.frame stage.known has part longs attains k contains;
       exact = λ all some world agrees. (let meets = bounds_become_exact_on_tables query i [] frame stage.frame stage.known world (not_average i.kind own.kind) part k all agrees (within.full some) in
           same_ends (bound_under query i [] stage.frame stage.known) (clipped_in stage i clip) (answer_on query i [] frame world) within some (contains world agrees) meets.0 meets.1);
-      told = λ all. word_of_bound i.kind (clipped_pairs stage i clip)
-          (λ possibly. words_become_exact query i [] stage.frame stage.known k all (sym (nullity_clipped clip (pairs_in stage i)) ∙ possibly));
+      told = λ all. by_numbers clip (λ f. (bound_of i.kind (f (pairs_in stage i))).null ≢ Possibly)
+          (λ full. word_of_bound i.kind (clipped_pairs stage i clip)
+          (λ possibly. words_become_exact query i [] stage.frame stage.known k all (sym (nullity_clipped clip (pairs_in stage i)) ∙ possibly)))
+          (λ none possibly. always_possibly (sym (nothing_is_null i.kind own.kind) ∙ possibly));
       within = within;
     }

@@ -14,10 +14,10 @@ use Rattle.clip_bounds.proofs.ClippedEnds.{greatest_high_clipped, least_low_clip
 
 -- ---- tests of numbers
 
-at_most : (x y : ℤ) → x ≤ℤ y → int_le x y ≡ true
+pub at_most : (x y : ℤ) → x ≤ℤ y → int_le x y ≡ true
 at_most x y h = grind (arith, ints)
 
-above : (x y : ℤ) → y <ℤ x → int_le x y ≡ false
+pub above : (x y : ℤ) → y <ℤ x → int_le x y ≡ false
 above x y h = grind (arith, ints)
 
 is_at_most : (x y : ℤ) → int_le x y ≡ true → x ≤ℤ y

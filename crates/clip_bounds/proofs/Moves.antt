@@ -40,7 +40,7 @@ use Rattle.clip_bounds.specs.Clipped.{clipped}
 use Rattle.clip_bounds.specs.ClipLaws.{IsOfLongs}
 use Rattle.clip_bounds.specs.Ends.{clip_end, level_end, part_of}
 use Rattle.clip_bounds.specs.Levels.{IsLevelOf, count_at}
-use Rattle.clip_bounds.proofs.Passing.{HasNumberIn, may_hold_within, range_of_clip, surely_within}
+use Rattle.clip_bounds.proofs.Passing.{HasNumberIn, HasNumbers, may_hold_within, range_of_clip, surely_within}
 use Rattle.clip_bounds.proofs.Rows.{IsClippedBy, IsPairOf, column_pair, long_number, may_hold, pair_is}
 
 -- ---- a list of rows
@@ -238,7 +238,7 @@ past_level High column a level p x is base legal some within inside other = belo
 
 -- ---- all rows
 
-module _ (query : Query) (item : Aggregate) (clip : Clip) (table : KnownTable) (own : IsClippedBy query item clip) (longs : IsOfLongs table.frame clip.column) (k : IsKnowledge table.frame table.known)
+module _ (query : Query) (item : Aggregate) (clip : Clip) (table : KnownTable) (own : IsClippedBy query item clip) (full : HasNumbers clip) (longs : IsOfLongs table.frame clip.column) (k : IsKnowledge table.frame table.known)
     (within : clip.column < length table.frame.columns) where
   abbrev c : ℕ
   c = clip.column
@@ -262,7 +262,7 @@ module _ (query : Query) (item : Aggregate) (clip : Clip) (table : KnownTable) (
   passing : (r : ℕ) → r < table.frame.rows → Allows (truth_of query.pred (row_ranges r)) true → HasNumberIn clip (row_ranges r c)
   passing r r_in a =
       let truths = truths_of query.pred (row_ranges r) in
-      may_hold_within query.pred c clip (row_ranges r) own.range (none_empty r r_in) (may_hold truths.may_hold truths.may_fail truths.may_be_null a)
+      may_hold_within query.pred c clip (row_ranges r) own.range full (none_empty r r_in) (λ x w. long_number table.frame table.known r c x longs w) (may_hold truths.may_hold truths.may_fail truths.may_be_null a)
 
   -- a number of the column, within the clip
   record HasPassing (r : ℕ) : Type 0 where
@@ -274,9 +274,7 @@ module _ (query : Query) (item : Aggregate) (clip : Clip) (table : KnownTable) (
   has_passing : (r : ℕ) → r < table.frame.rows → Allows (truth_of query.pred (row_ranges r)) true → HasPassing r
   has_passing r r_in a =
       let found = passing r r_in a in
-      let in_span : Within (row_ranges r c).numbers found.number = found.there.1 in
-      let in_clip = found.within (long_number table.frame table.known r c found.number longs in_span) in
-      record { number = found.number; there = in_span; above = in_clip.above; below = in_clip.below }
+      record { number = found.number; there = found.there.1; above = found.within.above; below = found.within.below }
 
   -- where a row surely passes, its ends lie within the clip
   sure_end : (r : ℕ) → r < table.frame.rows → truth_of query.pred (row_ranges r) ≡ True → (x : ℤ) → IsTrue (may_be_number (row_ranges r c).null) → Within (row_ranges r c).numbers x → Within (range_of_clip clip) x

@@ -1,9 +1,9 @@
 -- Where a condition with a clip holds, the column has a number of the clip.
-use Rattle.std.proofs.Common.{◌≡◌, ℕ, ℤ, pos, negsuc, ◌+ℤ◌, ◌-ℤ◌, ◌≤ℤ◌, int_lt, int_le, Bool, true, false, ◌&&◌, ◌==◌, List, [], ◌∷◌, ◌++◌, ◌⊎◌, inl, inr, refl, sym, ap, subst, ◌∙◌, arith, IsTrue, Option, Some, None}
+use Rattle.std.proofs.Common.{◌≡◌, ℕ, ℤ, pos, negsuc, ◌+ℤ◌, ◌-ℤ◌, ◌≤ℤ◌, int_lt, int_le, Bool, true, false, ◌&&◌, ◌==◌, refl, sym, ap, subst, ◌∙◌, arith, IsTrue, Option, Some, None}
 use Rattle.std.specs.Ordering.{int_eq}
-use Rattle.std.specs.Option.{option_or}
-use Rattle.std.proofs.lemmas.Bool.{and_from, and_parts, cond_both, eqb-true, eq-eqb, false≢true, or_cases, or_left, or_right}
-use Rattle.std.proofs.lemmas.Int.{ints}
+use Rattle.std.specs.Int.{int_max}
+use Rattle.std.proofs.lemmas.Bool.{and_from, and_parts, cond_both, eqb-true, false≢true}
+use Rattle.std.proofs.lemmas.Int.{ints, clamps}
 use Rattle.std.proofs.lemmas.Option.{same_Some}
 use Rattle.interval_calc.specs.Intervals.{Interval, Within}
 use Rattle.query_model.specs.declared.bounds.Truth.TheVariants.{True}
@@ -12,16 +12,16 @@ use Rattle.query_model.specs.declared.query.Atom.{Atom}
 use Rattle.query_model.specs.declared.query.Atom.TheVariants.{Compare, CompareColumns, Between, OneOf, IsNull}
 use Rattle.query_model.specs.declared.query.Comparison.{Comparison}
 use Rattle.query_model.specs.declared.query.Comparison.TheVariants.{Eq, Ne, Lt, Le, Gt, Ge}
-use Rattle.query_model.specs.Meaning.{Row, atom_truth, between, columns_of_atom, columns_of_pred, holds, is_sql_true, of_value, sql_and, truth}
+use Rattle.query_model.specs.Meaning.{Row, atom_truth, between, holds, is_sql_true, of_value, sql_and, truth}
 use Rattle.query_model.specs.Queries.{Condition, All, Single, Both, Either, Negation}
-use Rattle.query_model.specs.Truths.{IsIn, MayBe, Range, Ranges, truth_of, truths_of, truths_of_atom, truths_over}
+use Rattle.query_model.specs.Truths.{IsIn, MayBe, Range, Ranges, may_be_number, truth_of, truths_of, truths_of_atom, truths_over}
 use Rattle.query_model.specs.Laws.{NoneEmpty}
 use Rattle.query_model.proofs.Integers.{equal_when, when_equal}
 use Rattle.query_model.proofs.Members.{over_reached}
 use Rattle.query_model.proofs.Numbers.{Allows}
-use Rattle.query_model.proofs.Rows.{counts, placed, truth_allows}
+use Rattle.query_model.proofs.Rows.{placed, truth_allows}
 use Rattle.clip_bounds.specs.declared.clip.Clip.{Clip}
-use Rattle.clip_bounds.specs.Clips.{IsLong, before, behind, clip_in, clip_of_atom, clip_of_comparison, if_of}
+use Rattle.clip_bounds.specs.Clips.{IsLong, before, behind, clip_in, clip_of_atom, clip_of_comparison, common, common_of, if_of}
 
 -- the numbers of a clip
 abbrev pub range_of_clip : Clip → Interval
@@ -132,34 +132,7 @@ test_of_atom (Between c low high) clip e = subst (HasTest (Between c low high)) 
 test_of_atom (OneOf c values) clip e = absurd (no_clip clip e)
 test_of_atom (IsNull c) clip e = absurd (no_clip clip e)
 
-here_read : (c : ℕ) → IsTrue (counts c (c ∷ []))
-here_read c = or_left (c == c) false (eq-eqb c c refl)
-
-of_comparison : (c : ℕ) (op : Comparison) (v : ℤ) (clip : Clip) → clip_of_comparison c op v ≡ Some clip → clip.column ≡ c
-of_comparison c Eq v clip e = ap (λ (k : Clip). k.column) (sym (same_Some _ clip e))
-of_comparison c Ne v clip e = absurd (no_clip clip e)
-of_comparison c Lt v clip e = ap (λ (k : Clip). k.column) (sym (same_Some _ clip e))
-of_comparison c Le v clip e = ap (λ (k : Clip). k.column) (sym (same_Some _ clip e))
-of_comparison c Gt v clip e = ap (λ (k : Clip). k.column) (sym (same_Some _ clip e))
-of_comparison c Ge v clip e = ap (λ (k : Clip). k.column) (sym (same_Some _ clip e))
-
--- the atom reads the clip's column
-clip_in_atom : (atom : Atom) (clip : Clip) → clip_of_atom atom ≡ Some clip → IsTrue (counts clip.column (columns_of_atom atom))
-clip_in_atom (Compare c op v) clip e = subst (λ d. IsTrue (counts d (c ∷ []))) (sym (of_comparison c op v clip e)) (here_read c)
-clip_in_atom (CompareColumns l op r) clip e = absurd (no_clip clip e)
-clip_in_atom (Between c low high) clip e = subst (λ (k : Clip). IsTrue (counts k.column (c ∷ []))) (same_Some _ clip e) (here_read c)
-clip_in_atom (OneOf c values) clip e = absurd (no_clip clip e)
-clip_in_atom (IsNull c) clip e = absurd (no_clip clip e)
-
 -- ---- conditions
-
-reads_left : (c : ℕ) (xs ys : List ℕ) → IsTrue (counts c xs) → IsTrue (counts c (xs ++ ys))
-reads_left c [] ys t = absurd (false≢true t)
-reads_left c (x ∷ xs) ys t = elim (or_cases (c == x) (counts c xs) t) [ inl e ↦ or_left (c == x) _ e | inr e ↦ or_right (c == x) _ (reads_left c xs ys e) ]
-
-reads_right : (c : ℕ) (xs ys : List ℕ) → IsTrue (counts c ys) → IsTrue (counts c (xs ++ ys))
-reads_right c [] ys t = t
-reads_right c (x ∷ xs) ys t = or_right (c == x) _ (reads_right c xs ys t)
 
 -- a clip of the column is that of an atom
 of_column : (c : ℕ) (o : Option Clip) (clip : Clip) → if_of c o ≡ Some clip → (o ≡ Some clip) × (clip.column ≡ c)
@@ -168,29 +141,20 @@ of_column c (Some own) clip e =
     cond_both (own.column == c) (Some own) None (λ o. o ≡ Some clip → (Some own ≡ Some clip) × (clip.column ≡ c))
     (λ t same. (same, subst (λ (k : Clip). k.column ≡ c) (same_Some own clip same) (eqb-true own.column c t))) (λ f same. absurd (no_clip clip same)) e
 
-pub of_one : (o p : Option Clip) (clip : Clip) → option_or o p ≡ Some clip → (o ≡ Some clip) ⊎ (p ≡ Some clip)
-of_one None p clip e = inr e
-of_one (Some own) p clip e = inl e
+-- what holds of each of two clips and of what both let through holds of what is taken of them
+of_both : (P : Clip → Type 0) → ((a b : Clip) → P a → P b → P (common a b)) → (o p : Option Clip) (clip : Clip) → common_of o p ≡ Some clip →
+    ((a : Clip) → o ≡ Some a → P a) → ((b : Clip) → p ≡ Some b → P b) → P clip
+of_both P both None p clip e f g = g clip e
+of_both P both (Some a) None clip e f g = f clip e
+of_both P both (Some a) (Some b) clip e f g = subst P (same_Some _ clip e) (both a b (f a refl) (g b refl))
 
 pub column_of_clip : (p : Condition) (c : ℕ) (clip : Clip) → clip_in p c ≡ Some clip → clip.column ≡ c
 column_of_clip All c clip e = absurd (no_clip clip e)
 column_of_clip (Single atom) c clip e = (of_column c (clip_of_atom atom) clip e).1
-column_of_clip (Both a b) c clip e = elim (of_one (clip_in a c) (clip_in b c) clip e) [ inl f ↦ column_of_clip a c clip f | inr f ↦ column_of_clip b c clip f ]
+column_of_clip (Both a b) c clip e =
+    of_both (λ (k : Clip). k.column ≡ c) (λ x y f g. f) (clip_in a c) (clip_in b c) clip e (λ k f. column_of_clip a c k f) (λ k f. column_of_clip b c k f)
 column_of_clip (Either a b) c clip e = absurd (no_clip clip e)
 column_of_clip (Negation a) c clip e = absurd (no_clip clip e)
-
--- the column stands in the condition
-pub clip_is_read : (p : Condition) (c : ℕ) (clip : Clip) → clip_in p c ≡ Some clip → IsTrue (counts c (columns_of_pred p))
-clip_is_read All c clip e = absurd (no_clip clip e)
-clip_is_read (Single atom) c clip e =
-    let own = of_column c (clip_of_atom atom) clip e in
-    subst (λ d. IsTrue (counts d (columns_of_atom atom))) own.1 (clip_in_atom atom clip own.0)
-clip_is_read (Both a b) c clip e = elim (of_one (clip_in a c) (clip_in b c) clip e) [
-  | inl f ↦ reads_left c (columns_of_pred a) (columns_of_pred b) (clip_is_read a c clip f)
-  | inr f ↦ reads_right c (columns_of_pred a) (columns_of_pred b) (clip_is_read b c clip f)
-]
-clip_is_read (Either a b) c clip e = absurd (no_clip clip e)
-clip_is_read (Negation a) c clip e = absurd (no_clip clip e)
 
 -- an atom of the clip, by the column's own number
 pub atom_of : (atom : Atom) (c : ℕ) (clip : Clip) → if_of c (clip_of_atom atom) ≡ Some clip → HasTest atom clip × (clip.column ≡ c)
@@ -213,6 +177,19 @@ number_passing test (Some x) h = (x, refl, h)
 abbrev pub HasNumber : Clip → Option ℤ → Type 0
 HasNumber clip v = (x : ℤ) × (v ≡ Some x) × (IsLong x → Within (range_of_clip clip) x)
 
+both_numbers : (v : Option ℤ) (a b : Clip) → HasNumber a v → HasNumber b v → HasNumber (common a b) v
+both_numbers v a b (x, is, in_a) (y, also, in_b) =
+    let same : y ≡ x = same_Some y x (sym also ∙ is) in
+    (x, is, λ long. of_both_ranges (in_a long) (subst (λ z. IsLong z → Within (range_of_clip b) z) same in_b long))
+  where
+    of_both_ranges : Within (range_of_clip a) x → Within (range_of_clip b) x → Within (range_of_clip (common a b)) x
+    of_both_ranges f g =
+        let low = f.above in
+        let high = f.below in
+        let above = g.above in
+        let below = g.below in
+        record { above = omega (arith, ints, clamps); below = omega (arith, ints, clamps) }
+
 pub holds_within : (p : Condition) (c : ℕ) (clip : Clip) (row : Row) → clip_in p c ≡ Some clip → holds p row ≡ true → HasNumber clip (row c)
 holds_within All c clip row e h = absurd (no_clip clip e)
 holds_within (Single atom) c clip row e h =
@@ -223,35 +200,78 @@ holds_within (Single atom) c clip row e h =
     (found.0, ap row (sym own.1) ∙ found.1, λ long. is.passes found.0 long found.2)
 holds_within (Both a b) c clip row e h =
     let sides = and_parts (holds a row) (holds b row) (sym (both_hold (truth a row) (truth b row)) ∙ h) in
-    elim (of_one (clip_in a c) (clip_in b c) clip e) [ inl f ↦ holds_within a c clip row f sides.0 | inr f ↦ holds_within b c clip row f sides.1 ]
+    of_both (λ k. HasNumber k (row c)) (both_numbers (row c)) (clip_in a c) (clip_in b c) clip e
+    (λ k f. holds_within a c k row f sides.0) (λ k f. holds_within b c k row f sides.1)
 holds_within (Either a b) c clip row e h = absurd (no_clip clip e)
 holds_within (Negation a) c clip row e h = absurd (no_clip clip e)
 
--- a number of the range which lies in the clip if it is one of 64 bits
-pub record HasNumberIn (clip : Clip) (range : Range) : Type 0 where
-  pub number : ℤ
-  pub there : IsIn range (Some number)
-  pub within : IsLong number → Within (range_of_clip clip) number
+-- ---- ranges of numbers
 
-found_in : (clip : Clip) (range : Range) (test : ℤ → Bool) → ((x : ℤ) → IsLong x → test x ≡ true → Within (range_of_clip clip) x) →
-    (v : Option ℤ) × IsIn range v × (of_value test v ≡ Some true) → HasNumberIn clip range
-found_in clip range test passes (None, m, e) = absurd (no_truth true e)
-found_in clip range test passes (Some x, m, e) = record { number = x; there = m; within = λ long. passes x long (same_Some (test x) true e) }
+-- the range may have a number, and lies wholly on neither side of the clip
+record Touches (clip : Clip) (range : Range) : Type 0 where
+  pub number : IsTrue (may_be_number range.null)
+  pub low : range.numbers.low ≤ℤ clip.high
+  pub high : clip.low ≤ℤ range.numbers.high
 
--- where the condition may hold there is such a number
-pub may_hold_within : (p : Condition) (c : ℕ) (clip : Clip) (ranges : Ranges) → clip_in p c ≡ Some clip → NoneEmpty ranges → IsTrue (truths_of p ranges).may_hold → HasNumberIn clip (ranges c)
-may_hold_within All c clip ranges e o h = absurd (no_clip clip e)
-may_hold_within (Single atom) c clip ranges e o h =
+both_touch : (range : Range) (a b : Clip) → Touches a range → Touches b range → Touches (common a b) range
+both_touch range a b f g =
+    let low = f.low in
+    let high = f.high in
+    let also = g.low in
+    let too = g.high in
+    record { number = f.number; low = omega (arith, ints, clamps); high = omega (arith, ints, clamps) }
+
+touched : (clip : Clip) (range : Range) (test : ℤ → Bool) → ((x : ℤ) → Within range.numbers x → IsLong x) → ((x : ℤ) → IsLong x → test x ≡ true → Within (range_of_clip clip) x) →
+    (v : Option ℤ) × IsIn range v × (of_value test v ≡ Some true) → Touches clip range
+touched clip range test long passes (None, m, e) = absurd (no_truth true e)
+touched clip range test long passes (Some x, m, e) =
+    let within = passes x (long x m.1) (same_Some (test x) true e) in
+    let above = within.above in
+    let below = within.below in
+    let low = m.1.above in
+    let high = m.1.below in
+    record { number = m.0; low = omega (arith, ints); high = omega (arith, ints) }
+
+-- where the condition may hold, the range of the column touches the clip
+may_touch : (p : Condition) (c : ℕ) (clip : Clip) (ranges : Ranges) → clip_in p c ≡ Some clip → NoneEmpty ranges → ((x : ℤ) → Within (ranges c).numbers x → IsLong x) → IsTrue (truths_of p ranges).may_hold → Touches clip (ranges c)
+may_touch All c clip ranges e o long h = absurd (no_clip clip e)
+may_touch (Single atom) c clip ranges e o long h =
     let own = atom_of atom c clip e in
     let test = own.0.0 in
     let is = own.0.1 in
     let may : MayBe (truths_over (ranges clip.column) test) (Some true) = subst (λ (t : Truths). IsTrue t.may_hold) (is.known ranges) h in
-    subst (λ d. HasNumberIn clip (ranges d)) own.1 (found_in clip (ranges clip.column) test is.passes (over_reached (ranges clip.column) test (Some true) (o clip.column) may))
-may_hold_within (Both a b) c clip ranges e o h =
+    touched clip (ranges c) test long is.passes (subst (λ d. (v : Option ℤ) × IsIn (ranges d) v × (of_value test v ≡ Some true)) own.1 (over_reached (ranges clip.column) test (Some true) (o clip.column) may))
+may_touch (Both a b) c clip ranges e o long h =
     let sides = and_parts (truths_of a ranges).may_hold (truths_of b ranges).may_hold h in
-    elim (of_one (clip_in a c) (clip_in b c) clip e) [ inl f ↦ may_hold_within a c clip ranges f o sides.0 | inr f ↦ may_hold_within b c clip ranges f o sides.1 ]
-may_hold_within (Either a b) c clip ranges e o h = absurd (no_clip clip e)
-may_hold_within (Negation a) c clip ranges e o h = absurd (no_clip clip e)
+    of_both (λ k. Touches k (ranges c)) (both_touch (ranges c)) (clip_in a c) (clip_in b c) clip e
+    (λ k f. may_touch a c k ranges f o long sides.0) (λ k f. may_touch b c k ranges f o long sides.1)
+may_touch (Either a b) c clip ranges e o long h = absurd (no_clip clip e)
+may_touch (Negation a) c clip ranges e o long h = absurd (no_clip clip e)
+
+-- the clip has numbers
+abbrev pub HasNumbers : Clip → Type 0
+HasNumbers clip = clip.low ≤ℤ clip.high
+
+-- a number of the range which lies in the clip
+pub record HasNumberIn (clip : Clip) (range : Range) : Type 0 where
+  pub number : ℤ
+  pub there : IsIn range (Some number)
+  pub within : Within (range_of_clip clip) number
+
+-- of a clip that has numbers there is then one in the range
+pub may_hold_within : (p : Condition) (c : ℕ) (clip : Clip) (ranges : Ranges) → clip_in p c ≡ Some clip → HasNumbers clip → NoneEmpty ranges → ((x : ℤ) → Within (ranges c).numbers x → IsLong x) →
+    IsTrue (truths_of p ranges).may_hold → HasNumberIn clip (ranges c)
+may_hold_within p c clip ranges e full o long h =
+    let touches = may_touch p c clip ranges e o long h in
+    let low = touches.low in
+    let high = touches.high in
+    let ordered = o c in
+    let number = int_max (ranges c).numbers.low clip.low in
+    record {
+      number = number;
+      there = (touches.number, record { above = omega (arith, ints, clamps); below = omega (arith, ints, clamps) });
+      within = record { above = omega (arith, ints, clamps); below = omega (arith, ints, clamps) };
+    }
 
 -- where it surely holds, each value of the range is such a number
 pub surely_within : (p : Condition) (c : ℕ) (clip : Clip) (ranges : Ranges) (v : Option ℤ) → clip_in p c ≡ Some clip → NoneEmpty ranges → truth_of p ranges ≡ True → IsIn (ranges c) v → HasNumber clip v

@@ -23,10 +23,10 @@ use Rattle.query_model.specs.Truths.{Ranges, and_of, may_be_null, may_be_number,
 use Rattle.query_model.proofs.Spans.{declared_outside}
 use Rattle.query_model.proofs.Numbers.{Allows}
 use Rattle.clip_bounds.specs.declared.clip.Clip.{Clip}
-use Rattle.clip_bounds.specs.Clips.{IsLong, clip_in, clip_of, clip_of_argument, is_clipped_kind, is_plain, stands_once}
+use Rattle.clip_bounds.specs.Clips.{IsLong, clip_in, clip_of, clip_of_argument, is_clipped_kind, is_plain, stands_beside}
 use Rattle.clip_bounds.specs.Clipped.{clipped}
 use Rattle.clip_bounds.specs.ClipLaws.{IsOfLongs}
-use Rattle.clip_bounds.proofs.Passing.{HasNumberIn, column_of_clip, holds_within, may_hold_within, no_clip, range_of_clip}
+use Rattle.clip_bounds.proofs.Passing.{HasNumberIn, HasNumbers, column_of_clip, holds_within, may_hold_within, no_clip, range_of_clip}
 
 -- ---- the query of an item with a clip
 
@@ -34,6 +34,7 @@ pub record IsClippedBy (query : Query) (item : Aggregate) (clip : Clip) : Type 0
   pub shape : query.shape ≡ Plain
   pub kind : IsTrue (is_clipped_kind item.kind)
   pub argument : item.arg ≡ Column clip.column
+  pub beside : IsFalse (stands_beside query.pred clip.column)
   pub range : clip_in query.pred clip.column ≡ Some clip
 
 -- a choice that is a clip is the first of two
@@ -41,16 +42,31 @@ first_of_two : (b : Bool) (o : Option Clip) (clip : Clip) → cond b o None ≡ 
 first_of_two true o clip e = (refl, e)
 first_of_two false o clip e = absurd (no_clip clip e)
 
+-- or the second
+second_of_two : (b : Bool) (o : Option Clip) (clip : Clip) → cond b None o ≡ Some clip → IsFalse b × (o ≡ Some clip)
+second_of_two true o clip e = absurd (no_clip clip e)
+second_of_two false o clip e = (refl, e)
+
 plain_shape : (shape : Shape) → IsTrue (is_plain shape) → shape ≡ Plain
 plain_shape Plain h = refl
 plain_shape (Grouped columns) h = absurd (false≢true h)
 plain_shape (Top key down limit) h = absurd (false≢true h)
 
-argument_of : (pred : Condition) (arg : Term) (clip : Clip) → clip_of_argument pred arg ≡ Some clip → (arg ≡ Column clip.column) × (clip_in pred clip.column ≡ Some clip)
+-- the argument is the clip's column
+record IsArgument (pred : Condition) (arg : Term) (clip : Clip) : Type 0 where
+  pub column : arg ≡ Column clip.column
+  pub beside : IsFalse (stands_beside pred clip.column)
+  pub range : clip_in pred clip.column ≡ Some clip
+
+argument_of : (pred : Condition) (arg : Term) (clip : Clip) → clip_of_argument pred arg ≡ Some clip → IsArgument pred arg clip
 argument_of pred (Column c) clip e =
-    let own = (first_of_two (stands_once pred c) (clip_in pred c) clip e).1 in
-    let column = column_of_clip pred c clip own in
-    (ap (λ d. Column d) (sym column), subst (λ d. clip_in pred d ≡ Some clip) (sym column) own)
+    let own = second_of_two (stands_beside pred c) (clip_in pred c) clip e in
+    let column = column_of_clip pred c clip own.1 in
+    record {
+      column = ap (λ d. Column d) (sym column);
+      beside = subst (λ d. IsFalse (stands_beside pred d)) (sym column) own.0;
+      range = subst (λ d. clip_in pred d ≡ Some clip) (sym column) own.1;
+    }
 argument_of pred (Literal n) clip e = absurd (no_clip clip e)
 argument_of pred (Add a b) clip e = absurd (no_clip clip e)
 argument_of pred (Sub a b) clip e = absurd (no_clip clip e)
@@ -61,7 +77,7 @@ clipped_by query item clip e =
     let both = first_of_two (is_plain query.shape && is_clipped_kind item.kind) (clip_of_argument query.pred item.arg) clip e in
     let tests = and_parts (is_plain query.shape) (is_clipped_kind item.kind) both.0 in
     let argument = argument_of query.pred item.arg clip both.1 in
-    record { shape = plain_shape query.shape tests.0; kind = tests.1; argument = argument.0; range = argument.1 }
+    record { shape = plain_shape query.shape tests.0; kind = tests.1; argument = argument.column; beside = argument.beside; range = argument.range }
 
 pub not_average : (kind : ItemKind) → IsTrue (is_clipped_kind kind) → kind ≢ Avg
 not_average Count h e = false≢true h
@@ -72,7 +88,7 @@ not_average Avg h e = false≢true h
 
 -- ---- a row's pair
 
-and_true : (t : Truth) → and_of t True ≡ t
+pub and_true : (t : Truth) → and_of t True ≡ t
 and_true False = refl
 and_true Unknown = refl
 and_true True = refl
@@ -134,28 +150,32 @@ pub may_hold : (h f n : Bool) → Allows (truth_among (record { may_hold = h; ma
 may_hold true f n a = refl
 may_hold false f n a = absurd (false≢true (sym a))
 
--- a clipped pair is not empty: some number of its span lies in the clip
-pub passing_number : (query : Query) (item : Aggregate) (clip : Clip) (ranges : Ranges) (p : Pair) → IsClippedBy query item clip → NoneEmpty ranges → pair_of query item [] ranges ≡ Some p → HasNumberIn clip (ranges clip.column)
-passing_number query item clip ranges p own o e =
+-- where the clip has numbers, a clipped pair is not empty: some number of its span lies in the clip
+pub passing_number : (query : Query) (item : Aggregate) (clip : Clip) (ranges : Ranges) (p : Pair) → IsClippedBy query item clip → HasNumbers clip → NoneEmpty ranges →
+    ((x : ℤ) → Within (ranges clip.column).numbers x → IsLong x) → pair_of query item [] ranges ≡ Some p → HasNumberIn clip (ranges clip.column)
+passing_number query item clip ranges p own full o long e =
     let is = pair_at_row query item clip ranges p own e in
     let truths = truths_of query.pred ranges in
-    may_hold_within query.pred clip.column clip ranges own.range o (may_hold truths.may_hold truths.may_fail truths.may_be_null is.holds)
+    may_hold_within query.pred clip.column clip ranges own.range full o long (may_hold truths.may_hold truths.may_fail truths.may_be_null is.holds)
 
-pub clipped_ordered : (query : Query) (item : Aggregate) (clip : Clip) (frame : Frame) (known : Knowledge) (r : ℕ) (p : Pair) → IsClippedBy query item clip → IsOfLongs frame clip.column → NoneEmpty (ranges_of frame known r) →
+pub clipped_ordered : (query : Query) (item : Aggregate) (clip : Clip) (frame : Frame) (known : Knowledge) (r : ℕ) (p : Pair) → IsClippedBy query item clip → HasNumbers clip → IsOfLongs frame clip.column → NoneEmpty (ranges_of frame known r) →
     pair_of query item [] (ranges_of frame known r) ≡ Some p → (clipped clip p).low ≤ℤ (clipped clip p).high
-clipped_ordered query item clip frame known r p own longs o e =
+clipped_ordered query item clip frame known r p own full longs o e =
     let ranges = ranges_of frame known r in
     let is = pair_at_row query item clip ranges p own e in
-    let found = passing_number query item clip ranges p own o e in
+    let found = passing_number query item clip ranges p own full o (λ x w. long_number frame known r clip.column x longs w) e in
     let there : Within (ranges clip.column).numbers found.number = found.there.1 in
-    let within = found.within (long_number frame known r clip.column found.number longs there) in
     let low = is.low in
     let high = is.high in
     let above = there.above in
     let below = there.below in
-    let from = within.above in
-    let to = within.below in
+    let from = found.within.above in
+    let to = found.within.below in
     omega (arith, ints, clamps)
+
+pub and_one : (b : Bool) → (b && true) ≡ b
+and_one true = refl
+and_one false = refl
 
 -- what passes is the column's number
 pub outcome_is : (query : Query) (item : Aggregate) (clip : Clip) (row : Row) → IsClippedBy query item clip → outcome_of query item [] row ≡ cond (holds query.pred row) (row clip.column) None
@@ -163,10 +183,6 @@ outcome_is query item clip row own =
     ap (λ (shape : Shape). cond (holds query.pred row && in_group (groups_of shape) [] row) (val item.arg row) None) own.shape
     ∙ ap (λ e. cond (holds query.pred row && true) (val e row) None) own.argument
     ∙ ap (λ b. cond b (row clip.column) None) (and_one (holds query.pred row))
-  where
-    and_one : (b : Bool) → (b && true) ≡ b
-    and_one true = refl
-    and_one false = refl
 
 no_number : (x : ℤ) → None ≡ Some x → ⊥
 no_number x e = cc

@@ -1,14 +1,13 @@
 -- The laws of clipped bounds, as statements. A public function with an empty body has each as its contract.
 -- A frame, a knowledge and cells are those of the query's columns alone.
-use Rattle.std.specs.Prelude.{◌≡◌, ℕ, ◌≤ℤ◌, Bool, List, [], IsTrue}
+use Rattle.std.specs.Prelude.{◌≡◌, ℕ, ◌≤ℤ◌, Bool, List, []}
 use Rattle.std.specs.declared.option.Option.TheVariants.{Some}
 use Rattle.daq_table.specs.Tables.{Cells, Frame, ends_at}
 use Rattle.query_model.specs.Answers.{answer_of}
+use Rattle.query_model.specs.Attaining.{AttainsTruths}
 use Rattle.query_model.specs.Bounds.{Admits, IsExtremes, IsNested, bound_under}
 use Rattle.query_model.specs.Knowledge.{CanTake, IsCompletion, IsKnowledge, Knowledge, taken}
-use Rattle.query_model.specs.Meaning.{columns_of_pred}
 use Rattle.query_model.specs.Queries.{Aggregate, Query}
-use Rattle.query_model.specs.Validity.{no_repeats}
 use Rattle.query_model.specs.Worlds.{IsPart}
 use Rattle.round_engine.specs.Stages.{Stage}
 use Rattle.clip_bounds.specs.declared.clip.Clip.{Clip}
@@ -27,12 +26,13 @@ ClipsContain =
     clip_of query item ≡ Some clip → IsOfLongs frame clip.column → IsKnowledge frame known → IsCompletion frame known cells →
     Admits (clipped_under query item clip frame known) (answer_of query item [] frame cells)
 
--- where no column stands in the condition twice, it is the extremes over all completions
+-- where no column stands in the condition twice, or where those that do stand there in ranges that meet, it is the extremes over all
+-- completions
 abbrev pub ClipsAreExtremes : Type 0
 ClipsAreExtremes =
     (query : Query) (item : Aggregate) (clip : Clip) (frame : Frame) (known : Knowledge) →
     clip_of query item ≡ Some clip → IsOfLongs frame clip.column →
-    IsTrue (no_repeats (columns_of_pred query.pred)) → IsKnowledge frame known →
+    AttainsTruths query.pred [] → IsKnowledge frame known →
     IsExtremes (IsCompletion frame known) (answer_of query item [] frame) (clipped_under query item clip frame known)
 
 -- with one more plane read it lies within the one before

@@ -1,10 +1,10 @@
--- The numbers that a condition lets through for a column, where that is a range which an atom alone tells.
+-- The numbers that a condition lets through for a column, where ranges tell them: one, or several that are joined by AND.
 use Rattle.std.specs.Prelude.{ℕ, ℤ, pos, negsuc, ◌+ℤ◌, ◌-ℤ◌, ◌≤ℤ◌}
 use Rattle.std.specs.Prelude.{int_lt, Bool, true, false, ◌&&◌, ◌==◌, if◌then◌else◌}
+use Rattle.std.specs.Int.{int_max, int_min}
 use Rattle.std.specs.declared.option.Option.{Option}
 use Rattle.std.specs.declared.option.Option.TheVariants.{Some, None}
-use Rattle.std.specs.List.{count_by}
-use Rattle.std.specs.Option.{option_or}
+use Rattle.std.specs.List.{list_any}
 use Rattle.query_model.specs.declared.query.Atom.{Atom}
 use Rattle.query_model.specs.declared.query.Atom.TheVariants.{Compare, CompareColumns, Between, OneOf, IsNull}
 use Rattle.query_model.specs.declared.query.Comparison.{Comparison}
@@ -13,6 +13,7 @@ use Rattle.query_model.specs.declared.query.ItemKind.{ItemKind}
 use Rattle.query_model.specs.declared.query.ItemKind.TheVariants.{Count, Sum, Min, Max, Avg}
 use Rattle.query_model.specs.declared.query.Shape.{Shape}
 use Rattle.query_model.specs.declared.query.Shape.TheVariants.{Plain, Grouped, Top}
+use Rattle.query_model.specs.Attaining.{beside_ranges}
 use Rattle.query_model.specs.Meaning.{columns_of_pred}
 use Rattle.query_model.specs.Queries.{Aggregate, Condition, All, Single, Both, Either}
 use Rattle.query_model.specs.Queries.{Negation, Query, Term, Column, Literal, Add, Sub, Mul}
@@ -61,20 +62,30 @@ abbrev pub if_of : ℕ → Option Clip → Option Clip
 if_of c None = None
 if_of c (Some clip) = if clip.column == c then Some clip else None
 
--- a clip of the column that holds wherever the condition does: of the condition itself, or of an operand of its top ANDs
+-- the numbers that two clips of one column both let through: none where they do not meet, and its low end then lies above its high end
+abbrev pub common : Clip → Clip → Clip
+common a b = record { column = a.column; low = int_max a.low b.low; high = int_min a.high b.high }
+
+-- what both let through, or the one that there is
+abbrev pub common_of : Option Clip → Option Clip → Option Clip
+common_of None b = b
+common_of (Some a) None = Some a
+common_of (Some a) (Some b) = Some (common a b)
+
+-- what the ranges of the column let through together: those that are the condition itself, or operands of its top ANDs
 abbrev pub clip_in : Condition → ℕ → Option Clip
 clip_in All c = None
 clip_in (Single atom) c = if_of c (clip_of_atom atom)
-clip_in (Both a b) c = option_or (clip_in a c) (clip_in b c)
+clip_in (Both a b) c = common_of (clip_in a c) (clip_in b c)
 clip_in (Either a b) c = None
 clip_in (Negation a) c = None
 
--- the column stands in the condition once
-abbrev pub stands_once : Condition → ℕ → Bool
-stands_once pred c = count_by (λ d. d == c) (columns_of_pred pred) == 1
+-- the column stands in the condition elsewhere than in such ranges
+abbrev pub stands_beside : Condition → ℕ → Bool
+stands_beside pred c = list_any (λ d. c == d) (columns_of_pred (beside_ranges pred))
 
 abbrev pub clip_of_argument : Condition → Term → Option Clip
-clip_of_argument pred (Column c) = if stands_once pred c then clip_in pred c else None
+clip_of_argument pred (Column c) = if stands_beside pred c then None else clip_in pred c
 clip_of_argument pred (Literal n) = None
 clip_of_argument pred (Add a b) = None
 clip_of_argument pred (Sub a b) = None
@@ -94,6 +105,6 @@ is_plain (Grouped columns) = false
 is_plain (Top key down limit) = false
 
 -- the numbers that the condition lets through for the item's column: in a query without groups and order, for the sum or an extreme
--- of a bare column that stands once in the condition, and there in such an atom
+-- of a bare column that stands in the condition in ranges alone, which are joined by AND
 abbrev pub clip_of : Query → Aggregate → Option Clip
 clip_of query item = if is_plain query.shape && is_clipped_kind item.kind then clip_of_argument query.pred item.arg else None

@@ -1,10 +1,11 @@
 //! The clipped bound of an item.
 
-ghost use Rattle.std.specs.Prelude.{◌≡◌, ◌<◌, length, slice_get, IfSome, Some};
+ghost use Rattle.std.specs.Prelude.{◌≡◌, ◌<◌, pos, length, slice_get, IfSome, Some};
 ghost use Rattle.std.specs.Option.{option_map};
 ghost use Rattle.daq_table.specs.Tables.{frame_of};
 ghost use Rattle.daq_table.specs.declared.table_head.Head.{Head};
 ghost use Rattle.query_model.specs.Validity.{FitsHead};
+ghost use Rattle.query_model.specs.declared.bounds.Nullity.TheVariants.{Always};
 ghost use Rattle.round_engine.specs.Promises.{IsShownWithin};
 ghost use Rattle.clip_bounds.specs.Clips.{clip_of};
 ghost use Rattle.clip_bounds.specs.Clipped.{IsCertainClip, clipped_ends, clipped_in};
@@ -49,12 +50,27 @@ fn clipped_ends(clip: Clip, bound: Bound) -> Bound
     }
 }
 
-// The clipped bound of an item with its own bound. To clip the ends of the bound of an extreme is to clip those of its pairs.
+// The bound of no value.
+fn nothing() -> Bound
+    ensures { result ≡ record { null = Always; lo = pos 0; hi = pos 0 } }
+{
+    Bound {
+        null: Nullity::Always,
+        lo: 0,
+        hi: 0,
+    }
+}
+
+// The clipped bound of an item with its own bound. In a clip without numbers no row passes. To clip the ends of the bound of an extreme is
+// to clip those of its pairs.
 fn clipped_bound(engine: &EngineView<'_>, item: usize, clip: Clip, plain: Bound) -> Bound
     requires item { item < length engine.now.query.items }
     requires clipped { IfSome (slice_get engine.now.query.items item) (λ i. IsItemWithClip engine.now i clip plain) }
     ensures { IfSome (slice_get engine.now.query.items item) (λ i. result ≡ clipped_in engine.now i clip) }
 {
+    if clip.high < clip.low {
+        return nothing();
+    }
     if is_always(plain.null) {
         return plain;
     }
@@ -80,7 +96,8 @@ fn bound_with(engine: &EngineView<'_>, item: usize, clip: Clip) -> Bound
 }
 
 /// The bound of a sum or an extreme over a bare column whose values the condition itself keeps within a range, and what it says
-/// of the answer; none where the item has no such range. It lies within the bound that `plain` tells. No memory is taken.
+/// of the answer; none where the item has no such range. Where several ranges have no number in common it is that of no value. It lies
+/// within the bound that `plain` tells. No memory is taken.
 pub fn clip_bound(engine: &EngineView<'_>, item: usize) -> Option<Bound>
     requires { item < length engine.now.query.items }
     ensures bound { IfSome (slice_get engine.now.query.items item) (λ i.

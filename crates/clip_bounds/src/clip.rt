@@ -1,16 +1,18 @@
 //! The numbers that a condition lets through for the column of an item.
 
-ghost use Rattle.std.specs.Prelude.{◌≡◌, ◌<◌, ◌≤◌, ◌==◌, count_by, min, length, slice_get, IfSome};
+ghost use Rattle.std.specs.Prelude.{◌≡◌, ◌<◌, ◌==◌, length, slice_get, IfSome};
+ghost use Rattle.std.specs.List.{list_any};
+ghost use Rattle.query_model.specs.Attaining.{is_range};
 ghost use Rattle.query_model.specs.Meaning.{columns_of_atom, columns_of_pred};
 ghost use Rattle.query_model.specs.Queries.{condition_of, term_of};
 ghost use Rattle.clip_bounds.specs.Clips.{before, behind, clip_in, clip_of, clip_of_argument, clip_of_atom};
-ghost use Rattle.clip_bounds.specs.Clips.{clip_of_comparison, is_clipped_kind, is_plain};
+ghost use Rattle.clip_bounds.specs.Clips.{clip_of_comparison, common, common_of, is_clipped_kind, is_plain, stands_beside};
 ghost use Rattle.clip_bounds.specs.Ends.{clip_end};
 
 use aggregates::End;
 use query_model::{Atom, Comparison, Expr, ItemKind, Pred, Shape, TypedQuery};
 
-/// A range of the numbers of a column of the query.
+/// A range of the numbers of a column of the query: from `low` to `high`, none where `low` is greater.
 #[derive(Clone, Copy, Debug, PartialEq, Eq)]
 pub struct Clip {
     pub column: u8,
@@ -75,7 +77,40 @@ fn clip_of_atom(atom: &Atom) -> Option<Clip>
     }
 }
 
-// The numbers of a column at which the condition can hold, where the condition or an operand of its top ANDs is an atom that says so.
+// Whether an atom is a range of a column.
+fn is_range(atom: &Atom) -> bool
+    ensures { result ≡ is_range atom.now }
+{
+    match atom {
+        Atom::Compare { op, .. } => !matches!(op, Comparison::Ne),
+        Atom::Between { .. } => true,
+        Atom::CompareColumns { .. } | Atom::OneOf { .. } | Atom::IsNull { .. } => false,
+    }
+}
+
+// The numbers that two clips of one column both let through.
+fn common(a: Clip, b: Clip) -> Clip
+    ensures { result ≡ common a b }
+{
+    Clip {
+        column: a.column,
+        low: a.low.max(b.low),
+        high: a.high.min(b.high),
+    }
+}
+
+// What both let through, or the one that there is.
+fn common_of(a: Option<Clip>, b: Option<Clip>) -> Option<Clip>
+    ensures { result ≡ common_of a b }
+{
+    match (a, b) {
+        (None, other) => other,
+        (Some(own), None) => Some(own),
+        (Some(own), Some(other)) => Some(common(own, other)),
+    }
+}
+
+// What the ranges of a column let through together, which are the condition or operands of its top ANDs.
 fn clip_in(pred: &Pred, column: u8) -> Option<Clip>
     ensures { result ≡ clip_in (condition_of pred.now) column }
 {
@@ -87,41 +122,45 @@ fn clip_in(pred: &Pred, column: u8) -> Option<Clip>
         Pred::And(a, b) => {
             let first = clip_in(a, column);
             let second = clip_in(b, column);
-            first.or(second)
+            common_of(first, second)
         }
         Pred::All | Pred::Or(_, _) | Pred::Not(_) => None,
     }
 }
 
-// How often a column stands in an atom.
-fn count_in_atom(atom: &Atom, column: u8) -> u8
-    ensures count { result ≡ count_by (λ d. d == column) (columns_of_atom atom.now) }
-    ensures few { result ≤ 2 }
+// Whether a column stands in an atom.
+fn stands_in_atom(atom: &Atom, column: u8) -> bool
+    ensures { result ≡ list_any (λ d. column == d) (columns_of_atom atom.now) }
 {
     match atom {
-        Atom::CompareColumns { left, right, .. } => {
-            u8::from(*left == column) + u8::from(*right == column)
-        }
+        Atom::CompareColumns { left, right, .. } => column == *left || column == *right,
         Atom::Compare { column: own, .. }
         | Atom::Between { column: own, .. }
         | Atom::OneOf { column: own, .. }
-        | Atom::IsNull { column: own } => u8::from(*own == column),
+        | Atom::IsNull { column: own } => column == *own,
     }
 }
 
-// How often a column stands in the condition, where two stands for more.
-fn count_up_to_two(pred: &Pred, column: u8) -> u8
-    ensures { result ≡ min 2 (count_by (λ d. d == column) (columns_of_pred (condition_of pred.now))) }
+// Whether a column stands in the condition.
+fn stands_in(pred: &Pred, column: u8) -> bool
+    ensures { result ≡ list_any (λ d. column == d) (columns_of_pred (condition_of pred.now)) }
 {
     match pred {
-        Pred::All => 0,
-        Pred::Atom(atom) => count_in_atom(atom, column),
-        Pred::And(a, b) | Pred::Or(a, b) => {
-            let first = count_up_to_two(a, column);
-            let second = count_up_to_two(b, column);
-            (first + second).min(2)
-        }
-        Pred::Not(a) => count_up_to_two(a, column),
+        Pred::All => false,
+        Pred::Atom(atom) => stands_in_atom(atom, column),
+        Pred::And(a, b) | Pred::Or(a, b) => stands_in(a, column) || stands_in(b, column),
+        Pred::Not(a) => stands_in(a, column),
+    }
+}
+
+// Whether a column stands in the condition elsewhere than in ranges that are the condition or operands of its top ANDs.
+fn stands_beside(pred: &Pred, column: u8) -> bool
+    ensures { result ≡ stands_beside (condition_of pred.now) column }
+{
+    match pred {
+        Pred::Atom(atom) => !is_range(atom) && stands_in_atom(atom, column),
+        Pred::And(a, b) => stands_beside(a, column) || stands_beside(b, column),
+        Pred::All | Pred::Or(_, _) | Pred::Not(_) => stands_in(pred, column),
     }
 }
 
@@ -131,10 +170,10 @@ fn clip_of_argument(pred: &Pred, arg: &Expr) -> Option<Clip>
 {
     match arg {
         Expr::Column(column) => {
-            if count_up_to_two(pred, *column) == 1 {
-                clip_in(pred, *column)
-            } else {
+            if stands_beside(pred, *column) {
                 None
+            } else {
+                clip_in(pred, *column)
             }
         }
         Expr::Literal(_) | Expr::Add(_, _) | Expr::Sub(_, _) | Expr::Mul(_, _) => None,
@@ -160,8 +199,9 @@ fn is_clipped_kind(kind: ItemKind) -> bool
 }
 
 /// The numbers that the condition lets through for an item's column. There are some where neither groups nor an order are asked for,
-/// the item is the sum or an extreme of a bare column, and this column stands in the condition once: in a comparison with a
-/// number or a BETWEEN, which is the condition itself or an operand of its top ANDs.
+/// the item is the sum or an extreme of a bare column, and this column stands in the condition in ranges alone: comparisons with a
+/// number but for "not equal", and BETWEEN, which are the condition itself or operands of its top ANDs. They are what these ranges
+/// have in common: none where these do not meet, and `low` is then greater than `high`.
 pub fn clip_of(query: &TypedQuery, item: usize) -> Option<Clip>
     requires { item < length query.now.items }
     ensures { IfSome (slice_get query.now.items item) (λ i. result ≡ clip_of query.now i) }

@@ -7,7 +7,8 @@ pub fn clips_contain()
     ensures { ClipsContain }
 {}
 
-/// Where no column stands in the condition twice, a clipped bound is the extremes of the item's answers over all completions.
+/// Where no column stands in the condition twice, or where those that do stand there in ranges that meet, a clipped bound is the extremes
+/// of the item's answers over all completions.
 pub fn clips_are_extremes()
     ensures { ClipsAreExtremes }
 {}
@@ -23,7 +24,8 @@ pub fn clips_lie_within()
 {}
 
 /// On whole tables: at each stage a clipped bound admits the answer of each table that agrees with what is known, lies within the
-/// item's own bound, and where no column stands in the condition twice is the extremes.
+/// item's own bound, and is the extremes where no column stands in the condition twice, or where those that do stand there in ranges that
+/// meet.
 pub fn clips_are_certain()
     ensures { ClipsAreCertain }
 {}

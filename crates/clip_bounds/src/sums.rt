@@ -91,6 +91,7 @@ fn all_steps(level: Level, known: &Known, may: &Mask, step: i128) -> i128
 fn sum_move(end: End, engine: &EngineView<'_>, item: usize, clip: Clip) -> i128
     requires item { item < length engine.now.query.items }
     requires clip { IfSome (slice_get engine.now.query.items item) (λ i. clip_of engine.now.query i ≡ Some clip) }
+    requires full { clip.low ≤ℤ clip.high }
     ensures { IfSome (slice_get engine.now.query.items item) (λ i.
         total (map (share_at end) (clipped_pairs engine.now i clip)) ≡ (total (map (share_at end) (pairs_in engine.now i)) +ℤ result)) }
 {
@@ -121,6 +122,7 @@ fn is_uncertain(null: Nullity) -> bool
 fn least_sum(engine: &EngineView<'_>, item: usize, clip: Clip, plain: &Bound) -> i128
     requires item { item < length engine.now.query.items }
     requires sum { IfSome (slice_get engine.now.query.items item) (λ i. IsSumWithClip engine.now i clip plain.now) }
+    requires full { clip.low ≤ℤ clip.high }
     ensures { IfSome (slice_get engine.now.query.items item) (λ i. result ≡ least_sum (clipped_pairs engine.now i clip)) }
 {
     let low = plain.lo;
@@ -136,6 +138,7 @@ fn least_sum(engine: &EngineView<'_>, item: usize, clip: Clip, plain: &Bound) ->
 fn greatest_sum(engine: &EngineView<'_>, item: usize, clip: Clip, plain: &Bound) -> i128
     requires item { item < length engine.now.query.items }
     requires sum { IfSome (slice_get engine.now.query.items item) (λ i. IsSumWithClip engine.now i clip plain.now) }
+    requires full { clip.low ≤ℤ clip.high }
     ensures { IfSome (slice_get engine.now.query.items item) (λ i. result ≡ greatest_sum (clipped_pairs engine.now i clip)) }
 {
     let _low = plain.lo;
@@ -147,10 +150,11 @@ fn greatest_sum(engine: &EngineView<'_>, item: usize, clip: Clip, plain: &Bound)
     }
 }
 
-// The clipped bound of a sum, by its own.
+// The clipped bound of a sum, by its own, where the clip has numbers.
 pub(crate) fn clipped_sum(engine: &EngineView<'_>, item: usize, clip: Clip, plain: &Bound) -> Bound
     requires item { item < length engine.now.query.items }
     requires sum { IfSome (slice_get engine.now.query.items item) (λ i. IsSumWithClip engine.now i clip plain.now) }
+    requires full { clip.low ≤ℤ clip.high }
     ensures { IfSome (slice_get engine.now.query.items item) (λ i. result ≡ clipped_in engine.now i clip) }
 {
     Bound {

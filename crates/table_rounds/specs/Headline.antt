@@ -101,8 +101,8 @@ pub record AreCertain (query : TypedQuery) (frame : Frame) (cells : Cells) (read
       (i : ℕ) (item : Item) → slice_get query.items i ≡ Some item →
       LiesWithin (stage_of query frame cells reads round) (stage_of query frame cells reads (round + 1)) item key
   -- where the condition clips an item's column, the clipped bound too admits the answer on every table that agrees; where no column
-  -- stands in the condition twice it is as narrow as it can be; and where all planes are read, its ends are the answer, and it is
-  -- known whether that is null
+  -- stands in the condition twice, or where those that do stand there in ranges that meet, it is as narrow as it can be; and where all
+  -- planes are read, its ends are the answer, and it is known whether that is null
   pub clips : (round : ℕ) → round ≤ length reads → (i : ℕ) (item : Item) (clip : Clip) → IsClippedItem query i item clip →
       IsCertainClip (stage_of query frame cells reads round) item clip frame
   -- each clipped bound lies within the one before

@@ -34,7 +34,7 @@ overflow_add-result c =
     let moved = the_value items (λ j. total (map low_share (clipped_pairs stage j c.args.clip)) ≡ (total (map low_share (pairs_in stage j)) +ℤ c.sum_move.result)) own.0 c.sum_move.ensures own.1 in
     let is = least_sum_by_move stage own.0 c.args.clip c.args.plain.now c.sum_move.result own.2 moved (moves c) in
     subst (λ z. FitsSigned w128 (z +ℤ to_z w128 (of_z w128 c.sum_move.result))) (sym (again_low c)) (subst (λ z. FitsSigned w128 (c.args.plain.now.lo +ℤ z)) (sym (again_move c))
-    (subst (FitsSigned w128) (sym is) (sums_fit stage own.0 c.args.clip c.args.plain.now own.2 low high).0))
+    (subst (FitsSigned w128) (sym is) (sums_fit stage own.0 c.args.clip c.args.plain.now own.2 c.requires.full low high).0))
 
 pub returns-then-is_uncertain : goal.returns-then-is_uncertain
 returns-then-is_uncertain c =

@@ -1,4 +1,4 @@
-use Rattle.std.proofs.Common.{◌≡◌, ℤ, pos, ◌+ℤ◌, ◌-ℤ◌, ◌*ℤ◌, ◌≤ℤ◌, ◌<ℤ◌, map, slice_get, Some, inl, inr, ap, subst, sym, ◌∙◌, arith, to_z, of_z}
+use Rattle.std.proofs.Common.{◌≡◌, pos, ◌+ℤ◌, ◌-ℤ◌, ◌*ℤ◌, ◌≤ℤ◌, ◌<ℤ◌, map, slice_get, Some, inl, inr, ap, subst, sym, ◌∙◌, arith, to_z, of_z}
 use Rattle.std.specs.Int.{w128}
 use Rattle.std.proofs.lemmas.Int.{ints}
 use Rattle.aggregates.specs.declared.ends.End.{End}
@@ -29,7 +29,7 @@ returns-then-number-from c =
     let base : c.base.result ≡ (ends_at stage.frame clip.column).base = c.base.ensures ∙ ap (λ (k : KnownColumn). k.ends.base) own.column in
     let below : c.end-number.result <ℤ (ends_at stage.frame clip.column).base = omega (arith, ints) in
     if_some_also (slice_get stage.query.items c.args.item) (λ i. clip_of stage.query i ≡ Some clip) _ c.requires.clip (λ i is has.
-    ends_kept stage.query i clip table (clipped_by stage.query i clip has) own.longs own.knowledge own.there c.args.end (inl (subst (λ z. z <ℤ (ends_at stage.frame clip.column).base) c.end-number.ensures below)))
+    ends_kept stage.query i clip table (clipped_by stage.query i clip has) c.requires.full own.longs own.knowledge own.there c.args.end (inl (subst (λ z. z <ℤ (ends_at stage.frame clip.column).base) c.end-number.ensures below)))
 
 pub returns-then-from-number : goal.returns-then-from-number
 returns-then-from-number c =
@@ -40,7 +40,7 @@ returns-then-from-number c =
     let top : c.top.result ≡ (ends_at stage.frame clip.column).top = c.top.ensures ∙ ap (λ (k : KnownColumn). k.ends.top) own.column in
     let past : (ends_at stage.frame clip.column).top <ℤ c.end-number.result = omega (arith, ints) in
     if_some_also (slice_get stage.query.items c.args.item) (λ i. clip_of stage.query i ≡ Some clip) _ c.requires.clip (λ i is has.
-    ends_kept stage.query i clip table (clipped_by stage.query i clip has) own.longs own.knowledge own.there c.args.end (inr (subst (λ z. (ends_at stage.frame clip.column).top <ℤ z) c.end-number.ensures past)))
+    ends_kept stage.query i clip table (clipped_by stage.query i clip has) c.requires.full own.longs own.knowledge own.there c.args.end (inr (subst (λ z. (ends_at stage.frame clip.column).top <ℤ z) c.end-number.ensures past)))
 
 long_end : (e : End) (level : Level) → IsLong level.low → IsLong level.high → IsLong (level_end e level)
 long_end Low level low high = low
@@ -82,6 +82,6 @@ returns c =
     all ∙ c.all_steps.ensures ∙ ap (λ z. pos n *ℤ z) (one ∙ step) ∙ ap (λ (k : KnownColumn). pos (count_at level.prefix c.may.result.now k.known.prefixes) *ℤ (part_of e (clip_end e clip) -ℤ part_of e (level_end e level))) own.column in
     let is : IsLevelOf (column_at table clip.column) (clip_end e clip) level = subst (λ k. IsLevelOf k (clip_end e clip) level) own.column (subst (λ z. IsLevelOf known z level) (same ∙ c.end-number.ensures) c.of-level.ensures.level) in
     if_some_also (slice_get stage.query.items c.args.item) (λ i. clip_of stage.query i ≡ Some clip) _ c.requires.clip (λ i at has.
-    ends_moved stage.query i clip table (clipped_by stage.query i clip has) own.longs own.knowledge own.there e level c.may.result.now c.filter.result.now.truths is
+    ends_moved stage.query i clip table (clipped_by stage.query i clip has) c.requires.full own.longs own.knowledge own.there e level c.may.result.now c.filter.result.now.truths is
     (subst (λ z. (ends_at stage.frame clip.column).base ≤ℤ z) c.end-number.ensures above) (subst (λ z. z ≤ℤ (ends_at stage.frame clip.column).top) c.end-number.ensures below) c.may.ensures c.filter.ensures
     ∙ ap (λ z. total (map (share_at e) (pairs_in stage i)) +ℤ z) (sym moved))
