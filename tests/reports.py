@@ -325,14 +325,17 @@ def operands(condition):
 
 
 def clip_of(query, item):
-    """The numbers to which the condition clips the item's argument, if it does."""
+    """The numbers to which the condition clips the item's argument, if it does: those that all its ranges let through, where the column
+    stands in the condition in ranges alone."""
     kind, argument = item
-    if kind not in ("SUM", "MIN", "MAX") or argument[0] != "column" or query.in_condition.count(argument[1]) != 1:
+    if kind not in ("SUM", "MIN", "MAX") or argument[0] != "column":
         return None
-    for part in operands(query.condition):
-        if part is not None and part[0] == "test" and part[1] is argument[1]:
-            return part[3]
-    return None
+    own = [part for part in operands(query.condition) if part is not None and part[0] == "test" and part[1] is argument[1]]
+    ranges = [part[3] for part in own if part[3] is not None]
+    if not ranges or len(ranges) != query.in_condition.count(argument[1]):
+        return None
+    lows, highs = ([end for end in ends if end is not None] for ends in zip(*ranges))
+    return max(lows, default=None), min(highs, default=None)
 
 
 def columns_of(condition):
@@ -495,7 +498,10 @@ def bound(kind, pairs):
 
 
 def clipped(pairs, low, high):
-    """The pairs, each with its ends within the two numbers."""
+    """The pairs, each with its ends within the two numbers; none where the low one lies above the high one."""
+    if low is not None and high is not None and low > high:
+        return []
+
     def within(end):
         return end if low is None or end >= low else low
 
