@@ -4,7 +4,6 @@ use Rattle.std.specs.Prelude.{int_le}
 use Rattle.std.proofs.lemmas.Bool.{and_parts}
 use Rattle.std.proofs.lemmas.Int.{ints}
 use Rattle.interval_calc.specs.Intervals.{Interval, only}
-use Rattle.plane_kernels.specs.Rows.{digit_at}
 use Rattle.query_model.specs.declared.bounds.Truth.{Truth}
 use Rattle.query_model.specs.declared.bounds.Truths.{Truths}
 use Rattle.query_model.specs.declared.query.Comparison.{Comparison}
@@ -12,8 +11,8 @@ use Rattle.query_model.specs.declared.query.Comparison.TheVariants.{Ge, Le}
 use Rattle.query_model.specs.Meaning.{between, compares}
 use Rattle.query_model.specs.Truths.{Range, and_over, is_false, is_true, may_be_null, may_be_number, truth_from, truth_over, truths_over}
 use Rattle.kleene_filter.specs.ByEnds.{always_between, always_compares, sometimes_between, sometimes_compares}
-use Rattle.kleene_filter.specs.Words.{AreTruthsAt}
-use Rattle.kleene_filter.specs.declared.words.TruthWords.{TruthWords}
+use Rattle.kleene_filter.specs.Blocks.{bit_in, AreTruthsFrom}
+use Rattle.kleene_filter.specs.declared.block_truths.BlockTruths.{BlockTruths}
 use Rattle.kleene_filter.proofs.TestsByEnds.{against_one, and_true, between_by_ends, compared_by_ends}
 
 -- ---- the truth of a test that holds for all numbers only if for some
@@ -99,13 +98,13 @@ may_lie_outside range low high o =
 null_where : (range : Range) (low high : ℤ) → (both_ends range low high).may_be_null ≡ (truths_over range (between low high)).may_be_null
 null_where range low high = sym (alone (may_be_null range.null) (truths_over range (λ x. compares Le x high)).may_hold (truths_over range (λ x. compares Ge x low)).may_hold)
 
--- so for the rows of a block, where the words are those of both comparisons
-pub between_words : (count : ℕ) (ranges : ℕ → Range) (low high : ℤ) (words own : TruthWords) → ((r : ℕ) → r < count → (ranges r).numbers.low ≤ℤ (ranges r).numbers.high) →
-    AreTruthsAt count (λ r. both_ends (ranges r) low high) words →
-    ((r : ℕ) → digit_at r own.may_hold ≡ (int_le low high && digit_at r words.may_hold)) → own.may_fail ≡ words.may_fail → own.may_be_null ≡ words.may_be_null →
-    AreTruthsAt count (λ r. truths_over (ranges r) (between low high)) own
-between_words count ranges low high words own ordered told hold fail null = record {
-  hold = λ r few. hold r ∙ ap (λ b. int_le low high && b) (told.hold r few) ∙ may_lie (ranges r) low high (ordered r few);
-  fail = λ r few. ap (digit_at r) fail ∙ told.fail r few ∙ may_lie_outside (ranges r) low high (ordered r few);
-  null = λ r few. ap (digit_at r) null ∙ told.null r few ∙ null_where (ranges r) low high;
+-- so for the rows of a block, where the bits are those of both comparisons
+pub between_rows : (count : ℕ) (ranges : ℕ → Range) (low high : ℤ) (truths own : BlockTruths) → ((r : ℕ) → r < count → (ranges r).numbers.low ≤ℤ (ranges r).numbers.high) →
+    AreTruthsFrom 0 count (λ r. both_ends (ranges r) low high) truths →
+    ((r : ℕ) → bit_in r own.may_hold ≡ (int_le low high && bit_in r truths.may_hold)) → own.may_fail ≡ truths.may_fail → own.may_be_null ≡ truths.may_be_null →
+    AreTruthsFrom 0 count (λ r. truths_over (ranges r) (between low high)) own
+between_rows count ranges low high truths own ordered told hold fail null = λ r from few. record {
+  hold = hold r ∙ ap (λ b. int_le low high && b) (told r from few).hold ∙ may_lie (ranges r) low high (ordered r few);
+  fail = ap (bit_in r) fail ∙ (told r from few).fail ∙ may_lie_outside (ranges r) low high (ordered r few);
+  null = ap (bit_in r) null ∙ (told r from few).null ∙ null_where (ranges r) low high;
 }

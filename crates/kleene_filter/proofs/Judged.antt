@@ -1,5 +1,5 @@
 -- Rows that are judged block by block.
-use Rattle.std.proofs.Common.{◌≡◌, ◌≢◌, ℕ, ◌+◌, ◌-◌, ◌*◌, ◌<◌, ◌≤◌, Bool, true, false, List, length, take, drop, min, cond, get_or, set, length-set, replicate, count_by, sum_by, inl, inr, ◌⊎◌, sym, ap, refl, subst, ◌∙◌, arith}
+use Rattle.std.proofs.Common.{◌≡◌, ◌≢◌, ℕ, ◌+◌, ◌-◌, ◌*◌, ◌/◌, ◌%◌, ◌<◌, ◌≤◌, Bool, true, false, not, IsTrue, List, length, take, drop, min, cond, get_or, set, length-set, replicate, count_by, sum_by, inl, inr, ◌⊎◌, sym, ap, refl, subst, ◌∙◌, arith}
 use Rattle.std.proofs.lemmas.Bool.{cases_eq, cases_lt, true≢false}
 use Rattle.std.proofs.lemmas.List.{drop-drop, ext_get_or, get_or-drop, get_or-replicate, get_or-set_other, get_or-take, get_or_past, length-drop, length-replicate, length-take}
 use Rattle.std.proofs.lemmas.List.Sums.{sum_by-take-drop}
@@ -7,7 +7,9 @@ use Rattle.std.proofs.lemmas.Simd.{get_or-chunk}
 use Rattle.query_model.specs.Queries.{Condition}
 use Rattle.query_model.specs.declared.bounds.Truth.{Truth}
 use Rattle.known_column.specs.KnownTables.{KnownTable}
-use Rattle.kleene_filter.specs.Filters.{truth_at, is_certain, is_possible, AreJudged, AreRightWhereSame, AreSettled, AreSettledBeside, HasBits, IsJudged}
+use Rattle.plane_kernels.specs.Rows.{block_rows, digit_at}
+use Rattle.kleene_filter.specs.Blocks.{bit_in, IsPut}
+use Rattle.kleene_filter.specs.Filters.{truth_at, is_certain, is_possible, AreJudged, AreRightWhereSame, AreSettled, AreSettledBeside, HasBits, IsJudged, IsWritten}
 
 -- ---- rows from one to another
 
@@ -159,3 +161,59 @@ all_open must may undecided count is rows room tight =
         | inr past ↦ get_or_past must (512 * block + j) false (omega (arith, past, room)) ∙ sym (get_or_past may (512 * block + j) false (omega (arith, past, room, rows)))
       ];
     }
+
+-- none is undecided, where both masks are the same
+pub all_settled : (must may undecided : List Bool) (count : ℕ) → undecided ≡ replicate count false → must ≡ may → length must ≤ 512 * count → 512 * count < length must + 512 → AreSettled must may undecided
+all_settled must may undecided count is same room tight =
+    let long : length undecided ≡ count = ap length is ∙ length-replicate count false in
+    record {
+      room = omega (arith, long, room);
+      tight = omega (arith, long, tight);
+      same = λ block j h off. ap (λ l. get_or l (512 * block + j) false) same;
+    }
+
+pub settled_if : (decided : Bool) (must may undecided : List Bool) (count : ℕ) → (IsTrue decided → must ≡ may) → undecided ≡ replicate count (not decided) → length may ≡ length must → length must ≤ 512 * count → 512 * count < length must + 512 →
+    AreSettled must may undecided
+settled_if true must may undecided count same is rows room tight = all_settled must may undecided count is (same refl) room tight
+settled_if false must may undecided count same is rows room tight = all_open must may undecided count is rows room tight
+
+-- ---- behind the rows that are judged
+
+-- bits that are the same are right there, as they were
+pub right_behind : (pred : Condition) (table : KnownTable) (from to : ℕ) (must may new new' : List Bool) → AreRightWhereSame pred table from must may → AreJudged is_certain pred table from to must new → AreJudged is_possible pred table from to may new' → from ≤ to →
+    AreRightWhereSame pred table to new new'
+right_behind pred table from to must may new new' right certain possible up = λ row first inside same.
+    let same_must = certain.behind row first in
+    let same_may = possible.behind row first in
+    let old = right row (omega (arith, first, up)) inside (sym same_must ∙ same ∙ same_may) in
+    record { certain = same_must ∙ old.certain; possible = same_may ∙ old.possible }
+
+-- a block's rows, where each that is put there is what the test says
+pub judged_put : (test : Truth → Bool) (pred : Condition) (table : KnownTable) (block : ℕ) (rows : List ℕ) (old new : List Bool) → IsPut block rows old new → length old ≡ table.frame.rows →
+    ((row : ℕ) → row < block_rows table.frame.rows block → bit_in row rows ≡ test (truth_at pred table (512 * block + row))) → AreJudged test pred table (512 * block) (512 * block + 512) old new
+judged_put test pred table block rows old new put long told = record {
+  rows = put.rows;
+  before = put.before;
+  behind = put.behind;
+  here = λ k from below inside.
+      (let row = k - 512 * block in
+      let place : 512 * block + row ≡ k = omega (arith, from) in
+      subst (λ n. get_or new n false ≡ test (truth_at pred table n)) place (put.here row (omega (arith, from, below, inside, long)) ∙ told row (omega (arith, from, below, inside))));
+}
+
+-- a word's rows, where each that is written there is what the test says
+pub judged_word : (test : Truth → Bool) (pred : Condition) (table : KnownTable) (number : ℕ) (rows : List ℕ) (old new : List Bool) → IsWritten number (get_or rows (number % 8) 0) old new → length old ≡ table.frame.rows →
+    ((row : ℕ) → 64 * (number % 8) ≤ row → row < 64 * (number % 8) + 64 → 512 * (number / 8) + row < table.frame.rows → bit_in row rows ≡ test (truth_at pred table (512 * (number / 8) + row))) →
+    IsJudged test pred table number old new
+judged_word test pred table number rows old new written long told = record {
+  rows = written.rows;
+  before = written.before;
+  behind = written.behind;
+  here = λ r few.
+      (let row = 64 * (number % 8) + r in
+      let place : 512 * (number / 8) + row ≡ 64 * number + r = omega arith in
+      let own : row / 64 ≡ number % 8 = omega (arith, few) in
+      let bit : row % 64 ≡ r = omega (arith, few) in
+      written.here r (omega (arith, few, long)) ∙ ap (λ n. digit_at n (get_or rows (number % 8) 0)) (sym bit) ∙ ap (λ n. digit_at (row % 64) (get_or rows n 0)) (sym own)
+      ∙ told row (omega arith) (omega (arith, few)) (omega (arith, few)) ∙ ap (λ n. test (truth_at pred table n)) place);
+}

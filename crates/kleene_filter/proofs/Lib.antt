@@ -4,6 +4,7 @@ pub mod Unread
 pub mod Judged
 pub mod Decided
 pub mod WordBits
+pub mod BlockBits
 pub mod SideTruths
 pub mod BetweenTruths
 pub mod MemberTruths

@@ -1,4 +1,4 @@
--- Rows parted by their prefixes, plane by plane, and their sides as words.
+-- Rows parted by their prefixes, plane by plane, and the sides of their blocks.
 use Rattle.std.proofs.Common.{◌≡◌, ℕ, ℤ, suc, ◌+◌, ◌-◌, ◌*◌, ◌^◌, ◌<◌, ◌≤◌, ◌==◌, nat_lt, min, Bool, true, false, not, ◌&&◌, ◌||◌, List, [], ◌∷◌, length, map, replicate, take, drop, get_or, slice_get, cond, if◌then◌else◌, Some, None, IsTrue, refl, ap, sym, subst, ◌∙◌, arith}
 use Rattle.std.specs.Prelude.{nat_abs, ◌-ℤ◌}
 use Rattle.std.specs.List.{position, position_or_len}
@@ -10,26 +10,28 @@ use Rattle.std.proofs.lemmas.List.Quantifiers.{position-Some}
 use Rattle.std.proofs.lemmas.List.Sums.{fails_before_first}
 use Rattle.std.proofs.lemmas.Nat.{le-div, pow_pos}
 use Rattle.std.proofs.lemmas.Option.{get_or_from_slice_get}
-use Rattle.plane_kernels.specs.Rows.{bits_of, digit_at, kept_rows}
+use Rattle.plane_kernels.specs.Rows.{bits_of, block_rows, digit_at, kept_rows}
 use Rattle.plane_kernels.proofs.RowLemmas.{get-bits_of}
 use Rattle.daq_table.specs.declared.head.Ends.{Ends}
 use Rattle.daq_table.specs.Tables.{code, first_code, planes, spread}
+use Rattle.query_model.specs.declared.bounds.Nullity.TheVariants.{Always, Never, Possibly}
 use Rattle.query_model.specs.declared.bounds.Truth.{Truth}
 use Rattle.query_model.specs.declared.query.Comparison.{Comparison}
 use Rattle.query_model.specs.Knowledge.{IsLegal, bit_at, longer, prefix_of, range_of}
 use Rattle.query_model.specs.Meaning.{compares}
-use Rattle.query_model.specs.Truths.{may_be_number, truth_over}
-use Rattle.known_column.specs.Columns.{KnownColumn, count_in_block, numbers_at, range_at, rows_of_column, rows_where}
+use Rattle.query_model.specs.Truths.{may_be_null, may_be_number, truth_over}
+use Rattle.known_column.specs.Columns.{KnownColumn, missing_at, numbers_at, range_at, rows_of_column, rows_where}
 use Rattle.known_column.specs.RowBlocks.{IsKnownColumn}
 use Rattle.known_column.proofs.CodeDigits.{prefix_further, spread_small}
 use Rattle.known_column.proofs.FirstMarks.{none_known}
 use Rattle.known_column.proofs.Growing.{map-longer_or, map-longer_same}
 use Rattle.known_column.proofs.Nulls.{legal_code}
 use Rattle.known_column.proofs.Steps.{equal_further}
-use Rattle.kleene_filter.specs.declared.parted.SideWords.{SideWords}
+use Rattle.kleene_filter.specs.declared.parted.BlockSides.{BlockSides}
 use Rattle.kleene_filter.specs.declared.parted.Sides.{Sides}
 use Rattle.kleene_filter.specs.declared.parted.Sides.TheVariants as sides
-use Rattle.kleene_filter.specs.Parted.{cell_with, equal_at, greater_holds, is_level, is_passed, less_holds, others_hold, passed_at, passed_rows, AreSideWords, HasRow, HasSides, IsAtEqual, IsBetweenEnds, IsTruthAt, ReadFurther}
+use Rattle.kleene_filter.specs.Blocks.{bit_in}
+use Rattle.kleene_filter.specs.Parted.{cell_with, equal_at, greater_holds, is_level, is_passed, less_holds, others_hold, passed_at, passed_rows, AreBlockSides, HasRow, HasSides, IsAtEqual, IsBetweenEnds, IsTruthAt, ReadFurther}
 use Rattle.kleene_filter.proofs.SideTruths.{IsTold, told_all_less, told_all_greater, told_parted}
 
 -- ---- words of masks
@@ -48,12 +50,12 @@ row_where test column mask row is below = ap (λ l. get_or l row false) is ∙ g
 pub length_where : (test : Ends → ℕ → ℕ → Bool) (column : KnownColumn) (mask : List Bool) → mask ≡ rows_where test column → length mask ≡ rows_of_column column
 length_where test column mask is = ap length is ∙ length-map column.known.prefixes (test column.ends column.known.read)
 
-pub where_bit : (test : Ends → ℕ → ℕ → Bool) (column : KnownColumn) (mask : List Bool) (word block r : ℕ) → mask ≡ rows_where test column →
-    bits_of (min 64 (length mask - 64 * block)) word ≡ take 64 (drop (64 * block) mask) → r < count_in_block block (rows_of_column column) →
-    digit_at r word ≡ test column.ends column.known.read (get_or column.known.prefixes (64 * block + r) 0)
-where_bit test column mask word block r is e few =
-    let rows = length_where test column mask is in
-    mask_bit mask word block r e (omega arith) (omega arith) ∙ row_where test column mask (64 * block + r) is (omega arith)
+pub where_row : (test : Ends → ℕ → ℕ → Bool) (column : KnownColumn) (mask : List Bool) (rows : List ℕ) (block r : ℕ) → mask ≡ rows_where test column →
+    ((r : ℕ) → r < 512 → 512 * block + r < length mask → bit_in r rows ≡ get_or mask (512 * block + r) false) → r < block_rows (rows_of_column column) block →
+    bit_in r rows ≡ test column.ends column.known.read (get_or column.known.prefixes (512 * block + r) 0)
+where_row test column mask rows block r is read few =
+    let long = length_where test column mask is in
+    read r (omega (arith, few)) (omega (arith, few, long)) ∙ row_where test column mask (512 * block + r) is (omega (arith, few))
 
 -- ---- one plane more
 
@@ -228,15 +230,22 @@ pub not_sure : (b : Bool) → not (not b) ≡ b
 not_sure true = refl
 not_sure false = refl
 
--- where the row may have a number, its bits in the words tell whether the comparison may hold and may fail
-pub row_told : (column : KnownColumn) (op : Comparison) (value : ℤ) (s : Sides) (block r : ℕ) (words : SideWords) → HasSides column op value s → IsKnownColumn column → r < count_in_block block (rows_of_column column) →
-    AreSideWords op s block words → IsTrue (may_be_number (range_at column (64 * block + r)).null) →
-    IsTold words.at_equal (truth_over (numbers_at column (64 * block + r)) (λ x. compares op x value)) (digit_at r words.passed) (digit_at r words.equal)
-row_told column op value s block r words has known few on some =
-    let row = 64 * block + r in
+-- where the column has no null, the row has a number
+pub never_null : (column : KnownColumn) (row : ℕ) → column.ends.nullable ≡ false → (may_be_number (missing_at column row) ≡ true) × (may_be_null (missing_at column row) ≡ false)
+never_null column row plain =
+    let p = get_or column.known.prefixes row 0 in
+    let read = column.known.read in
+    (ap (λ b. may_be_number (cond (b && (p == 0)) (cond (read == 0) Possibly Always) Never)) plain, ap (λ b. may_be_null (cond (b && (p == 0)) (cond (read == 0) Possibly Always) Never)) plain)
+
+-- where the row may have a number, its bits tell whether the comparison may hold and may fail
+pub row_told : (column : KnownColumn) (op : Comparison) (value : ℤ) (s : Sides) (block r : ℕ) (own : BlockSides) → HasSides column op value s → IsKnownColumn column → r < block_rows (rows_of_column column) block →
+    AreBlockSides op s block own → IsTrue (may_be_number (range_at column (512 * block + r)).null) →
+    IsTold own.at_equal (truth_over (numbers_at column (512 * block + r)) (λ x. compares op x value)) (bit_in r own.passed) (bit_in r own.equal)
+row_told column op value s block r own has known few on some =
+    let row = 512 * block + r in
     let truth = truth_over (numbers_at column row) (λ x. compares op x value) in
     let inside = has_row column op value s row has (omega arith) in
     let passed = on.passed r (omega arith) inside in
     let equal = on.equal r (omega arith) inside in
-    subst (λ b. IsTold words.at_equal truth b (digit_at r words.equal)) (sym passed)
-    (subst (λ b. IsTold words.at_equal truth (passed_at op s row) b) (sym equal) (told_sides column op value s row words.at_equal has known (omega arith) on.at_equal some))
+    subst (λ b. IsTold own.at_equal truth b (bit_in r own.equal)) (sym passed)
+    (subst (λ b. IsTold own.at_equal truth (passed_at op s row) b) (sym equal) (told_sides column op value s row own.at_equal has known (omega arith) on.at_equal some))

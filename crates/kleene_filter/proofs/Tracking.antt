@@ -1,5 +1,5 @@
 -- Masks of atoms, as the columns are read.
-use Rattle.std.proofs.Common.{◌≡◌, ◌≢◌, ℕ, zero, suc, ◌+◌, ◌-◌, ◌<◌, Bool, List, [], ◌∷◌, ◌++◌, length, slice_get, set, Some, inl, inr, refl, ap, sym, subst, ◌∙◌, arith, length-append, zero-add, get_or-set_same}
+use Rattle.std.proofs.Common.{◌≡◌, ◌≢◌, ℕ, zero, suc, ◌+◌, ◌-◌, ◌*◌, ◌/◌, ◌%◌, ◌<◌, ◌≤◌, Bool, List, [], ◌∷◌, ◌++◌, length, slice_get, set, Some, inl, inr, refl, ap, sym, subst, ◌∙◌, arith, length-append, zero-add, get_or-set_same}
 use Rattle.std.proofs.Math.Nat.{suc-add}
 use Rattle.std.proofs.lemmas.Bool.{cases_lt}
 use Rattle.std.proofs.lemmas.List.{get_or_default}
@@ -132,13 +132,31 @@ size_of (Negation x) = size_of x + 1
 
 -- ---- where the rows of a block stand
 
-pub in_block : (table other : KnownTable) (b : ℕ) → BlocksHaveTheirRows → other ≡ block_of table b → AreRowsOf table b other 0
-in_block table other b law is = subst (λ (o : KnownTable). AreRowsOf table b o 0) (sym is) (record {
+-- in a table of a block of 64 rows
+pub in_block : (table other : KnownTable) (number to : ℕ) → BlocksHaveTheirRows → other ≡ block_of table number → to ≤ 64 * (number % 8) + 64 → 512 * (number / 8) + to ≤ table.frame.rows →
+    AreRowsOf table (record { block = number / 8; word = number % 8; to = to; first = 0 }) other
+in_block table other number to law is few inside = subst (λ (o : KnownTable). AreRowsOf table (record { block = number / 8; word = number % 8; to = to; first = 0 }) o) (sym is) (record {
   columns = refl;
-  few = omega arith;
-  within = omega arith;
-  ranges = λ r below. ap (ranges_of (block_of table b).frame (block_of table b).known) (zero-add r) ∙ law table b r (omega arith);
+  here = inside;
+  few = omega (arith, few);
+  first = omega arith;
+  within = omega (arith, few, inside);
+  ranges = λ row from below.
+      (let r = row - 64 * (number % 8) in
+      let place : 64 * number + r ≡ 512 * (number / 8) + row = omega (arith, from) in
+      ap (ranges_of (block_of table number).frame (block_of table number).known) (zero-add r) ∙ law table number r (omega (arith, from, below, few)) ∙ ap (ranges_of table.frame table.known) place);
 })
+
+-- in the table itself
+pub in_table : (table : KnownTable) (block to : ℕ) → 512 * block + to ≤ table.frame.rows → to ≤ 512 → table.frame.rows ≤ 16777216 → AreRowsOf table (record { block = block; word = 0; to = to; first = 512 * block }) table
+in_table table block to inside few all = record {
+  columns = refl;
+  here = inside;
+  few = few;
+  first = omega (arith, inside, all);
+  within = omega (arith, inside);
+  ranges = λ row from below. ap (λ n. ranges_of table.frame table.known (512 * block + n)) (omega arith);
+}
 
 -- ---- each of the masks, before a plane was read
 

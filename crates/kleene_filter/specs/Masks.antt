@@ -1,5 +1,5 @@
 -- What is kept of the atoms of a condition to follow its columns plane by plane.
-use Rattle.std.specs.Prelude.{◌≡◌, ℕ, ◌+◌, ◌*◌, ◌≤◌, ◌<◌, Bool, List, [], ◌∷◌, ◌++◌, length, slice_get}
+use Rattle.std.specs.Prelude.{◌≡◌, ℕ, ◌+◌, ◌-◌, ◌*◌, ◌≤◌, ◌<◌, Bool, List, [], ◌∷◌, ◌++◌, length, slice_get}
 use Rattle.std.specs.declared.option.Option.TheVariants.{Some}
 use Rattle.query_model.specs.declared.query.Atom.{Atom}
 use Rattle.query_model.specs.declared.query.Atom.TheVariants.{Between, Compare, IsNull, OneOf}
@@ -7,8 +7,8 @@ use Rattle.query_model.specs.declared.query.Comparison.TheVariants.{Ge, Le}
 use Rattle.query_model.specs.Queries.{Condition, All, Single, Both, Either, Negation}
 use Rattle.query_model.specs.Knowledge.{CanTake, ranges_of}
 use Rattle.query_model.specs.Meaning.{AtomReadsBelow}
-use Rattle.known_column.specs.Columns.{count_in_block}
 use Rattle.known_column.specs.KnownTables.{IsKnownTable, KnownTable, column_at, read_column}
+use Rattle.kleene_filter.specs.declared.judging.Place.{Place}
 use Rattle.kleene_filter.specs.declared.masks.AtomMasks.{AtomMasks}
 use Rattle.kleene_filter.specs.declared.masks.AtomMasks.TheVariants as masks
 use Rattle.kleene_filter.specs.declared.comparisons.Compared.{Compared}
@@ -80,13 +80,15 @@ pub record AreMasksOf (all : List AtomMasks) (first : ℕ) (atoms : List Atom) (
   pub each : (k : ℕ) (own : AtomMasks) (atom : Atom) → slice_get all (first + k) ≡ Some own → slice_get atoms k ≡ Some atom →
       Follows own atom table
 
--- the rows of a block of a table stand in another from the first on
-pub record AreRowsOf (table : KnownTable) (block : ℕ) (other : KnownTable) (first : ℕ) : Type 0 where
+-- the rows of a place of a table stand in another, or in it
+pub record AreRowsOf (table : KnownTable) (place : Place) (other : KnownTable) : Type 0 where
   pub columns : other.frame.columns ≡ table.frame.columns
-  pub few : first ≤ 16777216
-  pub within : first + count_in_block block table.frame.rows ≤ other.frame.rows
-  pub ranges : (r : ℕ) → r < count_in_block block table.frame.rows →
-      ranges_of other.frame other.known (first + r) ≡ ranges_of table.frame table.known (64 * block + r)
+  pub here : 512 * place.block + place.to ≤ table.frame.rows
+  pub few : place.to ≤ 512
+  pub first : place.first ≤ 16777216
+  pub within : place.first + place.to ≤ other.frame.rows + 64 * place.word
+  pub ranges : (row : ℕ) → 64 * place.word ≤ row → row < place.to →
+      ranges_of other.frame other.known (place.first + (row - 64 * place.word)) ≡ ranges_of table.frame table.known (512 * place.block + row)
 
 -- masks of these atoms were added to those that stood there
 pub record AddsMasks (old new : List AtomMasks) (atoms : List Atom) (table : KnownTable) : Type 0 where

@@ -3,13 +3,13 @@ use Rattle.std.specs.Prelude.{◌≡◌, ℕ, ◌+◌, ◌*◌, ◌<◌, ℤ, Bo
 use Rattle.std.specs.Prelude.{true, false, not, ◌&&◌, List, length, slice_index_or}
 use Rattle.std.specs.List.{list_any, All}
 use Rattle.std.specs.Ordering.{int_eq}
-use Rattle.plane_kernels.specs.Rows.{digit_at}
 use Rattle.query_model.specs.declared.bounds.Truth.{Truth}
 use Rattle.query_model.specs.Meaning.{among}
 use Rattle.query_model.specs.Truths.{is_false, is_true}
 use Rattle.known_column.specs.Columns.{KnownColumn, rows_where}
 use Rattle.kleene_filter.specs.declared.members.Level.{Level}
-use Rattle.kleene_filter.specs.declared.members.MemberWords.{MemberWords}
+use Rattle.kleene_filter.specs.declared.members.BlockMembers.{BlockMembers}
+use Rattle.kleene_filter.specs.Blocks.{bit_in}
 use Rattle.kleene_filter.specs.Parted.{is_level, IsBetweenEnds, IsTruthAt}
 
 -- the rows with the prefix of a number, and what is known there of whether the row's number is listed
@@ -27,7 +27,7 @@ pub record HasLevels (column : KnownColumn) (values : List ℤ) (levels : List L
   pub each : All (IsLevel column values) levels
   pub has : (number : ℤ) → among values number ≡ true → IsBetweenEnds column.ends number → has_level levels number ≡ true
 
--- ---- words
+-- ---- rows of a block
 
 -- the row is one of each level's mask
 abbrev pub HaveRow : ℕ → List Level → Type 0
@@ -45,10 +45,10 @@ abbrev pub must_be_member : ℕ → Level → Bool
 must_be_member = is_at_level is_true
 
 -- the bits of a row of a block, by one level and by all
-pub record IsMemberWord (level : Level) (block row : ℕ) (words : MemberWords) : Type 0 where
-  pub may : digit_at row words.may ≡ may_be_member (64 * block + row) level
-  pub must : digit_at row words.must ≡ must_be_member (64 * block + row) level
+pub record IsBlockMember (level : Level) (block row : ℕ) (rows : BlockMembers) : Type 0 where
+  pub may : bit_in row rows.may ≡ may_be_member (512 * block + row) level
+  pub must : bit_in row rows.must ≡ must_be_member (512 * block + row) level
 
-pub record AreMemberWords (levels : List Level) (block row : ℕ) (words : MemberWords) : Type 0 where
-  pub may : digit_at row words.may ≡ list_any (may_be_member (64 * block + row)) levels
-  pub must : digit_at row words.must ≡ list_any (must_be_member (64 * block + row)) levels
+pub record AreBlockMembers (levels : List Level) (block row : ℕ) (rows : BlockMembers) : Type 0 where
+  pub may : bit_in row rows.may ≡ list_any (may_be_member (512 * block + row)) levels
+  pub must : bit_in row rows.must ≡ list_any (must_be_member (512 * block + row)) levels

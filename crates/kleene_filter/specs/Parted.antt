@@ -3,7 +3,7 @@ use Rattle.std.specs.Prelude.{◌≡◌, ℕ, ◌+◌, ◌*◌, ◌<◌, ℤ, �
 use Rattle.std.specs.Prelude.{nat_lt, nat_abs, Bool, true, false, not, ◌&&◌, ◌||◌, List, length, slice_index_or, if◌then◌else◌}
 use Rattle.std.specs.declared.option.Option.TheVariants.{Some}
 use Rattle.std.specs.Simd.Lanes.{zip2}
-use Rattle.plane_kernels.specs.Rows.{digit_at, kept_rows}
+use Rattle.plane_kernels.specs.Rows.{kept_rows}
 use Rattle.daq_table.specs.declared.head.Ends.{Ends}
 use Rattle.daq_table.specs.Tables.{Cell, code, planes as planes_of}
 use Rattle.query_model.specs.declared.bounds.Truth.{Truth}
@@ -13,10 +13,11 @@ use Rattle.query_model.specs.Knowledge.{prefix_of}
 use Rattle.query_model.specs.Meaning.{compares}
 use Rattle.query_model.specs.Truths.{is_false, is_true, truth_over}
 use Rattle.known_column.specs.Columns.{KnownColumn, numbers_at, read_further, rows_of_column, rows_where}
+use Rattle.kleene_filter.specs.Blocks.{bit_in}
 use Rattle.kleene_filter.specs.declared.parted.Parted.{Parted}
 use Rattle.kleene_filter.specs.declared.parted.Sides.{Sides}
 use Rattle.kleene_filter.specs.declared.parted.Sides.TheVariants as sides
-use Rattle.kleene_filter.specs.declared.parted.SideWords.{SideWords}
+use Rattle.kleene_filter.specs.declared.parted.BlockSides.{BlockSides}
 
 -- the cell of a number of the column
 abbrev pub cell_with : ℤ → Ends → Cell
@@ -130,8 +131,8 @@ IsAtEqual sides.AllLess truth = Unit {0}
 IsAtEqual (sides.Parted parted) truth = truth ≡ parted.at_equal
 IsAtEqual sides.AllGreater truth = Unit {0}
 
--- the sides of the rows of a block, as words
-pub record AreSideWords (op : Comparison) (sides : Sides) (block : ℕ) (words : SideWords) : Type 0 where
-  pub passed : (r : ℕ) → r < 64 → HasRow (64 * block + r) sides → digit_at r words.passed ≡ passed_at op sides (64 * block + r)
-  pub equal : (r : ℕ) → r < 64 → HasRow (64 * block + r) sides → digit_at r words.equal ≡ equal_at sides (64 * block + r)
-  pub at_equal : IsAtEqual sides words.at_equal
+-- the sides of the rows of a block
+pub record AreBlockSides (op : Comparison) (sides : Sides) (block : ℕ) (own : BlockSides) : Type 0 where
+  pub passed : (r : ℕ) → r < 512 → HasRow (512 * block + r) sides → bit_in r own.passed ≡ passed_at op sides (512 * block + r)
+  pub equal : (r : ℕ) → r < 512 → HasRow (512 * block + r) sides → bit_in r own.equal ≡ equal_at sides (512 * block + r)
+  pub at_equal : IsAtEqual sides own.at_equal

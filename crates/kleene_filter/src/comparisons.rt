@@ -3,11 +3,12 @@
 ghost use Rattle.std.specs.Prelude.{◌≡◌, ◌<◌, ◌*◌, length, IfOk};
 ghost use Rattle.query_model.specs.Meaning.{between, compares};
 ghost use Rattle.known_column.specs.KnownTables.{column_at, IsKnownTable};
+ghost use Rattle.kleene_filter.specs.Blocks.{AreTruthsInTable};
 ghost use Rattle.kleene_filter.specs.Masks.{IsCompared, IsRanged, KeepsTest, Was};
-ghost use Rattle.kleene_filter.specs.Words.{AreTruthsInTable};
 
+use crate::block_truths::{BlockTruths, and};
+use crate::lanes::chosen;
 use crate::parted::Sides;
-use crate::words::{TruthWords, and, chosen};
 use known_column::LentColumns;
 use plane_kernels::Plane;
 use query_model::Comparison;
@@ -68,11 +69,11 @@ impl Compared {
     }
 
     // The truths of the comparison at the rows of a block.
-    pub(crate) fn truths(&self, columns: &LentColumns<'_>, block: usize) -> TruthWords
+    pub(crate) fn truths(&self, columns: &LentColumns<'_>, block: usize) -> BlockTruths
         requires within { self.now.column < length columns.now.frame.columns }
         requires compared { IsCompared self.now columns.now }
         requires known { IsKnownTable columns.now }
-        requires block { 64 * block < columns.now.frame.rows }
+        requires block { 512 * block < columns.now.frame.rows }
         ensures { AreTruthsInTable columns.now self.now.column block (λ x. compares self.now.op x self.now.value) result }
     {
         let column = columns.column(self.column);
@@ -114,19 +115,19 @@ impl Ranged {
     }
 
     // The truths of whether the column lies between the numbers, at the rows of a block.
-    pub(crate) fn truths(&self, columns: &LentColumns<'_>, block: usize) -> TruthWords
+    pub(crate) fn truths(&self, columns: &LentColumns<'_>, block: usize) -> BlockTruths
         requires within { self.now.from.column < length columns.now.frame.columns }
         requires ranged { IsRanged self.now columns.now }
         requires known { IsKnownTable columns.now }
-        requires block { 64 * block < columns.now.frame.rows }
+        requires block { 512 * block < columns.now.frame.rows }
         ensures { AreTruthsInTable columns.now self.now.from.column block
             (between self.now.from.value self.now.to.value) result }
     {
         let from = self.from.truths(columns, block);
         let to = self.to.truths(columns, block);
-        let both = and(from, to);
-        TruthWords {
-            may_hold: chosen(self.from.value <= self.to.value, both.may_hold),
+        let both = and(&from, &to);
+        BlockTruths {
+            may_hold: chosen(self.from.value <= self.to.value, &both.may_hold),
             may_fail: both.may_fail,
             may_be_null: both.may_be_null,
         }

@@ -1,23 +1,24 @@
 //! The rows of a condition.
 
-ghost use Rattle.std.specs.Prelude.{◌≡◌, ◌≤◌, ◌<◌, ◌+◌, ◌-◌, ◌*◌, length, map, count_by, replicate, IfOk, IsTrue, OnOk};
-ghost use Rattle.plane_kernels.specs.Rows.{digit_at};
+ghost use Rattle.std.specs.Prelude.{◌≡◌, ◌≤◌, ◌<◌, ◌+◌, ◌-◌, ◌*◌, length, map, count_by, IfOk, IsTrue, OnOk};
 ghost use Rattle.query_model.specs.declared.query.Atom.{Atom};
 ghost use Rattle.query_model.specs.Meaning.{PredReadsBelow};
 ghost use Rattle.query_model.specs.Queries.{condition_of};
 ghost use Rattle.std.specs.Prelude.{List};
 ghost use Rattle.known_column.specs.KnownTables.{IsKnownTable};
+ghost use Rattle.kleene_filter.specs.Blocks.{bit_in};
 ghost use Rattle.kleene_filter.specs.Filters.{is_certain, is_possible, is_unknown, truths_under, AreJudged, AreKept};
 ghost use Rattle.kleene_filter.specs.Filters.{AreRightWhereSame, AreSettled, AreUnread, IsJudged, IsWritten, StandsFor, StoodBefore};
 ghost use Rattle.kleene_filter.specs.Kept.{kept_by_all};
-ghost use Rattle.kleene_filter.specs.Masks.{atoms_of, AddsMasks, AreMasksOf, AreRowsOf, WereMasksOf};
+ghost use Rattle.kleene_filter.specs.Masks.{atoms_of, AddsMasks, AreMasksOf, WereMasksOf};
 
-use crate::judging::pred_truths;
+use crate::block_truths::must_hold;
+use crate::judging::{Place, pred_truths};
+use crate::lanes::write_block;
 use crate::masks::{AtomMasks, is_untouched};
 use crate::reads::pred_reads;
-use crate::truth_masks::{KeptTruths, TruthMasks, settle};
-use crate::words::must_hold;
-use known_column::{KnownRows, LentColumns, RowBlock, blocks_have_their_rows};
+use crate::truth_masks::{KeptTruths, TruthMasks, even_mask, settle};
+use known_column::{LentColumns, RowBlock, blocks_have_their_rows};
 use plane_kernels::{Mask, Plane};
 use query_model::Pred;
 use std::alloc::{AllocError, Global};
@@ -51,62 +52,36 @@ impl Model for Filter {
     ghost invariant = { λ f. AreSound f.truths };
 }
 
-// Makes the bits of a block's rows those of the word.
-fn write_word(mask: &mut Mask, block: usize, word: u64)
-    requires { 64 * block < length mask.old }
-    ensures { IsWritten block word mask.old mask.new }
+// Makes the bits of the rows of a word those of the word.
+fn write_word(mask: &mut Mask, number: usize, word: u64)
+    requires { 64 * number < length mask.old }
+    ensures { IsWritten number word mask.old mask.new }
 {
-    if mask.word(block) == word {
+    if mask.word(number) == word {
         return;
     }
-    mask.set_word(block, word);
+    mask.set_word(number, word);
 }
 
-// Sets the bits of a block's rows by what is known of the condition there. The block's values begin at `first` in `rows`.
-fn judge_rows<R: KnownRows>(
+// Sets the bits of the rows of a word by what is known of the condition there, where the rows are read row by row. Nothing is done where
+// no row's bits differ: what is decided at a row stays so.
+fn judge_word(
     pred: &Pred,
     masks: &[AtomMasks],
     columns: &LentColumns<'_>,
     number: usize,
-    rows: &R,
-    first: usize,
-    truths: &mut TruthMasks,
-)
-    requires columns { PredReadsBelow (length columns.now.frame.columns) (condition_of pred.now) }
-    requires masks { AreMasksOf masks.now 0 (atoms_of (condition_of pred.now)) columns.now }
-    requires known { IsKnownTable columns.now }
-    requires block { 64 * number < columns.now.frame.rows }
-    requires rows { AreRowsOf columns.now number (R.table rows.now) first }
-    requires must { length truths.old.must ≡ columns.now.frame.rows }
-    requires may { length truths.old.may ≡ columns.now.frame.rows }
-    ensures must { IsJudged is_certain (condition_of pred.now) columns.now number truths.old.must truths.new.must }
-    ensures may { IsJudged is_possible (condition_of pred.now) columns.now number truths.old.may truths.new.may }
-{
-    let words = pred_truths(pred, masks, 0, columns, number, rows, first).words;
-    write_word(&mut truths.must, number, must_hold(words));
-    write_word(&mut truths.may, number, words.may_hold);
-}
-
-// The same for a block of the columns, whose rows are read where an atom is judged row by row. Nothing is done where no row's
-// bits differ: what is decided at a row stays so.
-fn judge_block(
-    pred: &Pred,
-    masks: &[AtomMasks],
-    by_rows: bool,
-    columns: &LentColumns<'_>,
-    number: usize,
-    block: &mut RowBlock,
+    rows: &mut RowBlock,
     truths: &mut TruthMasks,
 )
     requires columns { PredReadsBelow (length columns.now.frame.columns) (condition_of pred.now) }
     requires masks { AreMasksOf masks.now 0 (atoms_of (condition_of pred.now)) columns.now }
     requires known { IsKnownTable columns.now }
     requires number { 64 * number < columns.now.frame.rows }
-    requires block { block.old.frame.columns ≡ columns.now.frame.columns }
+    requires rows { rows.old.frame.columns ≡ columns.now.frame.columns }
     requires must { length truths.old.must ≡ columns.now.frame.rows }
     requires may { length truths.old.may ≡ columns.now.frame.rows }
     requires same { AreRightWhereSame (condition_of pred.now) columns.now (64 * number) truths.old.must truths.old.may }
-    ensures block { block.new.frame.columns ≡ columns.now.frame.columns }
+    ensures rows { rows.new.frame.columns ≡ columns.now.frame.columns }
     ensures must { IsJudged is_certain (condition_of pred.now) columns.now number truths.old.must truths.new.must }
     ensures may { IsJudged is_possible (condition_of pred.now) columns.now number truths.old.may truths.new.may }
     ensures same { AreRightWhereSame (condition_of pred.now) columns.now (64 * number + 64) truths.new.must truths.new.may }
@@ -115,41 +90,104 @@ fn judge_block(
         return;
     }
     blocks_have_their_rows();
-    if by_rows {
-        block.read(columns, number);
-        judge_rows(pred, masks, columns, number, &*block, 0, truths);
-    } else {
-        let rows = columns.again();
-        judge_rows(pred, masks, columns, number, &rows, 64 * number, truths);
-    }
+    rows.read(columns, number);
+    let (block, word) = (number / 8, number % 8);
+    let place = Place {
+        block,
+        word,
+        to: (columns.rows() - 512 * block).min(64 * word + 64),
+        first: 0,
+    };
+    let found = pred_truths(pred, masks, 0, columns, &*rows, place).truths;
+    write_word(&mut truths.must, number, must_hold(&found)[word]);
+    write_word(&mut truths.may, number, found.may_hold[word]);
 }
 
-// Sets the bits of the rows of a block of 512 by what is known of the condition there.
-fn judge_wide(
+// The same for the rows of a block of 512, word by word.
+fn judge_words(
     pred: &Pred,
     masks: &[AtomMasks],
     columns: &LentColumns<'_>,
-    wide: usize,
-    block: &mut RowBlock,
+    block: usize,
+    rows: &mut RowBlock,
     truths: &mut TruthMasks,
 )
     requires columns { PredReadsBelow (length columns.now.frame.columns) (condition_of pred.now) }
     requires masks { AreMasksOf masks.now 0 (atoms_of (condition_of pred.now)) columns.now }
-    requires wide { 512 * wide < columns.now.frame.rows }
-    requires block { block.old.frame.columns ≡ columns.now.frame.columns }
+    requires block { 512 * block < columns.now.frame.rows }
+    requires rows { rows.old.frame.columns ≡ columns.now.frame.columns }
     requires must { length truths.old.must ≡ columns.now.frame.rows }
     requires may { length truths.old.may ≡ columns.now.frame.rows }
-    requires same { AreRightWhereSame (condition_of pred.now) columns.now (512 * wide) truths.old.must truths.old.may }
-    ensures block { block.new.frame.columns ≡ columns.now.frame.columns }
-    ensures must { AreJudged is_certain (condition_of pred.now) columns.now (512 * wide) (512 * wide + 512) truths.old.must truths.new.must }
-    ensures may { AreJudged is_possible (condition_of pred.now) columns.now (512 * wide) (512 * wide + 512)
+    requires same { AreRightWhereSame (condition_of pred.now) columns.now (512 * block) truths.old.must truths.old.may }
+    ensures rows { rows.new.frame.columns ≡ columns.now.frame.columns }
+    ensures must { AreJudged is_certain (condition_of pred.now) columns.now (512 * block) (512 * block + 512)
+        truths.old.must truths.new.must }
+    ensures may { AreJudged is_possible (condition_of pred.now) columns.now (512 * block) (512 * block + 512)
         truths.old.may truths.new.may }
-    ensures same { AreRightWhereSame (condition_of pred.now) columns.now (512 * wide + 512) truths.new.must truths.new.may }
 {
-    let by_rows = masks.iter().any(|own| own.is_by_rows());
-    let end = columns.rows().div_ceil(64).min(8 * wide + 8);
-    for number in 8 * wide..end {
-        judge_block(pred, masks, by_rows, columns, number, block, truths);
+    let end = columns.rows().div_ceil(64).min(8 * block + 8);
+    for number in 8 * block..end {
+        judge_word(pred, masks, columns, number, rows, truths);
+    }
+}
+
+// The same at once. An atom without masks would be read row by row at all rows of the block.
+fn judge_at_once(
+    pred: &Pred,
+    masks: &[AtomMasks],
+    columns: &LentColumns<'_>,
+    block: usize,
+    truths: &mut TruthMasks,
+)
+    requires columns { PredReadsBelow (length columns.now.frame.columns) (condition_of pred.now) }
+    requires masks { AreMasksOf masks.now 0 (atoms_of (condition_of pred.now)) columns.now }
+    requires block { 512 * block < columns.now.frame.rows }
+    requires must { length truths.old.must ≡ columns.now.frame.rows }
+    requires may { length truths.old.may ≡ columns.now.frame.rows }
+    ensures must { AreJudged is_certain (condition_of pred.now) columns.now (512 * block) (512 * block + 512)
+        truths.old.must truths.new.must }
+    ensures may { AreJudged is_possible (condition_of pred.now) columns.now (512 * block) (512 * block + 512)
+        truths.old.may truths.new.may }
+{
+    let place = Place {
+        block,
+        word: 0,
+        to: (columns.rows() - 512 * block).min(512),
+        first: 512 * block,
+    };
+    let rows = columns.again();
+    let found = pred_truths(pred, masks, 0, columns, &rows, place).truths;
+    write_block(&mut truths.must, block, &must_hold(&found));
+    write_block(&mut truths.may, block, &found.may_hold);
+}
+
+// Sets the bits of the rows of a block of 512 by what is known of the condition there.
+fn judge_block(
+    pred: &Pred,
+    masks: &[AtomMasks],
+    columns: &LentColumns<'_>,
+    block: usize,
+    rows: &mut RowBlock,
+    truths: &mut TruthMasks,
+)
+    requires columns { PredReadsBelow (length columns.now.frame.columns) (condition_of pred.now) }
+    requires masks { AreMasksOf masks.now 0 (atoms_of (condition_of pred.now)) columns.now }
+    requires block { 512 * block < columns.now.frame.rows }
+    requires rows { rows.old.frame.columns ≡ columns.now.frame.columns }
+    requires must { length truths.old.must ≡ columns.now.frame.rows }
+    requires may { length truths.old.may ≡ columns.now.frame.rows }
+    requires same { AreRightWhereSame (condition_of pred.now) columns.now (512 * block) truths.old.must truths.old.may }
+    ensures rows { rows.new.frame.columns ≡ columns.now.frame.columns }
+    ensures must { AreJudged is_certain (condition_of pred.now) columns.now (512 * block) (512 * block + 512)
+        truths.old.must truths.new.must }
+    ensures may { AreJudged is_possible (condition_of pred.now) columns.now (512 * block) (512 * block + 512)
+        truths.old.may truths.new.may }
+    ensures same { AreRightWhereSame (condition_of pred.now) columns.now (512 * block + 512) truths.new.must truths.new.may }
+{
+    if masks.iter().any(|own| own.is_by_rows()) {
+        judge_words(pred, masks, columns, block, rows, truths);
+    } else {
+        judge_at_once(pred, masks, columns, block, truths);
     }
 }
 
@@ -158,38 +196,38 @@ fn decide_block(
     pred: &Pred,
     masks: &[AtomMasks],
     columns: &LentColumns<'_>,
-    wide: usize,
-    block: &mut RowBlock,
+    block: usize,
+    rows: &mut RowBlock,
     truths: &mut KeptTruths,
 )
     requires columns { PredReadsBelow (length columns.now.frame.columns) (condition_of pred.now) }
     requires masks { AreMasksOf masks.now 0 (atoms_of (condition_of pred.now)) columns.now }
-    requires wide { wide < length truths.old.undecided }
-    requires block { block.old.frame.columns ≡ columns.now.frame.columns }
+    requires block { block < length truths.old.undecided }
+    requires rows { rows.old.frame.columns ≡ columns.now.frame.columns }
     requires must { length truths.old.masks.must ≡ columns.now.frame.rows }
     requires may { length truths.old.masks.may ≡ columns.now.frame.rows }
     requires kept { AreKept truths.old }
-    requires same { AreRightWhereSame (condition_of pred.now) columns.now (512 * wide) truths.old.masks.must truths.old.masks.may }
-    ensures block { block.new.frame.columns ≡ columns.now.frame.columns }
-    ensures must { AreJudged is_certain (condition_of pred.now) columns.now (512 * wide) (512 * wide + 512)
+    requires same { AreRightWhereSame (condition_of pred.now) columns.now (512 * block) truths.old.masks.must truths.old.masks.may }
+    ensures rows { rows.new.frame.columns ≡ columns.now.frame.columns }
+    ensures must { AreJudged is_certain (condition_of pred.now) columns.now (512 * block) (512 * block + 512)
         truths.old.masks.must truths.new.masks.must }
-    ensures may { AreJudged is_possible (condition_of pred.now) columns.now (512 * wide) (512 * wide + 512)
+    ensures may { AreJudged is_possible (condition_of pred.now) columns.now (512 * block) (512 * block + 512)
         truths.old.masks.may truths.new.masks.may }
     ensures kept { AreKept truths.new }
     ensures blocks { length truths.new.undecided ≡ length truths.old.undecided }
-    ensures same { AreRightWhereSame (condition_of pred.now) columns.now (512 * wide + 512) truths.new.masks.must truths.new.masks.may }
+    ensures same { AreRightWhereSame (condition_of pred.now) columns.now (512 * block + 512) truths.new.masks.must truths.new.masks.may }
 {
-    if !truths.undecided.get(wide) {
+    if !truths.undecided.get(block) {
         return;
     }
     // The counts are at most the rows, which are few.
     let _rows = columns.rows();
-    let before = truths.masks.counts_in(wide);
-    judge_wide(pred, masks, columns, wide, block, &mut truths.masks);
-    let after = truths.masks.counts_in(wide);
+    let before = truths.masks.counts_in(block);
+    judge_block(pred, masks, columns, block, rows, &mut truths.masks);
+    let after = truths.masks.counts_in(block);
     truths.certain = truths.certain + after.certain - before.certain;
     truths.possible = truths.possible + after.possible - before.possible;
-    settle(&mut truths.undecided, &truths.masks, wide);
+    settle(&mut truths.undecided, &truths.masks, block);
 }
 
 // Sets each row's bits by what is known of the condition there, block by block. Before, bits that are the same are right: a block that
@@ -198,23 +236,23 @@ fn judge_all(
     pred: &Pred,
     masks: &[AtomMasks],
     columns: &LentColumns<'_>,
-    block: &mut RowBlock,
+    rows: &mut RowBlock,
     truths: &mut KeptTruths,
 )
     requires columns { PredReadsBelow (length columns.now.frame.columns) (condition_of pred.now) }
     requires masks { AreMasksOf masks.now 0 (atoms_of (condition_of pred.now)) columns.now }
-    requires block { block.old.frame.columns ≡ columns.now.frame.columns }
+    requires rows { rows.old.frame.columns ≡ columns.now.frame.columns }
     requires must { length truths.old.masks.must ≡ columns.now.frame.rows }
     requires may { length truths.old.masks.may ≡ columns.now.frame.rows }
     requires kept { AreKept truths.old }
     requires same { AreRightWhereSame (condition_of pred.now) columns.now 0 truths.old.masks.must truths.old.masks.may }
-    ensures block { block.new.frame.columns ≡ columns.now.frame.columns }
+    ensures rows { rows.new.frame.columns ≡ columns.now.frame.columns }
     ensures must { truths.new.masks.must ≡ map is_certain (truths_under (condition_of pred.now) columns.now) }
     ensures may { truths.new.masks.may ≡ map is_possible (truths_under (condition_of pred.now) columns.now) }
     ensures kept { AreKept truths.new }
 {
-    for wide in 0..truths.undecided.rows() {
-        decide_block(pred, masks, columns, wide, block, truths);
+    for block in 0..truths.undecided.rows() {
+        decide_block(pred, masks, columns, block, rows, truths);
     }
 }
 
@@ -230,22 +268,11 @@ fn is_unread(columns: &LentColumns<'_>) -> bool
     true
 }
 
-// Whether the word has the bit of its first row.
-fn has_first(word: u64) -> bool
-    ensures { result ≡ digit_at 0 word }
+// Whether these have the first row.
+fn has_first(rows: &[u64; 8]) -> bool
+    ensures { result ≡ bit_in 0 rows.now }
 {
-    word % 2 == 1
-}
-
-// The mask with each row or with none.
-fn even_mask(alloc: Global, rows: usize, bit: bool) -> Result<Mask, AllocError>
-    ensures { IfOk result (λ mask. mask ≡ replicate rows bit) }
-{
-    if bit {
-        Mask::all(alloc, rows)
-    } else {
-        Mask::none(alloc, rows)
-    }
+    rows[0] % 2 == 1
 }
 
 // What is known of the condition at each row where nothing is read: what is known at the first.
@@ -254,20 +281,29 @@ fn truths_of_unread(
     pred: &Pred,
     masks: &[AtomMasks],
     columns: &LentColumns<'_>,
-) -> Result<TruthMasks, AllocError>
+) -> Result<KeptTruths, AllocError>
     requires columns { PredReadsBelow (length columns.now.frame.columns) (condition_of pred.now) }
     requires masks { AreMasksOf masks.now 0 (atoms_of (condition_of pred.now)) columns.now }
     requires some { 0 < columns.now.frame.rows }
     requires unread { AreUnread columns.now }
-    ensures must { IfOk result (λ truths. truths.must ≡ map is_certain (truths_under (condition_of pred.now) columns.now)) }
-    ensures may { IfOk result (λ truths. truths.may ≡ map is_possible (truths_under (condition_of pred.now) columns.now)) }
+    ensures must { IfOk result (λ truths. truths.masks.must ≡ map is_certain (truths_under (condition_of pred.now) columns.now)) }
+    ensures may { IfOk result (λ truths. truths.masks.may ≡ map is_possible (truths_under (condition_of pred.now) columns.now)) }
+    ensures kept { IfOk result AreKept }
 {
-    let rows = columns.rows();
-    let each = columns.again();
-    let words = pred_truths(pred, masks, 0, columns, 0, &each, 0).words;
-    let must = even_mask(alloc, rows, has_first(must_hold(words)))?;
-    let may = even_mask(alloc, rows, has_first(words.may_hold))?;
-    Ok(TruthMasks { must, may })
+    let count = columns.rows();
+    let place = Place {
+        block: 0,
+        word: 0,
+        to: 1,
+        first: 0,
+    };
+    let rows = columns.again();
+    let found = pred_truths(pred, masks, 0, columns, &rows, place).truths;
+    let certain = has_first(&must_hold(&found));
+    let possible = has_first(&found.may_hold);
+    let must = even_mask(alloc, count, certain)?;
+    let may = even_mask(alloc, count, possible)?;
+    KeptTruths::of(alloc, TruthMasks { must, may }, certain == possible)
 }
 
 // What is known of the condition at each row.
@@ -276,26 +312,26 @@ fn open_truths(
     pred: &Pred,
     masks: &[AtomMasks],
     columns: &LentColumns<'_>,
-    block: &mut RowBlock,
+    rows: &mut RowBlock,
 ) -> Result<KeptTruths, AllocError>
     requires columns { PredReadsBelow (length columns.now.frame.columns) (condition_of pred.now) }
     requires masks { AreMasksOf masks.now 0 (atoms_of (condition_of pred.now)) columns.now }
-    requires block { block.old.frame.columns ≡ columns.now.frame.columns }
-    ensures block { block.new.frame.columns ≡ columns.now.frame.columns }
+    requires rows { rows.old.frame.columns ≡ columns.now.frame.columns }
+    ensures rows { rows.new.frame.columns ≡ columns.now.frame.columns }
     ensures must { IfOk result (λ truths. truths.masks.must ≡ map is_certain (truths_under (condition_of pred.now) columns.now)) }
     ensures may { IfOk result (λ truths. truths.masks.may ≡ map is_possible (truths_under (condition_of pred.now) columns.now)) }
     ensures kept { IfOk result AreKept }
 {
-    let rows = columns.rows();
-    if rows > 0 && is_unread(columns) {
-        return KeptTruths::of(alloc, truths_of_unread(alloc, pred, masks, columns)?);
+    let count = columns.rows();
+    if count > 0 && is_unread(columns) {
+        return truths_of_unread(alloc, pred, masks, columns);
     }
     let none = TruthMasks {
-        must: Mask::none(alloc, rows)?,
-        may: Mask::all(alloc, rows)?,
+        must: Mask::none(alloc, count)?,
+        may: Mask::all(alloc, count)?,
     };
-    let mut truths = KeptTruths::of(alloc, none)?;
-    judge_all(pred, masks, columns, block, &mut truths);
+    let mut truths = KeptTruths::of(alloc, none, false)?;
+    judge_all(pred, masks, columns, rows, &mut truths);
     Ok(truths)
 }
 

@@ -2,9 +2,11 @@
 #![tactic(auto)]
 
 mod atoms;
+mod block_truths;
 mod comparisons;
 mod filter;
 mod judging;
+mod lanes;
 mod masks;
 mod members;
 mod nulls;

@@ -6,14 +6,15 @@ ghost use Rattle.known_column.specs.Columns.{rows_where};
 ghost use Rattle.known_column.specs.KnownTables.{column_at, IsKnownTable};
 ghost use Rattle.known_column.specs.RowBlocks.{IsKnownColumn};
 ghost use Rattle.kleene_filter.specs.Masks.{IsMembership, Was};
-ghost use Rattle.kleene_filter.specs.Members.{AreMemberWords, HasLevels, HaveRow, IsLevel, IsMemberWord};
+ghost use Rattle.kleene_filter.specs.Members.{AreBlockMembers, HasLevels, HaveRow, IsLevel, IsBlockMember};
 ghost use Rattle.kleene_filter.specs.Parted.{is_level, IsBetweenEnds, IsTruthAt, Had};
-ghost use Rattle.kleene_filter.specs.Words.{AreTruthsInTable};
+ghost use Rattle.kleene_filter.specs.Blocks.{AreTruthsInTable};
 
+use crate::block_truths::BlockTruths;
+use crate::lanes::{chosen, either, read_block, unset};
 use crate::nulls::number_truths;
 use crate::parted::{code_of, next_digit};
 use crate::ranges::is_one_of;
-use crate::words::{TruthWords, chosen};
 use known_column::{Known, LentColumns};
 use plane_kernels::{Plane, Remaining};
 use query_model::{Truth, Values};
@@ -38,9 +39,9 @@ pub(crate) struct Membership {
 
 // The rows of a block at which a number may be listed, and those at which it surely is.
 #[derive(Clone, Copy)]
-struct MemberWords {
-    may: u64,
-    must: u64,
+struct BlockMembers {
+    may: [u64; 8],
+    must: [u64; 8],
 }
 
 // What is known of whether a number is listed, at the rows with the prefix of one number.
@@ -96,14 +97,14 @@ impl Level {
     }
 
     // The rows of a block that have the number's prefix, where the truth lets them be listed.
-    fn words(&self, block: usize) -> MemberWords
-        requires { 64 * block < length self.now.rows }
-        ensures { (row : ℕ) → row < 64 → 64 * block + row < length self.now.rows → IsMemberWord self.now block row result }
+    fn in_block(&self, block: usize) -> BlockMembers
+        requires { 512 * block < length self.now.rows }
+        ensures { (row : ℕ) → row < 512 → 512 * block + row < length self.now.rows → IsBlockMember self.now block row result }
     {
-        let rows = self.rows.word(block);
-        MemberWords {
-            may: chosen(self.truth != Truth::False, rows),
-            must: chosen(self.truth == Truth::True, rows),
+        let rows = read_block(self.rows.mask(), block);
+        BlockMembers {
+            may: chosen(self.truth != Truth::False, &rows),
+            must: chosen(self.truth == Truth::True, &rows),
         }
     }
 }
@@ -134,18 +135,18 @@ fn follow_levels(levels: &mut Vec<Level>, values: &[i128], column: &Known, plane
 }
 
 // The rows of a block at which a number may be listed or is, by all levels.
-fn member_words(levels: &[Level], block: usize) -> MemberWords
-    requires { HaveRow (64 * block) levels.now }
-    ensures { (row : ℕ) → row < 64 → HaveRow (64 * block + row) levels.now → AreMemberWords levels.now block row result }
+fn block_members(levels: &[Level], block: usize) -> BlockMembers
+    requires { HaveRow (512 * block) levels.now }
+    ensures { (row : ℕ) → row < 512 → HaveRow (512 * block + row) levels.now → AreBlockMembers levels.now block row result }
 {
-    let mut may = 0;
-    let mut must = 0;
+    let mut may = [0; 8];
+    let mut must = [0; 8];
     for level in levels.iter() {
-        let words = level.words(block);
-        may |= words.may;
-        must |= words.must;
+        let rows = level.in_block(block);
+        may = either(&may, &rows.may);
+        must = either(&must, &rows.must);
     }
-    MemberWords { may, must }
+    BlockMembers { may, must }
 }
 
 impl Membership {
@@ -193,15 +194,15 @@ impl Membership {
     }
 
     // The truths of whether the column's number is listed, at the rows of a block.
-    pub(crate) fn truths(&self, columns: &LentColumns<'_>, block: usize) -> TruthWords
+    pub(crate) fn truths(&self, columns: &LentColumns<'_>, block: usize) -> BlockTruths
         requires within { self.now.column < length columns.now.frame.columns }
         requires levels { IsMembership self.now columns.now }
         requires known { IsKnownTable columns.now }
-        requires block { 64 * block < columns.now.frame.rows }
+        requires block { 512 * block < columns.now.frame.rows }
         ensures { AreTruthsInTable columns.now self.now.column block (among self.now.values) result }
     {
         let column = columns.column(self.column);
-        let words = member_words(&self.levels, block);
-        number_truths(column, block, words.may, !words.must)
+        let rows = block_members(&self.levels, block);
+        number_truths(column, block, &rows.may, &unset(&rows.must))
     }
 }

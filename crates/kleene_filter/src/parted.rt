@@ -7,12 +7,13 @@ ghost use Rattle.query_model.specs.Meaning.{compares};
 ghost use Rattle.known_column.specs.Columns.{rows_of_column, rows_where};
 ghost use Rattle.known_column.specs.RowBlocks.{IsKnownColumn};
 ghost use Rattle.kleene_filter.specs.Parted.{cell_with, fails_at, greater_holds, holds_at, is_level, less_holds, others_hold, passed_rows};
-ghost use Rattle.kleene_filter.specs.Parted.{AreSideWords, Had, HasRow, HasSides, IsBetweenEnds, IsParted, IsTruthAt};
-ghost use Rattle.kleene_filter.specs.Words.{AreTruthsInColumn};
+ghost use Rattle.kleene_filter.specs.Parted.{AreBlockSides, Had, HasRow, HasSides, IsBetweenEnds, IsParted, IsTruthAt};
+ghost use Rattle.kleene_filter.specs.Blocks.{bit_in, AreTruthsInColumn};
 
+use crate::block_truths::BlockTruths;
+use crate::lanes::{both, chosen, either, read_block, unset};
 use crate::nulls::number_truths;
 use crate::ranges::compared_with;
-use crate::words::{TruthWords, chosen};
 use known_column::Known;
 use plane_kernels::{Mask, Plane, Remaining};
 use query_model::{Comparison, Truth};
@@ -37,11 +38,11 @@ pub(crate) enum Sides {
     AllGreater,
 }
 
-// The rows of a block that passed, and those with the number's own prefix, as words.
+// The rows of a block that passed, and those with the number's own prefix.
 #[derive(Clone, Copy)]
-struct SideWords {
-    passed: u64,
-    equal: u64,
+struct BlockSides {
+    passed: [u64; 8],
+    equal: [u64; 8],
     at_equal: Truth,
 }
 
@@ -191,24 +192,24 @@ impl Sides {
     }
 
     // The sides of a block's rows.
-    fn words(&self, op: Comparison, block: usize) -> SideWords
-        requires { HasRow (64 * block) self.now }
-        ensures { AreSideWords op self.now block result }
+    fn in_block(&self, op: Comparison, block: usize) -> BlockSides
+        requires { HasRow (512 * block) self.now }
+        ensures { AreBlockSides op self.now block result }
     {
         match self {
-            Sides::AllLess => SideWords {
-                passed: chosen(less_compares(op), u64::MAX),
-                equal: 0,
+            Sides::AllLess => BlockSides {
+                passed: chosen(less_compares(op), &[u64::MAX; 8]),
+                equal: [0; 8],
                 at_equal: Truth::Unknown,
             },
-            Sides::Parted(parted) => SideWords {
-                passed: parted.passed.word(block),
-                equal: parted.equal.word(block),
+            Sides::Parted(parted) => BlockSides {
+                passed: read_block(&parted.passed, block),
+                equal: read_block(parted.equal.mask(), block),
                 at_equal: parted.at_equal,
             },
-            Sides::AllGreater => SideWords {
-                passed: chosen(greater_compares(op), u64::MAX),
-                equal: 0,
+            Sides::AllGreater => BlockSides {
+                passed: chosen(greater_compares(op), &[u64::MAX; 8]),
+                equal: [0; 8],
                 at_equal: Truth::Unknown,
             },
         }
@@ -221,31 +222,35 @@ impl Sides {
         value: i128,
         column: &Known,
         block: usize,
-    ) -> TruthWords
+    ) -> BlockTruths
         requires sides { HasSides column.now op value self.now }
         requires known { IsKnownColumn column.now }
-        requires block { 64 * block < rows_of_column column.now }
+        requires block { 512 * block < rows_of_column column.now }
         ensures { AreTruthsInColumn column.now block (λ x. compares op x value) result }
     {
-        let words = self.words(op, block);
-        number_truths(column, block, words.may_hold(), words.may_fail())
+        let sides = self.in_block(op, block);
+        number_truths(column, block, &sides.may_hold(), &sides.may_fail())
     }
 }
 
-impl SideWords {
+impl BlockSides {
     // The rows at which the comparison may hold.
-    fn may_hold(&self) -> u64
-        ensures { (row : ℕ) → row < 64 → digit_at row result
-            ≡ holds_at self.now.at_equal (digit_at row self.now.passed) (digit_at row self.now.equal) }
+    fn may_hold(&self) -> [u64; 8]
+        ensures { (row : ℕ) → row < 512 → bit_in row result
+            ≡ holds_at self.now.at_equal (bit_in row self.now.passed) (bit_in row self.now.equal) }
     {
-        self.passed | chosen(self.at_equal != Truth::False, self.equal)
+        either(
+            &self.passed,
+            &chosen(self.at_equal != Truth::False, &self.equal),
+        )
     }
 
     // The rows at which it may fail.
-    fn may_fail(&self) -> u64
-        ensures { (row : ℕ) → row < 64 → digit_at row result
-            ≡ fails_at self.now.at_equal (digit_at row self.now.passed) (digit_at row self.now.equal) }
+    fn may_fail(&self) -> [u64; 8]
+        ensures { (row : ℕ) → row < 512 → bit_in row result
+            ≡ fails_at self.now.at_equal (bit_in row self.now.passed) (bit_in row self.now.equal) }
     {
-        (!self.passed & !self.equal) | chosen(self.at_equal != Truth::True, self.equal)
+        let neither = both(&unset(&self.passed), &unset(&self.equal));
+        either(&neither, &chosen(self.at_equal != Truth::True, &self.equal))
     }
 }

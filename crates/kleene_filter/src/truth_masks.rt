@@ -1,6 +1,6 @@
 //! The rows at which a condition holds for certain, and those at which it may, with the blocks of 512 that are not decided.
 
-ghost use Rattle.std.specs.Prelude.{◌≡◌, ◌≤◌, ◌<◌, ◌*◌, true, length, take, drop, count_by, IfOk, IsTrue};
+ghost use Rattle.std.specs.Prelude.{◌≡◌, ◌≤◌, ◌<◌, ◌*◌, true, length, take, drop, count_by, replicate, IfOk, IsTrue};
 ghost use Rattle.kleene_filter.specs.Filters.{AreKept, AreSettled, AreSettledBeside};
 
 use plane_kernels::{Block, Mask};
@@ -27,6 +27,17 @@ pub(crate) struct KeptTruths {
 pub(crate) struct BlockCounts {
     pub(crate) certain: u64,
     pub(crate) possible: u64,
+}
+
+// The mask with each row or with none.
+pub(crate) fn even_mask(alloc: Global, rows: usize, bit: bool) -> Result<Mask, AllocError>
+    ensures { IfOk result (λ mask. mask ≡ replicate rows bit) }
+{
+    if bit {
+        Mask::all(alloc, rows)
+    } else {
+        Mask::none(alloc, rows)
+    }
 }
 
 // Whether both words have the same rows.
@@ -75,13 +86,18 @@ pub(crate) fn settle(undecided: &mut Mask, masks: &TruthMasks, block: usize)
 }
 
 impl KeptTruths {
-    // What is kept of masks of which nothing is known.
-    pub(crate) fn of(alloc: Global, masks: TruthMasks) -> Result<KeptTruths, AllocError>
-        requires { length masks.may ≡ length masks.must }
+    // What is kept of masks, which may be known to be decided at each row.
+    pub(crate) fn of(
+        alloc: Global,
+        masks: TruthMasks,
+        is_decided: bool,
+    ) -> Result<KeptTruths, AllocError>
+        requires rows { length masks.may ≡ length masks.must }
+        requires decided { IsTrue is_decided → masks.must ≡ masks.may }
         ensures masks { IfOk result (λ truths. truths.masks ≡ masks) }
         ensures kept { IfOk result AreKept }
     {
-        let undecided = Mask::all(alloc, masks.must.rows().div_ceil(512))?;
+        let undecided = even_mask(alloc, masks.must.rows().div_ceil(512), !is_decided)?;
         let certain = masks.must.count();
         let possible = masks.may.count();
         Ok(KeptTruths {

@@ -3,12 +3,12 @@ use Rattle.query_model.specs.Queries.{condition_of}
 use Rattle.kleene_filter.specs.Filters.{is_certain, is_possible, AreJudged, AreKept, AreRightWhereSame}
 use Rattle.kleene_filter.proofs.filter.judge_all.Given as goal
 
-abbrev pub invariant-loop-wide : goal.invariant-loop-wide
-invariant-loop-wide l = record {
-  lent : l.block.frame.columns ≡ l.columns.frame.columns;
+abbrev pub invariant-loop-block : goal.invariant-loop-block
+invariant-loop-block l = record {
+  lent : l.rows.frame.columns ≡ l.columns.frame.columns;
   blocks : length l.truths.undecided ≡ length l.fn.truths.undecided;
   kept : AreKept l.truths;
-  must : AreJudged is_certain (condition_of l.pred) l.columns 0 (512 * l.wide) l.fn.truths.masks.must l.truths.masks.must;
-  may : AreJudged is_possible (condition_of l.pred) l.columns 0 (512 * l.wide) l.fn.truths.masks.may l.truths.masks.may;
-  same : AreRightWhereSame (condition_of l.pred) l.columns (512 * l.wide) l.truths.masks.must l.truths.masks.may;
+  must : AreJudged is_certain (condition_of l.pred) l.columns 0 (512 * l.block) l.fn.truths.masks.must l.truths.masks.must;
+  may : AreJudged is_possible (condition_of l.pred) l.columns 0 (512 * l.block) l.fn.truths.masks.may l.truths.masks.may;
+  same : AreRightWhereSame (condition_of l.pred) l.columns (512 * l.block) l.truths.masks.must l.truths.masks.may;
 }

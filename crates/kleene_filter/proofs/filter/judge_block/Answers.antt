@@ -1,28 +1,16 @@
-use Rattle.std.proofs.Common.{refl}
+use Rattle.std.proofs.Common.{◌+◌, ◌*◌, arith}
 use Rattle.query_model.specs.Queries.{condition_of}
-use Rattle.kleene_filter.proofs.Decided.{right_here}
-use Rattle.kleene_filter.proofs.Tracking.{in_block}
+use Rattle.kleene_filter.proofs.Judged.{right_behind}
 use Rattle.kleene_filter.proofs.filter.judge_block.Goals as goal
 
-pub returns-then-word-clause-must : goal.returns-then-word-clause-must
-returns-then-word-clause-must c =
+pub returns-then-any-clause-same : goal.returns-then-any-clause-same
+returns-then-any-clause-same c =
     let old = c.args.truths.now in
-    record {
-      rows = refl;
-      before = λ k below. refl;
-      behind = λ k above. refl;
-      here = λ r few. (right_here (condition_of c.args.pred.now) c.args.columns.now c.args.number c.word.result c.word-2.result r old.must old.may c.requires.same c.requires.must c.requires.may c.word.ensures c.word-2.ensures c.if-word.true few).certain;
-    }
+    let new = c.judge_words.new.truths in
+    right_behind (condition_of c.args.pred.now) c.args.columns.now (512 * c.args.block) (512 * c.args.block + 512) old.must old.may new.must new.may c.requires.same c.judge_words.ensures.must c.judge_words.ensures.may (omega arith)
 
-pub returns-then-word-clause-may : goal.returns-then-word-clause-may
-returns-then-word-clause-may c =
+pub returns-else-any-clause-same : goal.returns-else-any-clause-same
+returns-else-any-clause-same c =
     let old = c.args.truths.now in
-    record {
-      rows = refl;
-      before = λ k below. refl;
-      behind = λ k above. refl;
-      here = λ r few. (right_here (condition_of c.args.pred.now) c.args.columns.now c.args.number c.word.result c.word-2.result r old.must old.may c.requires.same c.requires.must c.requires.may c.word.ensures c.word-2.ensures c.if-word.true few).possible;
-    }
-
-pub judge_rows-requires-clause-rows : goal.judge_rows-requires-clause-rows
-judge_rows-requires-clause-rows c = in_block c.args.columns.now c.read.new.self c.args.number c.blocks_have_their_rows.ensures c.read.ensures
+    let new = c.judge_at_once.new.truths in
+    right_behind (condition_of c.args.pred.now) c.args.columns.now (512 * c.args.block) (512 * c.args.block + 512) old.must old.may new.must new.may c.requires.same c.judge_at_once.ensures.must c.judge_at_once.ensures.may (omega arith)

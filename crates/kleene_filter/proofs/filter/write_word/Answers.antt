@@ -9,7 +9,7 @@ use Rattle.kleene_filter.proofs.filter.write_word.Goals as goal
 pub returns-then-word : goal.returns-then-word
 returns-then-word c =
     let mask = c.args.mask.now in
-    let block = c.args.block in
+    let block = c.args.number in
     record {
       rows = refl;
       before = λ k below. refl;
@@ -20,7 +20,7 @@ returns-then-word c =
 pub returns : goal.returns
 returns c =
     let mask = c.args.mask.now in
-    let at = 64 * c.args.block in
+    let at = 64 * c.args.number in
     let n = min 64 (length mask - at) in
     let bits = bits_of n c.args.word in
     let long = length-bits_of n c.args.word in

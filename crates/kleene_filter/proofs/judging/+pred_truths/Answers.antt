@@ -3,10 +3,9 @@ use Rattle.std.proofs.lemmas.Option.{slice_get_read}
 use Rattle.query_model.specs.Queries.{Both, Condition, Either, Negation, condition_of}
 use Rattle.query_model.specs.declared.query.Pred.{Pred}
 use Rattle.query_model.specs.Meaning.{PredReadsBelow}
-use Rattle.known_column.specs.Columns.{count_in_block}
+use Rattle.kleene_filter.specs.Blocks.{HasTruths}
 use Rattle.kleene_filter.specs.Filters.{truths_at}
 use Rattle.kleene_filter.specs.Masks.{atoms_of, AreMasksOf}
-use Rattle.kleene_filter.specs.Words.{AreTruthsAt}
 use Rattle.kleene_filter.proofs.Tracking.{left_masks, right_masks, size_of}
 use Rattle.kleene_filter.proofs.judging.+pred_truths.Goals as goal
 
@@ -39,16 +38,16 @@ pred_truths-right-requires g t c κs within =
     (subst (λ (p : Condition). AreMasksOf c.args.masks.now c.args.at (atoms_of p) table) parts c.requires.masks) c.pred_truths-left.ensures.next in
     (omega (arith, c.decreases, ap size_of parts), (within, (columns.1, (masks, (c.requires.known, (c.requires.block, c.requires.rows))))))
 
-pub returns-in-And-clause-words : goal.returns-in-And-clause-words
-returns-in-And-clause-words g t c =
+pub returns-in-And-clause-truths : goal.returns-in-And-clause-truths
+returns-in-And-clause-truths g t c =
     let table = c.args.columns.now in
-    let block = c.args.block in
-    let rows = count_in_block block table.frame.rows in
+    let block = c.args.place.block in
+    let few = c.requires.rows.few in
     let parts : condition_of c.args.pred.now ≡ Both (condition_of c.deref.result.now) (condition_of c.deref-in-And.result.now) =
     ap condition_of c.in-And.is ∙ ap (λ (p : Pred). Both (condition_of p) (condition_of c.in-And.b.value)) (sym c.deref.ensures)
     ∙ ap (λ (p : Pred). Both (condition_of c.deref.result.now) (condition_of p)) (sym c.deref-in-And.ensures) in
-    subst (λ (p : Condition). AreTruthsAt rows (λ r. truths_at p table (64 * block + r)) c.and.result) (sym parts)
-    (c.and.ensures rows (λ r. truths_at (condition_of c.deref.result.now) table (64 * block + r)) (λ r. truths_at (condition_of c.deref-in-And.result.now) table (64 * block + r)) c.pred_truths-left.ensures.words c.pred_truths-right.ensures.words)
+    λ row from below. subst (λ (p : Condition). HasTruths row (truths_at p table (512 * block + row)) c.and.result) (sym parts)
+    (c.and.ensures row _ _ (omega (arith, below, few)) (c.pred_truths-left.ensures.truths row from below) (c.pred_truths-right.ensures.truths row from below))
 
 pub pred_truths-left-requires-in-Or : goal.pred_truths-left-requires-in-Or
 pred_truths-left-requires-in-Or g t c κs within =
@@ -71,16 +70,16 @@ pred_truths-right-requires-in-Or g t c κs within =
     (subst (λ (p : Condition). AreMasksOf c.args.masks.now c.args.at (atoms_of p) table) parts c.requires.masks) c.pred_truths-left-in-Or.ensures.next in
     (omega (arith, c.decreases, ap size_of parts), (within, (columns.1, (masks, (c.requires.known, (c.requires.block, c.requires.rows))))))
 
-pub returns-in-Or-clause-words : goal.returns-in-Or-clause-words
-returns-in-Or-clause-words g t c =
+pub returns-in-Or-clause-truths : goal.returns-in-Or-clause-truths
+returns-in-Or-clause-truths g t c =
     let table = c.args.columns.now in
-    let block = c.args.block in
-    let rows = count_in_block block table.frame.rows in
+    let block = c.args.place.block in
+    let few = c.requires.rows.few in
     let parts : condition_of c.args.pred.now ≡ Either (condition_of c.deref-in-Or.result.now) (condition_of c.deref-in-Or-2.result.now) =
     ap condition_of c.in-Or.is ∙ ap (λ (p : Pred). Either (condition_of p) (condition_of c.in-Or.b.value)) (sym c.deref-in-Or.ensures)
     ∙ ap (λ (p : Pred). Either (condition_of c.deref-in-Or.result.now) (condition_of p)) (sym c.deref-in-Or-2.ensures) in
-    subst (λ (p : Condition). AreTruthsAt rows (λ r. truths_at p table (64 * block + r)) c.or.result) (sym parts)
-    (c.or.ensures rows (λ r. truths_at (condition_of c.deref-in-Or.result.now) table (64 * block + r)) (λ r. truths_at (condition_of c.deref-in-Or-2.result.now) table (64 * block + r)) c.pred_truths-left-in-Or.ensures.words c.pred_truths-right-in-Or.ensures.words)
+    λ row from below. subst (λ (p : Condition). HasTruths row (truths_at p table (512 * block + row)) c.or.result) (sym parts)
+    (c.or.ensures row _ _ (omega (arith, below, few)) (c.pred_truths-left-in-Or.ensures.truths row from below) (c.pred_truths-right-in-Or.ensures.truths row from below))
 
 pub pred_truths-inner-requires : goal.pred_truths-inner-requires
 pred_truths-inner-requires g t c κs within =
@@ -90,3 +89,12 @@ pred_truths-inner-requires g t c κs within =
     let columns = subst (PredReadsBelow (length table.frame.columns)) parts c.requires.columns in
     let masks = subst (λ (p : Condition). AreMasksOf c.args.masks.now c.args.at (atoms_of p) table) parts c.requires.masks in
     (omega (arith, c.decreases, ap size_of parts), (within, (columns, (masks, (c.requires.known, (c.requires.block, c.requires.rows))))))
+
+pub returns-in-Not-clause-truths : goal.returns-in-Not-clause-truths
+returns-in-Not-clause-truths g t c =
+    let table = c.args.columns.now in
+    let block = c.args.place.block in
+    let parts : condition_of c.args.pred.now ≡ Negation (condition_of c.deref-in-Not.result.now) =
+    ap condition_of c.in-Not.is ∙ ap (λ (p : Pred). Negation (condition_of p)) (sym c.deref-in-Not.ensures) in
+    λ row from below. subst (λ (p : Condition). HasTruths row (truths_at p table (512 * block + row)) c.not.result) (sym parts)
+    (c.not.ensures row _ (c.pred_truths-inner.ensures.truths row from below))

@@ -1,28 +1,48 @@
-use Rattle.std.proofs.Common.{◌≡◌, ◌*◌, ◌+◌, ap, sym, subst, arith}
+use Rattle.std.proofs.Common.{◌*◌, ◌+◌, sym, subst, arith}
 use Rattle.query_model.specs.declared.query.Atom.{Atom}
 use Rattle.query_model.specs.Knowledge.{ranges_of}
-use Rattle.query_model.specs.Truths.{truths_of_atom}
-use Rattle.known_column.specs.Columns.{count_in_block}
+use Rattle.query_model.specs.Truths.{truths_of_atom, truths_of_null}
+use Rattle.known_column.specs.Columns.{KnownColumn, range_at}
 use Rattle.kleene_filter.specs.declared.masks.AtomMasks.{AtomMasks}
+use Rattle.kleene_filter.specs.Blocks.{HasTruths}
 use Rattle.kleene_filter.specs.Masks.{Follows}
-use Rattle.kleene_filter.specs.Words.{AreTruthsAt}
-use Rattle.kleene_filter.proofs.WordBits.{same_truths}
 use Rattle.kleene_filter.proofs.judging.atom_truths.Goals as goal
 
 pub returns-in-ByRows : goal.returns-in-ByRows
-returns-in-ByRows g c =
-    let atom = c.args.atom.now in
+returns-in-ByRows g c = λ row from below.
+    subst (λ ranges. HasTruths row (truths_of_atom c.args.atom.now ranges) c.truths_by_rows.result) (c.requires.rows.ranges row from below) (c.truths_by_rows.ensures row from below)
+
+pub returns-in-Null : goal.returns-in-Null
+returns-in-Null g c = λ row from below.
     let table = c.args.columns.now in
-    let other = g.R.KnownRows.table c.args.rows.now in
-    let block = c.args.block in
-    let first = c.args.first in
-    let count : c.min-count.result ≡ count_in_block block table.frame.rows = omega (arith, c.min-count.ensures, c.rows.ensures.rows) in
-    same_truths (count_in_block block table.frame.rows) (λ r. truths_of_atom atom (ranges_of other.frame other.known (first + r))) (λ r. truths_of_atom atom (ranges_of table.frame table.known (64 * block + r))) c.truths_by_rows.result
-    (λ r below. ap (truths_of_atom atom) (c.requires.rows.ranges r below))
-    (subst (λ n. AreTruthsAt n (λ r. truths_of_atom atom (ranges_of other.frame other.known (first + r))) c.truths_by_rows.result) count c.truths_by_rows.ensures)
+    let at = 512 * c.args.place.block + row in
+    let here = c.requires.rows.here in
+    let few = c.requires.rows.few in
+    let follows = subst (λ (m : AtomMasks). Follows m c.args.atom.now table) c.in-Null.is c.requires.follows in
+    subst (λ (a : Atom). HasTruths row (truths_of_atom a (ranges_of table.frame table.known at)) c.null_truths.result) (sym follows)
+    (subst (λ (k : KnownColumn). HasTruths row (truths_of_null (range_at k at)) c.null_truths.result) c.column.ensures.column
+    (c.null_truths.ensures row (omega arith) (omega (arith, here, few, below, c.column.ensures.rows))))
 
 pub returns-in-Compared : goal.returns-in-Compared
-returns-in-Compared g c =
+returns-in-Compared g c = λ row from below.
     let table = c.args.columns.now in
+    let here = c.requires.rows.here in
+    let few = c.requires.rows.few in
     let follows = subst (λ (m : AtomMasks). Follows m c.args.atom.now table) c.in-Compared.is c.requires.follows in
-    subst (λ (a : Atom). AreTruthsAt (count_in_block c.args.block table.frame.rows) (λ r. truths_of_atom a (ranges_of table.frame table.known (64 * c.args.block + r))) c.truths.result) (sym follows.0) c.truths.ensures
+    subst (λ (a : Atom). HasTruths row (truths_of_atom a (ranges_of table.frame table.known (512 * c.args.place.block + row))) c.truths.result) (sym follows.0) (c.truths.ensures row (omega arith) (omega (arith, here, few, below)))
+
+pub returns-in-Ranged : goal.returns-in-Ranged
+returns-in-Ranged g c = λ row from below.
+    let table = c.args.columns.now in
+    let here = c.requires.rows.here in
+    let few = c.requires.rows.few in
+    let follows = subst (λ (m : AtomMasks). Follows m c.args.atom.now table) c.in-Ranged.is c.requires.follows in
+    subst (λ (a : Atom). HasTruths row (truths_of_atom a (ranges_of table.frame table.known (512 * c.args.place.block + row))) c.truths-in-Ranged.result) (sym follows.0) (c.truths-in-Ranged.ensures row (omega arith) (omega (arith, here, few, below)))
+
+pub returns-in-Member : goal.returns-in-Member
+returns-in-Member g c = λ row from below.
+    let table = c.args.columns.now in
+    let here = c.requires.rows.here in
+    let few = c.requires.rows.few in
+    let follows = subst (λ (m : AtomMasks). Follows m c.args.atom.now table) c.in-Member.is c.requires.follows in
+    subst (λ (a : Atom). HasTruths row (truths_of_atom a (ranges_of table.frame table.known (512 * c.args.place.block + row))) c.truths-in-Member.result) (sym follows.0) (c.truths-in-Member.ensures row (omega arith) (omega (arith, here, few, below)))

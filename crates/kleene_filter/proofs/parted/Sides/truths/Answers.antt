@@ -8,6 +8,6 @@ returns c =
     let op = c.args.op in
     let v = c.args.value in
     c.number_truths.ensures (λ x. compares op x v) (record {
-      pass = λ r few some. c.may_hold.ensures r (omega arith) ∙ (row_told c.args.column.now op v c.args.self.now c.args.block r c.words-words.result c.requires.sides c.requires.known few c.words-words.ensures some).hold;
-      fail = λ r few some. c.may_fail.ensures r (omega arith) ∙ (row_told c.args.column.now op v c.args.self.now c.args.block r c.words-words.result c.requires.sides c.requires.known few c.words-words.ensures some).fail;
+      pass = λ r few some. c.may_hold.ensures r (omega arith) ∙ (row_told c.args.column.now op v c.args.self.now c.args.block r c.in_block-sides.result c.requires.sides c.requires.known few c.in_block-sides.ensures some).hold;
+      fail = λ r few some. c.may_fail.ensures r (omega arith) ∙ (row_told c.args.column.now op v c.args.self.now c.args.block r c.in_block-sides.result c.requires.sides c.requires.known few c.in_block-sides.ensures some).fail;
     })
