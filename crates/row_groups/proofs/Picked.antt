@@ -14,12 +14,6 @@ rows_set rows masks n mask within long all = λ k below. elim (cases_eq k n) [
   | inr other ↦ ap length (get_or-set_other masks n k mask [] other) ∙ all k (let count = length-set masks n mask in omega (arith, below, count))
 ]
 
-pub cells_set : (cells : List ℕ) (masks : List (List Bool)) (n : ℕ) (mask : List Bool) → n < length masks → mask ≡ map (λ c. c == n) cells → HaveCells n cells masks → HaveCells (n + 1) cells (set masks n mask)
-cells_set cells masks n mask within is all = λ k below. elim (cases_eq k n) [
-  | inl here ↦ ap (λ j. get_or (set masks n mask) j []) here ∙ get_or-set_same masks n mask [] within ∙ is ∙ ap (λ j. map (λ c. c == j) cells) (sym here)
-  | inr other ↦ get_or-set_other masks n k mask [] other ∙ all k (omega (arith, below, other))
-]
-
 -- ---- one mask more at the start
 
 pub first_more : (rows : ℕ) (masks : List (List Bool)) (mask : List Bool) → mask ≡ replicate rows (length masks == 0) → AreFirst rows masks → AreFirst rows (masks ++ mask ∷ [])

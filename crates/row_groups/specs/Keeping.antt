@@ -45,3 +45,10 @@ digits_behind (p ∷ ps) c = if p.column == c then digits_of ps else digits_behi
 -- a number with one more digit in front of so many of its digits
 abbrev pub inserted : ℕ → ℕ → Bool → ℕ
 inserted shift cell bit = (2 * (cell / 2 ^ shift) + cond bit 1 0) * 2 ^ shift + cell % 2 ^ shift
+
+-- a number without the digit in front of so many of its digits, and that digit
+abbrev pub without_digit : ℕ → ℕ → ℕ
+without_digit shift cell = cell / 2 ^ shift / 2 * 2 ^ shift + cell % 2 ^ shift
+
+abbrev pub digit_in : ℕ → ℕ → Bool
+digit_in shift cell = (cell / 2 ^ shift) % 2 == 1

@@ -11,8 +11,9 @@ use crate::bits::insert_plane;
 use crate::cell_keys::CellKeys;
 use crate::keys::read_keys;
 use crate::part::GroupPart;
+use crate::parting::part_first;
 use crate::parts::{count_digits, first_cells, numbers_of, raise, unread_parts};
-use crate::picking::{block_of, first_masks, select_first, select_rows};
+use crate::picking::{block_of, first_masks, select_rows};
 use daq_table::Ends;
 use plane_kernels::{Mask, Plane};
 use std::alloc::{AllocError, Global};
@@ -88,7 +89,7 @@ impl Cells {
         let digits = count_digits(&self.parts);
         let shift = raise(&mut self.parts, column);
         insert_plane(&mut self.cells, plane, shift, digits);
-        select_first(&self.cells, numbers_of(digits + 1), &mut self.masks);
+        part_first(&mut self.masks, plane, shift, digits);
     }
 
     /// The cell that a row is in.

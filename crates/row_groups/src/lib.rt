@@ -7,6 +7,7 @@ mod cells;
 mod keys;
 mod laws;
 mod part;
+mod parting;
 mod parts;
 mod picking;
 mod planes;

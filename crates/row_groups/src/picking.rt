@@ -2,7 +2,7 @@
 
 ghost use Rattle.std.specs.Prelude.{◌≡◌, ◌≤◌, ◌<◌, ◌*◌, ◌==◌, cond, length, map, replicate, take, drop, IfOk};
 ghost use Rattle.plane_kernels.specs.Rows.{bits_of};
-ghost use Rattle.row_groups.specs.Keeping.{AreFirst, HaveCells, HaveRows};
+ghost use Rattle.row_groups.specs.Keeping.{AreFirst};
 
 use plane_kernels::Mask;
 use std::alloc::{AllocError, Global};
@@ -70,19 +70,4 @@ pub(crate) fn first_masks(alloc: Global, rows: usize) -> Result<Vec<Mask>, Alloc
         masks.push(first_mask(alloc, rows, cell)?)?;
     }
     Ok(masks)
-}
-
-// Makes the masks of the first cells their rows, where there are masks for so many.
-pub(crate) fn select_first(cells: &[u16], count: u32, masks: &mut [Mask])
-    requires long { HaveRows (length cells.now) masks.old }
-    ensures count { length masks.new ≡ length masks.old }
-    ensures long { HaveRows (length cells.now) masks.new }
-    ensures masks { count ≤ length masks.old → HaveCells count cells.now masks.new }
-{
-    if count as usize > masks.len() {
-        return;
-    }
-    for cell in 0..count {
-        select_rows(cells, cell, &mut masks[cell as usize]);
-    }
 }
