@@ -1,5 +1,5 @@
--- The numbers that a column's digits make, times the product of other factors, added up digit by digit.
-use Rattle.std.proofs.Common.{◌≡◌, ℕ, suc, ◌+◌, ◌-◌, ◌*◌, ◌/◌, ◌%◌, ◌^◌, ◌<◌, ◌≤◌, ◌==◌, min, ℤ, pos, ◌+ℤ◌, ◌-ℤ◌, ◌*ℤ◌, Bool, true, false, ◌&&◌, cond, List, length, map, take, drop, get_or, IsTrue, ap, sym, ◌∙◌, arith, length-drop}
+-- The numbers that a column's digits make, times another number of each row, added up digit by digit over rows of a block.
+use Rattle.std.proofs.Common.{◌≡◌, ℕ, suc, ◌+◌, ◌-◌, ◌*◌, ◌/◌, ◌%◌, ◌^◌, ◌<◌, ◌≤◌, ◌==◌, min, ℤ, pos, ◌+ℤ◌, ◌-ℤ◌, ◌*ℤ◌, Bool, true, false, ◌&&◌, cond, List, [], length, map, take, drop, get_or, IsTrue, ap, sym, ◌∙◌, arith, length-drop}
 use Rattle.std.specs.Simd.Lanes.{zip2}
 use Rattle.std.proofs.Math.Nat.{div-eq_of_lt, div-one}
 use Rattle.std.proofs.Math.Nat.{pow-le-pow_right}
@@ -17,9 +17,8 @@ use Rattle.known_column.specs.Columns.{digit_of, is_at_top}
 use Rattle.known_column.specs.KnownTables.{KnownTable, column_at}
 use Rattle.query_model.specs.Knowledge.{known_at, prefix_at}
 use Rattle.query_model.specs.Queries.{Column}
-use Rattle.product_sums.specs.declared.factors.Factor.{Factor}
 use Rattle.product_sums.specs.ColumnEnds.{weight_of_all, weight_of_digits, weight_of_top}
-use Rattle.product_sums.specs.Products.{CanMultiply, HasValue, product_at, sum_of_products, sum_over, term_end}
+use Rattle.product_sums.specs.Products.{CanMultiply, HasValue, sum_over, term_end}
 use Rattle.product_sums.proofs.Distributing.{difference_times, product_times, sum_times}
 use Rattle.product_sums.proofs.RowSums.{over_both, over_difference, over_multiple, over_nothing, over_same, over_sum}
 use Rattle.product_sums.proofs.TermEnds.{column_end}
@@ -53,11 +52,11 @@ pub spread_out : (d n a t p : ℤ) (b : Bool) → (((d *ℤ n) +ℤ a) -ℤ cond
 spread_out d n a t p true = taken d n a t p
 spread_out d n a t p false = kept d n a t p
 
--- what the digits make but for so many at the end, times the product of other factors, added up
-abbrev pub first_digits : KnownTable → ℕ → List Bool → List Factor → ℕ → ℕ → ℤ
-first_digits table block rows rest c k = sum_over rows (λ i. pos (number_at (column_at table c) (512 * block + i) / 2 ^ k) *ℤ product_at table rest (512 * block + i))
+-- what the digits make but for so many at the end, times a number of each row, added up
+abbrev pub first_digits : KnownTable → ℕ → List Bool → (ℕ → ℤ) → ℕ → ℕ → ℤ
+first_digits table block rows f c k = sum_over rows (λ i. pos (number_at (column_at table c) (512 * block + i) / 2 ^ k) *ℤ f (512 * block + i))
 
-module _ (table : KnownTable) (block : ℕ) (rows : List Bool) (rest : List Factor) (can : CanMultiply table block rows rest) (c : ℕ) (there : c < length table.frame.columns) where
+module _ (table : KnownTable) (block : ℕ) (rows : List Bool) (f : ℕ → ℤ) (can : CanMultiply table block rows []) (c : ℕ) (there : c < length table.frame.columns) where
   abbrev read : ℕ
   read = (known_at table.known c).read
 
@@ -67,8 +66,8 @@ module _ (table : KnownTable) (block : ℕ) (rows : List Bool) (rest : List Fact
   abbrev number : ℕ → ℕ
   number i = number_at (column_at table c) (512 * block + i)
 
-  abbrev product : ℕ → ℤ
-  product i = product_at table rest (512 * block + i)
+  abbrev other : ℕ → ℤ
+  other i = f (512 * block + i)
 
   all_rows : length prefixes ≡ table.frame.rows
   all_rows = can.known.knowledge.rows c there
@@ -84,62 +83,62 @@ module _ (table : KnownTable) (block : ℕ) (rows : List Bool) (rest : List Fact
   pub tested_length : (test : ℕ → Bool) → length (take 512 (drop (512 * block) (map test prefixes))) ≡ length rows
   tested_length test = long_block (map test prefixes) block table.frame.rows (length-map prefixes test ∙ all_rows) ∙ sym can.count
 
-  pub over_tested : (test : ℕ → Bool) → sum_of_products table block (zip2 (λ a b. a && b) rows (take 512 (drop (512 * block) (map test prefixes)))) rest
-      ≡ sum_over rows (λ i. cond (test (prefix_at table.known c (512 * block + i))) (product i) (pos 0))
+  pub over_tested : (test : ℕ → Bool) → sum_over (zip2 (λ a b. a && b) rows (take 512 (drop (512 * block) (map test prefixes)))) other
+      ≡ sum_over rows (λ i. cond (test (prefix_at table.known c (512 * block + i))) (other i) (pos 0))
   over_tested test =
-      over_both rows (take 512 (drop (512 * block) (map test prefixes))) product (tested_length test)
-      ∙ over_same rows (λ i. cond (has_row (take 512 (drop (512 * block) (map test prefixes))) i) (product i) (pos 0)) (λ i. cond (test (prefix_at table.known c (512 * block + i))) (product i) (pos 0))
-      (λ i has. let below = row_below i has in ap (λ b. cond b (product i) (pos 0)) (bit_there test prefixes block i below.0 (omega (arith, below.1, all_rows))))
+      over_both rows (take 512 (drop (512 * block) (map test prefixes))) other (tested_length test)
+      ∙ over_same rows (λ i. cond (has_row (take 512 (drop (512 * block) (map test prefixes))) i) (other i) (pos 0)) (λ i. cond (test (prefix_at table.known c (512 * block + i))) (other i) (pos 0))
+      (λ i has. let below = row_below i has in ap (λ b. cond b (other i) (pos 0)) (bit_there test prefixes block i below.0 (omega (arith, below.1, all_rows))))
 
   -- ---- digit by digit
 
   abbrev digits_but : ℕ → ℤ
-  digits_but k = first_digits table block rows rest c k
+  digits_but k = first_digits table block rows f c k
 
   pub digits_first : (j : ℕ) → j ≤ first_plane (ends_at table.frame c) read → digits_but (read - j) ≡ pos 0
-  digits_first j few = over_nothing rows (λ i. pos (number i / 2 ^ (read - j)) *ℤ product i) (λ i has.
+  digits_first j few = over_nothing rows (λ i. pos (number i / 2 ^ (read - j)) *ℤ other i) (λ i has.
       let more : 2 ^ (read - first_plane (ends_at table.frame c) read) ≤ 2 ^ (read - j) = pow-le-pow_right (omega arith) (omega (arith, few)) in
       let none : number i / 2 ^ (read - j) ≡ 0 = div-eq_of_lt (omega (arith, (digits_there i has).small, more)) in
-      ap (λ n. pos n *ℤ product i) none ∙ nothing (product i))
+      ap (λ n. pos n *ℤ other i) none ∙ nothing (other i))
     where
       nothing : (z : ℤ) → pos 0 *ℤ z ≡ pos 0
       nothing z = omega (arith, ints)
 
   pub digits_next : (j : ℕ) → first_plane (ends_at table.frame c) read ≤ j → j < read →
-      digits_but (read - (j + 1)) ≡ (digits_but (read - j) *ℤ pos 2) +ℤ sum_of_products table block (zip2 (λ a b. a && b) rows (take 512 (drop (512 * block) (map (digit_of read j) prefixes)))) rest
+      digits_but (read - (j + 1)) ≡ (digits_but (read - j) *ℤ pos 2) +ℤ sum_over (zip2 (λ a b. a && b) rows (take 512 (drop (512 * block) (map (digit_of read j) prefixes)))) other
   digits_next j from below =
       let k = read - (j + 1) in
       let next : suc k ≡ read - j = omega (arith, below) in
-      over_same rows (λ i. pos (number i / 2 ^ k) *ℤ product i) (λ i. (pos 2 *ℤ (pos (number i / 2 ^ (read - j)) *ℤ product i)) +ℤ cond (digit_of read j (prefix_at table.known c (512 * block + i))) (product i) (pos 0))
-      (λ i has. further (number i / 2 ^ (read - j)) (number i / 2 ^ k) (digit_of read j (prefix_at table.known c (512 * block + i))) (product i)
+      over_same rows (λ i. pos (number i / 2 ^ k) *ℤ other i) (λ i. (pos 2 *ℤ (pos (number i / 2 ^ (read - j)) *ℤ other i)) +ℤ cond (digit_of read j (prefix_at table.known c (512 * block + i))) (other i) (pos 0))
+      (λ i has. further (number i / 2 ^ (read - j)) (number i / 2 ^ k) (digit_of read j (prefix_at table.known c (512 * block + i))) (other i)
       (halved (number i) k ∙ ap (λ n. 2 * (number i / 2 ^ n) + cond ((number i / 2 ^ k) % 2 == 1) 1 0) next
       ∙ ap (λ b. 2 * (number i / 2 ^ (read - j)) + cond b 1 0) (sym ((digits_there i has).digits j from below)))
-      ∙ ap (λ z. z +ℤ cond (digit_of read j (prefix_at table.known c (512 * block + i))) (product i) (pos 0)) (twice (pos (number i / 2 ^ (read - j)) *ℤ product i)))
-      ∙ over_sum rows (λ i. pos 2 *ℤ (pos (number i / 2 ^ (read - j)) *ℤ product i)) (λ i. cond (digit_of read j (prefix_at table.known c (512 * block + i))) (product i) (pos 0))
-      ∙ ap (λ z. z +ℤ sum_over rows (λ i. cond (digit_of read j (prefix_at table.known c (512 * block + i))) (product i) (pos 0)))
-      (over_multiple rows (pos 2) (λ i. pos (number i / 2 ^ (read - j)) *ℤ product i) ∙ sym (twice (digits_but (read - j))))
+      ∙ ap (λ z. z +ℤ cond (digit_of read j (prefix_at table.known c (512 * block + i))) (other i) (pos 0)) (twice (pos (number i / 2 ^ (read - j)) *ℤ other i)))
+      ∙ over_sum rows (λ i. pos 2 *ℤ (pos (number i / 2 ^ (read - j)) *ℤ other i)) (λ i. cond (digit_of read j (prefix_at table.known c (512 * block + i))) (other i) (pos 0))
+      ∙ ap (λ z. z +ℤ sum_over rows (λ i. cond (digit_of read j (prefix_at table.known c (512 * block + i))) (other i) (pos 0)))
+      (over_multiple rows (pos 2) (λ i. pos (number i / 2 ^ (read - j)) *ℤ other i) ∙ sym (twice (digits_but (read - j))))
       ∙ ap (λ z. (digits_but (read - j) *ℤ pos 2) +ℤ z) (sym (over_tested (digit_of read j)))
 
-  pub digits_last : (k : ℕ) → k ≡ 0 → digits_but k ≡ sum_over rows (λ i. pos (number i) *ℤ product i)
-  digits_last k none = ap digits_but none ∙ over_same rows (λ i. pos (number i / 2 ^ 0) *ℤ product i) (λ i. pos (number i) *ℤ product i) (λ i has. ap (λ n. pos n *ℤ product i) (div-one (number i)))
+  pub digits_last : (k : ℕ) → k ≡ 0 → digits_but k ≡ sum_over rows (λ i. pos (number i) *ℤ other i)
+  digits_last k none = ap digits_but none ∙ over_same rows (λ i. pos (number i / 2 ^ 0) *ℤ other i) (λ i. pos (number i) *ℤ other i) (λ i has. ap (λ n. pos n *ℤ other i) (div-one (number i)))
 
   -- ---- an end of the column
 
   pub column_sum : (e : End) → ((i : ℕ) → IsTrue (has_row rows i) → HasValue table (Column c) (512 * block + i)) →
-      sum_over rows (λ i. term_end table e (Column c) (512 * block + i) *ℤ product i)
-      ≡ ((weight_of_digits (column_at table c) *ℤ sum_over rows (λ i. pos (number i) *ℤ product i)) +ℤ (weight_of_all e (column_at table c) *ℤ sum_of_products table block rows rest))
-      -ℤ (weight_of_top e (column_at table c) *ℤ sum_of_products table block (zip2 (λ a b. a && b) rows (take 512 (drop (512 * block) (map (is_at_top (ends_at table.frame c) read) prefixes)))) rest)
+      sum_over rows (λ i. term_end table e (Column c) (512 * block + i) *ℤ other i)
+      ≡ ((weight_of_digits (column_at table c) *ℤ sum_over rows (λ i. pos (number i) *ℤ other i)) +ℤ (weight_of_all e (column_at table c) *ℤ sum_over rows other))
+      -ℤ (weight_of_top e (column_at table c) *ℤ sum_over (zip2 (λ a b. a && b) rows (take 512 (drop (512 * block) (map (is_at_top (ends_at table.frame c) read) prefixes)))) other)
   column_sum e values =
       let column = column_at table c in
       let d = weight_of_digits column in
       let a = weight_of_all e column in
       let t = weight_of_top e column in
       let top : ℕ → Bool = λ i. is_at_top (ends_at table.frame c) read (prefix_at table.known c (512 * block + i)) in
-      over_same rows (λ i. term_end table e (Column c) (512 * block + i) *ℤ product i) (λ i. ((d *ℤ (pos (number i) *ℤ product i)) +ℤ (a *ℤ product i)) -ℤ (t *ℤ cond (top i) (product i) (pos 0)))
-      (λ i has. ap (λ z. z *ℤ product i) (column_end table can.known (512 * block + i) (row_below i has).1 e c there (values i has)) ∙ spread_out d (pos (number i)) a t (product i) (top i))
-      ∙ over_difference rows (λ i. (d *ℤ (pos (number i) *ℤ product i)) +ℤ (a *ℤ product i)) (λ i. t *ℤ cond (top i) (product i) (pos 0))
-      ∙ ap (λ z. z -ℤ sum_over rows (λ i. t *ℤ cond (top i) (product i) (pos 0))) (over_sum rows (λ i. d *ℤ (pos (number i) *ℤ product i)) (λ i. a *ℤ product i)
-      ∙ ap (λ z. z +ℤ sum_over rows (λ i. a *ℤ product i)) (over_multiple rows d (λ i. pos (number i) *ℤ product i))
-      ∙ ap (λ z. (d *ℤ sum_over rows (λ i. pos (number i) *ℤ product i)) +ℤ z) (over_multiple rows a product))
-      ∙ ap (λ z. ((d *ℤ sum_over rows (λ i. pos (number i) *ℤ product i)) +ℤ (a *ℤ sum_over rows product)) -ℤ z)
-      (over_multiple rows t (λ i. cond (top i) (product i) (pos 0)) ∙ ap (λ z. t *ℤ z) (sym (over_tested (is_at_top (ends_at table.frame c) read))))
+      over_same rows (λ i. term_end table e (Column c) (512 * block + i) *ℤ other i) (λ i. ((d *ℤ (pos (number i) *ℤ other i)) +ℤ (a *ℤ other i)) -ℤ (t *ℤ cond (top i) (other i) (pos 0)))
+      (λ i has. ap (λ z. z *ℤ other i) (column_end table can.known (512 * block + i) (row_below i has).1 e c there (values i has)) ∙ spread_out d (pos (number i)) a t (other i) (top i))
+      ∙ over_difference rows (λ i. (d *ℤ (pos (number i) *ℤ other i)) +ℤ (a *ℤ other i)) (λ i. t *ℤ cond (top i) (other i) (pos 0))
+      ∙ ap (λ z. z -ℤ sum_over rows (λ i. t *ℤ cond (top i) (other i) (pos 0))) (over_sum rows (λ i. d *ℤ (pos (number i) *ℤ other i)) (λ i. a *ℤ other i)
+      ∙ ap (λ z. z +ℤ sum_over rows (λ i. a *ℤ other i)) (over_multiple rows d (λ i. pos (number i) *ℤ other i))
+      ∙ ap (λ z. (d *ℤ sum_over rows (λ i. pos (number i) *ℤ other i)) +ℤ z) (over_multiple rows a other))
+      ∙ ap (λ z. ((d *ℤ sum_over rows (λ i. pos (number i) *ℤ other i)) +ℤ (a *ℤ sum_over rows other)) -ℤ z)
+      (over_multiple rows t (λ i. cond (top i) (other i) (pos 0)) ∙ ap (λ z. t *ℤ z) (sym (over_tested (is_at_top (ends_at table.frame c) read))))

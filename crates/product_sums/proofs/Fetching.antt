@@ -12,7 +12,7 @@ use Rattle.plane_kernels.specs.Rows.{rows_of, IsPadded}
 use Rattle.query_model.specs.Queries.{Column, term_of}
 use Rattle.product_sums.specs.declared.factors.Factor.{Factor}
 use Rattle.product_sums.specs.Fetched.{AreFetchedBelow, IsBlockOf, first_digit, ones_of}
-use Rattle.product_sums.specs.Products.{product_at, sum_of_products, term_end, CanMultiply, HasValue, HaveValues}
+use Rattle.product_sums.specs.Products.{product_at, sum_of_products, term_end, HasValue, HaveValues}
 use Rattle.product_sums.proofs.Firsts.{empty_sum}
 use Rattle.product_sums.proofs.Residues.{wrapped}
 
@@ -40,17 +40,6 @@ pub count_is : (table : KnownTable) (block : ℕ) (rows : List Bool) (n : ℕ) (
 count_is table block rows n z is counted small =
     let few : FitsSigned w128 (pos n) = record { sfits = omega (arith, small) } in
     is ∙ sym (int_wrap_fits w128 (pos n) few) ∙ ap (λ k. wrapped (pos k)) counted ∙ ap wrapped (sym (empty_sum table block rows [] (omega arith)))
-
--- no factor can always be multiplied
-pub can_count : (table : KnownTable) (block : ℕ) (rows : List Bool) (fs : List Factor) → CanMultiply table block rows fs → CanMultiply table block rows []
-can_count table block rows fs can = record {
-  known = can.known;
-  within = can.within;
-  count = can.count;
-  factors_are = tt;
-  few_factors = omega arith;
-  values = λ i has. tt;
-}
 
 -- the only factor
 module _ (table : KnownTable) (only : Factor) (c : ℕ) (is : term_of only.term.now ≡ Column c) where

@@ -10,7 +10,7 @@ use Rattle.query_model.specs.Knowledge.{ranges_of}
 use Rattle.query_model.specs.Queries.{Term, Literal, Add, Sub, Mul, term_of}
 use Rattle.query_model.specs.Truths.{span_of}
 use Rattle.product_sums.specs.declared.factors.Factor.{Factor}
-use Rattle.product_sums.specs.Products.{CanMultiply, has_signs, is_never_negative, other_end, product_at, sum_of_products, term_end}
+use Rattle.product_sums.specs.Products.{CanMultiply, end_beside, has_signs, is_never_negative, keeps_sign, other_end, product_at, sum_of_products, term_end}
 use Rattle.product_sums.proofs.Distributing.{difference_times, product_times, sum_times, swapped}
 use Rattle.product_sums.proofs.Multiplying.{both_true}
 use Rattle.product_sums.proofs.RowSums.{over_difference, over_multiple, over_ones, over_same, over_sum}
@@ -68,7 +68,7 @@ module _ (table : KnownTable) (block : ℕ) (rows : List Bool) (fs : List Factor
       ∙ over_difference rows (λ i. left i *ℤ product i) (λ i. right i *ℤ product i)
 
   -- a product
-  module _ (f g h : Factor) (can : CanMultiply table block rows (f ∷ fs)) (a b : Term) (is : term_of f.term.now ≡ Mul a b) (is_a : term_of g.term.now ≡ a) (is_b : term_of h.term.now ≡ b) (same_a : g.end ≡ f.end) (same_b : h.end ≡ f.end) where
+  module _ (f g h : Factor) (can : CanMultiply table block rows (f ∷ fs)) (a b : Term) (is : term_of f.term.now ≡ Mul a b) (is_a : term_of g.term.now ≡ a) (is_b : term_of h.term.now ≡ b) (same_a : g.end ≡ end_beside (is_never_negative table.frame b) f.end) (same_b : h.end ≡ end_beside (is_never_negative table.frame a) f.end) where
     abbrev left : ℕ → ℤ
     left i = end_there g.end (term_of g.term.now) i
 
@@ -78,14 +78,14 @@ module _ (table : KnownTable) (block : ℕ) (rows : List Bool) (fs : List Factor
     below : (i : ℕ) → IsTrue (has_row rows i) → 512 * block + i < table.frame.rows
     below i has = (let low : i < length rows = row_within rows i has in omega (arith, low, can.count, can.within))
 
-    never : (is_never_negative table.frame a && is_never_negative table.frame b) ≡ true
-    never = (both_true _ _ (sym (ap (has_signs table.frame) is) ∙ can.factors_are.1)).1
+    keep : (keeps_sign table.frame a && keeps_sign table.frame b) ≡ true
+    keep = (both_true _ _ (sym (ap (has_signs table.frame) is) ∙ can.factors_are.1)).1
 
     both_ends : (i : ℕ) → IsTrue (has_row rows i) → end_there f.end (term_of f.term.now) i ≡ left i *ℤ right i
     both_ends i has =
-        ap (λ t. end_there f.end t i) is ∙ product_end table can.known (512 * block + i) (below i has) f.end a b never
-        ∙ ap (λ z. z *ℤ end_there f.end b i) (ap (λ t. end_there f.end t i) (sym is_a) ∙ ap (λ e. end_there e (term_of g.term.now) i) (sym same_a))
-        ∙ ap (λ z. left i *ℤ z) (ap (λ t. end_there f.end t i) (sym is_b) ∙ ap (λ e. end_there e (term_of h.term.now) i) (sym same_b))
+        ap (λ t. end_there f.end t i) is ∙ product_end table can.known (512 * block + i) (below i has) f.end a b keep
+        ∙ ap (λ z. z *ℤ end_there (end_beside (is_never_negative table.frame a) f.end) b i) (ap (λ t. end_there (end_beside (is_never_negative table.frame b) f.end) t i) (sym is_a) ∙ ap (λ e. end_there e (term_of g.term.now) i) (sym same_a))
+        ∙ ap (λ z. left i *ℤ z) (ap (λ t. end_there (end_beside (is_never_negative table.frame a) f.end) t i) (sym is_b) ∙ ap (λ e. end_there e (term_of h.term.now) i) (sym same_b))
 
     pub mul_sum : total_of (f ∷ fs) ≡ total_of (g ∷ h ∷ fs)
     mul_sum = over_same rows (λ i. end_there f.end (term_of f.term.now) i *ℤ product i) (λ i. left i *ℤ (right i *ℤ product i)) (λ i has. ap (λ z. z *ℤ product i) (both_ends i has) ∙ product_times (left i) (right i) (product i))

@@ -11,6 +11,7 @@ use Rattle.query_model.specs.declared.bounds.Nullity.TheVariants.{Always, Never,
 use Rattle.query_model.specs.Meaning.{ReadsBelow}
 use Rattle.query_model.specs.Queries.{Term, Column, Literal, Add, Sub, Mul, term_of}
 use Rattle.query_model.specs.Truths.{may_be_number, one_null}
+use Rattle.query_model.specs.Validity.{FitsWide, declared_ranges}
 use Rattle.product_sums.specs.declared.factors.Factor.{Factor}
 use Rattle.product_sums.specs.Products.{CanMultiply, HasValue, degree, degrees, has_signs}
 
@@ -40,22 +41,34 @@ pub few_of_degree : (fs : List Factor) → length fs ≤ degrees fs
 few_of_degree [] = omega arith
 few_of_degree (f ∷ fs) = omega (arith, some_degree (term_of f.term.now), few_of_degree fs)
 
+-- no factor can always be multiplied
+pub can_count : (table : KnownTable) (block : ℕ) (rows : List Bool) (fs : List Factor) → CanMultiply table block rows fs → CanMultiply table block rows []
+can_count table block rows fs can = record {
+  known = can.known;
+  within = can.within;
+  count = can.count;
+  factors_are = tt;
+  few_factors = omega arith;
+  values = λ i has. tt;
+}
+
 module _ (table : KnownTable) (block : ℕ) where
   -- an expression that can be a factor at these rows
   pub record IsFactor (rows : List Bool) (t : Term) : Type 0 where
     pub reads : ReadsBelow (length table.frame.columns) t
     pub signs : has_signs table.frame t ≡ true
+    pub wide : FitsWide t (declared_ranges table.frame)
     pub values : (i : ℕ) → IsTrue (has_row rows i) → HasValue table t (512 * block + i)
 
   pub first_of : (rows : List Bool) (f : Factor) (fs : List Factor) → CanMultiply table block rows (f ∷ fs) → IsFactor rows (term_of f.term.now)
-  first_of rows f fs h = record { reads = h.factors_are.0; signs = h.factors_are.1; values = λ i has. (h.values i has).0 }
+  first_of rows f fs h = record { reads = h.factors_are.0; signs = h.factors_are.1; wide = h.factors_are.2; values = λ i has. (h.values i has).0 }
 
   pub rest_of : (rows : List Bool) (f : Factor) (fs : List Factor) → CanMultiply table block rows (f ∷ fs) → CanMultiply table block rows fs
   rest_of rows f fs h = record {
     known = h.known;
     within = h.within;
     count = h.count;
-    factors_are = h.factors_are.2;
+    factors_are = h.factors_are.3;
     few_factors = omega (arith, h.few_factors);
     values = λ i has. (h.values i has).1;
   }
@@ -65,7 +78,7 @@ module _ (table : KnownTable) (block : ℕ) where
     known = h.known;
     within = h.within;
     count = h.count;
-    factors_are = (first.reads, first.signs, h.factors_are);
+    factors_are = (first.reads, first.signs, first.wide, h.factors_are);
     few_factors = few;
     values = λ i has. (first.values i has, h.values i has);
   }
@@ -79,22 +92,22 @@ module _ (table : KnownTable) (block : ℕ) where
   pub parts_of_sum : (rows : List Bool) (a b : Term) → IsFactor rows (Add a b) → IsFactor rows a × IsFactor rows b
   parts_of_sum rows a b h =
       let signs = both_true _ _ h.signs in (
-        record { reads = h.reads.0; signs = signs.0; values = λ i has. (numbers_both _ _ (h.values i has)).0 },
-        record { reads = h.reads.1; signs = signs.1; values = λ i has. (numbers_both _ _ (h.values i has)).1 },
+        record { reads = h.reads.0; signs = signs.0; wide = h.wide.0; values = λ i has. (numbers_both _ _ (h.values i has)).0 },
+        record { reads = h.reads.1; signs = signs.1; wide = h.wide.1; values = λ i has. (numbers_both _ _ (h.values i has)).1 },
       )
 
   pub parts_of_difference : (rows : List Bool) (a b : Term) → IsFactor rows (Sub a b) → IsFactor rows a × IsFactor rows b
   parts_of_difference rows a b h =
       let signs = both_true _ _ h.signs in (
-        record { reads = h.reads.0; signs = signs.0; values = λ i has. (numbers_both _ _ (h.values i has)).0 },
-        record { reads = h.reads.1; signs = signs.1; values = λ i has. (numbers_both _ _ (h.values i has)).1 },
+        record { reads = h.reads.0; signs = signs.0; wide = h.wide.0; values = λ i has. (numbers_both _ _ (h.values i has)).0 },
+        record { reads = h.reads.1; signs = signs.1; wide = h.wide.1; values = λ i has. (numbers_both _ _ (h.values i has)).1 },
       )
 
   pub parts_of_product : (rows : List Bool) (a b : Term) → IsFactor rows (Mul a b) → IsFactor rows a × IsFactor rows b
   parts_of_product rows a b h =
       let signs = both_true _ _ (both_true _ _ h.signs).0 in (
-        record { reads = h.reads.0; signs = signs.0; values = λ i has. (numbers_both _ _ (h.values i has)).0 },
-        record { reads = h.reads.1; signs = signs.1; values = λ i has. (numbers_both _ _ (h.values i has)).1 },
+        record { reads = h.reads.0; signs = signs.0; wide = h.wide.0; values = λ i has. (numbers_both _ _ (h.values i has)).0 },
+        record { reads = h.reads.1; signs = signs.1; wide = h.wide.1; values = λ i has. (numbers_both _ _ (h.values i has)).1 },
       )
 
   -- fewer rows

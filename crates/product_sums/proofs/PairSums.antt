@@ -11,10 +11,10 @@ use Rattle.query_model.specs.Knowledge.{known_at}
 use Rattle.product_sums.specs.declared.pair_sums.Pair.{Pair}
 use Rattle.product_sums.specs.declared.pair_sums.PairSums.{PairSums}
 use Rattle.product_sums.specs.Fetched.{ones_of}
-use Rattle.product_sums.specs.KeptProducts.{ArePairSums, AreReadOn, IsPair, first_number, first_sum, turned_pair, turned_sums}
+use Rattle.product_sums.specs.KeptProducts.{ArePairSums, IsPair, first_number, first_sum, turned_pair, turned_sums}
 use Rattle.product_sums.specs.Products.{sum_over}
 use Rattle.product_sums.proofs.Distributing.{swapped}
-use Rattle.product_sums.proofs.KeptProducts.{kept_first, kept_next, kept_started}
+use Rattle.product_sums.proofs.KeptProducts.{kept_next, kept_started}
 use Rattle.product_sums.proofs.Residues.{wrapped}
 use Rattle.product_sums.proofs.RowSums.{over_none, over_ones, over_same}
 
@@ -111,71 +111,3 @@ module _ (table : KnownTable) (mask : List Bool) (pair : Pair) where
         ≡ (sum_over mask (λ r. pos (first_number table pair.first j r) *ℤ pos (first_number table pair.second more r)) *ℤ pos 2)
         +ℤ sum_over (zip2 (λ a b. a && b) mask (ones_of (column_at table pair.first) j)) (λ r. pos (first_number table pair.second more r))
     both_next j more from below = kept_next table known mask long pair.first is.first (λ r. pos (first_number table pair.second more r)) j from below
-
-    -- of the first column alone
-    pub begun_are : (begun : PairSums) → begun.first_read ≡ reads → begun.second_read ≡ 0 → begun.first ≡ wrapped (sum_over mask (λ r. pos (first_number table pair.first reads r))) →
-        begun.second ≡ pos 0 → begun.both ≡ pos 0 → ArePairSums table mask pair begun
-    begun_are begun all none is_first is_second is_both =
-        let first : ℕ → ℤ = λ r. pos (first_number table pair.first begun.first_read r) in
-        let others : ℕ = (known_at table.known pair.second).read in
-        let empty : (f : ℕ → ℤ) → sum_over mask (λ r. pos (first_number table pair.second begun.second_read r) *ℤ f r) ≡ pos 0 =
-        λ f. ap (λ n. first_sum table mask pair.second f (others - n)) none ∙ kept_first table known mask long pair.second is.second f 0 (omega arith) in
-        record {
-          rows = long;
-          first_read = omega (arith, all);
-          second_read = omega (arith, none);
-          first = is_first ∙ ap (λ n. wrapped (sum_over mask (λ r. pos (first_number table pair.first n r)))) (sym all);
-          second = is_second ∙ nothing ∙ ap wrapped (sym (sym (once table mask pair.second (others - begun.second_read)) ∙ empty (λ r. pos 1)));
-          both = is_both ∙ nothing
-              ∙ ap wrapped (sym (over_same mask (λ r. first r *ℤ pos (first_number table pair.second begun.second_read r)) (λ r. pos (first_number table pair.second begun.second_read r) *ℤ first r)
-              (λ r has. swapped (first r) (pos (first_number table pair.second begun.second_read r))) ∙ empty first));
-        }
-
--- the sums over other rows
-module _ (table : KnownTable) (old new : List Bool) (pair : Pair) (sums came left result : PairSums) (same : length new ≡ length old) (before : AreReadOn table old pair sums)
-    (more : AreReadOn table (zip2 (λ a b. a && not b) new old) pair came) (less : AreReadOn table (zip2 (λ a b. a && not b) old new) pair left)
-    (first_is : result.first_read ≡ sums.first_read) (second_is : result.second_read ≡ sums.second_read)
-    (first_sum_is : (a b c : ℤ) → sums.first ≡ wrapped a → came.first ≡ wrapped b → left.first ≡ wrapped c → result.first ≡ wrapped ((a +ℤ b) -ℤ c))
-    (second_sum_is : (a b c : ℤ) → sums.second ≡ wrapped a → came.second ≡ wrapped b → left.second ≡ wrapped c → result.second ≡ wrapped ((a +ℤ b) -ℤ c))
-    (both_is : (a b c : ℤ) → sums.both ≡ wrapped a → came.both ≡ wrapped b → left.both ≡ wrapped c → result.both ≡ wrapped ((a +ℤ b) -ℤ c)) where
-  abbrev first_at : ℕ → ℕ → ℤ
-  first_at n r = pos (first_number table pair.first n r)
-
-  abbrev second_at : ℕ → ℕ → ℤ
-  second_at n r = pos (first_number table pair.second n r)
-
-  pub moved_are : AreReadOn table new pair result
-  moved_are =
-      let all = before.all_first in
-      let others = before.all_second in
-      let f : ℕ → ℤ = first_at result.first_read in
-      let g : ℕ → ℤ = second_at result.second_read in
-      let came_first : came.first_read ≡ result.first_read = more.all_first ∙ sym all ∙ sym first_is in
-      let left_first : left.first_read ≡ result.first_read = less.all_first ∙ sym all ∙ sym first_is in
-      let came_second : came.second_read ≡ result.second_read = more.all_second ∙ sym others ∙ sym second_is in
-      let left_second : left.second_read ≡ result.second_read = less.all_second ∙ sym others ∙ sym second_is in
-      let plus = zip2 (λ a b. a && not b) new old in
-      let minus = zip2 (λ a b. a && not b) old new in
-      let was = before.sums_are in
-      let add = more.sums_are in
-      let take_off = less.sums_are in
-      record {
-        sums_are = record {
-          rows = same ∙ was.rows;
-          first_read = omega (arith, first_is, was.first_read);
-          second_read = omega (arith, second_is, was.second_read);
-          first = first_sum_is (sum_over old f) (sum_over plus f) (sum_over minus f) (was.first ∙ ap (λ n. wrapped (sum_over old (first_at n))) (sym first_is))
-              (add.first ∙ ap (λ n. wrapped (sum_over plus (first_at n))) came_first) (take_off.first ∙ ap (λ n. wrapped (sum_over minus (first_at n))) left_first)
-              ∙ ap wrapped (sym (over_moved old new f same));
-          second = second_sum_is (sum_over old g) (sum_over plus g) (sum_over minus g) (was.second ∙ ap (λ n. wrapped (sum_over old (second_at n))) (sym second_is))
-              (add.second ∙ ap (λ n. wrapped (sum_over plus (second_at n))) came_second) (take_off.second ∙ ap (λ n. wrapped (sum_over minus (second_at n))) left_second)
-              ∙ ap wrapped (sym (over_moved old new g same));
-          both = both_is (sum_over old (λ r. f r *ℤ g r)) (sum_over plus (λ r. f r *ℤ g r)) (sum_over minus (λ r. f r *ℤ g r))
-              (was.both ∙ ap (λ n. wrapped (sum_over old (λ r. first_at n r *ℤ second_at sums.second_read r))) (sym first_is) ∙ ap (λ n. wrapped (sum_over old (λ r. f r *ℤ second_at n r))) (sym second_is))
-              (add.both ∙ ap (λ n. wrapped (sum_over plus (λ r. first_at n r *ℤ second_at came.second_read r))) came_first ∙ ap (λ n. wrapped (sum_over plus (λ r. f r *ℤ second_at n r))) came_second)
-              (take_off.both ∙ ap (λ n. wrapped (sum_over minus (λ r. first_at n r *ℤ second_at left.second_read r))) left_first ∙ ap (λ n. wrapped (sum_over minus (λ r. f r *ℤ second_at n r))) left_second)
-              ∙ ap wrapped (sym (over_moved old new (λ r. f r *ℤ g r) same));
-        };
-        all_first = first_is ∙ all;
-        all_second = second_is ∙ others;
-      }

@@ -124,5 +124,5 @@ module _ (table : KnownTable) (known : IsKnownTable table) (d : ℕ) (bits : Lis
       low = sums_stay ends.low.mask kept.pair ends.low.sums is.pair_is are.low;
       high = sums_stay ends.high.mask kept.pair ends.high.sums is.pair_is are.high;
     }) kept.cells.items is.cells_are;
-    rooms_are = record { beside = is.rooms_are.beside; ones = is.rooms_are.ones };
+    room_is = is.room_is;
   }

@@ -1,5 +1,5 @@
 -- What counts and sums of ends tell of the pairs of a mask's rows.
-use Rattle.std.proofs.Common.{◌≡◌, ℕ, suc, ◌<◌, ◌==◌, ℤ, pos, ◌+ℤ◌, ◌≤ℤ◌, Bool, true, false, ◌&&◌, cond, if◌then◌else◌, List, [], ◌∷◌, length, map, count_by, IsTrue, Option, None, refl, ap, sym, ◌∙◌, arith}
+use Rattle.std.proofs.Common.{◌≡◌, ℕ, suc, ◌<◌, ◌==◌, ℤ, pos, ◌+ℤ◌, ◌≤ℤ◌, Bool, true, false, ◌&&◌, ◌||◌, cond, if◌then◌else◌, List, [], ◌∷◌, length, map, count_by, IsTrue, Option, None, refl, ap, sym, ◌∙◌, arith}
 use Rattle.std.specs.Int.{int_min, int_max}
 use Rattle.std.specs.Simd.Lanes.{zip2}
 use Rattle.std.proofs.lemmas.Bool.{false≢true}
@@ -11,6 +11,7 @@ use Rattle.aggregates.specs.declared.tally.Tally.{Tally}
 use Rattle.aggregates.specs.Selections.{IsPartOf, has_row, rows_in}
 use Rattle.aggregates.specs.Tallies.{tally_of}
 use Rattle.aggregates.proofs.BlockWords.{row_within}
+use Rattle.daq_table.specs.Tables.{Frame}
 use Rattle.known_column.specs.KnownTables.{IsKnownTable, KnownTable}
 use Rattle.query_model.specs.declared.query.ItemKind.{ItemKind}
 use Rattle.query_model.specs.declared.query.ItemKind.TheVariants.{Count, Sum, Min, Max, Avg}
@@ -18,9 +19,9 @@ use Rattle.query_model.specs.Answers.{answer, total}
 use Rattle.query_model.specs.Bounds.{Pair, certain_count, high_share, highs, low_share, lows}
 use Rattle.query_model.specs.Queries.{Term}
 use Rattle.query_model.specs.Validity.{IsSumKind}
-use Rattle.product_sums.specs.Products.{is_never_negative, pair_at, pairs_of, sum_over, term_end}
+use Rattle.product_sums.specs.Products.{is_never_negative, is_never_positive, keeps_sign, pair_at, pairs_of, sum_over, term_end}
 use Rattle.product_sums.proofs.RowSums.{over_both, over_ones, over_rows, over_same}
-use Rattle.product_sums.proofs.TermEnds.{not_below, ordered}
+use Rattle.product_sums.proofs.TermEnds.{not_above, not_below, ordered}
 
 -- the rows of a mask that another, of some of its rows, has too
 same_rows : (may must : List Bool) → length must ≡ length may → ((r : ℕ) → IsTrue (has_row must r) → IsTrue (has_row may r)) → zip2 (λ a b. a && b) may must ≡ must
@@ -72,7 +73,11 @@ no_end kind certain f mask none without =
     empty [] e = refl
     empty (r ∷ rs) e = absurd (omega (arith, e))
 
-module _ (table : KnownTable) (known : IsKnownTable table) (term : Term) (never : is_never_negative table.frame term ≡ true) (may must : List Bool) (rows : length may ≡ table.frame.rows) (part : IsPartOf must may) where
+-- an expression that keeps its sign and may be below 0 is never above 0
+pub other_sign : (frame : Frame) (term : Term) → keeps_sign frame term ≡ true → is_never_negative frame term ≡ false → is_never_positive frame term ≡ true
+other_sign frame term keeps may = ap (λ b. b || is_never_positive frame term) (sym may) ∙ keeps
+
+module _ (table : KnownTable) (known : IsKnownTable table) (term : Term) (may must : List Bool) (rows : length may ≡ table.frame.rows) (part : IsPartOf must may) where
   abbrev low : ℕ → ℤ
   low = term_end table Low term
 
@@ -103,32 +108,62 @@ module _ (table : KnownTable) (known : IsKnownTable table) (term : Term) (never 
   highs_are : map high (rows_in may) ≡ highs pairs
   highs_are = sym (map-map (λ p. p.high) (pair_at table term must) (rows_in may))
 
-  lowered : (b : Bool) (l : ℤ) → pos 0 ≤ℤ l → (if b then l else int_min l (pos 0)) ≡ cond b l (pos 0)
-  lowered true l some = refl
-  lowered false l some = omega (arith, ints, clamps)
+  total_lows : (over : List Bool) → sum_over over low ≡ sum_over may (λ r. low_share (pair_at table term must r)) → total (map low (rows_in over)) ≡ total (map low_share pairs)
+  total_lows over same = over_rows low over ∙ same ∙ sym (over_rows (λ r. low_share (pair_at table term must r)) may) ∙ ap total (sym (map-map low_share (pair_at table term must) (rows_in may)))
 
-  raised : (b : Bool) (h : ℤ) → pos 0 ≤ℤ h → (if b then h else int_max h (pos 0)) ≡ h
-  raised true h some = refl
-  raised false h some = omega (arith, ints, clamps)
+  total_highs : (over : List Bool) → sum_over over high ≡ sum_over may (λ r. high_share (pair_at table term must r)) → total (map high (rows_in over)) ≡ total (map high_share pairs)
+  total_highs over same = over_rows high over ∙ same ∙ sym (over_rows (λ r. high_share (pair_at table term must r)) may) ∙ ap total (sym (map-map high_share (pair_at table term must) (rows_in may)))
 
-  low_sum_is : total (map low (rows_in must)) ≡ total (map low_share pairs)
-  low_sum_is =
-      over_rows low must ∙ sym (over_certain low)
-      ∙ over_same may (λ r. cond (has_row must r) (low r) (pos 0)) (λ r. low_share (pair_at table term must r)) (λ r has. sym (lowered (has_row must r) (low r) (not_below table known r (below r has) term never)))
-      ∙ sym (over_rows (λ r. low_share (pair_at table term must r)) may) ∙ ap total (sym (map-map low_share (pair_at table term must) (rows_in may)))
+  -- what is never below 0
+  module _ (never : is_never_negative table.frame term ≡ true) where
+    lowered : (b : Bool) (l : ℤ) → pos 0 ≤ℤ l → (if b then l else int_min l (pos 0)) ≡ cond b l (pos 0)
+    lowered true l some = refl
+    lowered false l some = omega (arith, ints, clamps)
 
-  high_sum_is : total (map high (rows_in may)) ≡ total (map high_share pairs)
-  high_sum_is =
-      over_rows high may
-      ∙ over_same may high (λ r. high_share (pair_at table term must r)) (λ r has.
-      let some = not_below table known r (below r has) term never in
-      let more = ordered table known r (below r has) term in
-      sym (raised (has_row must r) (high r) (omega (arith, ints))))
-      ∙ sym (over_rows (λ r. high_share (pair_at table term must r)) may) ∙ ap total (sym (map-map high_share (pair_at table term must) (rows_in may)))
+    raised : (b : Bool) (h : ℤ) → pos 0 ≤ℤ h → (if b then h else int_max h (pos 0)) ≡ h
+    raised true h some = refl
+    raised false h some = omega (arith, ints, clamps)
+
+    pub low_of_certain : total (map low (rows_in must)) ≡ total (map low_share pairs)
+    low_of_certain =
+        total_lows must
+        (sym (over_certain low) ∙ over_same may (λ r. cond (has_row must r) (low r) (pos 0)) (λ r. low_share (pair_at table term must r)) (λ r has. sym (lowered (has_row must r) (low r) (not_below table known r (below r has) term never))))
+
+    pub high_of_all : total (map high (rows_in may)) ≡ total (map high_share pairs)
+    high_of_all =
+        total_highs may
+        (over_same may high (λ r. high_share (pair_at table term must r)) (λ r has.
+        let some = not_below table known r (below r has) term never in
+        let more = ordered table known r (below r has) term in
+        sym (raised (has_row must r) (high r) (omega (arith, ints)))))
+
+  -- what is never above 0
+  module _ (never : is_never_positive table.frame term ≡ true) where
+    lowered_all : (b : Bool) (l : ℤ) → l ≤ℤ pos 0 → (if b then l else int_min l (pos 0)) ≡ l
+    lowered_all true l some = refl
+    lowered_all false l some = omega (arith, ints, clamps)
+
+    raised_certain : (b : Bool) (h : ℤ) → h ≤ℤ pos 0 → (if b then h else int_max h (pos 0)) ≡ cond b h (pos 0)
+    raised_certain true h some = refl
+    raised_certain false h some = omega (arith, ints, clamps)
+
+    pub low_of_all : total (map low (rows_in may)) ≡ total (map low_share pairs)
+    low_of_all =
+        total_lows may
+        (over_same may low (λ r. low_share (pair_at table term must r)) (λ r has.
+        let some = not_above table known r (below r has) term never in
+        let more = ordered table known r (below r has) term in
+        sym (lowered_all (has_row must r) (low r) (omega (arith, ints)))))
+
+    pub high_of_certain : total (map high (rows_in must)) ≡ total (map high_share pairs)
+    high_of_certain =
+        total_highs must
+        (sym (over_certain high)
+        ∙ over_same may (λ r. cond (has_row must r) (high r) (pos 0)) (λ r. high_share (pair_at table term must r)) (λ r has. sym (raised_certain (has_row must r) (high r) (not_above table known r (below r has) term never))))
 
   module _ (certain all : ℕ) (least greatest : Option ℤ) (low_sum high_sum : ℤ) (c : certain ≡ count_by (λ b. b) must) (a : all ≡ count_by (λ b. b) may)
       (l : least ≡ (if certain == 0 then answer Min (map low (rows_in may)) else None)) (g : greatest ≡ (if certain == 0 then answer Max (map high (rows_in may)) else None))
-      (s : low_sum ≡ total (map low (rows_in must))) (t : high_sum ≡ total (map high (rows_in may))) where
+      (s : low_sum ≡ total (map low_share pairs)) (t : high_sum ≡ total (map high_share pairs)) where
     abbrev kept : Tally
     kept = record { certain = certain; all = all; least_low = least; greatest_high = greatest; least_certain_high = None; greatest_certain_low = None; low_sum = low_sum; high_sum = high_sum }
 
@@ -138,7 +173,7 @@ module _ (table : KnownTable) (known : IsKnownTable table) (term : Term) (never 
         same_tally _ _ _ _ _ _ _ _ _ _ _ _ counted (a ∙ all_is)
         (l ∙ ap (λ n. if n == 0 then answer Min (map low (rows_in may)) else None) counted ∙ ap (λ xs. if certain_count pairs == 0 then answer Min xs else None) lows_are)
         (g ∙ ap (λ n. if n == 0 then answer Max (map high (rows_in may)) else None) counted ∙ ap (λ xs. if certain_count pairs == 0 then answer Max xs else None) highs_are)
-        (s ∙ low_sum_is) (t ∙ high_sum_is)
+        s t
 
     pub tally_is : (kind : ItemKind) → IsSumKind kind → kept ≡ tally_of kind pairs
     tally_is Count sum = absurd sum

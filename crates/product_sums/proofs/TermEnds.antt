@@ -1,6 +1,7 @@
 -- An end of an expression by the ends of its parts, and of a column by the digits that were read.
-use Rattle.std.proofs.Common.{◌≡◌, ℕ, ◌+◌, ◌-◌, ◌*◌, ◌%◌, ◌^◌, ◌<◌, ℤ, pos, negsuc, ◌+ℤ◌, ◌-ℤ◌, ◌*ℤ◌, ◌≤ℤ◌, int_le, Bool, true, false, ◌&&◌, cond, length, refl, ap, ◌∙◌, arith}
+use Rattle.std.proofs.Common.{◌≡◌, ℕ, zero, suc, ◌+◌, ◌-◌, ◌*◌, ◌%◌, ◌^◌, ◌<◌, ℤ, pos, negsuc, ◌+ℤ◌, ◌-ℤ◌, ◌*ℤ◌, ◌≤ℤ◌, int_le, Bool, true, false, ◌&&◌, ◌||◌, cond, length, refl, ap, ◌∙◌, arith}
 use Rattle.std.specs.Int.{int_min, int_max}
+use Rattle.std.proofs.Math.IntN.{*ℤ-negsuc}
 use Rattle.std.proofs.Math.Nat.{mod-lt}
 use Rattle.std.proofs.lemmas.Int.{ints, clamps}
 use Rattle.std.proofs.lemmas.Nat.{pow_pos}
@@ -21,7 +22,7 @@ use Rattle.query_model.specs.Validity.{declared_ranges}
 use Rattle.query_model.proofs.Queries.{ranges_ordered}
 use Rattle.query_model.proofs.Spans.{IsSmaller, span_inside, declared_outside}
 use Rattle.product_sums.specs.ColumnEnds.{numbers_alike, weight_of_all, weight_of_digits, weight_of_top}
-use Rattle.product_sums.specs.Products.{HasValue, is_never_negative, other_end, term_end}
+use Rattle.product_sums.specs.Products.{HasValue, end_beside, is_never_negative, is_never_positive, keeps_sign, other_end, term_end}
 use Rattle.product_sums.proofs.Multiplying.{both_true}
 
 -- ---- sums, differences and products
@@ -34,44 +35,91 @@ pub end_of_difference : (e : End) (i j : Interval) → end_of e (difference_of i
 end_of_difference Low i j = refl
 end_of_difference High i j = refl
 
-times_more : (x y z : ℤ) → pos 0 ≤ℤ x → y ≤ℤ z → (y *ℤ x) ≤ℤ (z *ℤ x)
-times_more (pos n) y z some h = times_pos y z n h
-times_more (negsuc n) y z some h = absurd (omega (arith, ints))
-
 swapped : (a b : ℤ) → a *ℤ b ≡ b *ℤ a
 swapped a b = omega (arith, ints)
 
-least_corner : (a b c d : ℤ) → a ≤ℤ b → a ≤ℤ c → c ≤ℤ d → int_min (int_min a b) (int_min c d) ≡ a
-least_corner a b c d h k l = omega (arith, ints, clamps)
+-- no number of the interval is below 0, or none is above
+abbrev pub IsSigned : Bool → Interval → Type 0
+IsSigned true i = pos 0 ≤ℤ i.low
+IsSigned false i = i.high ≤ℤ pos 0
 
-greatest_corner : (a b c d : ℤ) → a ≤ℤ b → b ≤ℤ d → c ≤ℤ d → int_max (int_max a b) (int_max c d) ≡ d
-greatest_corner a b c d h k l = omega (arith, ints, clamps)
+-- a number times others that ascend ascends or descends by its sign
+abbrev Ascend : Bool → ℤ → ℤ → Type 0
+Ascend true y z = y ≤ℤ z
+Ascend false y z = z ≤ℤ y
 
--- of parts that are not below 0 the product has the products of the ends
-pub end_of_product : (e : End) (i j : Interval) → pos 0 ≤ℤ i.low → i.low ≤ℤ i.high → pos 0 ≤ℤ j.low → j.low ≤ℤ j.high → end_of e (product_of i j) ≡ end_of e i *ℤ end_of e j
-end_of_product e i j p o q r = by_end e
+times_down : (y z : ℤ) (n : ℕ) → y ≤ℤ z → (z *ℤ negsuc n) ≤ℤ (y *ℤ negsuc n)
+times_down y z n h = omega (arith, ints, times_pos y z (suc n) h, *ℤ-negsuc y n, *ℤ-negsuc z n)
+
+times_signed : (up : Bool) (x y z : ℤ) → Ascend up (pos 0) x → y ≤ℤ z → Ascend up (y *ℤ x) (z *ℤ x)
+times_signed true (pos n) y z sign h = times_pos y z n h
+times_signed true (negsuc n) y z sign h = absurd (omega (arith, ints, sign))
+times_signed false (pos zero) y z sign h = omega (arith, ints)
+times_signed false (pos (suc n)) y z sign h = absurd (omega (arith, ints, sign))
+times_signed false (negsuc n) y z sign h = times_down y z n h
+
+corners : (p q : Bool) (i j : Interval) → IsSigned p i → IsSigned q j → i.low ≤ℤ i.high → j.low ≤ℤ j.high →
+    Ascend q (i.low *ℤ j.low) (i.high *ℤ j.low) × Ascend q (i.low *ℤ j.high) (i.high *ℤ j.high) × Ascend p (i.low *ℤ j.low) (i.low *ℤ j.high) × Ascend p (i.high *ℤ j.low) (i.high *ℤ j.high)
+corners p q i j sign_i sign_j o r =
+    let s = ends p i sign_i o in
+    let t = ends q j sign_j r in (
+      times_signed q j.low i.low i.high t.0 o,
+      times_signed q j.high i.low i.high t.1 o,
+      rw (swapped i.low j.low, swapped i.low j.high) (times_signed p i.low j.low j.high s.0 r),
+      rw (swapped i.high j.low, swapped i.high j.high) (times_signed p i.high j.low j.high s.1 r),
+    )
   where
-    high_i : pos 0 ≤ℤ i.high
-    high_i = omega (arith, ints)
+    ends : (b : Bool) (k : Interval) → IsSigned b k → k.low ≤ℤ k.high → Ascend b (pos 0) k.low × Ascend b (pos 0) k.high
+    ends true k sign h = (sign, omega (arith, ints, sign))
+    ends false k sign h = (omega (arith, ints, sign), sign)
 
-    high_j : pos 0 ≤ℤ j.high
-    high_j = omega (arith, ints)
+least_1 : (a b c d : ℤ) → a ≤ℤ b → a ≤ℤ c → c ≤ℤ d → int_min (int_min a b) (int_min c d) ≡ a
+least_1 a b c d h k l = omega (arith, ints, clamps)
 
-    -- to the right the second grows, downward the first
-    right_low : (i.low *ℤ j.low) ≤ℤ (i.low *ℤ j.high)
-    right_low = rw (swapped i.low j.low, swapped i.low j.high) (times_more i.low j.low j.high p r)
+least_2 : (a b c d : ℤ) → b ≤ℤ a → b ≤ℤ d → d ≤ℤ c → int_min (int_min a b) (int_min c d) ≡ b
+least_2 a b c d h k l = omega (arith, ints, clamps)
 
-    right_high : (i.high *ℤ j.low) ≤ℤ (i.high *ℤ j.high)
-    right_high = rw (swapped i.high j.low, swapped i.high j.high) (times_more i.high j.low j.high high_i r)
+least_3 : (a b c d : ℤ) → c ≤ℤ d → c ≤ℤ a → a ≤ℤ b → int_min (int_min a b) (int_min c d) ≡ c
+least_3 a b c d h k l = omega (arith, ints, clamps)
 
-    by_end : (e : End) → end_of e (product_of i j) ≡ end_of e i *ℤ end_of e j
-    by_end Low = least_corner _ _ _ _ right_low (times_more j.low i.low i.high q o) right_high
-    by_end High = greatest_corner _ _ _ _ right_low (times_more j.high i.low i.high high_j o) right_high
+least_4 : (a b c d : ℤ) → d ≤ℤ c → d ≤ℤ b → b ≤ℤ a → int_min (int_min a b) (int_min c d) ≡ d
+least_4 a b c d h k l = omega (arith, ints, clamps)
+
+greatest_1 : (a b c d : ℤ) → b ≤ℤ a → c ≤ℤ a → d ≤ℤ c → int_max (int_max a b) (int_max c d) ≡ a
+greatest_1 a b c d h k l = omega (arith, ints, clamps)
+
+greatest_2 : (a b c d : ℤ) → a ≤ℤ b → d ≤ℤ b → c ≤ℤ d → int_max (int_max a b) (int_max c d) ≡ b
+greatest_2 a b c d h k l = omega (arith, ints, clamps)
+
+greatest_3 : (a b c d : ℤ) → d ≤ℤ c → a ≤ℤ c → b ≤ℤ a → int_max (int_max a b) (int_max c d) ≡ c
+greatest_3 a b c d h k l = omega (arith, ints, clamps)
+
+greatest_4 : (a b c d : ℤ) → c ≤ℤ d → b ≤ℤ d → a ≤ℤ b → int_max (int_max a b) (int_max c d) ≡ d
+greatest_4 a b c d h k l = omega (arith, ints, clamps)
+
+-- of parts that keep their signs the product has the products of ends: of each the same end where the other is not below 0
+pub end_of_product : (e : End) (p q : Bool) (i j : Interval) → IsSigned p i → IsSigned q j → i.low ≤ℤ i.high → j.low ≤ℤ j.high → end_of e (product_of i j) ≡ end_of (end_beside q e) i *ℤ end_of (end_beside p e) j
+end_of_product e p q i j sign_i sign_j o r = by_signs e p q (corners p q i j sign_i sign_j o r)
+  where
+    by_signs : (e : End) (p q : Bool) →
+        Ascend q (i.low *ℤ j.low) (i.high *ℤ j.low) × Ascend q (i.low *ℤ j.high) (i.high *ℤ j.high) × Ascend p (i.low *ℤ j.low) (i.low *ℤ j.high) × Ascend p (i.high *ℤ j.low) (i.high *ℤ j.high) →
+        end_of e (product_of i j) ≡ end_of (end_beside q e) i *ℤ end_of (end_beside p e) j
+    by_signs Low true true c = least_1 _ _ _ _ c.2 c.0 c.3
+    by_signs High true true c = greatest_4 _ _ _ _ c.3 c.1 c.2
+    by_signs Low true false c = least_3 _ _ _ _ c.3 c.0 c.2
+    by_signs High true false c = greatest_2 _ _ _ _ c.2 c.1 c.3
+    by_signs Low false true c = least_2 _ _ _ _ c.2 c.1 c.3
+    by_signs High false true c = greatest_3 _ _ _ _ c.3 c.0 c.2
+    by_signs Low false false c = least_4 _ _ _ _ c.3 c.1 c.2
+    by_signs High false false c = greatest_1 _ _ _ _ c.2 c.0 c.3
 
 -- ---- expressions at a row
 
 at_least : (x : ℤ) → int_le (pos 0) x ≡ true → pos 0 ≤ℤ x
 at_least x h = grind (arith, ints)
+
+at_most : (x : ℤ) → int_le x (pos 0) ≡ true → x ≤ℤ pos 0
+at_most x h = grind (arith, ints)
 
 module _ (table : KnownTable) (known : IsKnownTable table) (row : ℕ) (below : row < table.frame.rows) where
   pub smaller : (t : Term) → IsSmaller (span_of t (ranges_of table.frame table.known row)) (span_of t (declared_ranges table.frame))
@@ -87,10 +135,25 @@ module _ (table : KnownTable) (known : IsKnownTable table) (row : ℕ) (below : 
       let inside = (smaller t).inside.low in
       omega (arith, ints)
 
-  pub product_end : (e : End) (a b : Term) → (is_never_negative table.frame a && is_never_negative table.frame b) ≡ true → term_end table e (Mul a b) row ≡ term_end table e a row *ℤ term_end table e b row
-  product_end e a b never =
-      let both = both_true _ _ never in
-      end_of_product e (span_of a (ranges_of table.frame table.known row)) (span_of b (ranges_of table.frame table.known row)) (not_below a both.0) (smaller a).ordered (not_below b both.1) (smaller b).ordered
+  pub not_above : (t : Term) → is_never_positive table.frame t ≡ true → (span_of t (ranges_of table.frame table.known row)).high ≤ℤ pos 0
+  not_above t never =
+      let declared = at_most (span_of t (declared_ranges table.frame)).high never in
+      let inside = (smaller t).inside.high in
+      omega (arith, ints)
+
+  signed : (t : Term) → keeps_sign table.frame t ≡ true → IsSigned (is_never_negative table.frame t) (span_of t (ranges_of table.frame table.known row))
+  signed t keeps = by_sign (is_never_negative table.frame t) refl keeps
+    where
+      by_sign : (b : Bool) → is_never_negative table.frame t ≡ b → (b || is_never_positive table.frame t) ≡ true → IsSigned b (span_of t (ranges_of table.frame table.known row))
+      by_sign true is keeps = not_below t is
+      by_sign false is keeps = not_above t keeps
+
+  pub product_end : (e : End) (a b : Term) → (keeps_sign table.frame a && keeps_sign table.frame b) ≡ true →
+      term_end table e (Mul a b) row ≡ term_end table (end_beside (is_never_negative table.frame b) e) a row *ℤ term_end table (end_beside (is_never_negative table.frame a) e) b row
+  product_end e a b keep =
+      let both = both_true _ _ keep in
+      end_of_product e (is_never_negative table.frame a) (is_never_negative table.frame b) (span_of a (ranges_of table.frame table.known row)) (span_of b (ranges_of table.frame table.known row)) (signed a both.0) (signed b both.1) (smaller a).ordered
+      (smaller b).ordered
 
   -- ---- a column
 

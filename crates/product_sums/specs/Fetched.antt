@@ -32,6 +32,11 @@ pub record IsFetched (column : KnownColumn) (block : ℕ) (fetched : Fetched) (r
   pub planes : AreFetchedBelow column block room column.known.read
   pub tops : IsBlockOf (map (is_at_top column.ends column.known.read) column.known.prefixes) block fetched.tops
 
+-- these are words of this column
+pub record IsFetchedColumn (table : KnownTable) (c block : ℕ) (fetched : Fetched) (room : List (List ℕ)) : Type 0 where
+  pub column : fetched.column ≡ c
+  pub words : IsFetched (column_at table c) block fetched room
+
 -- the only one of some factors is an end of a column, of which a block is fetched
 pub record IsLone (table : KnownTable) (block : ℕ) (factors : List Factor) (fetched : Fetched) (room : List (List ℕ)) : Type 0 where
   pub there : fetched.column < length table.frame.columns

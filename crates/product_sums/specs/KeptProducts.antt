@@ -1,5 +1,6 @@
 -- Sums of products that are kept from one plane to the next.
-use Rattle.std.specs.Prelude.{◌≡◌, ℕ, ◌-◌, ◌/◌, ◌^◌, ◌≤◌, ◌<◌, ◌==◌, ◌&&◌, ◌||◌, ℤ, pos, ◌*ℤ◌, Bool, false, cond, List, length, IsTrue}
+use Rattle.std.specs.Prelude.{◌≡◌, ℕ, ◌+◌, ◌-◌, ◌*◌, ◌/◌, ◌^◌, ◌≤◌, ◌<◌, ◌==◌, ◌&&◌, ◌||◌}
+use Rattle.std.specs.Prelude.{ℤ, pos, ◌*ℤ◌, Bool, false, cond, List, length, IsTrue}
 use Rattle.std.specs.Int.{int_wrap, w128}
 use Rattle.std.specs.List.{All}
 use Rattle.std.specs.Simd.Lanes.{zip2}
@@ -17,7 +18,6 @@ use Rattle.product_sums.specs.declared.kept_product.KeptProduct.{KeptProduct}
 use Rattle.product_sums.specs.declared.linear_sums.ColumnSums.{ColumnSums}
 use Rattle.product_sums.specs.declared.pair_sums.Pair.{Pair}
 use Rattle.product_sums.specs.declared.pair_sums.PairSums.{PairSums}
-use Rattle.product_sums.specs.declared.pair_sums.Rooms.{Rooms}
 use Rattle.product_sums.specs.ColumnEnds.{weight_of_top}
 use Rattle.product_sums.specs.Products.{sum_over, term_end, HasValues, IsProductSum}
 
@@ -76,6 +76,10 @@ first_sum table mask c f k = sum_over mask (λ r. pos (number_at (column_at tabl
 abbrev pub first_number : KnownTable → ℕ → ℕ → ℕ → ℕ
 first_number table c read row = number_at (column_at table c) row / 2 ^ ((known_at table.known c).read - read)
 
+-- the number that all planes make
+abbrev pub whole_number : KnownTable → ℕ → ℕ → ℤ
+whole_number table c row = pos (first_number table c (known_at table.known c).read row)
+
 -- the table has both columns
 pub record IsPair (table : KnownTable) (pair : Pair) : Type 0 where
   pub first : pair.first < length table.frame.columns
@@ -98,6 +102,14 @@ pub record AreReadOn (table : KnownTable) (mask : List Bool) (pair : Pair) (sums
   pub all_first : sums.first_read ≡ (known_at table.known pair.first).read
   pub all_second : sums.second_read ≡ (known_at table.known pair.second).read
 
+-- the sums are those of the numbers that all planes of two columns make, over rows of a block
+pub record AreBlockSums (table : KnownTable) (block : ℕ) (rows : List Bool) (pair : Pair) (sums : PairSums) : Type 0 where
+  pub first : sums.first ≡ int_wrap w128 (sum_over rows (λ i. whole_number table pair.first (512 * block + i)))
+  pub second : sums.second ≡ int_wrap w128 (sum_over rows (λ i. whole_number table pair.second (512 * block + i)))
+  pub both : sums.both
+      ≡ int_wrap w128 (sum_over rows (λ i. whole_number table pair.first (512 * block + i)
+      *ℤ whole_number table pair.second (512 * block + i)))
+
 -- the same the other way round
 abbrev pub turned_pair : Pair → Pair
 turned_pair pair = record { first = pair.second; second = pair.first }
@@ -110,11 +122,6 @@ turned_sums sums = record {
   second = sums.first;
   both = sums.both;
 }
-
--- there is room for so many rows
-pub record AreRooms (rows : ℕ) (rooms : Rooms) : Type 0 where
-  pub beside : length rooms.beside ≡ rows
-  pub ones : length rooms.ones ≡ rows
 
 -- ---- ends by what planes give
 
@@ -152,4 +159,4 @@ pub record IsKeptProduct (table : KnownTable) (term : Term) (kept : KeptProduct)
   pub linear : IsLinear kept.pair.second (other_part kept.pair.first term)
   pub pair_is : IsPair table kept.pair
   pub cells_are : All (AreKeptEnds table kept.pair) kept.cells.items
-  pub rooms_are : AreRooms table.frame.rows kept.rooms
+  pub room_is : length kept.room ≡ table.frame.rows

@@ -1,6 +1,6 @@
 -- Ends of expressions at rows, their products, and what these come to over the rows of a mask.
 use Rattle.std.specs.Prelude.{◌≡◌, ℕ, suc, ◌+◌, ◌-◌, ◌*◌, ◌<◌, ◌≤◌, min, max, ℤ, pos, ◌+ℤ◌, ◌*ℤ◌, int_le}
-use Rattle.std.specs.Prelude.{Bool, true, ◌&&◌, cond, List, [], ◌∷◌, length, map, IsTrue}
+use Rattle.std.specs.Prelude.{Bool, true, false, ◌&&◌, ◌||◌, cond, List, [], ◌∷◌, length, map, IsTrue}
 use Rattle.aggregates.specs.declared.ends.End.{End}
 use Rattle.aggregates.specs.declared.ends.End.TheVariants.{Low, High}
 use Rattle.aggregates.specs.Selections.{end_of, has_row, rows_in}
@@ -11,7 +11,7 @@ use Rattle.query_model.specs.Knowledge.{ranges_of}
 use Rattle.query_model.specs.Meaning.{ReadsBelow}
 use Rattle.query_model.specs.Queries.{Term, Column, Literal, Add, Sub, Mul, term_of}
 use Rattle.query_model.specs.Truths.{may_be_number, null_of, span_of}
-use Rattle.query_model.specs.Validity.{declared_ranges}
+use Rattle.query_model.specs.Validity.{declared_ranges, FitsWide}
 use Rattle.product_sums.specs.declared.factors.Factor.{Factor}
 
 -- ---- which expressions
@@ -20,13 +20,21 @@ use Rattle.product_sums.specs.declared.factors.Factor.{Factor}
 abbrev pub is_never_negative : Frame → Term → Bool
 is_never_negative frame term = int_le (pos 0) (span_of term (declared_ranges frame)).low
 
--- each product in the expression is one of two parts that are never below 0
+-- it is never above 0
+abbrev pub is_never_positive : Frame → Term → Bool
+is_never_positive frame term = int_le (span_of term (declared_ranges frame)).high (pos 0)
+
+-- it keeps one sign
+abbrev pub keeps_sign : Frame → Term → Bool
+keeps_sign frame term = is_never_negative frame term || is_never_positive frame term
+
+-- each product in the expression is one of two parts that keep their signs
 abbrev pub has_signs : Frame → Term → Bool
 has_signs frame (Column c) = true
 has_signs frame (Literal n) = true
 has_signs frame (Add a b) = has_signs frame a && has_signs frame b
 has_signs frame (Sub a b) = has_signs frame a && has_signs frame b
-has_signs frame (Mul a b) = (has_signs frame a && has_signs frame b) && (is_never_negative frame a && is_never_negative frame b)
+has_signs frame (Mul a b) = (has_signs frame a && has_signs frame b) && (keeps_sign frame a && keeps_sign frame b)
 
 -- of how many factors the longest product is, multiplied out
 abbrev pub degree : Term → ℕ
@@ -39,6 +47,7 @@ degree (Mul a b) = degree a + degree b
 -- the expression is a sum of products of at most four factors, and each end of it is that sum of products of ends
 pub record IsProductSum (frame : Frame) (term : Term) : Type 0 where
   pub columns : ReadsBelow (length frame.columns) term
+  pub wide : FitsWide term (declared_ranges frame)
   pub signs : has_signs frame term ≡ true
   pub few_factors : degree term ≤ 4
 
@@ -47,6 +56,11 @@ pub record IsProductSum (frame : Frame) (term : Term) : Type 0 where
 abbrev pub other_end : End → End
 other_end Low = High
 other_end High = Low
+
+-- the end of a factor that gives an end of its product with another: where that is below 0, the other end
+abbrev pub end_beside : Bool → End → End
+end_beside true end = end
+end_beside false end = other_end end
 
 -- an end of where the expression lies at a row
 abbrev pub term_end : KnownTable → End → Term → ℕ → ℤ
@@ -76,7 +90,8 @@ degrees (f ∷ fs) = degree (term_of f.term.now) + degrees fs
 abbrev pub AreFactors : Frame → List Factor → Type 0
 AreFactors frame [] = Unit {0}
 AreFactors frame (f ∷ fs) =
-    ReadsBelow (length frame.columns) (term_of f.term.now) × (has_signs frame (term_of f.term.now) ≡ true) × AreFactors frame fs
+    ReadsBelow (length frame.columns) (term_of f.term.now) × (has_signs frame (term_of f.term.now) ≡ true)
+    × FitsWide (term_of f.term.now) (declared_ranges frame) × AreFactors frame fs
 
 -- none is surely null at a row
 abbrev pub HaveValues : KnownTable → List Factor → ℕ → Type 0

@@ -7,16 +7,16 @@ ghost use Rattle.std.specs.Int.{int_wrap, w128};
 ghost use Rattle.aggregates.specs.ExtremeRows.{number_at};
 ghost use Rattle.aggregates.specs.Selections.{has_row};
 ghost use Rattle.known_column.specs.KnownTables.{column_at};
-ghost use Rattle.query_model.specs.Queries.{Column, Mul, term_of};
-ghost use Rattle.query_model.specs.Truths.{span_of};
+ghost use Rattle.query_model.specs.Queries.{Column, Mul};
 ghost use Rattle.product_sums.specs.Fetched.{IsLone};
 ghost use Rattle.product_sums.specs.Products.{sum_of_products, sum_over, product_at, term_end, CanMultiply, HasValue};
 
-use crate::column_ends::{weight_of_all, weight_of_digits, weight_of_top};
-use crate::factors::{Factor, is_longer, joined, other};
+use crate::column_ends::{ColumnEnd, weight_of_all, weight_of_digits, weight_of_top};
+use crate::factors::{Factor, Parts, is_longer, joined, other};
 use crate::fetched::{Fetched, PlaneRoom, fetch_lone};
 use crate::fetched_sums::sum_fetched;
 use crate::rows::Rows;
+use crate::signs::end_beside;
 use crate::wrapping::{minus, plus, times};
 use aggregates::{End, number_planes};
 use known_column::LentColumns;
@@ -118,25 +118,38 @@ fn sum_column<'a>(
     columns: &LentColumns<'_>,
     block: usize,
     rows: &Rows,
-    column: u8,
-    end: End,
+    first: ColumnEnd,
     rest: &[Factor<'a>],
     room: &mut PlaneRoom,
 ) -> i128
-    requires column { column < length columns.now.frame.columns }
+    requires column { first.column < length columns.now.frame.columns }
     requires rest { CanMultiply columns.now block rows.now rest.now }
-    requires values { (i : ℕ) → IsTrue (has_row rows.now i) → HasValue columns.now (Column column) (512 * block + i) }
-    ensures { result ≡ int_wrap w128 (sum_over rows.now (λ i. term_end columns.now end (Column column) (512 * block + i)
+    requires values { (i : ℕ) → IsTrue (has_row rows.now i) → HasValue columns.now (Column first.column) (512 * block + i) }
+    ensures { result ≡ int_wrap w128 (sum_over rows.now (λ i. term_end columns.now first.end (Column first.column) (512 * block + i)
         *ℤ product_at columns.now rest.now (512 * block + i))) }
 {
-    let known = columns.column(usize::from(column));
+    let known = columns.column(usize::from(first.column));
     let digits = times(
         weight_of_digits(known),
-        sum_digits(columns, block, rows, column, rest, room),
+        sum_digits(columns, block, rows, first.column, rest, room),
     );
-    let all = sum_times(columns, block, rows, rest, weight_of_all(end, known), room);
+    let all = sum_times(
+        columns,
+        block,
+        rows,
+        rest,
+        weight_of_all(first.end, known),
+        room,
+    );
     let tops = rows.and(&Rows::of_mask(known.at_top(), block));
-    let less = sum_times(columns, block, &tops, rest, weight_of_top(end, known), room);
+    let less = sum_times(
+        columns,
+        block,
+        &tops,
+        rest,
+        weight_of_top(first.end, known),
+        room,
+    );
     minus(plus(digits, all), less)
 }
 
@@ -146,20 +159,19 @@ fn sum_both<'a>(
     columns: &LentColumns<'_>,
     block: usize,
     rows: &Rows,
-    first: Factor<'a>,
-    second: Factor<'a>,
+    parts: Parts<'a>,
     rest: &[Factor<'a>],
     room: &mut PlaneRoom,
 ) -> i128
-    requires { CanMultiply columns.now block rows.now (first ∷ second ∷ rest.now) }
-    ensures { result ≡ int_wrap w128 (sum_of_products columns.now block rows.now (first.entry ∷ second.entry ∷ rest.now)) }
+    requires { CanMultiply columns.now block rows.now (parts.first ∷ parts.second ∷ rest.now) }
+    ensures { result ≡ int_wrap w128 (sum_of_products columns.now block rows.now (parts.entry.first ∷ parts.entry.second ∷ rest.now)) }
 {
-    let factors = joined(second, rest);
+    let factors = joined(parts.second, rest);
     sum_first(
         columns,
         block,
         rows,
-        first,
+        parts.first,
         &factors[..rest.len() + 1],
         room,
     )
@@ -180,7 +192,13 @@ fn sum_first<'a>(
 {
     let end = first.end;
     match first.term {
-        Expr::Column(column) => sum_column(columns, block, rows, *column, end, rest, room),
+        Expr::Column(column) => {
+            let first = ColumnEnd {
+                column: *column,
+                end,
+            };
+            sum_column(columns, block, rows, first, rest, room)
+        }
         Expr::Literal(number) => sum_times(columns, block, rows, rest, *number, room),
         Expr::Add(a, b) => plus(
             sum_first(columns, block, rows, Factor { term: a, end }, rest, room),
@@ -197,12 +215,26 @@ fn sum_first<'a>(
             )
         }
         Expr::Mul(a, b) => {
-            let left = Factor { term: a, end };
-            let right = Factor { term: b, end };
+            let left = Factor {
+                term: a,
+                end: end_beside(b, end, columns),
+            };
+            let right = Factor {
+                term: b,
+                end: end_beside(a, end, columns),
+            };
             if is_longer(a, b, columns) {
-                sum_both(columns, block, rows, right, left, rest, room)
+                let parts = Parts {
+                    first: right,
+                    second: left,
+                };
+                sum_both(columns, block, rows, parts, rest, room)
             } else {
-                sum_both(columns, block, rows, left, right, rest, room)
+                let parts = Parts {
+                    first: left,
+                    second: right,
+                };
+                sum_both(columns, block, rows, parts, rest, room)
             }
         }
     }

@@ -1,10 +1,17 @@
 //! An end of a column as a sum: a number for every row, another for each digit that was read, and less at the prefix of top.
 
-ghost use Rattle.std.specs.Prelude.{◌≡◌, ◌≤◌, ◌-◌, ◌^◌, ◌%◌, ◌+ℤ◌, ◌-ℤ◌, nat_abs, pos};
+ghost use Rattle.std.specs.Prelude.{◌≡◌, ◌≤◌, ◌-◌, ◌^◌, ◌%◌, ◌-ℤ◌, nat_abs, pos};
 ghost use Rattle.product_sums.specs.ColumnEnds.{weight_of_all, weight_of_top, weight_of_digits};
 
 use aggregates::{End, block_span, number_planes, top_span};
 use known_column::Known;
+
+// An end of a column.
+#[derive(Clone, Copy)]
+pub(crate) struct ColumnEnd {
+    pub(crate) column: u8,
+    pub(crate) end: End,
+}
 
 // How far the range at top's prefix ends before the last number that has its digits.
 fn clipped(base: i64, top: i64, unread: u8) -> i128

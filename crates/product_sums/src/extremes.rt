@@ -16,6 +16,7 @@ ghost use Rattle.query_model.specs.Validity.{declared_ranges, FitsWide};
 ghost use Rattle.product_sums.specs.Products.{term_end, HasValues};
 
 use crate::factors::other;
+use crate::signs::end_beside;
 use aggregates::{End, first_place, greatest_high, is_empty, least_low, number_planes};
 use interval_calc::{Interval, add, exactly, mul, sub};
 use known_column::{Known, LentColumns};
@@ -120,6 +121,7 @@ impl OuterNumbers {
         rows: &mut [u64; 8],
     )
         requires columns { ReadsBelow (length columns.now.frame.columns) (term_of expr.now) }
+        requires wide { FitsWide (term_of expr.now) (declared_ranges columns.now.frame) }
         requires block { 512 * block < columns.now.frame.rows }
     {
         match expr {
@@ -128,7 +130,7 @@ impl OuterNumbers {
                 keep_number(columns.column(place), self.number(place, end), block, rows);
             }
             Expr::Literal(_) => {}
-            Expr::Add(a, b) | Expr::Mul(a, b) => {
+            Expr::Add(a, b) => {
                 self.keep(end, a, columns, block, rows);
                 self.keep(end, b, columns, block, rows);
             }
@@ -136,12 +138,17 @@ impl OuterNumbers {
                 self.keep(end, a, columns, block, rows);
                 self.keep(other(end), b, columns, block, rows);
             }
+            Expr::Mul(a, b) => {
+                self.keep(end_beside(b, end, columns), a, columns, block, rows);
+                self.keep(end_beside(a, end, columns), b, columns, block, rows);
+            }
         }
     }
 
     // A row of a mask at which each column has its outermost end, if there is one.
     fn row(&self, end: End, arg: &Expr, columns: &LentColumns<'_>, mask: &Mask) -> Option<usize>
         requires columns { ReadsBelow (length columns.now.frame.columns) (term_of arg.now) }
+        requires wide { FitsWide (term_of arg.now) (declared_ranges columns.now.frame) }
         requires rows { length mask.now ≡ columns.now.frame.rows }
         ensures { IfSome result (λ row. IsTrue (has_row mask.now row)) }
     {

@@ -14,6 +14,20 @@ pub(crate) struct Factor<'a> {
     pub(crate) end: End,
 }
 
+// Two factors, of which the first is gone through before the second.
+#[derive(Clone, Copy)]
+pub(crate) struct Parts<'a> {
+    pub(crate) first: Factor<'a>,
+    pub(crate) second: Factor<'a>,
+}
+
+// An end of a column and one of another part, which multiplied are an end of the product of both.
+#[derive(Clone, Copy)]
+pub(crate) struct PartEnds<'a> {
+    pub(crate) column: End,
+    pub(crate) other: Factor<'a>,
+}
+
 // The other end.
 pub(crate) fn other(end: End) -> End
     ensures { result ≡ other_end end }

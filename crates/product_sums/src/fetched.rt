@@ -2,7 +2,7 @@
 
 ghost use Rattle.std.specs.Prelude.{◌≡◌, ◌≤◌, ◌<◌, ◌+◌, ◌*◌, length, IfSome, IsTrue};
 ghost use Rattle.known_column.specs.Columns.{rows_of_column};
-ghost use Rattle.product_sums.specs.Fetched.{first_digit, AreFetchedBelow, IsFetched, IsLone};
+ghost use Rattle.product_sums.specs.Fetched.{first_digit, AreFetchedBelow, IsFetched, IsFetchedColumn, IsLone};
 ghost use Rattle.product_sums.specs.Products.{AreFactors};
 
 use crate::factors::Factor;
@@ -65,6 +65,25 @@ fn fetch(known: &Known, column: u8, end: End, block: usize, room: &mut PlaneRoom
         column,
         end,
         tops: known.at_top().block(block),
+    }
+}
+
+// Fetches a block of a column of few planes.
+pub(crate) fn fetch_column(
+    columns: &LentColumns<'_>,
+    column: u8,
+    block: usize,
+    room: &mut PlaneRoom,
+) -> Option<Fetched>
+    requires column { column < length columns.now.frame.columns }
+    requires block { 512 * block < columns.now.frame.rows }
+    ensures { IfSome result (λ words. IsFetchedColumn columns.now column block words room.new.planes) }
+{
+    let known = columns.column(usize::from(column));
+    if has_room(known) {
+        Some(fetch(known, column, End::Low, block, room))
+    } else {
+        None
     }
 }
 

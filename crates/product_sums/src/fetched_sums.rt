@@ -17,7 +17,7 @@ use aggregates::number_planes;
 use known_column::LentColumns;
 
 // The number that a column's digits make, added up.
-fn sum_fetched_digits(
+pub(crate) fn sum_fetched_digits(
     columns: &LentColumns<'_>,
     block: usize,
     rows: &Rows,

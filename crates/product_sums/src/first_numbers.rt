@@ -14,7 +14,7 @@ use known_column::LentColumns;
 use plane_kernels::Mask;
 
 // These over rows of a block.
-fn sum_first_digits(
+pub(crate) fn sum_first_digits(
     columns: &LentColumns<'_>,
     column: u8,
     read: u8,

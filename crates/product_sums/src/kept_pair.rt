@@ -1,25 +1,24 @@
 //! Ends of a product of a column and a part that is linear in another column, added up over a mask's rows and followed from one plane to
 //! the next.
 
-ghost use Rattle.std.specs.Prelude.{◌≡◌, ◌≤◌, ◌<◌, ◌&&◌, ◌*ℤ◌, ℕ, ℤ, pos, length, IfOk, IsTrue};
+ghost use Rattle.std.specs.Prelude.{◌≡◌, ◌<◌, ◌*ℤ◌, ℤ, pos, length, IfOk, IsTrue};
 ghost use Rattle.std.specs.Int.{int_wrap, w128};
-ghost use Rattle.std.specs.Simd.Lanes.{zip2};
 ghost use Rattle.aggregates.specs.declared.ends.End.TheVariants.{High};
-ghost use Rattle.known_column.specs.Columns.{is_at_top, rows_where};
-ghost use Rattle.known_column.specs.KnownTables.{column_at, KnownTable};
+ghost use Rattle.known_column.specs.KnownTables.{KnownTable};
 ghost use Rattle.query_model.specs.Knowledge.{known_at};
 ghost use Rattle.query_model.specs.Queries.{term_of, Column};
 ghost use Rattle.product_sums.specs.declared.pair_sums.Pair.{Pair};
 ghost use Rattle.product_sums.specs.ColumnEnds.{weight_of_top};
-ghost use Rattle.product_sums.specs.KeptProducts.{factor_end, first_number, AreClipped, AreReadOn, AreRooms, CanFollow};
+ghost use Rattle.product_sums.specs.KeptProducts.{factor_end, first_number, AreClipped, AreReadOn, CanFollow};
 ghost use Rattle.product_sums.specs.KeptProducts.{IsKeptPair, IsLinear, IsPair};
 ghost use Rattle.product_sums.specs.Products.{sum_over, term_end, HasValues};
 
 use crate::column_ends::{weight_of_all, weight_of_digits, weight_of_top};
-use crate::factors::Factor;
+use crate::factors::{Factor, PartEnds};
 use crate::first_numbers::sum_first;
 use crate::linear_sums::{ColumnSums, sum_linear};
-use crate::pair_sums::{Pair, PairSums, Rooms, move_sums, read_on};
+use crate::moved_sums::move_sums;
+use crate::pair_sums::{Pair, PairSums, read_on};
 use crate::top_sums::sum_clipped;
 use crate::wrapping::{minus, plus, times};
 use aggregates::{End, number_planes};
@@ -131,18 +130,18 @@ impl KeptPair {
     }
 
     // Reads on, and makes its rows those of the mask: what the rows gave that came is added, and what those gave that left is taken off.
-    fn follow(&mut self, columns: &LentColumns<'_>, pair: Pair, mask: &Mask, rooms: &mut Rooms)
+    fn follow(&mut self, columns: &LentColumns<'_>, pair: Pair, mask: &Mask, room: &mut Mask)
         requires pair { IsPair columns.now pair }
         requires kept { IsKeptPair columns.now pair self.old }
         requires rows { length mask.now ≡ columns.now.frame.rows }
-        requires rooms { AreRooms columns.now.frame.rows rooms.old }
+        requires room { length room.old ≡ columns.now.frame.rows }
         ensures rows { self.new.mask ≡ mask.now }
         ensures sums { AreReadOn columns.now mask.now pair self.new.sums }
-        ensures rooms { AreRooms columns.now.frame.rows rooms.new }
+        ensures room { length room.new ≡ columns.now.frame.rows }
     {
-        self.sums = read_on(columns, pair, self.sums, &self.mask, &mut rooms.ones);
+        self.sums = read_on(columns, pair, self.sums, &self.mask, room);
         if !have_same_rows(&self.mask, mask) {
-            self.sums = move_sums(columns, pair, self.sums, &self.mask, mask, rooms);
+            self.sums = move_sums(columns, pair, self.sums, &self.mask, mask);
             self.mask.copy_from(mask);
         }
     }
@@ -202,34 +201,34 @@ impl KeptPair {
         &mut self,
         columns: &LentColumns<'_>,
         pair: Pair,
-        other: Factor<'a>,
+        parts: PartEnds<'a>,
         mask: &Mask,
-        rooms: &mut Rooms,
+        room: &mut Mask,
     ) -> i128
         requires pair { IsPair columns.now pair }
         requires kept { IsKeptPair columns.now pair self.old }
-        requires linear { IsLinear pair.second (term_of other.term.now) }
-        requires follow { CanFollow columns.now mask.now pair.first (term_of other.term.now) }
+        requires linear { IsLinear pair.second (term_of parts.other.term.now) }
+        requires follow { CanFollow columns.now mask.now pair.first (term_of parts.other.term.now) }
         requires values { HasValues columns.now (Column pair.first) mask.now }
-        requires rooms { AreRooms columns.now.frame.rows rooms.old }
+        requires room { length room.old ≡ columns.now.frame.rows }
         ensures kept { IsKeptPair columns.now pair self.new }
-        ensures rooms { AreRooms columns.now.frame.rows rooms.new }
+        ensures room { length room.new ≡ columns.now.frame.rows }
         ensures sum { result ≡ int_wrap w128 (sum_over mask.now
-            (λ r. term_end columns.now other.entry.end (Column pair.first) r *ℤ factor_end columns.now other.entry r)) }
+            (λ r. term_end columns.now parts.entry.column (Column pair.first) r *ℤ factor_end columns.now parts.entry.other r)) }
     {
         let _rows = columns.rows();
-        self.follow(columns, pair, mask, rooms);
-        let clipped = clip(columns, pair, mask, self.sums.first, &mut rooms.ones);
+        self.follow(columns, pair, mask, room);
+        let clipped = clip(columns, pair, mask, self.sums.first, room);
         let known = columns.column(usize::from(pair.first));
         let digits = times(
             weight_of_digits(known),
-            self.sum_numbered(columns, pair, &clipped, other),
+            self.sum_numbered(columns, pair, &clipped, parts.other),
         );
         let all = times(
-            weight_of_all(other.end, known),
-            self.sum_alone(columns, pair, &clipped, other),
+            weight_of_all(parts.column, known),
+            self.sum_alone(columns, pair, &clipped, parts.other),
         );
-        let less = sum_clipped(columns, mask, pair.first, other, &mut rooms.ones);
+        let less = sum_clipped(columns, mask, pair.first, parts, room);
         minus(plus(digits, all), less)
     }
 }

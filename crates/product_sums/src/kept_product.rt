@@ -1,6 +1,6 @@
 //! Sums of an expression that are kept from one plane to the next.
 
-ghost use Rattle.std.specs.Prelude.{◌≡◌, ◌≤◌, ◌<◌, ◌*ℤ◌, length, map, IfOk, IfSome};
+ghost use Rattle.std.specs.Prelude.{◌≡◌, ◌<◌, ◌*ℤ◌, length, map, IfOk, IfSome};
 ghost use Rattle.std.specs.Int.{int_wrap, w128};
 ghost use Rattle.std.specs.List.{All};
 ghost use Rattle.aggregates.specs.declared.ends.End.TheVariants.{High, Low};
@@ -11,13 +11,14 @@ ghost use Rattle.query_model.specs.Queries.{Column, term_of};
 ghost use Rattle.query_model.specs.Truths.{span_of};
 ghost use Rattle.query_model.specs.Validity.{declared_ranges, FitsSum};
 ghost use Rattle.product_sums.specs.declared.pair_sums.Pair.{Pair as PairOf};
-ghost use Rattle.product_sums.specs.KeptProducts.{factor_end, AreKeptEnds, AreRooms, CanFollow, IsKeptProduct, IsLinear, IsPair};
+ghost use Rattle.product_sums.specs.KeptProducts.{factor_end, AreKeptEnds, CanFollow, IsKeptProduct, IsLinear, IsPair};
 ghost use Rattle.product_sums.specs.Products.{sum_over, term_end, HasValues, IsProductSum};
 
-use crate::factors::Factor;
+use crate::factors::{Factor, PartEnds};
 use crate::kept_column::{columns_to_keep, other_part};
 use crate::kept_pair::KeptPair;
-use crate::pair_sums::{Pair, Rooms};
+use crate::pair_sums::Pair;
+use crate::signs::{end_beside, end_beside_column};
 use crate::sums::sum_ends;
 use aggregates::End;
 use known_column::LentColumns;
@@ -50,28 +51,28 @@ impl KeptEnds {
         &mut self,
         columns: &LentColumns<'_>,
         pair: Pair,
-        other: Factor<'a>,
+        parts: PartEnds<'a>,
         mask: &Mask,
-        rooms: &mut Rooms,
+        room: &mut Mask,
     ) -> i128
         requires pair { IsPair columns.now pair }
         requires kept { AreKeptEnds columns.now pair self.old }
-        requires linear { IsLinear pair.second (term_of other.term.now) }
-        requires follow { CanFollow columns.now mask.now pair.first (term_of other.term.now) }
+        requires linear { IsLinear pair.second (term_of parts.other.term.now) }
+        requires follow { CanFollow columns.now mask.now pair.first (term_of parts.other.term.now) }
         requires values { HasValues columns.now (Column pair.first) mask.now }
-        requires rooms { AreRooms columns.now.frame.rows rooms.old }
+        requires room { length room.old ≡ columns.now.frame.rows }
         ensures kept { AreKeptEnds columns.now pair self.new }
-        ensures rooms { AreRooms columns.now.frame.rows rooms.new }
+        ensures room { length room.new ≡ columns.now.frame.rows }
         ensures sum { result ≡ int_wrap w128 (sum_over mask.now
-            (λ r. term_end columns.now other.entry.end (Column pair.first) r *ℤ factor_end columns.now other.entry r)) }
+            (λ r. term_end columns.now parts.entry.column (Column pair.first) r *ℤ factor_end columns.now parts.entry.other r)) }
     {
-        match other.end {
-            End::Low => self.low.sum(columns, pair, other, mask, rooms),
+        match parts.column {
+            End::Low => self.low.sum(columns, pair, parts, mask, room),
             End::High => {
                 if self.low.is_of(mask) {
-                    self.low.sum(columns, pair, other, mask, rooms)
+                    self.low.sum(columns, pair, parts, mask, room)
                 } else {
-                    self.high.sum(columns, pair, other, mask, rooms)
+                    self.high.sum(columns, pair, parts, mask, room)
                 }
             }
         }
@@ -96,7 +97,7 @@ fn open_cells(alloc: Global, rows: usize, cells: usize) -> Result<Vec<KeptEnds>,
 pub struct KeptProduct {
     pair: Pair,
     cells: Vec<KeptEnds>,
-    rooms: Rooms,
+    room: Mask,
 }
 
 impl KeptProduct {
@@ -116,10 +117,7 @@ impl KeptProduct {
             Some(pair) => Ok(Some(KeptProduct {
                 pair,
                 cells: open_cells(alloc, rows, cells)?,
-                rooms: Rooms {
-                    beside: Mask::none(alloc, rows)?,
-                    ones: Mask::none(alloc, rows)?,
-                },
+                room: Mask::none(alloc, rows)?,
             })),
         }
     }
@@ -146,10 +144,16 @@ impl KeptProduct {
             return sum_ends(end, expr, columns, mask);
         }
         let pair = self.pair;
-        let other = Factor {
-            term: other_part(expr, pair.first),
-            end,
+        let other = other_part(expr, pair.first);
+        let at_column = end_beside(other, end, columns);
+        let at_other = end_beside_column(pair.first, end, columns);
+        let parts = PartEnds {
+            column: at_column,
+            other: Factor {
+                term: other,
+                end: at_other,
+            },
         };
-        self.cells[cell].sum(columns, pair, other, mask, &mut self.rooms)
+        self.cells[cell].sum(columns, pair, parts, mask, &mut self.room)
     }
 }

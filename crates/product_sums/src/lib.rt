@@ -12,6 +12,7 @@ mod kept_column;
 mod kept_pair;
 mod kept_product;
 mod linear_sums;
+mod moved_sums;
 mod pair_sums;
 mod rows;
 mod signs;
@@ -21,6 +22,5 @@ mod top_sums;
 mod wrapping;
 
 pub use kept_product::KeptProduct;
-pub use signs::{count_of_counts, is_never_negative, is_product_sum};
-pub use sums::sum_ends;
-pub use tally::{kept_tally, sum_tally};
+pub use signs::{count_of_counts, is_product_sum, keeps_sign};
+pub use tally::{CountedRows, kept_tally};

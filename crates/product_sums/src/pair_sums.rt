@@ -1,13 +1,12 @@
 //! What the planes of two columns give over a mask's rows: the numbers that they make, and their products, added up. A plane more of either
 //! column doubles what it had, and adds what the other column has over the rows with its bit.
 
-ghost use Rattle.std.specs.Prelude.{◌≡◌, ◌≤◌, ◌<◌, ◌+◌, ◌&&◌, not, length, ℤ, pos, ◌*ℤ◌, ◌+ℤ◌, ◌-ℤ◌};
-ghost use Rattle.std.specs.Simd.Lanes.{zip2};
+ghost use Rattle.std.specs.Prelude.{◌≡◌, ◌≤◌, ◌<◌, ◌+◌, length, ℤ, pos, ◌*ℤ◌, ◌+ℤ◌, ◌-ℤ◌};
 ghost use Rattle.std.specs.Int.{int_wrap, w128};
 ghost use Rattle.known_column.specs.KnownTables.{column_at};
 ghost use Rattle.query_model.specs.Knowledge.{known_at};
 ghost use Rattle.product_sums.specs.Fetched.{first_digit};
-ghost use Rattle.product_sums.specs.KeptProducts.{turned_pair, turned_sums, ArePairSums, AreReadOn, AreRooms, IsPair};
+ghost use Rattle.product_sums.specs.KeptProducts.{turned_pair, turned_sums, ArePairSums, AreReadOn, IsPair};
 
 use crate::first_numbers::sum_first;
 use crate::wrapping::{minus, plus, times};
@@ -49,13 +48,6 @@ fn moved(sum: i128, came: i128, left: i128) -> i128
     minus(plus(sum, came), left)
 }
 
-// Room for rows of one mask that another has not, and for those of them that have a bit of 1.
-#[derive(Drop)]
-pub(crate) struct Rooms {
-    pub(crate) beside: Mask,
-    pub(crate) ones: Mask,
-}
-
 // How many planes were read of each of two columns, the numbers that they make, added up, and the products of these, added up.
 #[derive(Clone, Copy)]
 pub(crate) struct PairSums {
@@ -81,7 +73,7 @@ impl PairSums {
     }
 
     // The sums once rows came and others left.
-    fn moved(self, came: PairSums, left: PairSums) -> PairSums
+    pub(crate) fn moved(self, came: PairSums, left: PairSums) -> PairSums
         ensures first_read { result.first_read ≡ self.first_read }
         ensures second_read { result.second_read ≡ self.second_read }
         ensures first { (a b c : ℤ) → self.first ≡ int_wrap w128 a → came.first ≡ int_wrap w128 b → left.first ≡ int_wrap w128 c
@@ -184,75 +176,4 @@ pub(crate) fn read_on(
     let first = read_first(columns, pair, sums, mask, room);
     let second = read_first(columns, pair.turned(), first.turned(), mask, room);
     second.turned()
-}
-
-// What all planes give over a mask's rows.
-fn sums_of(columns: &LentColumns<'_>, pair: Pair, mask: &Mask, room: &mut Mask) -> PairSums
-    requires pair { IsPair columns.now pair }
-    requires rows { length mask.now ≡ columns.now.frame.rows }
-    requires room { length room.old ≡ columns.now.frame.rows }
-    ensures room { length room.new ≡ columns.now.frame.rows }
-    ensures sums { AreReadOn columns.now mask.now pair result }
-{
-    let _rows = columns.rows();
-    let first = number_planes(columns.column(usize::from(pair.first))).1;
-    let second = number_planes(columns.column(usize::from(pair.second))).1;
-    if mask.count() == 0 {
-        return PairSums {
-            first_read: first,
-            second_read: second,
-            first: 0,
-            second: 0,
-            both: 0,
-        };
-    }
-    let begun = PairSums {
-        first_read: first,
-        second_read: 0,
-        first: sum_first(columns, pair.first, first, mask),
-        second: 0,
-        both: 0,
-    };
-    read_on(columns, pair, begun, mask, room)
-}
-
-// The rows of one mask that another has not, and what they give.
-fn sums_beside(
-    columns: &LentColumns<'_>,
-    pair: Pair,
-    mask: &Mask,
-    other: &Mask,
-    rooms: &mut Rooms,
-) -> PairSums
-    requires pair { IsPair columns.now pair }
-    requires rows { length mask.now ≡ columns.now.frame.rows }
-    requires other { length other.now ≡ columns.now.frame.rows }
-    requires rooms { AreRooms columns.now.frame.rows rooms.old }
-    ensures rooms { AreRooms columns.now.frame.rows rooms.new }
-    ensures sums { AreReadOn columns.now (zip2 (λ a b. a && not b) mask.now other.now) pair result }
-{
-    rooms.beside.copy_from(mask);
-    rooms.beside.and_not_into(other);
-    sums_of(columns, pair, &rooms.beside, &mut rooms.ones)
-}
-
-// The sums over the rows of another mask, where these are all planes' over one.
-pub(crate) fn move_sums(
-    columns: &LentColumns<'_>,
-    pair: Pair,
-    sums: PairSums,
-    old: &Mask,
-    new: &Mask,
-    rooms: &mut Rooms,
-) -> PairSums
-    requires pair { IsPair columns.now pair }
-    requires sums { AreReadOn columns.now old.now pair sums }
-    requires rows { length new.now ≡ columns.now.frame.rows }
-    requires rooms { AreRooms columns.now.frame.rows rooms.old }
-    ensures rooms { AreRooms columns.now.frame.rows rooms.new }
-    ensures sums { AreReadOn columns.now new.now pair result }
-{
-    let came = sums_beside(columns, pair, new, old, rooms);
-    let left = sums_beside(columns, pair, old, new, rooms);
-    sums.moved(came, left)
 }

@@ -1,13 +1,20 @@
 //! Some rows of a block of 512, as the bits of eight words, and how many of them have the bits of other words.
 
-ghost use Rattle.std.specs.Prelude.{◌≡◌, ◌<◌, ◌*◌, ◌&&◌, length, take, drop, count_by};
+ghost use Rattle.std.specs.Prelude.{◌≡◌, ◌<◌, ◌*◌, ◌&&◌, not, length, take, drop, count_by};
 ghost use Rattle.std.specs.Int.Bits.{bit_and};
 ghost use Rattle.std.specs.Simd.Lanes.{zip2};
 ghost use Rattle.plane_kernels.specs.Rows.{rows_of, IsPadded};
+ghost use Rattle.plane_kernels.specs.Words.{and_not};
 
 use plane_kernels::{Mask, Plane, count_both, count_ones};
 use std::marker::Model;
 use std::simd::prelude::*;
+
+fn and_not_words(words: &[u64; 8], others: &[u64; 8]) -> [u64; 8]
+    ensures { result ≡ zip2 and_not words.now others.now }
+{
+    (u64x8::from_array(*words) & !u64x8::from_array(*others)).to_array()
+}
 
 fn and_words(words: &[u64; 8], others: &[u64; 8]) -> [u64; 8]
     ensures { result ≡ zip2 bit_and words.now others.now }
@@ -65,6 +72,17 @@ impl Rows {
         Rows {
             rows: self.rows,
             words: and_words(&self.words, &other.words),
+        }
+    }
+
+    // The rows that the other has not.
+    pub(crate) fn and_not(&self, other: &Rows) -> Rows
+        requires { length other.now ≡ length self.now }
+        ensures { result ≡ zip2 (λ a b. a && not b) self.now other.now }
+    {
+        Rows {
+            rows: self.rows,
+            words: and_not_words(&self.words, &other.words),
         }
     }
 

@@ -3,12 +3,13 @@
 ghost use Rattle.std.specs.Prelude.{◌≡◌, ◌<◌, ◌^◌, ◌-◌, ◌↔◌, min, length, IsTrue};
 ghost use Rattle.interval_calc.specs.Intervals.{interval_of};
 ghost use Rattle.query_model.specs.Meaning.{ReadsBelow};
-ghost use Rattle.query_model.specs.Queries.{term_of};
+ghost use Rattle.query_model.specs.Queries.{term_of, Column};
 ghost use Rattle.query_model.specs.Truths.{span_of};
 ghost use Rattle.query_model.specs.Validity.{declared_ranges, FitsWide};
-ghost use Rattle.product_sums.specs.Products.{degree, has_signs, is_never_negative, IsProductSum};
+ghost use Rattle.product_sums.specs.Products.{degree, end_beside, has_signs, is_never_negative, keeps_sign, IsProductSum};
 
-use aggregates::number_planes;
+use crate::factors::other;
+use aggregates::{End, number_planes};
 use interval_calc::{Interval, exactly};
 use known_column::{Known, LentColumns};
 use query_model::Expr;
@@ -35,8 +36,8 @@ fn declared_span(expr: &Expr, columns: &LentColumns<'_>) -> Interval
     }
 }
 
-/// Whether the expression is never below 0, by what is declared of its columns.
-pub fn is_never_negative(expr: &Expr, columns: &LentColumns<'_>) -> bool
+// Whether the expression is never below 0, by what is declared of its columns.
+pub(crate) fn is_never_negative(expr: &Expr, columns: &LentColumns<'_>) -> bool
     requires columns { ReadsBelow (length columns.now.frame.columns) (term_of expr.now) }
     requires fits { FitsWide (term_of expr.now) (declared_ranges columns.now.frame) }
     ensures { result ≡ is_never_negative columns.now.frame (term_of expr.now) }
@@ -44,7 +45,39 @@ pub fn is_never_negative(expr: &Expr, columns: &LentColumns<'_>) -> bool
     declared_span(expr, columns).lo >= 0
 }
 
-// Whether each product is one of two parts that are never below 0.
+/// Whether the expression keeps one sign, by what is declared of its columns.
+pub fn keeps_sign(expr: &Expr, columns: &LentColumns<'_>) -> bool
+    requires columns { ReadsBelow (length columns.now.frame.columns) (term_of expr.now) }
+    requires fits { FitsWide (term_of expr.now) (declared_ranges columns.now.frame) }
+    ensures { result ≡ keeps_sign columns.now.frame (term_of expr.now) }
+{
+    let span = declared_span(expr, columns);
+    span.lo >= 0 || span.hi <= 0
+}
+
+// The end of a factor that gives this end of its product with another.
+pub(crate) fn end_beside(factor: &Expr, end: End, columns: &LentColumns<'_>) -> End
+    requires columns { ReadsBelow (length columns.now.frame.columns) (term_of factor.now) }
+    requires fits { FitsWide (term_of factor.now) (declared_ranges columns.now.frame) }
+    ensures { result ≡ end_beside (is_never_negative columns.now.frame (term_of factor.now)) end }
+{
+    if is_never_negative(factor, columns) {
+        end
+    } else {
+        other(end)
+    }
+}
+
+// The same of a column.
+pub(crate) fn end_beside_column(column: u8, end: End, columns: &LentColumns<'_>) -> End
+    requires { column < length columns.now.frame.columns }
+    ensures { result ≡ end_beside (is_never_negative columns.now.frame (Column column)) end }
+{
+    let ends = columns.column(usize::from(column)).declared();
+    if ends.base >= 0 { end } else { other(end) }
+}
+
+// Whether each product is one of two parts that keep their signs.
 fn has_signs(expr: &Expr, columns: &LentColumns<'_>) -> bool
     requires columns { ReadsBelow (length columns.now.frame.columns) (term_of expr.now) }
     requires fits { FitsWide (term_of expr.now) (declared_ranges columns.now.frame) }
@@ -55,7 +88,7 @@ fn has_signs(expr: &Expr, columns: &LentColumns<'_>) -> bool
         Expr::Add(a, b) | Expr::Sub(a, b) => has_signs(a, columns) && has_signs(b, columns),
         Expr::Mul(a, b) => {
             (has_signs(a, columns) && has_signs(b, columns))
-                && (is_never_negative(a, columns) && is_never_negative(b, columns))
+                && (keeps_sign(a, columns) && keeps_sign(b, columns))
         }
     }
 }
@@ -71,7 +104,7 @@ fn degree(expr: &Expr) -> u64
     }
 }
 
-/// Whether the expression is a sum of products of at most four factors, in each of which all parts are never below 0.
+/// Whether the expression is a sum of products of at most four factors, in each of which all parts keep their signs.
 pub fn is_product_sum(expr: &Expr, columns: &LentColumns<'_>) -> bool
     requires columns { ReadsBelow (length columns.now.frame.columns) (term_of expr.now) }
     requires fits { FitsWide (term_of expr.now) (declared_ranges columns.now.frame) }

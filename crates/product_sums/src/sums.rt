@@ -1,6 +1,6 @@
 //! Sums of the ends of an expression over the rows of a mask.
 
-ghost use Rattle.std.specs.Prelude.{◌≡◌, ◌<◌, ◌+◌, ◌*◌, [], ◌∷◌, length, map};
+ghost use Rattle.std.specs.Prelude.{◌≡◌, ◌<◌, ◌+◌, ◌*◌, length, map};
 ghost use Rattle.std.specs.Int.{int_wrap, w128};
 ghost use Rattle.aggregates.specs.Selections.{block_of, rows_in};
 ghost use Rattle.query_model.specs.Answers.{total};
@@ -59,9 +59,9 @@ pub(crate) fn sum_wrapped(end: End, arg: &Expr, columns: &LentColumns<'_>, mask:
     sum
 }
 
-/// The low or the high ends of an expression at the mask's rows, added up. It costs counts of rows alone: one for each combination of the
-/// digits that were read of the columns in a product.
-pub fn sum_ends(end: End, arg: &Expr, columns: &LentColumns<'_>, mask: &Mask) -> i128
+// The low or the high ends of an expression at the mask's rows, added up. It costs counts of rows alone: one for each combination of the
+// digits that were read of the columns in a product.
+pub(crate) fn sum_ends(end: End, arg: &Expr, columns: &LentColumns<'_>, mask: &Mask) -> i128
     requires sums { IsProductSum columns.now.frame (term_of arg.now) }
     requires rows { length mask.now ≡ columns.now.frame.rows }
     requires values { HasValues columns.now (term_of arg.now) mask.now }

@@ -6,20 +6,29 @@ ghost use Rattle.aggregates.specs.Selections.{rows_in, IsPartOf};
 ghost use Rattle.aggregates.specs.Tallies.{tally_of};
 ghost use Rattle.query_model.specs.declared.query.ItemKind.TheVariants.{Max, Min};
 ghost use Rattle.query_model.specs.Answers.{answer, total};
+ghost use Rattle.query_model.specs.Bounds.{high_share, low_share};
 ghost use Rattle.query_model.specs.Meaning.{ReadsBelow};
 ghost use Rattle.query_model.specs.Queries.{term_of};
 ghost use Rattle.query_model.specs.Truths.{span_of};
 ghost use Rattle.query_model.specs.Validity.{declared_ranges, FitsSum, FitsWide, IsSumKind};
 ghost use Rattle.product_sums.specs.KeptProducts.{IsKeptProduct};
-ghost use Rattle.product_sums.specs.Products.{is_never_negative, pairs_of, term_end, HasValues, IsProductSum};
+ghost use Rattle.product_sums.specs.Products.{keeps_sign, pairs_of, term_end, HasValues, IsProductSum};
 
 use crate::extremes::outer_ends;
 use crate::kept_product::KeptProduct;
+use crate::signs::is_never_negative;
 use crate::sums::sum_ends;
-use aggregates::{End, ExtremeSpan, Tally};
+use aggregates::{End, ExtremeSpan, SumSpan, Tally};
 use known_column::LentColumns;
 use plane_kernels::Mask;
 use query_model::{Expr, ItemKind};
+
+/// The rows that may count, and those of them that surely do.
+#[derive(Clone, Copy)]
+pub struct CountedRows<'a> {
+    pub may: &'a Mask,
+    pub must: &'a Mask,
+}
 
 // The ends of no row.
 fn no_ends() -> ExtremeSpan
@@ -84,62 +93,75 @@ fn sum_kept(
     }
 }
 
-/// What a sum or an average of an expression that is never below 0 keeps of the rows of a mask, of which another has those that surely
-/// count. There is none where no row surely counts and the outermost ends are not quickly found. Where sums of the expression are kept
-/// for the cell, they are followed to these rows: planes that were read already are not counted again for rows that stay.
-pub fn kept_tally(
+// The least and the greatest sum of an expression that keeps its sign. What is never below 0 is least where no other row counts, and
+// greatest where all do; what is never above 0 the other way round.
+fn outer_sums<'a>(
+    arg: &Expr,
+    columns: &LentColumns<'_>,
+    rows: CountedRows<'a>,
+    kept: &mut Option<KeptProduct>,
+    cell: usize,
+) -> SumSpan
+    requires sums { IsProductSum columns.now.frame (term_of arg.now) }
+    requires sign { keeps_sign columns.now.frame (term_of arg.now) ≡ true }
+    requires fits { FitsSum columns.now.frame.rows (span_of (term_of arg.now) (declared_ranges columns.now.frame)) }
+    requires rows { length rows.may.now ≡ columns.now.frame.rows }
+    requires must { IsPartOf rows.must.now rows.may.now }
+    requires values { HasValues columns.now (term_of arg.now) rows.may.now }
+    requires kept { IfSome kept.old (IsKeptProduct columns.now (term_of arg.now)) }
+    ensures kept { IfSome kept.new (IsKeptProduct columns.now (term_of arg.now)) }
+    ensures low { result.low ≡ total (map low_share (pairs_of columns.now (term_of arg.now) rows.entry.may.now rows.entry.must.now)) }
+    ensures high { result.high ≡ total (map high_share (pairs_of columns.now (term_of arg.now) rows.entry.may.now rows.entry.must.now)) }
+{
+    let _rows = columns.rows();
+    if is_never_negative(arg, columns) {
+        SumSpan {
+            low: sum_kept(End::Low, arg, columns, rows.must, kept, cell),
+            high: sum_kept(End::High, arg, columns, rows.may, kept, cell),
+        }
+    } else {
+        SumSpan {
+            low: sum_kept(End::Low, arg, columns, rows.may, kept, cell),
+            high: sum_kept(End::High, arg, columns, rows.must, kept, cell),
+        }
+    }
+}
+
+/// What a sum or an average of an expression that keeps its sign keeps of such rows. There is none where no row surely counts and the
+/// outermost ends are not quickly found. Where sums of the expression are kept for the cell, they are followed to these rows: planes that
+/// were read already are not counted again for rows that stay.
+pub fn kept_tally<'a>(
     kind: ItemKind,
     arg: &Expr,
     columns: &LentColumns<'_>,
-    may: &Mask,
-    must: &Mask,
+    rows: CountedRows<'a>,
     kept: &mut Option<KeptProduct>,
     cell: usize,
 ) -> Option<Tally>
     requires kind { IsSumKind kind }
     requires sums { IsProductSum columns.now.frame (term_of arg.now) }
-    requires never { is_never_negative columns.now.frame (term_of arg.now) ≡ true }
-    requires wide { FitsWide (term_of arg.now) (declared_ranges columns.now.frame) }
+    requires sign { keeps_sign columns.now.frame (term_of arg.now) ≡ true }
     requires fits { FitsSum columns.now.frame.rows (span_of (term_of arg.now) (declared_ranges columns.now.frame)) }
-    requires rows { length may.now ≡ columns.now.frame.rows }
-    requires must { IsPartOf must.now may.now }
-    requires values { HasValues columns.now (term_of arg.now) may.now }
+    requires rows { length rows.may.now ≡ columns.now.frame.rows }
+    requires must { IsPartOf rows.must.now rows.may.now }
+    requires values { HasValues columns.now (term_of arg.now) rows.may.now }
     requires kept { IfSome kept.old (IsKeptProduct columns.now (term_of arg.now)) }
     ensures kept { IfSome kept.new (IsKeptProduct columns.now (term_of arg.now)) }
-    ensures tally { IfSome result (λ tally. tally ≡ tally_of kind (pairs_of columns.now (term_of arg.now) may.now must.now)) }
+    ensures tally { IfSome result (λ tally.
+        tally ≡ tally_of kind (pairs_of columns.now (term_of arg.now) rows.entry.may.now rows.entry.must.now)) }
 {
     let _rows = columns.rows();
-    let certain = must.count();
-    let ends = ends_if_none(certain, arg, columns, may)?;
+    let certain = rows.must.count();
+    let ends = ends_if_none(certain, arg, columns, rows.may)?;
+    let sums = outer_sums(arg, columns, rows, kept, cell);
     Some(Tally {
         certain,
-        all: may.count(),
+        all: rows.may.count(),
         least_low: ends.low,
         greatest_high: ends.high,
         least_certain_high: None,
         greatest_certain_low: None,
-        low_sum: sum_kept(End::Low, arg, columns, must, kept, cell),
-        high_sum: sum_kept(End::High, arg, columns, may, kept, cell),
+        low_sum: sums.low,
+        high_sum: sums.high,
     })
-}
-
-/// The same where no sums are kept.
-pub fn sum_tally(
-    kind: ItemKind,
-    arg: &Expr,
-    columns: &LentColumns<'_>,
-    may: &Mask,
-    must: &Mask,
-) -> Option<Tally>
-    requires kind { IsSumKind kind }
-    requires sums { IsProductSum columns.now.frame (term_of arg.now) }
-    requires never { is_never_negative columns.now.frame (term_of arg.now) ≡ true }
-    requires wide { FitsWide (term_of arg.now) (declared_ranges columns.now.frame) }
-    requires fits { FitsSum columns.now.frame.rows (span_of (term_of arg.now) (declared_ranges columns.now.frame)) }
-    requires rows { length may.now ≡ columns.now.frame.rows }
-    requires must { IsPartOf must.now may.now }
-    requires values { HasValues columns.now (term_of arg.now) may.now }
-    ensures { IfSome result (λ tally. tally ≡ tally_of kind (pairs_of columns.now (term_of arg.now) may.now must.now)) }
-{
-    kept_tally(kind, arg, columns, may, must, &mut None, 0)
 }

@@ -11,7 +11,7 @@ ghost use Rattle.product_sums.specs.KeptProducts.{factor_end, CanFollow};
 ghost use Rattle.product_sums.specs.Products.{sum_over};
 
 use crate::column_ends::weight_of_top;
-use crate::factors::Factor;
+use crate::factors::PartEnds;
 use crate::sums::sum_wrapped;
 use crate::wrapping::times;
 use known_column::LentColumns;
@@ -22,22 +22,23 @@ pub(crate) fn sum_clipped<'a>(
     columns: &LentColumns<'_>,
     mask: &Mask,
     column: u8,
-    other: Factor<'a>,
+    parts: PartEnds<'a>,
     room: &mut Mask,
 ) -> i128
-    requires follow { CanFollow columns.now mask.now column (term_of other.term.now) }
+    requires follow { CanFollow columns.now mask.now column (term_of parts.other.term.now) }
     requires room { length room.old ≡ columns.now.frame.rows }
     ensures room { length room.new ≡ columns.now.frame.rows }
-    ensures sum { result ≡ int_wrap w128 (weight_of_top other.entry.end (column_at columns.now column)
+    ensures sum { result ≡ int_wrap w128 (weight_of_top parts.entry.column (column_at columns.now column)
         *ℤ sum_over (zip2 (λ a b. a && b) mask.now (rows_where is_at_top (column_at columns.now column)))
-        (factor_end columns.now other.entry)) }
+        (factor_end columns.now parts.entry.other)) }
 {
     let known = columns.column(usize::from(column));
-    let weight = weight_of_top(other.end, known);
+    let weight = weight_of_top(parts.column, known);
     if weight == 0 {
         return 0;
     }
     room.copy_from(mask);
     room.and_into(known.at_top());
+    let other = parts.other;
     times(weight, sum_wrapped(other.end, other.term, columns, room))
 }

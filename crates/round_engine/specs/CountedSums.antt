@@ -6,17 +6,17 @@ use Rattle.aggregates.specs.declared.tally.Tally.{Tally}
 use Rattle.aggregates.specs.Runnings.{Tallies}
 use Rattle.aggregates.specs.Tallies.{tally_of}
 use Rattle.daq_table.specs.Tables.{Frame}
-use Rattle.product_sums.specs.Products.{IsProductSum, is_never_negative}
+use Rattle.product_sums.specs.Products.{IsProductSum, keeps_sign}
 use Rattle.query_model.specs.Bounds.{pairs}
 use Rattle.query_model.specs.Queries.{Aggregate}
 use Rattle.query_model.specs.Validity.{IsSumKind}
 use Rattle.round_engine.specs.Stages.{Stage}
 
--- counts of rows may tell the item: a sum or an average of a sum of products that is never below 0
+-- counts of rows may tell the item: a sum or an average of a sum of products that keeps its sign
 pub record IsByCounts (frame : Frame) (item : Aggregate) : Type 0 where
   pub kind : IsSumKind item.kind
   pub sums : IsProductSum frame item.arg
-  pub never : is_never_negative frame item.arg ≡ true
+  pub sign : keeps_sign frame item.arg ≡ true
 
 -- a tally, if there is one, is that of the item's pairs
 abbrev pub IsTold : Stage → Aggregate → Option Tally → Type 0

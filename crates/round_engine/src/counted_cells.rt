@@ -21,7 +21,7 @@ use aggregates::{Running, Tally};
 use kleene_filter::Filter;
 use known_column::LentColumns;
 use plane_kernels::Mask;
-use product_sums::{KeptProduct, kept_tally};
+use product_sums::{CountedRows, KeptProduct, kept_tally};
 use query_model::{Item, TypedQuery};
 use row_groups::{Cells, cells_tell_keys};
 
@@ -73,15 +73,11 @@ impl CellMasks {
         self.selection
             .select_passing_within(&self.within, filter, certain, &self.none);
         self.selection.keep_valued(&item.arg, columns);
-        kept_tally(
-            item.kind,
-            &item.arg,
-            columns,
-            &self.selection.may,
-            &self.selection.must,
-            kept,
-            cell as usize,
-        )
+        let rows = CountedRows {
+            may: &self.selection.may,
+            must: &self.selection.must,
+        };
+        kept_tally(item.kind, &item.arg, columns, rows, kept, cell as usize)
     }
 
     // Makes each cell stand for its rows, where there are few cells and counts tell each.

@@ -20,7 +20,9 @@ use crate::selection::Selection;
 use aggregates::{Running, Tally};
 use kleene_filter::Filter;
 use known_column::LentColumns;
-use product_sums::{KeptProduct, count_of_counts, is_never_negative, is_product_sum, kept_tally};
+use product_sums::{
+    CountedRows, KeptProduct, count_of_counts, is_product_sum, keeps_sign, kept_tally,
+};
 use query_model::{Expr, Item, ItemKind, TypedQuery};
 
 // So many counts of rows a block of 512 cost about what its rows cost one by one. It affects speed alone.
@@ -37,7 +39,7 @@ fn most_counts(kept: &Option<KeptProduct>) -> u64 {
     }
 }
 
-// Whether counts of rows may tell the item in so many cells: a sum or an average of a sum of products that is never below 0.
+// Whether counts of rows may tell the item in so many cells: a sum or an average of a sum of products that keeps its sign.
 pub(crate) fn is_by_counts(
     item: &Item,
     columns: &LentColumns<'_>,
@@ -52,7 +54,7 @@ pub(crate) fn is_by_counts(
             count_of_counts(&item.arg, columns).saturating_mul(u64::from(cells))
                 <= most_counts(kept)
                 && is_product_sum(&item.arg, columns)
-                && is_never_negative(&item.arg, columns)
+                && keeps_sign(&item.arg, columns)
         }
         ItemKind::Count | ItemKind::Min | ItemKind::Max => false,
     }
@@ -118,9 +120,11 @@ impl Selection {
         }
         self.select_passing(filter);
         self.keep_valued(&item.arg, columns);
-        kept_tally(
-            item.kind, &item.arg, columns, &self.may, &self.must, kept, 0,
-        )
+        let rows = CountedRows {
+            may: &self.may,
+            must: &self.must,
+        };
+        kept_tally(item.kind, &item.arg, columns, rows, kept, 0)
     }
 }
 

@@ -8,35 +8,35 @@ use Rattle.aggregates.proofs.NumberRows.{first_plane}
 use Rattle.known_column.specs.Columns.{KnownColumn, digit_of, is_at_top}
 use Rattle.known_column.specs.KnownTables.{column_at}
 use Rattle.query_model.specs.Knowledge.{known_at}
-use Rattle.query_model.specs.Queries.{Column, term_of}
+use Rattle.query_model.specs.Queries.{Column, Term, term_of}
 use Rattle.product_sums.specs.ColumnEnds.{weight_of_all, weight_of_digits, weight_of_top}
 use Rattle.product_sums.specs.Fetched.{IsLone}
-use Rattle.product_sums.specs.Products.{CanMultiply, product_at, sum_of_products, term_end}
+use Rattle.product_sums.specs.Products.{CanMultiply, end_beside, is_never_negative, product_at, sum_of_products, term_end}
 use Rattle.product_sums.proofs.DigitSums.{column_sum, digits_first, digits_last, digits_next, first_digits, tested_length}
 use Rattle.product_sums.proofs.Firsts.{add_sum, empty_sum, literal_sum, mul_sum, mul_turned, sub_sum}
-use Rattle.product_sums.proofs.Multiplying.{few_of_degree, fewer_rows, some_degree}
+use Rattle.product_sums.proofs.Multiplying.{can_count, few_of_degree, fewer_rows, some_degree}
 use Rattle.product_sums.proofs.Residues.{minus_is, plus_is, times_is, times_wrapped, wrapped}
 use Rattle.product_sums.proofs.RowSums.{over_none, over_same}
 use Rattle.product_sums.proofs.block_sums.+sum.Goals as goal
 
 pub sum_both-joined-factors-requires : goal.sum_both-joined-factors-requires
 sum_both-joined-factors-requires t c =
-    omega (arith, c.requires.few_factors, some_degree (term_of c.args.first.term.now), some_degree (term_of c.args.second.term.now), few_of_degree c.args.rest.now)
+    omega (arith, c.requires.few_factors, some_degree (term_of c.args.parts.first.term.now), some_degree (term_of c.args.parts.second.term.now), few_of_degree c.args.rest.now)
 
 pub sum_column-and-tops-requires : goal.sum_column-and-tops-requires
 sum_column-and-tops-requires t c =
     let table = c.args.columns.now in
-    let is : c.column-known.result.now ≡ column_at table c.args.column = c.column-known.ensures.column ∙ ap (column_at table) c.from.ensures in
+    let is : c.column-known.result.now ≡ column_at table c.args.first.column = c.column-known.ensures.column ∙ ap (column_at table) c.from.ensures in
     ap length (c.of_mask.ensures ∙ ap (λ l. take 512 (drop (512 * c.args.block) l)) (c.at_top.ensures ∙ ap (λ (k : KnownColumn). map (is_at_top k.ends k.known.read) k.known.prefixes) is))
-    ∙ tested_length table c.args.block c.args.rows.now c.args.rest.now c.requires.rest c.args.column c.requires.column (is_at_top (ends_at table.frame c.args.column) (known_at table.known c.args.column).read)
+    ∙ tested_length table c.args.block c.args.rows.now (product_at table c.args.rest.now) (can_count table c.args.block c.args.rows.now c.args.rest.now c.requires.rest) c.args.first.column c.requires.column (is_at_top (ends_at table.frame c.args.first.column) (known_at table.known c.args.first.column).read)
 
 pub sum_column-sum_times-less-requires : goal.sum_column-sum_times-less-requires
 sum_column-sum_times-less-requires t c =
     let table = c.args.columns.now in
-    let is : c.column-known.result.now ≡ column_at table c.args.column = c.column-known.ensures.column ∙ ap (column_at table) c.from.ensures in
+    let is : c.column-known.result.now ≡ column_at table c.args.first.column = c.column-known.ensures.column ∙ ap (column_at table) c.from.ensures in
     let same : length c.of_mask.result ≡ length c.args.rows.now =
     ap length (c.of_mask.ensures ∙ ap (λ l. take 512 (drop (512 * c.args.block) l)) (c.at_top.ensures ∙ ap (λ (k : KnownColumn). map (is_at_top k.ends k.known.read) k.known.prefixes) is))
-    ∙ tested_length table c.args.block c.args.rows.now c.args.rest.now c.requires.rest c.args.column c.requires.column (is_at_top (ends_at table.frame c.args.column) (known_at table.known c.args.column).read) in (
+    ∙ tested_length table c.args.block c.args.rows.now (product_at table c.args.rest.now) (can_count table c.args.block c.args.rows.now c.args.rest.now c.requires.rest) c.args.first.column c.requires.column (is_at_top (ends_at table.frame c.args.first.column) (known_at table.known c.args.first.column).read) in (
       search (rules, arith),
       subst (λ r. CanMultiply table c.args.block r c.args.rest.now) (sym c.and-tops.ensures) (fewer_rows table c.args.block c.args.rows.now c.of_mask.result c.args.rest.now same c.requires.rest),
     )
@@ -45,23 +45,23 @@ pub sum_column-returns : goal.sum_column-returns
 sum_column-returns t c =
     let table = c.args.columns.now in
     let rest = c.args.rest.now in
-    let is : c.column-known.result.now ≡ column_at table c.args.column = c.column-known.ensures.column ∙ ap (column_at table) c.from.ensures in
+    let is : c.column-known.result.now ≡ column_at table c.args.first.column = c.column-known.ensures.column ∙ ap (column_at table) c.from.ensures in
     let whole : to_z w128 (of_z w128 c.minus.result) ≡ c.minus.result = omega (arith, ints) in
-    let digits_weigh : to_z w128 (of_z w128 c.weight_of_digits.result) ≡ weight_of_digits (column_at table c.args.column) = omega (arith, ints) ∙ c.weight_of_digits.ensures ∙ ap weight_of_digits is in
-    let all_weigh : to_z w128 (of_z w128 c.weight_of_all.result) ≡ weight_of_all c.args.end (column_at table c.args.column) = omega (arith, ints) ∙ c.weight_of_all.ensures ∙ ap (weight_of_all c.args.end) is in
-    let top_weighs : to_z w128 (of_z w128 c.weight_of_top.result) ≡ weight_of_top c.args.end (column_at table c.args.column) = omega (arith, ints) ∙ c.weight_of_top.ensures ∙ ap (weight_of_top c.args.end) is in
-    let tops : c.and-tops.result ≡ zip2 (λ a b. a && b) c.args.rows.now (take 512 (drop (512 * c.args.block) (map (is_at_top (ends_at table.frame c.args.column) (known_at table.known c.args.column).read) (known_at table.known c.args.column).prefixes))) =
+    let digits_weigh : to_z w128 (of_z w128 c.weight_of_digits.result) ≡ weight_of_digits (column_at table c.args.first.column) = omega (arith, ints) ∙ c.weight_of_digits.ensures ∙ ap weight_of_digits is in
+    let all_weigh : to_z w128 (of_z w128 c.weight_of_all.result) ≡ weight_of_all c.args.first.end (column_at table c.args.first.column) = omega (arith, ints) ∙ c.weight_of_all.ensures ∙ ap (weight_of_all c.args.first.end) is in
+    let top_weighs : to_z w128 (of_z w128 c.weight_of_top.result) ≡ weight_of_top c.args.first.end (column_at table c.args.first.column) = omega (arith, ints) ∙ c.weight_of_top.ensures ∙ ap (weight_of_top c.args.first.end) is in
+    let tops : c.and-tops.result ≡ zip2 (λ a b. a && b) c.args.rows.now (take 512 (drop (512 * c.args.block) (map (is_at_top (ends_at table.frame c.args.first.column) (known_at table.known c.args.first.column).read) (known_at table.known c.args.first.column).prefixes))) =
     c.and-tops.ensures
     ∙ ap (zip2 (λ a b. a && b) c.args.rows.now) (c.of_mask.ensures ∙ ap (λ l. take 512 (drop (512 * c.args.block) l)) (c.at_top.ensures ∙ ap (λ (k : KnownColumn). map (is_at_top k.ends k.known.read) k.known.prefixes) is)) in
-    let digits = times_is c.times-digits.result (weight_of_digits (column_at table c.args.column)) c.sum_digits.result _
+    let digits = times_is c.times-digits.result (weight_of_digits (column_at table c.args.first.column)) c.sum_digits.result _
     (c.times-digits.ensures ∙ ap (λ z. wrapped (z *ℤ to_z w128 (of_z w128 c.sum_digits.result))) digits_weigh) (omega (arith, ints)) c.sum_digits.ensures in
     let all = c.sum_times-all.ensures ∙ ap (λ z. wrapped (z *ℤ sum_of_products table c.args.block c.args.rows.now rest)) all_weigh in
     let less = c.sum_times-less.ensures ∙ ap (λ z. wrapped (z *ℤ sum_of_products table c.args.block c.and-tops.result rest)) top_weighs
-    ∙ ap (λ r. wrapped (weight_of_top c.args.end (column_at table c.args.column) *ℤ sum_of_products table c.args.block r rest)) tops in
+    ∙ ap (λ r. wrapped (weight_of_top c.args.first.end (column_at table c.args.first.column) *ℤ sum_of_products table c.args.block r rest)) tops in
     whole
     ∙ minus_is c.minus.result c.plus.result c.sum_times-less.result _ _ c.minus.ensures (omega (arith, ints)) (omega (arith, ints))
     (plus_is c.plus.result c.times-digits.result c.sum_times-all.result _ _ c.plus.ensures (omega (arith, ints)) (omega (arith, ints)) digits all) less
-    ∙ ap wrapped (sym (column_sum table c.args.block c.args.rows.now rest c.requires.rest c.args.column c.requires.column c.args.end c.requires.values))
+    ∙ ap wrapped (sym (column_sum table c.args.block c.args.rows.now (product_at table rest) (can_count table c.args.block c.args.rows.now rest c.requires.rest) c.args.first.column c.requires.column c.args.first.end c.requires.values))
 
 pub sum_digits-loop-j-init : goal.sum_digits-loop-j-init
 sum_digits-loop-j-init t c =
@@ -72,7 +72,7 @@ sum_digits-loop-j-init t c =
     let none : FitsSigned w128 (pos 0) = record { sfits = omega arith } in
     record {
       sum = sym (int_wrap_fits w128 (pos 0) none)
-          ∙ ap (int_wrap w128) (sym (digits_first table c.args.block c.args.rows.now c.args.rest.now c.requires.rest c.args.column c.requires.column c.number_planes-from.result.0 (omega (arith, from))));
+          ∙ ap (int_wrap w128) (sym (digits_first table c.args.block c.args.rows.now (product_at table c.args.rest.now) (can_count table c.args.block c.args.rows.now c.args.rest.now c.requires.rest) c.args.column c.requires.column c.number_planes-from.result.0 (omega (arith, from))));
       fetched = c.fetch_lone-fetched.ensures;
     }
 
@@ -81,7 +81,7 @@ sum_digits-and-ones-requires t c =
     let table = c.args.columns.now in
     let is : c.column-known.result.now ≡ column_at table c.args.column = c.column-known.ensures.column ∙ ap (column_at table) c.from.ensures in
     ap length (c.of_plane.ensures ∙ ap (λ l. take 512 (drop (512 * c.args.block) l)) (c.plane.ensures ∙ ap (λ (k : KnownColumn). map (digit_of k.known.read c.loop-j.j) k.known.prefixes) is))
-    ∙ tested_length table c.args.block c.args.rows.now c.args.rest.now c.requires.rest c.args.column c.requires.column (digit_of (known_at table.known c.args.column).read c.loop-j.j)
+    ∙ tested_length table c.args.block c.args.rows.now (product_at table c.args.rest.now) (can_count table c.args.block c.args.rows.now c.args.rest.now c.requires.rest) c.args.column c.requires.column (digit_of (known_at table.known c.args.column).read c.loop-j.j)
 
 pub sum_digits-sum_rest-requires : goal.sum_digits-sum_rest-requires
 sum_digits-sum_rest-requires t c =
@@ -89,7 +89,7 @@ sum_digits-sum_rest-requires t c =
     let is : c.column-known.result.now ≡ column_at table c.args.column = c.column-known.ensures.column ∙ ap (column_at table) c.from.ensures in
     let same : length c.of_plane.result ≡ length c.args.rows.now =
     ap length (c.of_plane.ensures ∙ ap (λ l. take 512 (drop (512 * c.args.block) l)) (c.plane.ensures ∙ ap (λ (k : KnownColumn). map (digit_of k.known.read c.loop-j.j) k.known.prefixes) is))
-    ∙ tested_length table c.args.block c.args.rows.now c.args.rest.now c.requires.rest c.args.column c.requires.column (digit_of (known_at table.known c.args.column).read c.loop-j.j) in (
+    ∙ tested_length table c.args.block c.args.rows.now (product_at table c.args.rest.now) (can_count table c.args.block c.args.rows.now c.args.rest.now c.requires.rest) c.args.column c.requires.column (digit_of (known_at table.known c.args.column).read c.loop-j.j) in (
       search (rules, arith),
       (subst (λ r. CanMultiply table c.args.block r c.args.rest.now) (sym c.and-ones.ensures) (fewer_rows table c.args.block c.args.rows.now c.of_plane.result c.args.rest.now same c.requires.rest), c.loop-j.invariant.fetched),
     )
@@ -106,12 +106,12 @@ sum_digits-loop-j-preserved t c =
     let ones : c.and-ones.result ≡ zip2 (λ a b. a && b) c.args.rows.now (take 512 (drop (512 * c.args.block) (map (digit_of (known_at table.known c.args.column).read c.loop-j.j) (known_at table.known c.args.column).prefixes))) =
     c.and-ones.ensures
     ∙ ap (zip2 (λ a b. a && b) c.args.rows.now) (c.of_plane.ensures ∙ ap (λ l. take 512 (drop (512 * c.args.block) l)) (c.plane.ensures ∙ ap (λ (k : KnownColumn). map (digit_of k.known.read c.loop-j.j) k.known.prefixes) is)) in
-    let before = first_digits table c.args.block c.args.rows.now rest c.args.column ((known_at table.known c.args.column).read - c.loop-j.j) in
+    let before = first_digits table c.args.block c.args.rows.now (product_at table rest) c.args.column ((known_at table.known c.args.column).read - c.loop-j.j) in
     let twice = c.times.ensures ∙ ap (λ z. wrapped (z *ℤ pos 2)) c.loop-j.invariant.sum ∙ times_wrapped before (pos 2) in
     record {
       sum = whole
           ∙ plus_is c.plus-sum.result c.times.result c.sum_rest.result _ _ c.plus-sum.ensures (omega (arith, ints)) (omega (arith, ints)) twice (c.sum_rest.ensures.sum ∙ ap (λ r. wrapped (sum_of_products table c.args.block r rest)) ones)
-          ∙ ap wrapped (sym (digits_next table c.args.block c.args.rows.now rest c.requires.rest c.args.column c.requires.column c.loop-j.j (omega (arith, from, c.loop-j.auto)) (omega (arith, to, c.loop-j-test.true))));
+          ∙ ap wrapped (sym (digits_next table c.args.block c.args.rows.now (product_at table rest) (can_count table c.args.block c.args.rows.now rest c.requires.rest) c.args.column c.requires.column c.loop-j.j (omega (arith, from, c.loop-j.auto)) (omega (arith, to, c.loop-j-test.true))));
       fetched = c.sum_rest.ensures.fetched;
     }
 
@@ -121,7 +121,7 @@ sum_digits-returns t c =
     let is : c.column-known.result.now ≡ column_at table c.args.column = c.column-known.ensures.column ∙ ap (column_at table) c.from.ensures in
     let to : c.number_planes-from.result.1 ≡ (known_at table.known c.args.column).read = c.number_planes-from.ensures.to ∙ ap (λ (k : KnownColumn). k.known.read) is in
     c.loop-j.invariant.sum
-    ∙ ap wrapped (digits_last table c.args.block c.args.rows.now c.args.rest.now c.requires.rest c.args.column c.requires.column ((known_at table.known c.args.column).read - c.loop-j.j) (omega (arith, to, c.loop-j.auto, c.loop-j-test.false)))
+    ∙ ap wrapped (digits_last table c.args.block c.args.rows.now (product_at table c.args.rest.now) (can_count table c.args.block c.args.rows.now c.args.rest.now c.requires.rest) c.args.column c.requires.column ((known_at table.known c.args.column).read - c.loop-j.j) (omega (arith, to, c.loop-j.auto, c.loop-j-test.false)))
 
 pub sum_first-returns-in-Literal : goal.sum_first-returns-in-Literal
 sum_first-returns-in-Literal t c =
@@ -150,15 +150,19 @@ pub sum_first-returns-then-is_longer : goal.sum_first-returns-then-is_longer
 sum_first-returns-then-is_longer t c =
     let whole : to_z w128 (of_z w128 c.sum_both.result) ≡ c.sum_both.result = omega (arith, ints) in
     whole ∙ c.sum_both.ensures
-    ∙ ap wrapped (sym (mul_turned c.args.columns.now c.args.block c.args.rows.now c.args.rest.now c.args.first (record { term = c.deref-in-Mul.result; end = c.args.first.end }) (record { term = c.deref-in-Mul-2.result; end = c.args.first.end }) c.requires (term_of c.in-Mul.a.value) (term_of c.in-Mul.b.value)
-    (ap term_of c.in-Mul.is) (ap term_of c.deref-in-Mul.ensures) (ap term_of c.deref-in-Mul-2.ensures) refl refl))
+    ∙ ap wrapped (sym (mul_turned c.args.columns.now c.args.block c.args.rows.now c.args.rest.now c.args.first (record { term = c.deref-in-Mul.result; end = c.end_beside.result }) (record { term = c.deref-in-Mul-3.result; end = c.end_beside-in-Mul.result }) c.requires (term_of c.in-Mul.a.value) (term_of c.in-Mul.b.value)
+    (ap term_of c.in-Mul.is) (ap term_of c.deref-in-Mul.ensures) (ap term_of c.deref-in-Mul-3.ensures)
+    (c.end_beside.ensures ∙ ap (λ (t : Term). end_beside (is_never_negative c.args.columns.now.frame t) c.args.first.end) (ap term_of c.deref-in-Mul-2.ensures))
+    (c.end_beside-in-Mul.ensures ∙ ap (λ (t : Term). end_beside (is_never_negative c.args.columns.now.frame t) c.args.first.end) (ap term_of c.deref-in-Mul-4.ensures))))
 
 pub sum_first-returns-else-is_longer : goal.sum_first-returns-else-is_longer
 sum_first-returns-else-is_longer t c =
     let whole : to_z w128 (of_z w128 c.sum_both-else-is_longer.result) ≡ c.sum_both-else-is_longer.result = omega (arith, ints) in
     whole ∙ c.sum_both-else-is_longer.ensures
-    ∙ ap wrapped (sym (mul_sum c.args.columns.now c.args.block c.args.rows.now c.args.rest.now c.args.first (record { term = c.deref-in-Mul.result; end = c.args.first.end }) (record { term = c.deref-in-Mul-2.result; end = c.args.first.end }) c.requires (term_of c.in-Mul.a.value) (term_of c.in-Mul.b.value)
-    (ap term_of c.in-Mul.is) (ap term_of c.deref-in-Mul.ensures) (ap term_of c.deref-in-Mul-2.ensures) refl refl))
+    ∙ ap wrapped (sym (mul_sum c.args.columns.now c.args.block c.args.rows.now c.args.rest.now c.args.first (record { term = c.deref-in-Mul.result; end = c.end_beside.result }) (record { term = c.deref-in-Mul-3.result; end = c.end_beside-in-Mul.result }) c.requires (term_of c.in-Mul.a.value) (term_of c.in-Mul.b.value)
+    (ap term_of c.in-Mul.is) (ap term_of c.deref-in-Mul.ensures) (ap term_of c.deref-in-Mul-3.ensures)
+    (c.end_beside.ensures ∙ ap (λ (t : Term). end_beside (is_never_negative c.args.columns.now.frame t) c.args.first.end) (ap term_of c.deref-in-Mul-2.ensures))
+    (c.end_beside-in-Mul.ensures ∙ ap (λ (t : Term). end_beside (is_never_negative c.args.columns.now.frame t) c.args.first.end) (ap term_of c.deref-in-Mul-4.ensures))))
 
 pub sum_products-returns-in-empty : goal.sum_products-returns-in-empty
 sum_products-returns-in-empty t c =

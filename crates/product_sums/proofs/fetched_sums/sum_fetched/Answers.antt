@@ -6,6 +6,7 @@ use Rattle.std.proofs.lemmas.List.{length-map}
 use Rattle.known_column.specs.Columns.{is_at_top}
 use Rattle.known_column.specs.KnownTables.{column_at}
 use Rattle.product_sums.specs.ColumnEnds.{weight_of_all, weight_of_digits, weight_of_top}
+use Rattle.product_sums.specs.Products.{product_at}
 use Rattle.product_sums.proofs.DigitSums.{column_sum}
 use Rattle.product_sums.proofs.Fetching.{bits_there, count_is}
 use Rattle.product_sums.proofs.Residues.{minus_is, plus_is, times_is, wrapped}
@@ -38,4 +39,4 @@ returns c =
     whole
     ∙ minus_is c.minus.result c.plus.result c.times-less.result _ _ c.minus.ensures (omega (arith, ints)) (omega (arith, ints))
     (plus_is c.plus.result c.times-digits.result c.times-all.result _ _ c.plus.ensures (omega (arith, ints)) (omega (arith, ints)) digits all) less
-    ∙ ap wrapped (sym (column_sum table block rows [] c.requires.rows column c.requires.column end c.requires.values))
+    ∙ ap wrapped (sym (column_sum table block rows (product_at table []) c.requires.rows column c.requires.column end c.requires.values))

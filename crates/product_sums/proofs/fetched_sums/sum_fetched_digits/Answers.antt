@@ -10,6 +10,7 @@ use Rattle.known_column.specs.KnownTables.{column_at}
 use Rattle.plane_kernels.specs.Rows.{rows_of}
 use Rattle.query_model.specs.Knowledge.{known_at}
 use Rattle.product_sums.specs.Fetched.{first_digit, ones_of}
+use Rattle.product_sums.specs.Products.{product_at}
 use Rattle.product_sums.proofs.DigitSums.{digits_first, digits_next, first_digits}
 use Rattle.product_sums.proofs.Fetching.{bits_there, count_is}
 use Rattle.product_sums.proofs.Residues.{plus_is, times_wrapped, wrapped}
@@ -24,7 +25,7 @@ loop-j-init c =
     c.number_planes-from.ensures.from ∙ ap (λ (k : KnownColumn). min (cond k.ends.nullable 1 0) k.known.read) is in
     let none : FitsSigned w128 (pos 0) = record { sfits = omega arith } in
     sym (int_wrap_fits w128 (pos 0) none)
-    ∙ ap (int_wrap w128) (sym (digits_first table c.args.block c.args.rows.now [] c.requires.rows column c.requires.column c.number_planes-from.result.0 (omega (arith, from))))
+    ∙ ap (int_wrap w128) (sym (digits_first table c.args.block c.args.rows.now (product_at table []) c.requires.rows column c.requires.column c.number_planes-from.result.0 (omega (arith, from))))
 
 pub loop-j-preserved : goal.loop-j-preserved
 loop-j-preserved c =
@@ -45,7 +46,7 @@ loop-j-preserved c =
     (c.requires.rows.count ∙ ap (λ n. min 512 (n - 512 * block)) (sym all)) in
     let counted = c.count_words-ones.ensures ∙ ap (λ n. count_by (λ b. b) (zip2 (λ a b. a && b) rows (rows_of (length rows) (get_or c.args.room.now.planes n [])))) at ∙ ap (count_by (λ b. b)) bits.1 in
     let ones = count_is table block (zip2 (λ a b. a && b) rows (take 512 (drop (512 * block) (ones_of known j)))) c.count_words-ones.result c.from-in-loop-j-2.result c.from-in-loop-j-2.ensures counted (omega (arith, c.count_words-ones.type_inv)) in
-    let before = first_digits table block rows [] column ((known_at table.known column).read - j) in
+    let before = first_digits table block rows (product_at table []) column ((known_at table.known column).read - j) in
     let twice = c.times.ensures ∙ ap (λ z. wrapped (z *ℤ pos 2)) c.loop-j.invariant ∙ times_wrapped before (pos 2) in
     whole ∙ plus_is c.plus-sum.result c.times.result c.from-in-loop-j-2.result _ _ c.plus-sum.ensures (omega (arith, ints)) (omega (arith, ints)) twice ones
-    ∙ ap wrapped (sym (digits_next table block rows [] c.requires.rows column c.requires.column j (omega (arith, from, c.loop-j.auto)) (omega (arith, to, c.loop-j-test.true))))
+    ∙ ap wrapped (sym (digits_next table block rows (product_at table []) c.requires.rows column c.requires.column j (omega (arith, from, c.loop-j.auto)) (omega (arith, to, c.loop-j-test.true))))

@@ -9,6 +9,7 @@ use Rattle.known_column.specs.Columns.{KnownColumn, digit_of}
 use Rattle.known_column.specs.KnownTables.{column_at}
 use Rattle.query_model.specs.Knowledge.{known_at}
 use Rattle.product_sums.specs.Fetched.{IsBlockOf, ones_of}
+use Rattle.product_sums.specs.Products.{product_at}
 use Rattle.product_sums.proofs.DigitSums.{digits_first, digits_next, first_digits}
 use Rattle.product_sums.proofs.Fetching.{bits_there, count_is}
 use Rattle.product_sums.proofs.FirstNumbers.{first_there}
@@ -23,7 +24,7 @@ loop-j-init c =
     let is : c.column-known.result.now ≡ column_at table column = c.column-known.ensures.column ∙ ap (column_at table) c.from.ensures in
     let from : c.number_planes-from.result.0 ≡ first_plane (ends_at table.frame column) (known_at table.known column).read =
     c.number_planes-from.ensures.from ∙ ap (λ (k : KnownColumn). min (cond k.ends.nullable 1 0) k.known.read) is in
-    nothing ∙ ap wrapped (sym (digits_first table c.args.block c.args.rows.now [] c.requires.rows column c.requires.column c.number_planes-from.result.0 (omega (arith, from))))
+    nothing ∙ ap wrapped (sym (digits_first table c.args.block c.args.rows.now (product_at table []) c.requires.rows column c.requires.column c.number_planes-from.result.0 (omega (arith, from))))
 
 pub loop-j-preserved : goal.loop-j-preserved
 loop-j-preserved c =
@@ -43,10 +44,10 @@ loop-j-preserved c =
     let bits = bits_there c.plane.result.now rows block c.block.result there (c.requires.rows.count ∙ ap (λ n. min 512 (n - 512 * block)) (sym all)) in
     let counted = c.count_words-ones.ensures ∙ ap (count_by (λ b. b)) (bits.1 ∙ ap (λ l. zip2 (λ a b. a && b) rows (take 512 (drop (512 * block) l))) ones_are) in
     let ones = count_is table block (zip2 (λ a b. a && b) rows (take 512 (drop (512 * block) (ones_of known j)))) c.count_words-ones.result c.from-in-loop-j.result c.from-in-loop-j.ensures counted (omega (arith, c.count_words-ones.type_inv)) in
-    let before = first_digits table block rows [] column ((known_at table.known column).read - j) in
+    let before = first_digits table block rows (product_at table []) column ((known_at table.known column).read - j) in
     let twice = c.times.ensures ∙ ap (λ z. wrapped (z *ℤ pos 2)) c.loop-j.invariant ∙ times_wrapped before (pos 2) in
     whole ∙ plus_is c.plus-sum.result c.times.result c.from-in-loop-j.result _ _ c.plus-sum.ensures (omega (arith, ints)) (omega (arith, ints)) twice ones
-    ∙ ap wrapped (sym (digits_next table block rows [] c.requires.rows column c.requires.column j (omega (arith, from, c.loop-j.auto)) (omega (arith, from, c.requires.read, c.loop-j-test.true, c.max-j-end.ensures, c.loop-j.auto))))
+    ∙ ap wrapped (sym (digits_next table block rows (product_at table []) c.requires.rows column c.requires.column j (omega (arith, from, c.loop-j.auto)) (omega (arith, from, c.requires.read, c.loop-j-test.true, c.max-j-end.ensures, c.loop-j.auto))))
 
 pub returns : goal.returns
 returns c =

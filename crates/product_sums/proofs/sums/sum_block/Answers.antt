@@ -21,7 +21,7 @@ sum_products-requires c = record {
   known = c.rows-rows.ensures.known;
   within = c.requires.block;
   count = ap length c.of_mask-rows.ensures ∙ long_block c.args.mask.now c.args.block c.args.columns.now.frame.rows c.requires.rows;
-  factors_are = (c.requires.sums.columns, c.requires.sums.signs, tt);
+  factors_are = (c.requires.sums.columns, c.requires.sums.signs, c.requires.sums.wide, tt);
   few_factors = omega (arith, c.requires.sums.few_factors);
   values = λ i has. (c.requires.values (512 * c.args.block + i) (row_of_block c.args.mask.now c.args.block i (ap (λ m. get_or m i false) (sym c.of_mask-rows.ensures) ∙ has)), tt);
 }

@@ -19,9 +19,9 @@ pub returns-then-weight-eq0-clause-sum : goal.returns-then-weight-eq0-clause-sum
 returns-then-weight-eq0-clause-sum c =
     let table = c.args.columns.now in
     let is : c.column-known.result.now ≡ column_at table c.args.column = c.column-known.ensures.column ∙ ap (column_at table) c.from.ensures in
-    let none : weight_of_top c.args.other.end (column_at table c.args.column) ≡ pos 0 = sym (c.weight_of_top-weight.ensures ∙ ap (weight_of_top c.args.other.end) is) ∙ omega (arith, ints, c.if-weight-eq0.true) in
+    let none : weight_of_top c.args.parts.column (column_at table c.args.column) ≡ pos 0 = sym (c.weight_of_top-weight.ensures ∙ ap (weight_of_top c.args.parts.column) is) ∙ omega (arith, ints, c.if-weight-eq0.true) in
     let fits : FitsSigned w128 (pos 0) = record { sfits = omega arith } in
-    let sum = sum_over (zip2 (λ a b. a && b) c.args.mask.now (rows_where is_at_top (column_at table c.args.column))) (factor_end table c.args.other) in
+    let sum = sum_over (zip2 (λ a b. a && b) c.args.mask.now (rows_where is_at_top (column_at table c.args.column))) (factor_end table c.args.parts.other) in
     sym (ap (λ z. wrapped (z *ℤ sum)) none ∙ ap wrapped (zero-*ℤ sum) ∙ int_wrap_fits w128 (pos 0) fits)
 
 pub sum_wrapped-requires-clause-rows : goal.sum_wrapped-requires-clause-rows
@@ -36,8 +36,8 @@ sum_wrapped-requires-clause-values c =
     let table = c.args.columns.now in
     let tops = c.at_top.result.now in
     let long : length tops ≡ table.frame.rows = ap length c.at_top.ensures ∙ length-map _ _ ∙ c.column-known.ensures.rows in
-    subst (HasValues table (term_of c.args.other.term.now)) (sym (c.and_into.ensures ∙ ap (λ m. zip2 (λ a b. a && b) m tops) c.copy_from.ensures))
-    (values_among table (term_of c.args.other.term.now) c.args.mask.now tops (long ∙ sym c.requires.follow.rows) c.requires.follow.values)
+    subst (HasValues table (term_of c.args.parts.other.term.now)) (sym (c.and_into.ensures ∙ ap (λ m. zip2 (λ a b. a && b) m tops) c.copy_from.ensures))
+    (values_among table (term_of c.args.parts.other.term.now) c.args.mask.now tops (long ∙ sym c.requires.follow.rows) c.requires.follow.values)
 
 pub returns-clause-room : goal.returns-clause-room
 returns-clause-room c =
@@ -49,8 +49,8 @@ returns-clause-room c =
 pub returns-clause-sum : goal.returns-clause-sum
 returns-clause-sum c =
     let table = c.args.columns.now in
-    let e = c.args.other.end in
-    let f : ℕ → ℤ = factor_end table c.args.other in
+    let e = c.args.parts.column in
+    let f : ℕ → ℤ = factor_end table c.args.parts.other in
     let tops = c.at_top.result.now in
     let is : c.column-known.result.now ≡ column_at table c.args.column = c.column-known.ensures.column ∙ ap (column_at table) c.from.ensures in
     let whole : to_z w128 (of_z w128 c.times.result) ≡ c.times.result = omega (arith, ints) in

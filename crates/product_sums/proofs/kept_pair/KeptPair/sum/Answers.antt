@@ -14,8 +14,8 @@ pub returns-clause-sum : goal.returns-clause-sum
 returns-clause-sum c =
     let table = c.args.columns.now in
     let first = c.args.pair.first in
-    let f : ℕ → ℤ = factor_end table c.args.other in
-    let e = c.args.other.end in
+    let f : ℕ → ℤ = factor_end table c.args.parts.other in
+    let e = c.args.parts.column in
     let is : c.column-known.result.now ≡ column_at table first = c.column-known.ensures.column ∙ ap (column_at table) c.from.ensures in
     let whole : to_z w128 (of_z w128 c.minus.result) ≡ c.minus.result = omega (arith, ints) in
     let digits_weigh : to_z w128 (of_z w128 c.weight_of_digits.result) ≡ weight_of_digits (column_at table first) = omega (arith, ints) ∙ c.weight_of_digits.ensures ∙ ap weight_of_digits is in
