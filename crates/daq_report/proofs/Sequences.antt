@@ -49,6 +49,10 @@ texts_cut {T = T} x e result text a m n k all old mid new at within before faile
 one_text : (text : ℕ → List ℕ) (k : ℕ) → texts text k 1 ≡ text k
 one_text text k = append-nil (text k)
 
+-- the texts so far, and the next one
+pub text_more : (text : ℕ → List ℕ) (a m k : ℕ) → a + m ≡ k → texts text a (m + 1) ≡ texts text a m ++ text k
+text_more text a m k at = texts_split text a m 1 ∙ ap (λ l. texts text a m ++ l) (one_text text (a + m)) ∙ ap (λ i. texts text a m ++ text i) at
+
 -- the texts so far, and one more
 pub text_after : {A B C E : Type 0} (x : A) (y : B) (z : C) (text : ℕ → List ℕ) (a m k : ℕ) (old mid new : SinkState) → a + m ≡ k →
     Writes {E = E} (Ok x) old mid (texts text a m) → Writes {E = E} (Ok y) mid new (text k) → Writes {E = E} (Ok z) old new (texts text a (m + 1))

@@ -1,12 +1,14 @@
-//! Where an answer lies, written to a sink. Two names do not fit one buffer, so an interval goes out in pieces.
+//! Where an answer lies, written to a sink or appended to lines that are gathered. Two names do not fit one buffer, so an interval goes out
+//! in pieces.
 
-ghost use Rattle.std.specs.Prelude.{◌≡◌, codes};
+ghost use Rattle.std.specs.Prelude.{◌≡◌, ◌≤◌, ◌+◌, ◌++◌, codes, length};
 ghost use Rattle.outer_world.specs.Whole.{Writes};
 ghost use Rattle.query_model.specs.Bounds.{fractions_of};
 ghost use Rattle.query_model.specs.declared.bounds.Nullity.TheVariants.{Possibly};
 ghost use Rattle.daq_report.specs.Intervals.{average_ends, average_text, bound_ends, bound_text, interval_text};
 ghost use Rattle.daq_report.specs.Ends.{CanShowAverage, CanShowBound, CanShowEnds, text_of_ends};
 
+use crate::gathered::Gathered;
 use crate::texts::{written_end, written_fraction};
 use daq_table::{Head, TextBuf};
 use outer_world::{Failed, Sink, write_pieces, write_whole};
@@ -75,6 +77,46 @@ pub(crate) fn write_bound<K: Sink>(
         Nullity::Never => write_ends(&ends_of_bound(head, query, face, bound), out),
         Nullity::Possibly => write_ends_or_null(&ends_of_bound(head, query, face, bound), out),
         Nullity::Always => write_null(out),
+    }
+}
+
+// Appends one text where the ends are equal, else both.
+fn append_ends(ends: &Ends, lines: &mut Gathered)
+    requires { length lines.old + 1300 ≤ 98304 }
+    ensures text { lines.new ≡ lines.old ++ text_of_ends ends.now }
+    ensures few { length lines.new ≤ length lines.old + 1300 }
+{
+    if ends.equal {
+        lines.append(ends.low.bytes());
+        return;
+    }
+    lines.append(b"[");
+    lines.append(ends.low.bytes());
+    lines.append(b", ");
+    lines.append(ends.high.bytes());
+    lines.append(b"]");
+}
+
+// Appends where an answer lies.
+pub(crate) fn append_bound(
+    head: &Head,
+    query: &TypedQuery,
+    face: Face,
+    bound: &Bound,
+    lines: &mut Gathered,
+)
+    requires shows { CanShowBound head.now query.now face bound.now }
+    requires room { length lines.old + 1310 ≤ 98304 }
+    ensures text { lines.new ≡ lines.old ++ bound_text head.now query.now face bound.now }
+    ensures few { length lines.new ≤ length lines.old + 1310 }
+{
+    match bound.null {
+        Nullity::Never => append_ends(&ends_of_bound(head, query, face, bound), lines),
+        Nullity::Possibly => {
+            append_ends(&ends_of_bound(head, query, face, bound), lines);
+            lines.append(b" or null");
+        }
+        Nullity::Always => lines.append(b"null"),
     }
 }
 

@@ -3,6 +3,7 @@
 
 mod block;
 mod extras;
+mod gathered;
 mod groups;
 mod intervals;
 mod items;

@@ -1,6 +1,6 @@
 //! The lines of a ranking: how many rows are among the first for certain and how many perhaps, and these rows.
 
-ghost use Rattle.std.specs.Prelude.{◌≡◌, ◌≤◌, ◌<◌, ◌+◌, ◌*◌, ◌-◌, false, length, min};
+ghost use Rattle.std.specs.Prelude.{◌≡◌, ◌≤◌, ◌<◌, ◌+◌, ◌*◌, ◌-◌, ◌++◌, false, length, min};
 ghost use Rattle.daq_table.specs.ValueTexts.{HeadHasTexts};
 ghost use Rattle.outer_world.specs.Whole.{Writes};
 ghost use Rattle.query_model.specs.Knowledge.{ranges_of};
@@ -10,7 +10,8 @@ ghost use Rattle.round_engine.specs.Promises.{IsShownWithin};
 ghost use Rattle.daq_report.specs.Rankings.{AreHidden, bound_of_range, ranking_text, row_line, row_start, row_text, rows_text};
 ghost use Rattle.daq_report.specs.Rankings.{standing_at, top_line};
 
-use crate::intervals::write_bound;
+use crate::gathered::Gathered;
+use crate::intervals::append_bound;
 use crate::texts::written_count;
 use daq_table::{Head, TextBuf};
 use outer_world::{Failed, Sink, write_whole};
@@ -37,7 +38,8 @@ fn written_top(engine: &EngineView<'_>, limit: u32) -> TextBuf
 fn written_row(row: usize, standing: &[u8]) -> TextBuf
     requires row { row < 16777216 }
     requires short { length standing.now ≤ 100 }
-    ensures { result ≡ row_start standing.now row }
+    ensures text { result ≡ row_start standing.now row }
+    ensures few { length result ≤ 210 }
 {
     let mut text = TextBuf::new();
     text.append(b"row ");
@@ -61,50 +63,53 @@ fn sort_bound(engine: &EngineView<'_>, key: u8, row: usize) -> Bound
     }
 }
 
-// Writes the line of a row.
-fn write_row<K: Sink>(
+// Appends the line of a row.
+fn append_row(
     engine: &EngineView<'_>,
     head: &Head,
     key: u8,
     row: usize,
     standing: &[u8],
-    out: &mut K,
-) -> Result<(), Failed>
+    lines: &mut Gathered,
+)
     requires fits { FitsHead engine.now.query engine.now.frame head.now }
     requires texts { HeadHasTexts head.now }
     requires key { key < length engine.now.query.columns }
     requires row { row < engine.now.frame.rows }
     requires short { length standing.now ≤ 100 }
-    ensures { Writes result (K.state out.old) (K.state out.new) (row_line head.now engine.now key standing.now row) }
+    requires room { length lines.old + 1536 ≤ 98304 }
+    ensures text { lines.new ≡ lines.old ++ row_line head.now engine.now key standing.now row }
+    ensures few { length lines.new ≤ length lines.old + 1536 }
 {
     let bound = sort_bound(engine, key, row);
     let query = engine.query();
-    write_whole(out, written_row(row, standing).bytes())?;
-    write_bound(head, query, Face::OfColumn(key), &bound, out)?;
-    write_whole(out, b"\n")
+    lines.append(written_row(row, standing).bytes());
+    append_bound(head, query, Face::OfColumn(key), &bound, lines);
+    lines.append(b"\n");
 }
 
-// Writes the line of a row, if it is shown.
-fn write_standing<K: Sink>(
+// Appends the line of a row, if it is shown.
+fn append_standing(
     engine: &EngineView<'_>,
     head: &Head,
     key: u8,
     list: bool,
     row: usize,
-    out: &mut K,
-) -> Result<(), Failed>
+    lines: &mut Gathered,
+)
     requires fits { FitsHead engine.now.query engine.now.frame head.now }
     requires texts { HeadHasTexts head.now }
     requires ranked { IsTop engine.now.query.shape }
     requires key { key < length engine.now.query.columns }
     requires row { row < engine.now.frame.rows }
-    ensures { Writes result (K.state out.old) (K.state out.new)
-        (row_text head.now engine.now key list row (standing_at engine.now row)) }
+    requires room { length lines.old + 1536 ≤ 98304 }
+    ensures text { lines.new ≡ lines.old ++ row_text head.now engine.now key list row (standing_at engine.now row) }
+    ensures few { length lines.new ≤ length lines.old + 1536 }
 {
     match engine.standing(row) {
-        Standing::Certain => write_row(engine, head, key, row, b" certain ", out),
-        Standing::Possible if list => write_row(engine, head, key, row, b" possible ", out),
-        Standing::Possible | Standing::Excluded => Ok(()),
+        Standing::Certain => append_row(engine, head, key, row, b" certain ", lines),
+        Standing::Possible if list => append_row(engine, head, key, row, b" possible ", lines),
+        Standing::Possible | Standing::Excluded => (),
     }
 }
 
@@ -117,35 +122,34 @@ fn may_show(engine: &EngineView<'_>, list: bool, block: usize) -> bool
     engine.certain_rows().word(block) != 0 || list && engine.possible_rows().word(block) != 0
 }
 
-// Writes the lines of a block of 64 rows. Where none is shown, no row is looked at.
-fn write_rows_in<K: Sink>(
+// Gathers the lines of a block of 64 rows. Where none is shown, no row is looked at.
+fn gather_rows(
     engine: &EngineView<'_>,
     head: &Head,
     key: u8,
     list: bool,
     block: usize,
-    out: &mut K,
-) -> Result<(), Failed>
+    lines: &mut Gathered,
+)
     requires fits { FitsHead engine.now.query engine.now.frame head.now }
     requires texts { HeadHasTexts head.now }
     requires ranked { IsTop engine.now.query.shape }
     requires key { key < length engine.now.query.columns }
     requires block { 64 * block < engine.now.frame.rows }
-    ensures { Writes result (K.state out.old) (K.state out.new)
-        (rows_text head.now engine.now key list (64 * block) (min 64 (engine.now.frame.rows - 64 * block))) }
+    ensures { lines.new ≡ rows_text head.now engine.now key list (64 * block) (min 64 (engine.now.frame.rows - 64 * block)) }
 {
+    lines.clear();
     if !may_show(engine, list, block) {
-        return Ok(());
+        return;
     }
     let first = 64 * block;
     let count = (engine.certain_rows().rows() - first).min(64);
     for place in 0..count {
-        write_standing(engine, head, key, list, first + place, out)?;
+        append_standing(engine, head, key, list, first + place, lines);
     }
-    Ok(())
 }
 
-// Writes the lines of the rows, in order.
+// Writes the lines of the rows, in order, those of a block together.
 fn write_rows<K: Sink>(
     engine: &EngineView<'_>,
     head: &Head,
@@ -159,9 +163,11 @@ fn write_rows<K: Sink>(
     requires key { key < length engine.now.query.columns }
     ensures { Writes result (K.state out.old) (K.state out.new) (rows_text head.now engine.now key list 0 engine.now.frame.rows) }
 {
+    let mut lines = Gathered::new();
     let blocks = engine.certain_rows().rows().div_ceil(64);
     for block in 0..blocks {
-        write_rows_in(engine, head, key, list, block, out)?;
+        gather_rows(engine, head, key, list, block, &mut lines);
+        write_whole(out, lines.bytes())?;
     }
     Ok(())
 }
