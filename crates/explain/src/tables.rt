@@ -50,13 +50,25 @@ fn push_cell(
     };
     push_parts(out, &[" in the column ", column.name, ", which takes "])?;
     push_takes(out, column.kind)?;
-    if field.is_empty() && !column.is_nullable {
+    let is_nothing = means_nothing(field);
+    if is_nothing {
+        out.push_str("; if that means nothing, leave the field empty")?;
+    }
+    if (is_nothing || field.is_empty()) && !column.is_nullable {
         push_parts(
             out,
             &["; where it may be empty, the type is ", column.kind, "?"],
         )?;
     }
     Ok(())
+}
+
+// Whether a field is one of the texts that often stand for nothing.
+fn means_nothing(field: &[u8]) -> bool {
+    matches!(
+        text_or_nothing(field),
+        "NA" | "N/A" | "na" | "n/a" | "NULL" | "null" | "None" | "NaN" | "nan" | "\\N" | "-" | "?"
+    )
 }
 
 // Appends the line of a record, and the field that is no value.
