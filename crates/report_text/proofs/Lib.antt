@@ -1,5 +1,8 @@
+pub mod Days
+pub mod DateTexts
 pub mod DigitTexts
 pub mod EndPlaces
+pub mod EndTexts
 pub mod NumberTexts
 pub mod OneAnswer
 pub mod RoundLines

@@ -213,7 +213,7 @@ number_some number h =
     let z = number.units in
     rw (scaled-plain number.decimals z) (simp length-append (omega (arith, plain_some number.decimals (unsigned_abs z) (abs_small z h.fits))))
 
-others_fail : FailsAtNumbers is_other
+pub others_fail : FailsAtNumbers is_other
 others_fail = record { minus = refl; point = refl; digit = λ c h. (let range = digit_from_value c h in grind (arith, nat_tests, range)) }
 
 -- a number's text is an end of an interval

@@ -9,20 +9,22 @@ use Rattle.query_model.specs.declared.bounds.Nullity.TheVariants.{Never, Possibl
 use Rattle.query_model.specs.declared.query.ItemKind.{ItemKind}
 use Rattle.query_model.specs.declared.query.ItemKind.TheVariants.{Count, Sum, Min, Max, Avg}
 use Rattle.report_text.proofs.EndPlaces.{bracketed_is, front_is, inner_is, is_null, rest_is, single_is, tail_begins}
-use Rattle.report_text.proofs.NumberTexts.{numbers_read, ratio_is_end, rows_of_ratio, sum_of_ratio}
-use Rattle.report_text.proofs.ShownTexts.{equal_ends, high_can, high_end, high_number, high_ratio_can, low_can, low_end, low_number, low_ratio_can, same_ratios}
+use Rattle.report_text.proofs.EndTexts.{end_one, number_one}
+use Rattle.report_text.proofs.NumberTexts.{ratio_is_end, rows_of_ratio, sum_of_ratio}
+use Rattle.report_text.proofs.ShownTexts.{equal_ends, high_can, high_end, high_of, high_ratio_can, low_can, low_end, low_of, low_ratio_can, same_ratios}
 use Rattle.report_text.specs.Answers.{IsAnswerOf, IsAverageFor, IsBoundFor, answer_text}
 use Rattle.report_text.specs.Averages.{CanBeDivided, IsNoAverage, IsShownAverage, IsShownAverageBy, average_text, is_same_ratio, ratio_text}
 use Rattle.report_text.specs.Bounds.{IsNothing, IsShown, IsShownBy, high_text, low_text, shown_text}
 use Rattle.report_text.specs.Layouts.{IsEnd, bracketed_text, single_text, tail_text}
 use Rattle.report_text.specs.Lines.{LinesSayOne}
-use Rattle.report_text.specs.Numbers.{CanBeRead, number_of_text, number_text}
 use Rattle.report_text.specs.Words.{ends_text, interval_text}
 use Rattle.report_text.specs.declared.answers.Answer.{Answer}
 use Rattle.report_text.specs.declared.answers.Answer.TheVariants.{Average, Value}
 use Rattle.report_text.specs.declared.averages.Ratio.{Ratio}
 use Rattle.report_text.specs.declared.averages.ShownAverage.{ShownAverage}
 use Rattle.report_text.specs.declared.bounds.ShownBound.{ShownBound}
+use Rattle.report_text.specs.declared.forms.Form.{Form}
+use Rattle.report_text.specs.declared.forms.IntervalEnd.{IntervalEnd}
 use Rattle.report_text.specs.declared.numbers.Number.{Number}
 
 -- ---- the layout
@@ -93,10 +95,7 @@ same n m p q a b c d ha hb hc hd one two e = by (is_always n) (is_always m)
         let last = is_null m q c d hc (sym e ∙ ap (λ (w : Nullity). interval_text w (ends_text p a b)) f) in
         record { null = f ∙ sym last; low = λ h. absurd (h f); high = λ h. absurd (h f) }
 
--- ---- numbers
-
-number_one : (a b : Number) → CanBeRead a → CanBeRead b → number_text a ≡ number_text b → a ≡ b
-number_one a b h k e = sym (numbers_read a h).is ∙ ap number_of_text e ∙ (numbers_read b k).is
+-- ---- numbers of rows, and ratios
 
 decimal_one : (a b : ℕ) → a < 2 ^ 64 → b < 2 ^ 64 → decimal a ≡ decimal b → a ≡ b
 decimal_one a b h k e =
@@ -111,12 +110,12 @@ ratio_one a b h k e =
 
 -- ---- answers
 
-bound_same : (a b : ShownBound) → a.decimals ≡ b.decimals → a.bound.null ≡ b.bound.null → a.bound.lo ≡ b.bound.lo → a.bound.hi ≡ b.bound.hi → a ≡ b
-bound_same a b d n l h =
-    ap (λ (x : ℕ). record { decimals = x; bound = a.bound }) d
-    ∙ ap (λ (x : Nullity). record { decimals = b.decimals; bound = record { null = x; lo = a.bound.lo; hi = a.bound.hi } }) n
-    ∙ ap (λ (x : ℤ). record { decimals = b.decimals; bound = record { null = b.bound.null; lo = x; hi = a.bound.hi } }) l
-    ∙ ap (λ (x : ℤ). record { decimals = b.decimals; bound = record { null = b.bound.null; lo = b.bound.lo; hi = x } }) h
+bound_same : (a b : ShownBound) → a.form ≡ b.form → a.bound.null ≡ b.bound.null → a.bound.lo ≡ b.bound.lo → a.bound.hi ≡ b.bound.hi → a ≡ b
+bound_same a b f n l h =
+    ap (λ (x : Form). record { form = x; bound = a.bound }) f
+    ∙ ap (λ (x : Nullity). record { form = b.form; bound = record { null = x; lo = a.bound.lo; hi = a.bound.hi } }) n
+    ∙ ap (λ (x : ℤ). record { form = b.form; bound = record { null = b.bound.null; lo = x; hi = a.bound.hi } }) l
+    ∙ ap (λ (x : ℤ). record { form = b.form; bound = record { null = b.bound.null; lo = b.bound.lo; hi = x } }) h
 
 nothing : (null : Nullity) (shown : ShownBound) → null ≡ Always → IsShownBy null shown → IsNothing shown
 nothing null shown e h = let n : IsShownBy Always shown = subst (λ (w : Nullity). IsShownBy w shown) e h in n
@@ -132,11 +131,11 @@ value_one a b h k e = by (is_always a.bound.null)
     by (inl f) =
         let x = nothing a.bound.null a f h in
         let y = nothing b.bound.null b (sym both.null ∙ f) k in
-        bound_same a b (x.decimals ∙ sym y.decimals) both.null (x.low ∙ sym y.low) (x.high ∙ sym y.high)
+        bound_same a b (x.form ∙ sym y.form) both.null (x.low ∙ sym y.low) (x.high ∙ sym y.high)
     by (inr f) =
-        let low = number_one (low_number a) (low_number b) (low_can a h) (low_can b k) (both.low f) in
-        let high = number_one (high_number a) (high_number b) (high_can a h) (high_can b k) (both.high f) in
-        bound_same a b (ap (λ (x : Number). x.decimals) low) both.null (ap (λ (x : Number). x.units) low) (ap (λ (x : Number). x.units) high)
+        let low = end_one (low_of a) (low_of b) (low_can a h) (low_can b k) (both.low f) in
+        let high = end_one (high_of a) (high_of b) (high_can a h) (high_can b k) (both.high f) in
+        bound_same a b (ap (λ (x : IntervalEnd). x.form) low) both.null (ap (λ (x : IntervalEnd). x.value) low) (ap (λ (x : IntervalEnd). x.value) high)
 
 average_same : (a b : ShownAverage) → a.null ≡ b.null → a.low ≡ b.low → a.high ≡ b.high → a ≡ b
 average_same a b n l h =
@@ -166,7 +165,7 @@ average_one a b h k e = by (is_always a.null)
 
 is_value : (kind : ItemKind) (shown : ShownBound) → IsBoundFor kind shown → IsShown shown
 is_value Count shown h = h.0
-is_value Sum shown h = h
+is_value Sum shown h = h.0
 is_value Min shown h = h
 is_value Max shown h = h
 is_value Avg shown h = absurd h

@@ -8,15 +8,17 @@ use Rattle.std.specs.Ordering.{int_eq}
 use Rattle.std.specs.Str.{bytes_eq}
 use Rattle.query_model.specs.declared.bounds.Nullity.{Nullity}
 use Rattle.query_model.specs.declared.bounds.Nullity.TheVariants.{Never, Possibly, Always}
-use Rattle.report_text.proofs.NumberTexts.{number_is_end}
+use Rattle.report_text.proofs.EndTexts.{end_is_end}
 use Rattle.report_text.specs.Averages.{AreRatios, CanBeDivided, IsShownAverage, IsShownAverageBy, is_same_ratio, ratio_text}
 use Rattle.report_text.specs.Bounds.{AreEnds, IsShown, IsShownBy, high_text, low_text}
+use Rattle.report_text.specs.Forms.{HasTextsIn, IsIntervalEnd, text_in}
 use Rattle.report_text.specs.Layouts.{IsEnd}
-use Rattle.report_text.specs.Numbers.{CanBeRead, number_text}
+use Rattle.report_text.specs.declared.forms.Form.{Form}
+use Rattle.report_text.specs.declared.forms.Form.TheVariants.{Decimals}
+use Rattle.report_text.specs.declared.forms.IntervalEnd.{IntervalEnd}
 use Rattle.report_text.specs.declared.averages.Ratio.{Ratio}
 use Rattle.report_text.specs.declared.averages.ShownAverage.{ShownAverage}
 use Rattle.report_text.specs.declared.bounds.ShownBound.{ShownBound}
-use Rattle.report_text.specs.declared.numbers.Number.{Number}
 
 -- a text is no other text
 pub other_text : (xs ys : List ℕ) → false ≡ bytes_eq xs ys → xs ≡ ys → ⊥
@@ -24,39 +26,48 @@ other_text xs ys h e = false≢true (h ∙ (bytes_eq-Decides xs ys).1 e)
 
 -- ---- bounds
 
-abbrev pub low_number : ShownBound → Number
-low_number shown = record { decimals = shown.decimals; units = shown.bound.lo }
+abbrev pub low_of : ShownBound → IntervalEnd
+low_of shown = record { form = shown.form; value = shown.bound.lo }
 
-abbrev pub high_number : ShownBound → Number
-high_number shown = record { decimals = shown.decimals; units = shown.bound.hi }
+abbrev pub high_of : ShownBound → IntervalEnd
+high_of shown = record { form = shown.form; value = shown.bound.hi }
 
 zero_fits : FitsSigned w128 (pos 0)
 zero_fits = record { sfits = omega arith }
 
-low_by : (null : Nullity) (shown : ShownBound) → IsShownBy null shown → CanBeRead (low_number shown)
-low_by Never shown h = record { few = h.few; fits = h.low }
-low_by Possibly shown h = record { few = h.few; fits = h.low }
-low_by Always shown h = record { few = rw h.decimals (omega arith); fits = subst (FitsSigned w128) (sym h.low) zero_fits }
+no_end : (form : Form) (value : ℤ) → form ≡ Decimals 0 → value ≡ pos 0 → IsIntervalEnd (record { form = form; value = value })
+no_end form value f v =
+    subst (λ (x : Form). IsIntervalEnd (record { form = x; value = value })) (sym f)
+    (subst (λ (x : ℤ). IsIntervalEnd (record { form = Decimals 0; value = x })) (sym v) (record { has = omega arith; fits = zero_fits }))
 
-high_by : (null : Nullity) (shown : ShownBound) → IsShownBy null shown → CanBeRead (high_number shown)
-high_by Never shown h = record { few = h.few; fits = h.high }
-high_by Possibly shown h = record { few = h.few; fits = h.high }
-high_by Always shown h = record { few = rw h.decimals (omega arith); fits = subst (FitsSigned w128) (sym h.high) zero_fits }
+low_by : (null : Nullity) (shown : ShownBound) → IsShownBy null shown → IsIntervalEnd (low_of shown)
+low_by Never shown h = record { has = h.texts.0; fits = h.low }
+low_by Possibly shown h = record { has = h.texts.0; fits = h.low }
+low_by Always shown h = no_end shown.form shown.bound.lo h.form h.low
 
-pub low_can : (shown : ShownBound) → IsShown shown → CanBeRead (low_number shown)
+high_by : (null : Nullity) (shown : ShownBound) → IsShownBy null shown → IsIntervalEnd (high_of shown)
+high_by Never shown h = record { has = h.texts.1; fits = h.high }
+high_by Possibly shown h = record { has = h.texts.1; fits = h.high }
+high_by Always shown h = no_end shown.form shown.bound.hi h.form h.high
+
+pub low_can : (shown : ShownBound) → IsShown shown → IsIntervalEnd (low_of shown)
 low_can shown h = low_by shown.bound.null shown h
 
-pub high_can : (shown : ShownBound) → IsShown shown → CanBeRead (high_number shown)
+pub high_can : (shown : ShownBound) → IsShown shown → IsIntervalEnd (high_of shown)
 high_can shown h = high_by shown.bound.null shown h
 
+-- both ends have texts
+pub texts_of : (shown : ShownBound) → IsShown shown → HasTextsIn shown.form shown.bound
+texts_of shown h = ((low_can shown h).has, (high_can shown h).has)
+
 pub low_end : (shown : ShownBound) → IsShown shown → IsEnd (low_text shown)
-low_end shown h = number_is_end (low_number shown) (low_can shown h)
+low_end shown h = end_is_end (low_of shown) (low_can shown h)
 
 pub high_end : (shown : ShownBound) → IsShown shown → IsEnd (high_text shown)
-high_end shown h = number_is_end (high_number shown) (high_can shown h)
+high_end shown h = end_is_end (high_of shown) (high_can shown h)
 
 pub equal_ends : (shown : ShownBound) → int_eq shown.bound.lo shown.bound.hi ≡ true → low_text shown ≡ high_text shown
-equal_ends shown h = ap (λ (z : ℤ). number_text (record { decimals = shown.decimals; units = z })) ((Decides-int_eq shown.bound.lo shown.bound.hi).0 h)
+equal_ends shown h = ap (λ (z : ℤ). text_in shown.form z) ((Decides-int_eq shown.bound.lo shown.bound.hi).0 h)
 
 ends_by : (null : Nullity) (shown : ShownBound) → null ≢ Always → IsShownBy null shown → AreEnds shown
 ends_by Never shown k h = h
@@ -126,8 +137,8 @@ ratios_shown shown k h = average_from shown.null shown k h
 
 -- ---- what is read from two ends
 
-pub bound_is : (shown : ShownBound) (null : Nullity) (low high : Number) → low ≡ low_number shown → high ≡ high_number shown → shown.bound.null ≡ null →
-    record { decimals = low.decimals; bound = record { null = null; lo = low.units; hi = high.units } } ≡ shown
+pub bound_is : (shown : ShownBound) (null : Nullity) (low high : IntervalEnd) → low ≡ low_of shown → high ≡ high_of shown → shown.bound.null ≡ null →
+    record { form = low.form; bound = record { null = null; lo = low.value; hi = high.value } } ≡ shown
 bound_is shown null low high is_low is_high is_null = rw (is_low, is_high, ← is_null)
 
 pub average_is : (shown : ShownAverage) (null : Nullity) (low high : Ratio) → low ≡ shown.low → high ≡ shown.high → shown.null ≡ null →

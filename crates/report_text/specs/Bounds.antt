@@ -1,19 +1,20 @@
 -- What a line says of an answer that is no average.
-use Rattle.std.specs.Prelude.{◌≡◌, ℕ, ◌≤◌, pos, ◌≤ℤ◌, List, FitsSigned}
+use Rattle.std.specs.Prelude.{◌≡◌, ℕ, pos, ◌≤ℤ◌, List, FitsSigned}
 use Rattle.std.specs.Int.{w128}
 use Rattle.std.specs.Ordering.{int_eq}
+use Rattle.report_text.specs.Forms.{HasTextsIn, text_in}
 use Rattle.report_text.specs.Words.{ends_text, interval_text}
-use Rattle.daq_table.specs.Numbers.{scaled_text}
 use Rattle.query_model.specs.declared.bounds.Nullity.{Nullity}
 use Rattle.query_model.specs.declared.bounds.Nullity.TheVariants.{Never, Possibly, Always}
 use Rattle.report_text.specs.declared.bounds.ShownBound.{ShownBound}
+use Rattle.report_text.specs.declared.forms.Form.TheVariants.{Decimals}
 
 -- the texts of the ends
 abbrev pub low_text : ShownBound → List ℕ
-low_text shown = scaled_text shown.decimals shown.bound.lo
+low_text shown = text_in shown.form shown.bound.lo
 
 abbrev pub high_text : ShownBound → List ℕ
-high_text shown = scaled_text shown.decimals shown.bound.hi
+high_text shown = text_in shown.form shown.bound.hi
 
 -- one end where both are equal, else both
 abbrev pub shown_ends : ShownBound → List ℕ
@@ -23,16 +24,16 @@ shown_ends shown = ends_text (int_eq shown.bound.lo shown.bound.hi) (low_text sh
 abbrev pub shown_text : ShownBound → List ℕ
 shown_text shown = interval_text shown.bound.null (shown_ends shown)
 
--- ends of 128 bits in order, with decimals that a column may have
+-- ends of 128 bits in order, which have texts in the form
 pub record AreEnds (shown : ShownBound) : Type 0 where
-  pub few : shown.decimals ≤ 18
+  pub texts : HasTextsIn shown.form shown.bound
   pub low : FitsSigned w128 shown.bound.lo
   pub high : FitsSigned w128 shown.bound.hi
   pub ordered : shown.bound.lo ≤ℤ shown.bound.hi
 
 -- no answer has no ends
 pub record IsNothing (shown : ShownBound) : Type 0 where
-  pub decimals : shown.decimals ≡ 0
+  pub form : shown.form ≡ Decimals 0
   pub low : shown.bound.lo ≡ pos 0
   pub high : shown.bound.hi ≡ pos 0
 

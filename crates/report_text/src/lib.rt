@@ -6,7 +6,9 @@ mod answers;
 mod averages;
 mod bounds;
 mod counts;
+mod dates;
 mod digits;
+mod forms;
 mod laws;
 mod layouts;
 mod lines;
@@ -15,6 +17,7 @@ mod numbers;
 pub use answers::{Answer, read_answer, written_answer};
 pub use averages::{Ratio, ShownAverage, read_average, written_average};
 pub use bounds::{ShownBound, read_bound, written_bound};
+pub use forms::{Form, has_texts};
 pub use laws::lines_say_one;
 pub use lines::{
     ReportEnd, is_round_line, read_end, read_item, read_parts, text_of_item, written_item,

@@ -1,7 +1,7 @@
 //! The lines of a report of totals, read back: what an item's line says, whether a line is that of a round, and what the last line says.
 
 ghost use Rattle.std.specs.Prelude.{◌≡◌, ◌≢◌, ◌<◌, ◌≤◌, ◌^◌, ◌++◌, ℕ, List, Some, codes, decimal, length, true, IfSome, MatchOption};
-ghost use Rattle.report_text.specs.Answers.{HasFewDecimals, IsAnswerOf};
+ghost use Rattle.report_text.specs.Answers.{CanBeWritten, IsAnswerOf};
 ghost use Rattle.report_text.specs.Lines.{IsNamed, IsRoundLine, end_line, item_line, parts_line};
 ghost use Rattle.report_text.specs.declared.answers.Answer.{Answer};
 ghost use Rattle.report_text.specs.declared.lines.ReportEnd.{ReportEnd};
@@ -41,7 +41,7 @@ pub fn read_item(kind: ItemKind, number: u64, line: &[u8]) -> Option<Answer>
 
 /// The line of an item with that number.
 pub fn written_item(number: u64, answer: &Answer) -> TextBuf
-    requires { HasFewDecimals answer.now }
+    requires { CanBeWritten answer.now }
     ensures text { result ≡ item_line number answer.now }
     ensures short { length result ≤ 515 }
 {

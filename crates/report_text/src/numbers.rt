@@ -12,7 +12,7 @@ use crate::digits::{around_first, read_digits};
 use daq_table::{TextBuf, written_number};
 
 // The most decimals of a number.
-const MOST_DECIMALS: usize = 18;
+pub(crate) const MOST_DECIMALS: usize = 18;
 
 /// A number of so many units of its last decimal.
 #[derive(Clone, Copy, Debug, PartialEq, Eq)]
