@@ -38,7 +38,7 @@ divisible : (answer : Answer) → IsDivisible (average_of answer)
 divisible (Value shown) = record { lo = omega arith; hi = omega arith }
 divisible (Average shown) = record { lo = omega arith; hi = omega arith }
 
-all_divisible : (answers : List Answer) → AreDivisible (map average_of answers)
+pub all_divisible : (answers : List Answer) → AreDivisible (map average_of answers)
 all_divisible [] = tt
 all_divisible (answer ∷ answers) = (divisible answer, all_divisible answers)
 

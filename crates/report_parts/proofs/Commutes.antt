@@ -1,5 +1,5 @@
 -- That lines of different tags may change places.
-use Rattle.std.proofs.Common.{◌≡◌, ◌≢◌, ◌⊎◌, ℕ, ◌+◌, ◌<◌, ◌≤◌, Option, Some, List, [], ◌∷◌, ◌++◌, length, refl, sym, ap, subst, ◌∙◌, inl, inr, arith}
+use Rattle.std.proofs.Common.{◌≡◌, ◌≢◌, ℕ, ◌+◌, Option, Some, List, [], ◌∷◌, ◌++◌, length, refl, sym, ap, subst, ◌∙◌, inl, inr, arith}
 use Rattle.std.proofs.lemmas.Bool.{false≢true}
 use Rattle.std.proofs.lemmas.Cmp.{nat_list_cmp_total}
 use Rattle.std.proofs.lemmas.Option.{none-some}
@@ -9,7 +9,9 @@ use Rattle.std.specs.declared.cmp.Ordering.{Ordering}
 use Rattle.std.specs.declared.cmp.Ordering.TheVariants.{Less, Equal, Greater}
 use Rattle.query_model.specs.declared.query.ItemKind.{ItemKind}
 use Rattle.report_text.specs.declared.lines.ReportEnd.{ReportEnd}
-use Rattle.report_parts.proofs.Courses.{longer, tag_of_told, tag_stays}
+use Rattle.report_parts.proofs.Courses.{by_each, longer, tag_of_told, tag_stays}
+use Rattle.report_parts.proofs.FromRounds.{cases_lt}
+use Rattle.report_parts.proofs.Kept.{some_same}
 use Rattle.report_parts.proofs.Ordered.{equal_is}
 use Rattle.report_parts.specs.Course.{Interleaved, OrderIsFree, Task, Tell, TextIsOne, wanted_of}
 use Rattle.report_parts.specs.Course.Interleaved.{farther, swapped, twice, unmoved}
@@ -26,11 +28,6 @@ turned a b e = nat_list_cmp_total.antisymm b a ∙ ap ordering_reverse e
 
 turned_back : (a b : List ℕ) → slice_cmp nat_cmp a b ≡ Less → slice_cmp nat_cmp b a ≡ Greater
 turned_back a b e = nat_list_cmp_total.antisymm b a ∙ ap ordering_reverse e
-
-by_each : (P : Ordering → Type 0) (o : Ordering) → (o ≡ Less → P Less) → (o ≡ Equal → P Equal) → (o ≡ Greater → P Greater) → P o
-by_each P Less a b c = a refl
-by_each P Equal a b c = b refl
-by_each P Greater a b c = c refl
 
 by_apart : {P : Type 0} (a b : List ℕ) → a ≢ b → (slice_cmp nat_cmp a b ≡ Less → P) → (slice_cmp nat_cmp a b ≡ Greater → P) → P
 by_apart {P} a b ne f g = by_each (λ (o : Ordering). P) (slice_cmp nat_cmp a b) f (λ e. absurd (ne (equal_is a b e))) g
@@ -175,9 +172,6 @@ order_free task lines others text end i h = record { parts = h.parts; told = tel
 
 -- ---- the text is one
 
-some_same : (a b : ReportEnd) → Some a ≡ Some b → a ≡ b
-some_same a b e = cc
-
 writes_one : (wanted : Wanted) (parts : List Told) (round : ℕ) (a b : List ℕ) (e f : Option ReportEnd) → Writes wanted parts round a e →
     Writes wanted parts round b f → (b ≡ a) × (f ≡ e)
 writes_one wanted parts round a b e f (waits r h) (waits s k) = (refl, refl)
@@ -193,9 +187,6 @@ writes_one wanted parts round a b e f (goes r rest end has none h) (ends s other
 writes_one wanted parts round a b e f (goes r rest end has none h) (goes s more other here off k) =
     let behind = writes_one wanted parts (round + 1) rest more end other h k in
     (ap (λ (x : List ℕ). block_text round wanted.kinds parts ++ x) behind.0, behind.1)
-
-cases_lt : (a b : ℕ) → (a < b) ⊎ (b ≤ a)
-cases_lt a b = grind arith
 
 pub text_one : TextIsOne
 text_one task parts text other end later few h k = elim (cases_lt (length parts) task.count) [

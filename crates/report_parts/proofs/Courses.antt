@@ -11,7 +11,7 @@ use Rattle.query_model.specs.declared.query.ItemKind.{ItemKind}
 use Rattle.report_text.specs.declared.answers.Answer.{Answer}
 use Rattle.report_text.specs.declared.lines.ReportEnd.{ReportEnd}
 use Rattle.report_text.specs.declared.lines.ReportEnd.TheVariants.{Narrow, Rounds}
-use Rattle.report_parts.proofs.FromRounds.{all_both, block_fault_too, refused_too, same_answers_over, same_count, same_end_of_all, same_has, same_over_all, takes_tagged_too}
+use Rattle.report_parts.proofs.FromRounds.{all_both, block_fault_too, cases_lt, refused_too, same_answers_over, same_count, same_end_of_all, same_has, same_over_all, takes_tagged_too}
 use Rattle.report_parts.proofs.Grows.{all_keep, only_grow, same_over}
 use Rattle.report_parts.proofs.Kept.{not_all_yet}
 use Rattle.report_parts.proofs.Ordered.{tag_is}
@@ -50,7 +50,7 @@ tag_stays Items query kinds told line next h =
     ap (λ (t : Told). t.tag) h.told_so ∙ kept_by (length told.current + 1 == length kinds) told _ _ refl refl
 tag_stays (Ended end) query kinds told line next h = absurd h
 
-by_each : (P : Ordering → Type 0) (o : Ordering) → (o ≡ Less → P Less) → (o ≡ Equal → P Equal) → (o ≡ Greater → P Greater) → P o
+pub by_each : (P : Ordering → Type 0) (o : Ordering) → (o ≡ Less → P Less) → (o ≡ Equal → P Equal) → (o ≡ Greater → P Greater) → P o
 by_each P Less a b c = a refl
 by_each P Equal a b c = b refl
 by_each P Greater a b c = c refl
@@ -95,9 +95,6 @@ all_reach query kinds parts line next h few =
 yes_or_no : (b : Bool) → (b ≡ true) ⊎ (b ≡ false)
 yes_or_no true = inl refl
 yes_or_no false = inr refl
-
-cases_lt : (a b : ℕ) → (a < b) ⊎ (b ≤ a)
-cases_lt a b = grind arith
 
 pub passes_on : (query : List ℕ) (wanted : Wanted) (parts laters : List Told) (round : ℕ) (text : List ℕ) → AllReach query wanted.kinds parts laters →
     Passes wanted parts round text → Passes wanted laters round text

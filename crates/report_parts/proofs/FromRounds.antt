@@ -113,7 +113,7 @@ moved_too round whole told next place h e =
     subst (λ (t : Told). TellsFrom round (at_place whole place) t) (sym e)
     (record { tag = h.tag; current = h.current; place = refl; count = h.count; same = h.same })
 
-cases_lt : (a b : ℕ) → (a < b) ⊎ (b ≤ a)
+pub cases_lt : (a b : ℕ) → (a < b) ⊎ (b ≤ a)
 cases_lt a b = grind arith
 
 -- the block for a round once there is one more

@@ -2,14 +2,14 @@
 use Rattle.std.specs.Prelude.{◌≡◌, ◌≢◌, ℕ, ◌+◌, ◌<◌, ℤ, List, [], ◌∷◌, length, map, slice_get, slice_index_or}
 use Rattle.std.specs.declared.option.Option.TheVariants.{Some}
 use Rattle.query_model.specs.Answers.{answer, average}
-use Rattle.query_model.specs.Bounds.{Admits, AdmitsAverage, IsNested}
+use Rattle.query_model.specs.Bounds.{Admits, AdmitsAverage, IsNested, IsNestedAverage}
 use Rattle.query_model.specs.declared.query.ItemKind.{ItemKind}
 use Rattle.query_model.specs.declared.query.ItemKind.TheVariants.{Avg}
 use Rattle.report_text.specs.declared.answers.Answer.{Answer}
-use Rattle.shard_bounds.specs.Averages.{ReportsAverage, combined_average}
+use Rattle.shard_bounds.specs.Averages.{ReportsAverage, TellsAverage, combined_average}
 use Rattle.shard_bounds.specs.Combined as shards
 use Rattle.shard_bounds.specs.Combined.{IsBoundOf}
-use Rattle.shard_bounds.specs.Laws.{AreTold, Tells}
+use Rattle.shard_bounds.specs.Laws.{AreAveragesTold, AreTold, IsNestedReport, Tells}
 use Rattle.report_parts.specs.Combined.{answer_over, average_of, bound_of}
 use Rattle.report_parts.specs.Reports.{answers_over}
 use Rattle.report_parts.specs.Rounds.{answers_in, no_answer}
@@ -64,10 +64,26 @@ AreCertainAverages item [] (values ∷ tables) = ⊥
 AreCertainAverages item (part ∷ parts) [] = ⊥
 AreCertainAverages item (part ∷ parts) (values ∷ tables) = IsCertainAverage item part values × AreCertainAverages item parts tables
 
--- what is printed shows a bound that contains the average over the rows of all parts together
+-- each block's bound lies within the one before, and one fraction alone stays as it is
+abbrev pub AverageNests : ℕ → Told → Type 0
+AverageNests item told =
+    (block : ℕ) → block + 1 < length told.blocks →
+    IsNestedReport (average_of (answer_at block item told)) (average_of (answer_at (block + 1) item told))
+
+abbrev pub DoAveragesNest : ℕ → List Told → Type 0
+DoAveragesNest item [] = Unit {0}
+DoAveragesNest item (part ∷ parts) = AverageNests item part × DoAveragesNest item parts
+
+-- what is printed shows a bound that contains the average over the rows of all parts together; the next round's lies within it, where those
+-- of the parts do; and where each part says its sum and its number of values in the round, it says those of all
 pub record IsAverageIn (round item : ℕ) (kinds : List ItemKind) (parts : List Told) (tables : List (List ℤ)) : Type 0 where
   pub printed : slice_get (answers_over round 0 kinds parts) item ≡ Some (answer_over Avg (answers_in round item parts))
   pub contains : AdmitsAverage (combined_average (map average_of (answers_in round item parts))) (shards.average_over tables)
+  pub nests : DoAveragesNest item parts →
+      IsNestedAverage (combined_average (map average_of (answers_in round item parts)))
+      (combined_average (map average_of (answers_in (round + 1) item parts)))
+  pub exact : AreAveragesTold (map average_of (answers_in round item parts)) tables →
+      TellsAverage (combined_average (map average_of (answers_in round item parts))) (shards.average_over tables)
 
 abbrev pub CombinedAveragesAreCertain : Type 0
 CombinedAveragesAreCertain =

@@ -7,7 +7,8 @@ ghost use Rattle.report_parts.specs.Telling.{EndedStays, TellingIsOne};
 ghost use Rattle.report_parts.specs.Written.{WrittenStays};
 
 use shard_bounds::{
-    combinations_contain, combinations_nest, combinations_report_averages, combinations_tell,
+    averages_nest, combinations_contain, combinations_nest, combinations_report_averages,
+    combinations_tell, combinations_tell_averages,
 };
 
 /// A line takes nothing back of what was told before.
@@ -87,11 +88,14 @@ pub fn combined_is_certain()
     combinations_tell();
 }
 
-/// The same of averages: what is printed contains the average over the rows of all parts.
+/// The same of averages: what is printed contains the average over the rows of all parts, lies within what the block before prints where
+/// those of the parts do, and is the sum and the number of all values where each part says its own.
 pub fn combined_averages_are_certain()
     ensures { CombinedAveragesAreCertain }
 {
     combinations_report_averages();
+    averages_nest();
+    combinations_tell_averages();
 }
 
 /// Where what each part says contains the part's average, and one fraction alone is its sum over its number of values, what is combined
