@@ -10,20 +10,24 @@ use Rattle.query_model.specs.declared.query.ItemKind.{ItemKind}
 use Rattle.query_model.specs.declared.query.ItemKind.TheVariants.{Count, Sum, Min, Max, Avg}
 use Rattle.report_text.specs.declared.answers.Answer.{Answer}
 use Rattle.report_text.specs.declared.answers.Answer.TheVariants.{Average, Value}
+use Rattle.report_text.specs.Forms.{HasTextsIn}
 use Rattle.report_text.specs.declared.averages.Ratio.{Ratio}
 use Rattle.report_text.specs.declared.averages.ShownAverage.{ShownAverage}
+use Rattle.report_text.specs.declared.forms.Form.{Form}
+use Rattle.report_text.specs.declared.forms.Form.TheVariants.{Date, Decimals}
 use Rattle.shard_bounds.specs.Averages.{FitsAverage, combined_average, no_average}
 use Rattle.shard_bounds.specs.Combined.{FitsBound, combined}
 
--- ---- decimals
+-- ---- in which form the ends are written
 
 abbrev pub null_of : Answer → Nullity
 null_of (Value shown) = shown.bound.null
 null_of (Average shown) = shown.null
 
-abbrev pub decimals_of : Answer → ℕ
-decimals_of (Value shown) = shown.decimals
-decimals_of (Average shown) = shown.low.sum.decimals
+-- the sums of an average are numbers
+abbrev pub form_of : Answer → Form
+form_of (Value shown) = shown.form
+form_of (Average shown) = Decimals shown.low.sum.decimals
 
 -- there may be an answer
 abbrev pub is_possible : Nullity → Bool
@@ -34,18 +38,29 @@ is_possible Always = false
 abbrev pub may_answer : Answer → Bool
 may_answer answer = is_possible (null_of answer)
 
--- how many decimals the numbers have: as many as those of the first part that may have an answer
-abbrev pub shared_decimals : List Answer → ℕ
-shared_decimals [] = 0
-shared_decimals (answer ∷ answers) = if may_answer answer then decimals_of answer else shared_decimals answers
+-- the form of the first part that may have an answer
+abbrev pub shared_form : List Answer → Form
+shared_form [] = Decimals 0
+shared_form (answer ∷ answers) = if may_answer answer then form_of answer else shared_form answers
 
--- where there may be an answer it has so many decimals
-abbrev pub has_decimals : ℕ → Answer → Bool
-has_decimals decimals answer = not (may_answer answer) || (decimals_of answer == decimals)
+abbrev pub is_same_form : Form → Form → Bool
+is_same_form (Decimals one) (Decimals other) = one == other
+is_same_form (Decimals one) Date = false
+is_same_form Date (Decimals other) = false
+is_same_form Date Date = true
 
--- they are as many as a column may have
+-- where there may be an answer it has this form
+abbrev pub has_form : Form → Answer → Bool
+has_form form answer = not (may_answer answer) || is_same_form (form_of answer) form
+
+-- numbers have as many decimals as a column may have
+abbrev pub is_few : Form → Bool
+is_few (Decimals decimals) = nat_le decimals 18
+is_few Date = true
+
+-- all have one form: dates, or numbers of equally many decimals
 abbrev pub are_alike : List Answer → Bool
-are_alike answers = nat_le (shared_decimals answers) 18 && list_all (has_decimals (shared_decimals answers)) answers
+are_alike answers = is_few (shared_form answers) && list_all (has_form (shared_form answers)) answers
 
 abbrev pub AreAlike : List Answer → Type 0
 AreAlike answers = IsTrue (are_alike answers)
@@ -66,7 +81,7 @@ average_of (Value shown) = no_average
 average_of (Average shown) = record { null = shown.null; lo = fraction_of shown.low; hi = fraction_of shown.high }
 
 abbrev pub value_over : ItemKind → List Answer → Answer
-value_over kind answers = Value (record { decimals = shared_decimals answers; bound = combined kind (map bound_of answers) })
+value_over kind answers = Value (record { form = shared_form answers; bound = combined kind (map bound_of answers) })
 
 abbrev pub ratio_of : ℕ → Fraction → Ratio
 ratio_of decimals fraction = record { sum = record { decimals = decimals; units = fraction.num }; rows = fraction.den }
@@ -74,8 +89,13 @@ ratio_of decimals fraction = record { sum = record { decimals = decimals; units 
 abbrev pub shown_average : ℕ → AverageBound → ShownAverage
 shown_average decimals bound = record { null = bound.null; low = ratio_of decimals bound.lo; high = ratio_of decimals bound.hi }
 
+-- the decimals of the sums
+abbrev pub decimals_in : Form → ℕ
+decimals_in (Decimals decimals) = decimals
+decimals_in Date = 0
+
 abbrev pub average_over : List Answer → Answer
-average_over answers = Average (shown_average (shared_decimals answers) (combined_average (map average_of answers)))
+average_over answers = Average (shown_average (decimals_in (shared_form answers)) (combined_average (map average_of answers)))
 
 abbrev pub answer_over : ItemKind → List Answer → Answer
 answer_over Count answers = value_over Count answers
@@ -84,10 +104,18 @@ answer_over Min answers = value_over Min answers
 answer_over Max answers = value_over Max answers
 answer_over Avg answers = average_over answers
 
--- its ends are numbers of 128 bits, and numbers of rows of 64
+-- its ends are numbers of 128 bits, which have texts in that form
+pub record FitsValue (form : Form) (bound : Bound) : Type 0 where
+  pub fits : FitsBound bound
+  pub texts : HasTextsIn form bound
+
+abbrev pub FitsValues : ItemKind → List Answer → Type 0
+FitsValues kind answers = FitsValue (shared_form answers) (combined kind (map bound_of answers))
+
+-- so are those of an average, and its numbers of rows have 64 bits
 abbrev pub FitsOver : ItemKind → List Answer → Type 0
-FitsOver Count answers = FitsBound (combined Count (map bound_of answers))
-FitsOver Sum answers = FitsBound (combined Sum (map bound_of answers))
-FitsOver Min answers = FitsBound (combined Min (map bound_of answers))
-FitsOver Max answers = FitsBound (combined Max (map bound_of answers))
+FitsOver Count answers = FitsValues Count answers
+FitsOver Sum answers = FitsValues Sum answers
+FitsOver Min answers = FitsValues Min answers
+FitsOver Max answers = FitsValues Max answers
 FitsOver Avg answers = FitsAverage (combined_average (map average_of answers))

@@ -41,7 +41,7 @@ AreTold rounds parts = (round : ℕ) → round < rounds → list_all (has_block 
 
 -- ---- why a block is not written
 
--- the item has that kind, its answers have the same decimals, and the answer over all parts does not fit
+-- the item has that kind, its answers have one form, and the answer over all parts does not fit
 pub record IsTooWide (round item : ℕ) (kinds : List ItemKind) (parts : List Told) : Type 0 where
   pub kind : ItemKind
   pub there : slice_get kinds item ≡ Some kind

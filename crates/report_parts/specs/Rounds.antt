@@ -3,6 +3,7 @@ use Rattle.std.specs.Prelude.{ℕ, ◌-◌, ◌+◌, nat_lt, nat_le, min, pos, B
 use Rattle.query_model.specs.declared.bounds.Nullity.TheVariants.{Always}
 use Rattle.report_text.specs.declared.answers.Answer.{Answer}
 use Rattle.report_text.specs.declared.answers.Answer.TheVariants.{Value}
+use Rattle.report_text.specs.declared.forms.Form.TheVariants.{Decimals}
 use Rattle.report_parts.specs.Told.{Told}
 use Rattle.report_parts.specs.declared.part.Place.{Place}
 use Rattle.report_parts.specs.declared.part.Place.TheVariants.{Query, Opened, Round, Items, Ended}
@@ -24,7 +25,7 @@ block_for round told = slice_index_or told.blocks (min round (length told.blocks
 
 -- no answer
 abbrev pub no_answer : Answer
-no_answer = Value (record { decimals = 0; bound = record { null = Always; lo = pos 0; hi = pos 0 } })
+no_answer = Value (record { form = Decimals 0; bound = record { null = Always; lo = pos 0; hi = pos 0 } })
 
 -- what it says of an item
 abbrev pub answer_in : ℕ → ℕ → Told → Answer

@@ -5,8 +5,8 @@ ghost use Rattle.query_model.specs.Bounds.{fractions_of};
 ghost use Rattle.shard_bounds.specs.Averages.{FitsAverage, combined_average};
 ghost use Rattle.report_parts.specs.Combined.{average_of, average_over, ratio_of, shown_average};
 
-use crate::decimals::shared_decimals;
 use crate::fault::CombineFault;
+use crate::forms::{decimals_in, shared_form};
 use interval_calc::Fraction;
 use query_model::{AverageBound, Nullity};
 use report_text::{Answer, Number, Ratio, ShownAverage};
@@ -85,7 +85,10 @@ pub(crate) fn average_over(alloc: Global, answers: &[Answer]) -> Result<Answer, 
 {
     let bounds = averages_of(alloc, answers)?;
     match combine_averages(&bounds) {
-        Some(bound) => Ok(Answer::Average(shown_average(shared_decimals(answers), &bound))),
+        Some(bound) => {
+            let decimals = decimals_in(shared_form(answers));
+            Ok(Answer::Average(shown_average(decimals, &bound)))
+        }
         None => Err(CombineFault::TooWide),
     }
 }

@@ -7,7 +7,7 @@ ghost use Rattle.report_parts.specs.Combined.{answer_over};
 ghost use Rattle.report_parts.specs.Course.{opening_text};
 ghost use Rattle.report_parts.specs.Reports.{IsBlockFault, answers_over, block_text, item_lines};
 ghost use Rattle.report_parts.specs.Rounds.{answers_in};
-ghost use Rattle.report_text.specs.Answers.{HasFewDecimals};
+ghost use Rattle.report_text.specs.Answers.{CanBeWritten};
 ghost use Rattle.report_text.specs.Lines.{parts_line, round_words};
 
 use crate::combined::combine_item;
@@ -26,7 +26,7 @@ fn item_over(
     item: usize,
     parts: &[Part],
 ) -> Result<Answer, BlockFault>
-    ensures few { IfOk result HasFewDecimals }
+    ensures few { IfOk result CanBeWritten }
     ensures answer { IfOk result (λ answer. answer ≡ answer_over kind (answers_in round item parts.now)) }
     ensures fault { IfErr result (λ why.
         (kinds : List ItemKind) → slice_get kinds item ≡ Some kind → IsBlockFault why round kinds parts.now) }
@@ -47,7 +47,7 @@ pub(crate) fn answers_over(
     parts: &[Part],
 ) -> Result<Vec<Answer>, BlockFault>
     ensures answers { IfOk result (λ answers. answers.items ≡ answers_over round 0 kinds.now parts.now) }
-    ensures few { IfOk result (λ answers. All HasFewDecimals answers.items) }
+    ensures few { IfOk result (λ answers. All CanBeWritten answers.items) }
     ensures fault { IfErr result (λ why. IsBlockFault why round kinds.now parts.now) }
 {
     let mut answers = Vec::with_capacity(alloc, kinds.len())?;
@@ -68,7 +68,7 @@ pub(crate) fn push_line(text: &mut Vec<u8>, line: &[u8]) -> Result<(), AllocErro
 
 // Puts the lines of the items behind the text.
 fn push_items(text: &mut Vec<u8>, answers: &[Answer]) -> Result<(), AllocError>
-    requires { All HasFewDecimals answers.now }
+    requires { All CanBeWritten answers.now }
     ensures { OnOk result (text.new.items ≡ text.old.items ++ item_lines 1 answers.now) }
 {
     let mut number: u64 = 0;
@@ -103,7 +103,7 @@ pub(crate) fn written_answers(
     round: usize,
     answers: &[Answer],
 ) -> Result<Vec<u8>, AllocError>
-    requires { All HasFewDecimals answers.now }
+    requires { All CanBeWritten answers.now }
     ensures { IfOk result (λ text. text.items ≡ (round_words round ++ codes "\n") ++ item_lines 1 answers.now) }
 {
     let mut text = Vec::new(alloc);

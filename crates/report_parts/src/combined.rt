@@ -1,13 +1,13 @@
 //! What a line says of an answer over all parts.
 
 ghost use Rattle.std.specs.Prelude.{◌≡◌, ◌≢◌, ◌≤◌, Err, IfOk};
-ghost use Rattle.report_parts.specs.Combined.{AreAlike, FitsOver, answer_over, shared_decimals};
-ghost use Rattle.report_text.specs.Answers.{HasFewDecimals};
+ghost use Rattle.report_parts.specs.Combined.{AreAlike, FitsOver, answer_over, decimals_in, shared_form};
+ghost use Rattle.report_text.specs.Answers.{CanBeWritten};
 ghost use Rattle.report_parts.specs.Rounds.{answers_in};
 
 use crate::averages::average_over;
-use crate::decimals::are_alike;
 use crate::fault::CombineFault;
+use crate::forms::are_alike;
 use crate::part::Part;
 use crate::rounds::answers_in;
 use crate::values::combine_values;
@@ -17,8 +17,8 @@ use std::alloc::Global;
 
 // The answer over all parts, by its kind.
 fn answer_over(alloc: Global, kind: ItemKind, answers: &[Answer]) -> Result<Answer, CombineFault>
-    requires { shared_decimals answers.now ≤ 18 }
-    ensures few { IfOk result HasFewDecimals }
+    requires { decimals_in (shared_form answers.now) ≤ 18 }
+    ensures written { IfOk result CanBeWritten }
     ensures combined { IfOk result (λ answer. answer ≡ answer_over kind answers.now) }
     ensures wide { result ≡ Err CombineFault.TooWide → ¬ FitsOver kind answers.now }
     ensures alike { result ≢ Err CombineFault.OtherDecimals }
@@ -40,7 +40,7 @@ pub fn combine_item(
     item: usize,
     parts: &[Part],
 ) -> Result<Answer, CombineFault>
-    ensures few { IfOk result HasFewDecimals }
+    ensures written { IfOk result CanBeWritten }
     ensures alike { IfOk result (λ answer. AreAlike (answers_in round item parts.now)) }
     ensures combined { IfOk result (λ answer. answer ≡ answer_over kind (answers_in round item parts.now)) }
     ensures other { result ≡ Err CombineFault.OtherDecimals → ¬ AreAlike (answers_in round item parts.now) }

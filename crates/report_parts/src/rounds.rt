@@ -6,7 +6,7 @@ ghost use Rattle.report_parts.specs.Rounds.{answer_in, answers_in, block_for, ha
 
 use crate::part::{Part, Place};
 use query_model::{Bound, Nullity};
-use report_text::{Answer, ShownBound};
+use report_text::{Answer, Form, ShownBound};
 use std::alloc::{AllocError, Global};
 
 // Whether the report has ended.
@@ -60,7 +60,7 @@ pub fn have_all_ended(round: usize, parts: &[Part]) -> bool
 }
 
 const NO_ANSWER: Answer = Answer::Value(ShownBound {
-    decimals: 0,
+    form: Form::Decimals(0),
     bound: Bound {
         null: Nullity::Always,
         lo: 0,

@@ -1,13 +1,13 @@
 //! The answer of a number of rows, a sum or an extreme over all parts.
 
 ghost use Rattle.std.specs.Prelude.{◌≡◌, ◌≢◌, Err, IfOk, map};
-ghost use Rattle.shard_bounds.specs.Combined.{FitsBound, combined};
-ghost use Rattle.report_parts.specs.Combined.{bound_of, value_over};
+ghost use Rattle.report_text.specs.Answers.{CanBeWritten};
+ghost use Rattle.report_parts.specs.Combined.{FitsValues, bound_of, value_over};
 
-use crate::decimals::shared_decimals;
 use crate::fault::CombineFault;
+use crate::forms::shared_form;
 use query_model::{Bound, ItemKind, Nullity};
-use report_text::{Answer, ShownBound};
+use report_text::{Answer, ShownBound, has_texts};
 use shard_bounds::combine;
 use std::alloc::{AllocError, Global};
 
@@ -42,16 +42,18 @@ pub(crate) fn combine_values(
     kind: ItemKind,
     answers: &[Answer],
 ) -> Result<Answer, CombineFault>
+    ensures written { IfOk result CanBeWritten }
     ensures combined { IfOk result (λ answer. answer ≡ value_over kind answers.now) }
-    ensures wide { result ≡ Err CombineFault.TooWide → ¬ FitsBound (combined kind (map bound_of answers.now)) }
+    ensures wide { result ≡ Err CombineFault.TooWide → ¬ FitsValues kind answers.now }
     ensures alike { result ≢ Err CombineFault.OtherDecimals }
 {
     let bounds = bounds_of(alloc, answers)?;
-    match combine(kind, &bounds) {
-        Some(bound) => Ok(Answer::Value(ShownBound {
-            decimals: shared_decimals(answers),
-            bound,
-        })),
-        None => Err(CombineFault::TooWide),
+    let Some(bound) = combine(kind, &bounds) else {
+        return Err(CombineFault::TooWide);
+    };
+    let form = shared_form(answers);
+    if !has_texts(form, &bound) {
+        return Err(CombineFault::TooWide);
     }
+    Ok(Answer::Value(ShownBound { form, bound }))
 }

@@ -1,7 +1,0 @@
-use Rattle.std.proofs.Common.{◌≡◌, drop}
-use Rattle.std.specs.List.{list_all}
-use Rattle.report_parts.specs.Combined.{has_decimals}
-use Rattle.report_parts.proofs.decimals.all_have.Given as goal
-
-abbrev pub invariant-loop-answer : goal.invariant-loop-answer
-invariant-loop-answer l = list_all (has_decimals l.decimals) (drop l.answer-index l.answers) ≡ list_all (has_decimals l.decimals) l.answers
