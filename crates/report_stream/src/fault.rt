@@ -1,12 +1,12 @@
 //! Why reports are not combined to their end.
 
 ghost use Rattle.std.specs.Prelude.{◌≡◌, ◌≤◌, length};
-ghost use Rattle.report_stream.specs.Faults.{of_block, of_input, of_kinds, of_source};
+ghost use Rattle.report_stream.specs.Faults.{of_input, of_kinds, of_source};
 ghost use Rattle.report_stream.specs.declared.fault.StreamFault.TheVariants.{NoMemory, WriteFault};
 
 use outer_world::Failed;
 use query_kinds::KindsFault;
-use report_parts::{BlockFault, InputFault, LineFault};
+use report_parts::{InputFault, LineFault};
 use source_lines::LineFault as SourceFault;
 use std::alloc::{AllocError, AllocFailed};
 use std::marker::Model;
@@ -156,18 +156,6 @@ pub(crate) fn of_kinds(fault: KindsFault) -> StreamFault
         KindsFault::NoMemory => return StreamFault::NoMemory,
     };
     StreamFault::Line { line: 1, why }
-}
-
-/// What a block that is not written is to the stream.
-pub(crate) fn of_block(line: usize, fault: BlockFault) -> StreamFault
-    ensures { result ≡ of_block line fault }
-{
-    let why = match fault {
-        BlockFault::OtherDecimals(item) => LineRefusal::OtherDecimals(item),
-        BlockFault::TooWide(item) => LineRefusal::TooWide(item),
-        BlockFault::NoMemory => return StreamFault::NoMemory,
-    };
-    StreamFault::Line { line, why }
 }
 
 /// What a line that does not come is to the stream.
