@@ -35,9 +35,9 @@ use Rattle.sql_meaning.proofs.Shares.{average_face, average_kind, shares_ordered
 use Rattle.table_rounds.specs.Headline.{IsKeyOn}
 use Rattle.sql_headline.specs.Intervals.{EnclosesShare, IsSameShare, IsShareAlone, ShareLiesInside, Shares, ShowsShares}
 use Rattle.sql_headline.specs.Lines.{IsAverageShownFor}
-use Rattle.sql_headline.specs.Worlds.{IsGroupOf, IsRun, IsWorld, Run, stage_at}
+use Rattle.sql_headline.specs.Worlds.{IsGroupOf, IsWorld, Run, stage_at}
 use Rattle.sql_headline.specs.Headline.{HoldsAverages, IntervalsHoldAverages, rows_in}
-use Rattle.sql_headline.proofs.Begun.{Laws, agrees, certain, no_parts, own_cell}
+use Rattle.sql_headline.proofs.Begun.{IsSure, Laws, agrees, certain, no_parts, own_cell, sure}
 use Rattle.sql_headline.proofs.Ends.{always, never}
 
 -- numbers of so many decimals over counts, as values over counts
@@ -94,7 +94,7 @@ module _ (table : List ColumnHead) (columns : List ℕ) (s : ℕ) (bound : Avera
         same_share sum count bound.hi (Number found.decimal) e.1 total_is,
       )
 
-module _ (law : Laws) (run : Run) (plan : Plan) (is : IsRun run plan) (e : tree.Expr) (typed : Aggregate) (key : Key) (asked : IsAsked run.text run.query (tree.Call calls.Avg e) typed)
+module _ (law : Laws) (run : Run) (plan : Plan) (is : IsSure run plan) (e : tree.Expr) (typed : Aggregate) (key : Key) (asked : IsAsked run.text run.query (tree.Call calls.Avg e) typed)
     (on : IsKeyOn run.query (frame_of run.head) key) where
   abbrev scale : ℕ
   scale = scale_of run.head.columns e
@@ -140,7 +140,7 @@ module _ (law : Laws) (run : Run) (plan : Plan) (is : IsRun run plan) (e : tree.
       ∙ sym (subst (λ c. text ≡ average_text run.head run.query typed.face (average_in_cell (stage_at run round) typed c)) cell told.2))
       (shown_here round)
 
-  holds : HoldsAverages run e typed key
+  pub holds : HoldsAverages run e typed key
   holds = record {
     shares = shares;
     shown = shows_key;
@@ -156,4 +156,4 @@ module _ (law : Laws) (run : Run) (plan : Plan) (is : IsRun run plan) (e : tree.
   }
 
 pub averages_hold : Laws → IntervalsHoldAverages
-averages_hold law run plan e typed key is asked on = holds law run plan is e typed key asked on
+averages_hold law run plan e typed key is asked on = holds law run plan (sure law run plan is) e typed key asked on

@@ -13,8 +13,9 @@ use Rattle.query_model.specs.declared.query.Shape.TheVariants.{Plain}
 use Rattle.round_engine.specs.Cells.{HasCell}
 use Rattle.round_engine.specs.Stages.{Stage}
 use Rattle.sql_typing.specs.Laws.{IsTypedValid}
+use Rattle.sql_typing.specs.Refusals.{IsTyped}
 use Rattle.table_rounds.specs.Headline.{AreCertain, IsKeyOn, PlanesTellStages, RoundsAreCertain, TablesTellStages}
-use Rattle.table_rounds.specs.Rounds.{HasPlanes, counts_after}
+use Rattle.table_rounds.specs.Rounds.{AreRounds, HasPlanes, counts_after}
 use Rattle.table_rounds.proofs.Reached.{is_part, part_of, reads_after}
 use Rattle.sql_headline.specs.Lines.{IsCellOf}
 use Rattle.sql_headline.specs.Worlds.{IsRun, IsWorld, Run, stage_at}
@@ -28,18 +29,34 @@ pub record Laws : Type 0 where
   pub tables : TablesTellStages
   pub certain : RoundsAreCertain
 
-module _ (law : Laws) (run : Run) (plan : Plan) (is : IsRun run plan) where
+-- a run whose rounds are certain
+pub record IsSure (run : Run) (plan : Plan) : Type 0 where
+  pub typed : IsTyped run.text run.head run.query
+  pub rounds : AreRounds plan run.query (frame_of run.head) (plane_of (frame_of run.head) run.cells) run.reads
+  pub certain : AreCertain run.query (frame_of run.head) run.cells run.reads
+
+-- so is each run
+pub sure : Laws → (run : Run) (plan : Plan) → IsRun run plan → IsSure run plan
+sure law run plan is =
+    let frame = frame_of run.head in
+    let named = law.name run.head run.query (law.valid run.text run.head run.query is.typed) in
+    let itself : HasPlanes run.query frame (plane_of frame run.cells) (counts_after run.query run.reads (length run.reads)) run.cells =
+    record { table = is.table; same = λ c number c_in read. refl } in
+    record {
+      typed = is.typed;
+      rounds = is.rounds;
+      certain = law.certain plan run.query frame (plane_of frame run.cells) run.reads run.cells named is.longs is.rounds itself;
+    }
+
+module _ (law : Laws) (run : Run) (plan : Plan) (is : IsSure run plan) where
   abbrev pub frame : Frame
   frame = frame_of run.head
 
   pub named : NamesColumns run.query frame
   named = law.name run.head run.query (law.valid run.text run.head run.query is.typed)
 
-  itself : HasPlanes run.query frame (plane_of frame run.cells) (counts_after run.query run.reads (length run.reads)) run.cells
-  itself = record { table = is.table; same = λ c number c_in read. refl }
-
   pub certain : AreCertain run.query frame run.cells run.reads
-  certain = law.certain plan run.query frame (plane_of frame run.cells) run.reads run.cells named is.longs is.rounds itself
+  certain = is.certain
 
   pub part_there : (round : ℕ) → round ≤ length run.reads → (world : Cells) → IsWorld run round world → IsTable (part_of run.query frame) (projected run.query world)
   part_there round h world is_world =

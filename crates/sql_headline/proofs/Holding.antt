@@ -25,14 +25,14 @@ use Rattle.sql_meaning.proofs.Shares.{typed_as}
 use Rattle.table_rounds.specs.Headline.{IsKeyOn}
 use Rattle.sql_headline.specs.Intervals.{Interval, Shows}
 use Rattle.sql_headline.specs.Lines.{IsShownFor}
-use Rattle.sql_headline.specs.Worlds.{IsGroupOf, IsRun, IsWorld, Run, stage_at}
+use Rattle.sql_headline.specs.Worlds.{IsGroupOf, IsWorld, Run, stage_at}
 use Rattle.sql_headline.specs.Headline.{HoldsAnswers, IntervalsHoldAnswers, is_average, rows_in}
-use Rattle.sql_headline.proofs.Begun.{Laws, agrees, certain, no_parts, own_cell}
+use Rattle.sql_headline.proofs.Begun.{IsSure, Laws, agrees, certain, no_parts, own_cell, sure}
 use Rattle.sql_headline.proofs.Ends.{alone, enclosed, inside, interval_of}
 use Rattle.sql_headline.proofs.Shown.{shown_interval}
 
 -- what is no average is typed as none
-typed_kind : (table : List ColumnHead) (columns : List ℕ) (item : tree.Item) (t : Aggregate) → typed_item table columns item ≡ Some t → is_average item ≡ false → t.kind ≢ kinds.Avg
+pub typed_kind : (table : List ColumnHead) (columns : List ℕ) (item : tree.Item) (t : Aggregate) → typed_item table columns item ≡ Some t → is_average item ≡ false → t.kind ≢ kinds.Avg
 typed_kind table columns (tree.Plain n) t e other h = none-some t e
 typed_kind table columns tree.CountAll t e other h = absurd cc
   where
@@ -56,7 +56,7 @@ typed_kind table columns (tree.Call calls.Max x) t e other h = absurd cc
     same = ap (λ (a : Aggregate). a.kind) (same_Some (typed_call table columns calls.Max x) t e) ∙ h
 typed_kind table columns (tree.Call calls.Avg x) t e other h = true≢false other
 
-module _ (law : Laws) (run : Run) (plan : Plan) (is : IsRun run plan) (item : tree.Item) (typed : Aggregate) (key : Key) (asked : IsAsked run.text run.query item typed)
+module _ (law : Laws) (run : Run) (plan : Plan) (is : IsSure run plan) (item : tree.Item) (typed : Aggregate) (key : Key) (asked : IsAsked run.text run.query item typed)
     (on : IsKeyOn run.query (frame_of run.head) key) where
   there : slice_get run.query.items asked.place ≡ Some typed
   there = asked.in_query
@@ -108,5 +108,5 @@ module _ (law : Laws) (run : Run) (plan : Plan) (is : IsRun run plan) (item : tr
 
 pub intervals_hold : Laws → IntervalsHoldAnswers
 intervals_hold law run plan item typed key is asked other on =
-    holds law run plan is item typed key asked on
+    holds law run plan (sure law run plan is) item typed key asked on
     (typed_kind run.head.columns run.query.columns item typed (typed_as run.text run.head run.query item typed is.typed asked) other)

@@ -17,7 +17,7 @@ use Rattle.sql_typing.specs.Typing.{columns_of, typed_ending}
 use Rattle.sql_meaning.specs.Answers.{grouping}
 use Rattle.table_rounds.proofs.Reached.{columns_of_part, part_of}
 use Rattle.sql_headline.specs.Worlds.{RowsHaveKeys}
-use Rattle.sql_headline.proofs.Begun.{Laws, part_there}
+use Rattle.sql_headline.proofs.Begun.{Laws, part_there, sure}
 
 key_part : (ends : Ends) (cell : Cell) → IsCell ends cell → IsKeyPart ends (value_of ends cell)
 key_part ends None h = h
@@ -46,7 +46,7 @@ by_ending head columns part cells r (tree.Grouped (n ∷ ns)) table some h = key
 pub rows_have : Laws → RowsHaveKeys
 rows_have law run plan round world key one is h is_world group =
     let part = part_of run.query (frame_of run.head) in
-    let table = part_there law run plan is round h world is_world in
+    let table = part_there law run plan (sure law run plan is) round h world is_world in
     let valid = law.valid run.text run.head run.query is.typed in
     let inside : AllByRecursion (λ c. c < length part.columns) (groups_of run.query.shape) =
     subst (λ n. AllByRecursion (λ c. c < n) (groups_of run.query.shape)) (sym (columns_of_part run.query (frame_of run.head))) (groups_in run.head run.query run.query.shape valid.shape) in

@@ -16,8 +16,8 @@ use Rattle.table_rounds.specs.Headline.{IsKeyOn}
 use Rattle.round_engine.specs.Cells.{absence_in_cell}
 use Rattle.sql_headline.specs.Lines.{IsCellOf}
 use Rattle.sql_headline.specs.Results.{KeysAreTold, RowsAreTold, TellsKeys, TellsRow}
-use Rattle.sql_headline.specs.Worlds.{IsRun, Run, stage_at}
-use Rattle.sql_headline.proofs.Begun.{Laws, agrees, certain, own_cell}
+use Rattle.sql_headline.specs.Worlds.{Run, stage_at}
+use Rattle.sql_headline.proofs.Begun.{IsSure, Laws, agrees, certain, own_cell, sure}
 use Rattle.table_rounds.proofs.Reached.{part_of}
 use Rattle.query_model.specs.Bounds.{absence_of}
 
@@ -27,7 +27,7 @@ as_long frame [] (k ∷ ks) is = absurd is
 as_long frame (c ∷ cs) [] is = absurd is
 as_long frame (c ∷ cs) (k ∷ ks) is = ap suc (as_long frame cs ks is.1)
 
-module _ (law : Laws) (run : Run) (plan : Plan) (is : IsRun run plan) where
+module _ (law : Laws) (run : Run) (plan : Plan) (is : IsSure run plan) where
   -- what is told of a cell is told of its key
   absence_is : (key : Key) → IsKeyOn run.query (frame_of run.head) key → (round cell : ℕ) → round ≤ length run.reads → IsCellOf (stage_at run round) key cell
       → absence_in_cell (stage_at run round) cell ≡ absence_of run.query key (stage_at run round).frame (stage_at run round).known
@@ -35,7 +35,7 @@ module _ (law : Laws) (run : Run) (plan : Plan) (is : IsRun run plan) where
       let has = (certain law run plan is).in_cells round h key on in
       ap (absence_in_cell (stage_at run round)) (own_cell (stage_at run round) key cell has own) ∙ has.speaks.absence
 
-  tells_keys : (key : Key) → IsKeyOn run.query (frame_of run.head) key → TellsKeys run key
+  pub tells_keys : (key : Key) → IsKeyOn run.query (frame_of run.head) key → TellsKeys run key
   tells_keys key on = record {
     present = λ round cell h own word world is_world.
         let told = (certain law run plan is).results round h key on in
@@ -56,7 +56,7 @@ module _ (law : Laws) (run : Run) (plan : Plan) (is : IsRun run plan) where
     top : IsTop run.query.shape
     top = subst (λ (w : Query). IsTop w.shape) (sym is.typed.same) (subst (λ e. IsTop (typed_ending run.head.columns (columns_of run.head.columns run.text) e)) (sym ordered) tt)
 
-    tells_row : TellsRow run key down limit row
+    pub tells_row : TellsRow run key down limit row
     tells_row = record {
       certain = λ round h word world is_world.
           subst IsTrue (orders_mean run.text run.head run.query world key down limit row is.typed is_world.has_values within ordered)
@@ -68,7 +68,7 @@ module _ (law : Laws) (run : Run) (plan : Plan) (is : IsRun run plan) where
     }
 
 pub keys_told : Laws → KeysAreTold
-keys_told law run plan key is on = tells_keys law run plan is key on
+keys_told law run plan key is on = tells_keys law run plan (sure law run plan is) key on
 
 pub rows_told : Laws → RowsAreTold
-rows_told law run plan key down limit row is ordered within = tells_row law run plan is key down limit row ordered within
+rows_told law run plan key down limit row is ordered within = tells_row law run plan (sure law run plan is) key down limit row ordered within
