@@ -1,6 +1,7 @@
 -- Bits of the rows of a block.
-use Rattle.std.proofs.Common.{◌≡◌, ℕ, zero, suc, ◌+◌, ◌-◌, ◌*◌, ◌/◌, ◌%◌, ◌^◌, ◌<◌, ◌==◌, replicate, Bool, true, false, not, ◌&&◌, ◌||◌, List, length, take, drop, get_or, slice_get, Some, refl, ap, sym, ◌∙◌, arith}
+use Rattle.std.proofs.Common.{◌≡◌, ℕ, zero, suc, ◌+◌, ◌-◌, ◌*◌, ◌/◌, ◌%◌, ◌^◌, ◌<◌, ◌==◌, replicate, Bool, true, false, not, ◌&&◌, ◌||◌, List, length, take, drop, get_or, slice_get, count_by, sum_by, Some, refl, ap, sym, ◌∙◌, arith}
 use Rattle.std.specs.Int.{bit_at}
+use Rattle.std.specs.Int.Count.{ones}
 use Rattle.std.specs.Int.Bits.{bit_and, bit_or, bit_xor}
 use Rattle.std.specs.Simd.Lanes.{put_chunk, zip2}
 use Rattle.std.proofs.lemmas.List.{get_or-take, get_or-drop, get_or-replicate, length-replicate}
@@ -8,10 +9,10 @@ use Rattle.std.proofs.lemmas.Nat.Bits.{bit_at_ones, bit_at_xor, bit_at-lt, bit_a
 use Rattle.std.proofs.lemmas.Option.{get_or_from_slice_get}
 use Rattle.std.proofs.lemmas.Simd.{get_or-put_chunk_above, get_or-put_chunk_at, get_or-put_chunk_below, get_or-zip2, length-put_chunk}
 use Rattle.plane_kernels.specs.Rows.{block_rows, digit_at, rows_of}
-use Rattle.plane_kernels.proofs.RowLemmas.{get-rows_of, length-rows_of}
+use Rattle.plane_kernels.proofs.RowLemmas.{count-rows_of, get-rows_of, length-rows_of}
 use Rattle.query_model.specs.declared.bounds.Truths.{Truths}
 use Rattle.query_model.specs.Truths.{truth_among}
-use Rattle.kleene_filter.specs.Blocks.{bit_in, IsPut}
+use Rattle.kleene_filter.specs.Blocks.{bit_in, AreRowsIn, IsPut}
 use Rattle.kleene_filter.specs.Filters.{is_certain}
 use Rattle.kleene_filter.proofs.WordBits.{digit-and, digit-or}
 
@@ -104,3 +105,7 @@ rows_put mask new words block inside eight put =
       here = λ row few. ap (λ l. get_or l (at + row) false) put ∙ get_or-put_chunk_at at mask bits row false (omega (arith, long, few)) (omega (arith, long, inside))
           ∙ get_or_from_slice_get bits row (bit_in row words) false (get-rows_of n words row few (omega (arith, eight)));
     }
+
+-- how many rows of a block a mask has
+pub rows_counted : (mask : List Bool) (block : ℕ) (rows : List ℕ) → AreRowsIn mask block rows → sum_by ones rows ≡ count_by (λ b. b) (take 512 (drop (512 * block) mask))
+rows_counted mask block rows here = sym (count-rows_of (block_rows (length mask) block) rows here.padded) ∙ ap (count_by (λ b. b)) here.are

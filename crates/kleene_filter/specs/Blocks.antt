@@ -1,6 +1,6 @@
 -- Sets of truths of the rows of a block of 512, and some of its rows: a bit for each row, in eight words.
-use Rattle.std.specs.Prelude.{◌≡◌, ℕ, ◌+◌, ◌*◌, ◌/◌, ◌%◌, ◌≤◌, ◌<◌, ℤ, Bool, false, not, IsTrue, List, length, slice_index_or}
-use Rattle.plane_kernels.specs.Rows.{block_rows, digit_at}
+use Rattle.std.specs.Prelude.{◌≡◌, ℕ, ◌+◌, ◌*◌, ◌/◌, ◌%◌, ◌≤◌, ◌<◌, ℤ, Bool, false, not, IsTrue, List, length, take, drop, slice_index_or}
+use Rattle.plane_kernels.specs.Rows.{block_rows, digit_at, rows_of, IsPadded}
 use Rattle.query_model.specs.declared.bounds.Truths.{Truths}
 use Rattle.query_model.specs.Truths.{is_false, is_true, may_be_number, truth_over, truths_over}
 use Rattle.known_column.specs.Columns.{KnownColumn, missing_at, numbers_at, range_at, rows_of_column}
@@ -37,6 +37,11 @@ pub record AreOnNumbers (column : KnownColumn) (block : ℕ) (test : ℤ → Boo
       bit_in r passes ≡ not (is_false (truth_over (numbers_at column (512 * block + r)) test))
   pub fail : (r : ℕ) → r < block_rows (rows_of_column column) block → IsTrue (may_be_number (missing_at column (512 * block + r))) →
       bit_in r fails ≡ not (is_true (truth_over (numbers_at column (512 * block + r)) test))
+
+-- these are the rows of a block that are in the mask, with no bit behind the last
+pub record AreRowsIn (mask : List Bool) (block : ℕ) (rows : List ℕ) : Type 0 where
+  pub are : rows_of (block_rows (length mask) block) rows ≡ take 512 (drop (512 * block) mask)
+  pub padded : IsPadded (block_rows (length mask) block) rows
 
 -- the bits of a mask at the rows of a block are these, and the others are as they were
 pub record IsPut (block : ℕ) (own : List ℕ) (old new : List Bool) : Type 0 where

@@ -17,7 +17,7 @@ use crate::judging::{Place, pred_truths};
 use crate::lanes::write_block;
 use crate::masks::{AtomMasks, is_untouched};
 use crate::reads::pred_reads;
-use crate::truth_masks::{KeptTruths, TruthMasks, even_mask, settle};
+use crate::truth_masks::{KeptTruths, TruthMasks, even_mask, recounted, settle};
 use known_column::{LentColumns, RowBlock, blocks_have_their_rows};
 use plane_kernels::{Mask, Plane};
 use query_model::Pred;
@@ -222,11 +222,11 @@ fn decide_block(
     }
     // The counts are at most the rows, which are few.
     let _rows = columns.rows();
-    let before = truths.masks.counts_in(block);
+    let before = truths.masks.rows_in(block);
     judge_block(pred, masks, columns, block, rows, &mut truths.masks);
-    let after = truths.masks.counts_in(block);
-    truths.certain = truths.certain + after.certain - before.certain;
-    truths.possible = truths.possible + after.possible - before.possible;
+    let after = truths.masks.rows_in(block);
+    truths.certain = recounted(truths.certain, &before.certain, &after.certain);
+    truths.possible = recounted(truths.possible, &before.possible, &after.possible);
     settle(&mut truths.undecided, &truths.masks, block);
 }
 

@@ -1,9 +1,11 @@
 //! The rows at which a condition holds for certain, and those at which it may, with the blocks of 512 that are not decided.
 
-ghost use Rattle.std.specs.Prelude.{◌≡◌, ◌≤◌, ◌<◌, ◌*◌, true, length, take, drop, count_by, replicate, IfOk, IsTrue};
+ghost use Rattle.std.specs.Prelude.{◌≡◌, ◌≤◌, ◌<◌, ◌+◌, ◌*◌, true, length, take, drop, replicate, sum_by, IfOk, IsTrue};
+ghost use Rattle.std.specs.Int.Count.{ones};
+ghost use Rattle.kleene_filter.specs.Blocks.{AreRowsIn};
 ghost use Rattle.kleene_filter.specs.Filters.{AreKept, AreSettled, AreSettledBeside};
 
-use plane_kernels::{Block, Mask};
+use plane_kernels::{Mask, count_ones};
 use std::alloc::{AllocError, Global};
 
 // The rows at which a condition holds for certain, and those at which it may hold.
@@ -22,11 +24,11 @@ pub(crate) struct KeptTruths {
     pub(crate) possible: u64,
 }
 
-// How many rows of a block are certain, and how many are possible.
+// The rows of a block that are certain, and those that are possible.
 #[derive(Clone, Copy)]
-pub(crate) struct BlockCounts {
-    pub(crate) certain: u64,
-    pub(crate) possible: u64,
+pub(crate) struct BlockRows {
+    pub(crate) certain: [u64; 8],
+    pub(crate) possible: [u64; 8],
 }
 
 // The mask with each row or with none.
@@ -47,17 +49,31 @@ fn are_same(words: &[u64; 8], others: &[u64; 8]) -> bool
     words == others
 }
 
+// How many rows a mask has of which so many were counted, after those of a block changed. A plane moves rows of one mask alone where one
+// comparison reads its column.
+pub(crate) fn recounted(count: u64, old: &[u64; 8], new: &[u64; 8]) -> u64
+    requires counted { sum_by ones old.now ≤ count }
+    requires few { count ≤ 16777216 }
+    requires some { sum_by ones new.now ≤ 16777216 }
+    ensures { result + sum_by ones old.now ≡ count + sum_by ones new.now }
+{
+    if are_same(old, new) {
+        return count;
+    }
+    count + count_ones(new) - count_ones(old)
+}
+
 impl TruthMasks {
-    // How many rows each mask has in a block of 512.
-    pub(crate) fn counts_in(&self, block: usize) -> BlockCounts
+    // The rows of a block of 512 that each mask has.
+    pub(crate) fn rows_in(&self, block: usize) -> BlockRows
         requires must { 512 * block < length self.now.must }
         requires may { 512 * block < length self.now.may }
-        ensures certain { result.certain ≡ count_by (λ b. b) (take 512 (drop (512 * block) self.now.must)) }
-        ensures possible { result.possible ≡ count_by (λ b. b) (take 512 (drop (512 * block) self.now.may)) }
+        ensures certain { AreRowsIn self.now.must block result.certain }
+        ensures possible { AreRowsIn self.now.may block result.possible }
     {
-        BlockCounts {
-            certain: Block::of_mask(&self.must, block).count(),
-            possible: Block::of_mask(&self.may, block).count(),
+        BlockRows {
+            certain: self.must.block(block),
+            possible: self.may.block(block),
         }
     }
 
