@@ -3,7 +3,7 @@
 
 parts.py PARTS REPORTS [--width W] [--rounds N]  prints the combined report of PARTS parts; each line of REPORTS is a tag, a tab and a line
                                                  of that part's report. A refusal is told on standard error, with status 9. As the program,
-                                                 it takes no extremes of dates and texts
+                                                 it takes no extremes of texts
 parts.py --certain [COUNT [SEED]]                cuts tables made by chance into parts, combines the parts' reports in several orders of
                                                  their lines, and looks whether each interval holds what the uncut table answers
 parts.py --program DAQ [COUNT [SEED]]            loads the parts of such tables by the program DAQ, asks them side by side, combines them by it,
@@ -88,13 +88,14 @@ NOTHING = Known("always", 0, 0, None)
 
 
 def forms_of(kind, text, any_kind):
-    """The forms that the text of an item's answer may have; those of dates and texts only where any kind is read."""
+    """The forms that the text of an item's answer may have; that of texts only where any kind is read."""
     decimals = [len(part) - 1 for part in re.findall(r"\.\d+", text)][:1] or [0]
     if decimals[0] > 18:
         return []
     if kind == "AVG":
         return [ratio_form(decimals[0])]
-    return [number_form(decimals[0])] + ([DATES, TEXTS] if any_kind and kind in ("MIN", "MAX") else [])
+    values = [DATES] + ([TEXTS] if any_kind else [])
+    return [number_form(decimals[0])] + (values if kind in ("MIN", "MAX") else [])
 
 
 def order(kind, end):
@@ -462,10 +463,10 @@ def told_by(program, folder, texts, schema, sql, chance):
         return status, out.read().decode(), refusal, started
 
 
-def has_numbers_alone(sql, schema):
-    """Whether no extreme of the query is one of dates or texts."""
+def has_no_texts(sql, schema):
+    """Whether no extreme of the query is one of texts."""
     kinds = dict(item.split(":") for item in schema.split(","))
-    return all(kinds.get(name, "int")[:3] in ("int", "dec") for name in re.findall(r"(?:MIN|MAX)\((\w+)\)", sql))
+    return all(kinds.get(name, "int")[:3] != "tex" for name in re.findall(r"(?:MIN|MAX)\((\w+)\)", sql))
 
 
 def read_back(sql, text):
@@ -501,7 +502,7 @@ def by_program(program, count, seed):
         while number < count and wrong < 3:
             text, schema, columns = reports.some_table(chance)
             sql = some_query(chance, columns)
-            if not has_numbers_alone(sql, schema):
+            if not has_no_texts(sql, schema):
                 continue
             number += 1
             found = faults_of_program(program, folder, chance, text, schema, sql, chance.choice([1, 2, 2, 3, 5, 8]))

@@ -1,5 +1,5 @@
 -- What reports show is what is read back, as statements. A public function with an empty body has each as its contract.
-use Rattle.std.specs.Prelude.{◌≡◌, ◌≢◌, ℕ, ◌<◌, ◌≤◌, ◌^◌, pos, ◌≤ℤ◌, List, FitsSigned}
+use Rattle.std.specs.Prelude.{◌≡◌, ◌≢◌, ℕ, ◌<◌, ◌≤◌, ◌^◌, pos, ◌≤ℤ◌, FitsSigned}
 use Rattle.std.specs.Int.{w128}
 use Rattle.std.specs.declared.option.Option.{Option}
 use Rattle.std.specs.declared.option.Option.TheVariants.{Some, None}
@@ -7,7 +7,8 @@ use Rattle.daq_report.specs.Intervals.{bound_text, column_of}
 use Rattle.daq_report.specs.Intervals as report
 use Rattle.daq_table.specs.declared.head.ColumnHead.{ColumnHead}
 use Rattle.daq_table.specs.declared.head.Kind.{Kind}
-use Rattle.daq_table.specs.declared.head.Kind.TheVariants.{Int, Dec, Date, Text}
+use Rattle.daq_table.specs.declared.head.Kind.TheVariants.{Int, Dec, Text}
+use Rattle.daq_table.specs.declared.head.Kind.TheVariants as kinds
 use Rattle.daq_table.specs.declared.table_head.Head.{Head}
 use Rattle.interval_calc.specs.Intervals.{Fraction}
 use Rattle.query_model.specs.Bounds.{AverageBound}
@@ -19,51 +20,54 @@ use Rattle.query_model.specs.declared.query.Face.TheVariants.{Number, OfColumn}
 use Rattle.query_model.specs.declared.query.TypedQuery.{TypedQuery}
 use Rattle.report_text.specs.Averages.{IsShownAverage, average_text, no_ratio}
 use Rattle.report_text.specs.Bounds.{IsShown, shown_text}
+use Rattle.report_text.specs.Forms.{HasTextsIn}
 use Rattle.report_text.specs.declared.averages.Ratio.{Ratio}
 use Rattle.report_text.specs.declared.averages.ShownAverage.{ShownAverage}
 use Rattle.report_text.specs.declared.bounds.ShownBound.{ShownBound}
+use Rattle.report_text.specs.declared.forms.Form.{Form}
+use Rattle.report_text.specs.declared.forms.Form.TheVariants.{Date, Decimals}
 
--- the decimals of the numbers of a kind; dates and texts are no numbers
-abbrev pub decimals_of_kind : Kind → Option ℕ
-decimals_of_kind Int = Some 0
-decimals_of_kind (Dec scale) = Some scale
-decimals_of_kind Date = None
-decimals_of_kind Text = None
+-- the form in which values of a kind are shown; texts have none of these
+abbrev pub form_of_kind : Kind → Option Form
+form_of_kind Int = Some (Decimals 0)
+form_of_kind (Dec scale) = Some (Decimals scale)
+form_of_kind kinds.Date = Some Date
+form_of_kind Text = None
 
-abbrev pub decimals_of_column : Option ColumnHead → Option ℕ
-decimals_of_column None = None
-decimals_of_column (Some column) = decimals_of_kind column.kind
+abbrev pub form_of_column : Option ColumnHead → Option Form
+form_of_column None = None
+form_of_column (Some column) = form_of_kind column.kind
 
--- the decimals of the numbers that a face shows
-abbrev pub decimals_of_face : Head → TypedQuery → Face → Option ℕ
-decimals_of_face head query (Number scale) = Some scale
-decimals_of_face head query (OfColumn c) = decimals_of_column (column_of head query c)
+-- the form of what a face shows
+abbrev pub form_of_face : Head → TypedQuery → Face → Option Form
+form_of_face head query (Number scale) = Some (Decimals scale)
+form_of_face head query (OfColumn c) = form_of_column (column_of head query c)
 
 -- ---- bounds
 
-abbrev pub shown_by : Nullity → ℕ → Bound → ShownBound
-shown_by Never decimals bound = record { decimals = decimals; bound = record { null = Never; lo = bound.lo; hi = bound.hi } }
-shown_by Possibly decimals bound = record { decimals = decimals; bound = record { null = Possibly; lo = bound.lo; hi = bound.hi } }
-shown_by Always decimals bound = record { decimals = 0; bound = record { null = Always; lo = pos 0; hi = pos 0 } }
+abbrev pub shown_by : Nullity → Form → Bound → ShownBound
+shown_by Never form bound = record { form = form; bound = record { null = Never; lo = bound.lo; hi = bound.hi } }
+shown_by Possibly form bound = record { form = form; bound = record { null = Possibly; lo = bound.lo; hi = bound.hi } }
+shown_by Always form bound = record { form = Decimals 0; bound = record { null = Always; lo = pos 0; hi = pos 0 } }
 
 -- what a line says of a bound: where there is no answer no ends
-abbrev pub shown_of : ℕ → Bound → ShownBound
-shown_of decimals bound = shown_by bound.null decimals bound
+abbrev pub shown_of : Form → Bound → ShownBound
+shown_of form bound = shown_by bound.null form bound
 
 abbrev pub BoundsAreShown : Type 0
 BoundsAreShown =
-    (head : Head) (query : TypedQuery) (face : Face) (decimals : ℕ) (bound : Bound) →
-    decimals_of_face head query face ≡ Some decimals → bound_text head query face bound ≡ shown_text (shown_of decimals bound)
+    (head : Head) (query : TypedQuery) (face : Face) (form : Form) (bound : Bound) →
+    form_of_face head query face ≡ Some form → bound_text head query face bound ≡ shown_text (shown_of form bound)
 
--- numbers of 128 bits in order, with decimals that a column may have
-pub record IsPlainBound (decimals : ℕ) (bound : Bound) : Type 0 where
-  pub few : decimals ≤ 18
+-- numbers of 128 bits in order, which have texts in the form
+pub record IsPlainBound (form : Form) (bound : Bound) : Type 0 where
+  pub texts : HasTextsIn form bound
   pub low : FitsSigned w128 bound.lo
   pub high : FitsSigned w128 bound.hi
   pub ordered : bound.null ≢ Always → bound.lo ≤ℤ bound.hi
 
 abbrev pub BoundsCanBeRead : Type 0
-BoundsCanBeRead = (decimals : ℕ) (bound : Bound) → IsPlainBound decimals bound → IsShown (shown_of decimals bound)
+BoundsCanBeRead = (form : Form) (bound : Bound) → IsPlainBound form bound → IsShown (shown_of form bound)
 
 -- ---- averages
 
@@ -81,7 +85,7 @@ average_of decimals bound = average_by bound.null decimals bound
 abbrev pub AveragesAreShown : Type 0
 AveragesAreShown =
     (head : Head) (query : TypedQuery) (face : Face) (decimals : ℕ) (bound : AverageBound) →
-    decimals_of_face head query face ≡ Some decimals → report.average_text head query face bound ≡ average_text (average_of decimals bound)
+    form_of_face head query face ≡ Some (Decimals decimals) → report.average_text head query face bound ≡ average_text (average_of decimals bound)
 
 -- a number of 128 bits over a count of 64 bits that is not 0
 pub record IsPlainFraction (ratio : Fraction) : Type 0 where

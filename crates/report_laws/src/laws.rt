@@ -2,7 +2,7 @@
 
 ghost use Rattle.report_laws.specs.Laws.{AveragesAreShown, AveragesCanBeRead, BoundsAreShown, BoundsCanBeRead};
 
-/// Where the ends of an answer are numbers, the text that a report shows of its bound is the one that is read back.
+/// Where the ends of an answer are numbers or dates, the text that a report shows of its bound is the one that is read back.
 pub fn bounds_are_shown()
     ensures { BoundsAreShown }
 {}

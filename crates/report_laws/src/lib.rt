@@ -1,4 +1,4 @@
-//! What reports show and what is read back: where the ends of an answer are numbers, these are the same, both ways.
+//! What reports show and what is read back: where the ends of an answer are numbers or dates, these are the same, both ways.
 #![tactic(auto)]
 
 mod laws;

@@ -7,17 +7,19 @@ ghost use Rattle.query_model.specs.Bounds.{AverageBound};
 ghost use Rattle.query_model.specs.declared.bounds.Bound.{Bound};
 ghost use Rattle.query_model.specs.declared.query.Face.{Face};
 ghost use Rattle.query_model.specs.declared.query.TypedQuery.{TypedQuery};
-ghost use Rattle.report_laws.specs.Laws.{IsPlainAverage, IsPlainBound, average_of, decimals_of_face, shown_of};
+ghost use Rattle.report_laws.specs.Laws.{IsPlainAverage, IsPlainBound, average_of, form_of_face, shown_of};
 ghost use Rattle.report_text.specs.Averages.{IsShownAverage};
 ghost use Rattle.report_text.specs.Bounds.{IsShown};
+ghost use Rattle.report_text.specs.declared.forms.Form.{Form};
+ghost use Rattle.report_text.specs.declared.forms.Form.TheVariants.{Decimals};
 
 use report_text::{ShownAverage, ShownBound, read_average, read_bound};
 
-/// What the text says of an answer: of each bound whose text a report shows so, under a face of numbers, it is that bound.
+/// What the text says of an answer: of each bound whose text a report shows so, under a face of numbers or dates, it is that bound.
 pub fn read_report_bound(text: &[u8]) -> Option<ShownBound>
-    ensures { (head : Head) (query : TypedQuery) (face : Face) (decimals : ℕ) (bound : Bound)
-        → decimals_of_face head query face ≡ Some decimals → IsPlainBound decimals bound
-        → bound_text head query face bound ≡ text.now → result ≡ Some (shown_of decimals bound) }
+    ensures { (head : Head) (query : TypedQuery) (face : Face) (form : Form) (bound : Bound)
+        → form_of_face head query face ≡ Some form → IsPlainBound form bound
+        → bound_text head query face bound ≡ text.now → result ≡ Some (shown_of form bound) }
 {
     read_bound(text)
 }
@@ -25,7 +27,7 @@ pub fn read_report_bound(text: &[u8]) -> Option<ShownBound>
 /// The same of an average.
 pub fn read_report_average(text: &[u8]) -> Option<ShownAverage>
     ensures { (head : Head) (query : TypedQuery) (face : Face) (decimals : ℕ) (bound : AverageBound)
-        → decimals_of_face head query face ≡ Some decimals → IsPlainAverage decimals bound
+        → form_of_face head query face ≡ Some (Decimals decimals) → IsPlainAverage decimals bound
         → average_text head query face bound ≡ text.now → result ≡ Some (average_of decimals bound) }
 {
     read_average(text)

@@ -6,7 +6,7 @@ use report_parts::{
     Until, all_have_block, combine_item, end_behind, have_all_ended, is_narrow, may_end,
     written_block, written_opening,
 };
-use report_text::{Answer, Number, Ratio, ReportEnd, ShownAverage, ShownBound};
+use report_text::{Answer, Form, Number, Ratio, ReportEnd, ShownAverage, ShownBound};
 use std::alloc::{AllocError, Global};
 
 const QUERY: &[u8] = b"query SELECT SUM(price), COUNT(*) FROM t";
@@ -23,7 +23,7 @@ fn part_of(alloc: Global, lines: &[&[u8]]) -> Result<Part, LineFault> {
 
 fn value_within(null: Nullity, lo: i128, hi: i128) -> Answer {
     Answer::Value(ShownBound {
-        decimals: 0,
+        form: Form::Decimals(0),
         bound: Bound { null, lo, hi },
     })
 }

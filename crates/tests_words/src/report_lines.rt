@@ -2,13 +2,17 @@
 
 use query_model::{Bound, ItemKind, Nullity};
 use report_text::{
-    Answer, Number, Ratio, ReportEnd, ShownAverage, ShownBound, is_round_line, read_average,
+    Answer, Form, Number, Ratio, ReportEnd, ShownAverage, ShownBound, is_round_line, read_average,
     read_bound, read_end, read_item, read_parts, text_of_item,
 };
 
 fn bound(decimals: u8, null: Nullity, lo: i128, hi: i128) -> Option<ShownBound> {
+    bound_in(Form::Decimals(decimals), null, lo, hi)
+}
+
+fn bound_in(form: Form, null: Nullity, lo: i128, hi: i128) -> Option<ShownBound> {
     Some(ShownBound {
-        decimals,
+        form,
         bound: Bound { null, lo, hi },
     })
 }
@@ -36,6 +40,36 @@ fn bounds_are_read_as_they_stand(rt: HostRuntime) {
         ),
         bound(0, Nullity::Never, i128::MIN, i128::MAX)
     );
+}
+
+#[test]
+fn dates_are_read_as_they_stand(rt: HostRuntime) {
+    let date = Form::Date;
+    assert_eq!(rt;
+        read_bound(b"[2024-02-29, 2024-03-01]"),
+        bound_in(date, Nullity::Never, 19782, 19783)
+    );
+    assert_eq!(rt;
+        read_bound(b"[0000-01-01, 9999-12-31] or null"),
+        bound_in(date, Nullity::Possibly, -719528, 2932896)
+    );
+    assert_eq!(rt;
+        read_bound(b"1969-12-31"),
+        bound_in(date, Nullity::Never, -1, -1)
+    );
+    let others: [&[u8]; 5] = [
+        b"2023-02-29",
+        b"2024-2-29",
+        b"[2024-03-01, 2024-02-29]",
+        b"[2024-02-29, 20240301]",
+        b"10000-01-01",
+    ];
+    for text in others {
+        assert!(rt; read_bound(text).is_none());
+    }
+    assert!(rt; read_item(ItemKind::Max, 1, b"1 2024-02-29").is_some());
+    assert!(rt; read_item(ItemKind::Sum, 1, b"1 2024-02-29").is_none());
+    assert!(rt; read_item(ItemKind::Count, 1, b"1 2024-02-29").is_none());
 }
 
 #[test]
@@ -113,7 +147,7 @@ fn an_item_is_read_by_its_kind(rt: HostRuntime) {
     assert_eq!(rt;
         read_item(ItemKind::Sum, 2, b"2 [3, 4] or null"),
         Some(Answer::Value(ShownBound {
-            decimals: 0,
+            form: Form::Decimals(0),
             bound: Bound {
                 null: Nullity::Possibly,
                 lo: 3,

@@ -39,8 +39,7 @@ CombineAccepts c told text = (bytes : List ℕ) × (told ≡ Some bytes) × AreR
 -- ---- what becomes of a `combine`
 
 -- where the report of each part is certain of an item over the part's own rows, so is each block that is printed over the rows of all parts
--- together: it contains the answer, lies within the block before, and is the answer where each part says its own. Of an average it
--- contains the answer
+-- together: it contains the answer, lies within the block before, and is the answer where each part says its own
 pub record AreCertainTogether (kinds : List ItemKind) (parts : List Told) : Type 0 where
   pub items : (item : ℕ) (kind : ItemKind) (tables : List (List ℤ)) (round : ℕ) → kind ≢ Avg → slice_get kinds item ≡ Some kind →
       AreCertainOf item kind parts tables → IsCertainIn round item kind kinds parts tables
