@@ -2,7 +2,7 @@
 """Checks what the documents say of the repository, without a built program; tests/examples.py runs the commands that stand in them.
 
 Links lead to files and headings; each definition, edit, name and crate that a page names is there; the limits are those of the source; each
-command and option stands in every list of them; and the README keeps to its length.
+command and option stands in every list of them; the README keeps to its length; and the list of definitions is what definitions.py finds.
 
 documents.py prints a line for each fault, and ends with 0 only where there is none.
 """
@@ -10,6 +10,8 @@ import glob
 import os
 import re
 import sys
+
+import definitions
 
 TOP = os.path.dirname(os.path.dirname(os.path.abspath(__file__)))
 FOLDERS = ("", "docs", "docs/proof", "examples", "companion")
@@ -215,7 +217,7 @@ def main():
     readme, manual = read("README.md"), read("docs/daq.1")
     faults += [*wrong_limits(), *other_limits("README.md", re.search(r"^- \*\*Limits.*$", readme, re.M)[0]), *other_limits("docs/csv.md", read("docs/csv.md"))]
     faults += [*other_limits("docs/daq.1", manual[manual.index(".Sh LIMITS") : manual.index(".Sh FILES")]), *long_readme(), *uneven_lists()]
-    faults += other_version()
+    faults += [*other_version(), *definitions.stale()]
     print("\n".join(faults) or "ok: links, names, edits, crates, limits, commands and options are there")
     sys.exit(bool(faults))
 
