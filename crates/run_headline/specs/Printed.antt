@@ -1,0 +1,51 @@
+-- The report of totals: a line of the query, a block for each round with a line for each item, and why the rounds ended.
+use Rattle.std.specs.Prelude.{◌≡◌, ℕ, zero, suc, ◌≤◌, false, List, [], ◌++◌, codes, decimal, length, slice_get}
+use Rattle.std.specs.declared.option.Option.{Option}
+use Rattle.std.specs.declared.option.Option.TheVariants.{Some, None}
+use Rattle.command_line.specs.Commands.{Options}
+use Rattle.daq_cli.specs.Report.{ending_line, query_line}
+use Rattle.daq_report.specs.Intervals.{name_of}
+use Rattle.daq_table.specs.Tables.{ends_at, frame_of, planes}
+use Rattle.plane_schedule.specs.declared.policy.Ending.{Ending}
+use Rattle.sql_headline.specs.Lined.{lines_of}
+use Rattle.sql_meaning.specs.Answers.{asked}
+use Rattle.sql_text.specs.Tree.{Item}
+use Rattle.run_headline.specs.Answers.{Holds}
+use Rattle.table_rounds.specs.Rounds.{column_read}
+use Rattle.run_headline.specs.Readings.{Reading, count_read, last_round}
+
+-- the blocks of the rounds below a number
+abbrev pub blocks_before : (ℕ → List ℕ) → ℕ → List ℕ
+blocks_before block zero = []
+blocks_before block (suc round) = blocks_before block round ++ block round
+
+-- the text has a line of the query, the blocks of all rounds up to the last, and the line of their end
+pub record HasBlocks (block : ℕ → List ℕ) (last : ℕ) (text : List ℕ) : Type 0 where
+  pub query : List ℕ
+  pub ending : Ending
+  pub is : text ≡ query_line query ++ (blocks_before block last ++ (block last ++ ending_line ending))
+
+-- the column that a round read, by its name, and how many of its planes are read, of how many; round 0 reads none
+abbrev pub column_text : Reading → ℕ → Option ℕ → List ℕ
+column_text reading round None = []
+column_text reading round (Some column) =
+    codes " " ++ (name_of (slice_get reading.head.columns column) ++ (codes " " ++ (decimal (count_read reading round column) ++
+    (codes "/" ++ decimal (planes (ends_at (frame_of reading.head) column))))))
+
+-- the block has the line of its round, and for each item a line with its text; behind such a line there are lines besides where
+-- `--clip` or `--exact-avg` is given, and else none
+pub record HasLines (reading : Reading) (options : Options) (round : ℕ) (texts : List (List ℕ)) (block : List ℕ) : Type 0 where
+  pub besides : List (List ℕ)
+  pub alone : options.clip ≡ false → options.exact ≡ false → besides ≡ []
+  pub is : block ≡ (codes "round " ++ (decimal round ++ (column_text reading round (column_read reading.columns round) ++ codes "\n")))
+      ++ lines_of 1 texts besides
+
+-- the text is the report of a query without GROUP BY and ORDER BY: the texts of its lines show intervals that hold the answers
+pub record IsReport (reading : Reading) (options : Options) (text : List ℕ) : Type 0 where
+  pub block : ℕ → List ℕ
+  pub texts : ℕ → List (List ℕ)
+  pub blocks : HasBlocks block (last_round reading) text
+  pub lines : (round : ℕ) → round ≤ last_round reading → HasLines reading options round (texts round) (block round)
+  pub as_many : (round : ℕ) → round ≤ last_round reading → length (texts round) ≡ length (asked reading.text.head)
+  pub holds : (place : ℕ) (item : Item) → slice_get (asked reading.text.head) place ≡ Some item →
+      Holds reading item (λ round. slice_get (texts round) place)
