@@ -82,7 +82,7 @@ def recipes(folder):
         # Each line goes on with what the ones before made, but for the second way to write a timestamp.
         given = given if "strptime" in line else made
     asked = "SELECT COUNT(*), MIN(time), SUM(paid), SUM(price), SUM(rebate), SUM(rate) FROM t"
-    printed = shown("./daq ask my.csv time:date,paid:int,price:dec2,rebate:int?,rate:dec9 '%s' | tail -n 7\n" % asked, folder)
+    printed = shown("./daq ask my.csv id:skip,time:date,paid:int,price:dec2,rebate:int?,rate:dec9,comment:skip '%s' | tail -n 7\n" % asked, folder)
     yield "docs/csv.md: the CSV that is prepared", printed, "1 2\n2 2024-02-29\n3 1\n4 1241.50\n5 5\n6 0.101000000\nend narrow\n"
 
 

@@ -196,9 +196,13 @@ def interval_text(interval: Interval) -> str:
     return (ends or "-") + (" or null" if interval.null == "maybe" else "")
 
 
+# Relative widths above 1,000 % are not shown.
+MOST_SHOWN = 10
+
+
 def percent_text(part: Optional[Fraction]) -> str:
-    """A relative width in percent with two or more digits, rounded up; nothing where it is not known."""
-    if part is None:
+    """A relative width in percent with two or more digits, rounded up; nothing where it is not known, or so large that it says nothing."""
+    if part is None or part > MOST_SHOWN:
         return ""
     if not part:
         return "0 %"

@@ -17,7 +17,7 @@ from .report import Block
 from .result import Result, end_text
 from .table import POLICIES, Asked
 
-HELP = "q stops, the space bar pauses and goes on, s shows the next block, p goes on with another policy"
+HELP = "q stops, space pauses, s steps, p takes the next policy"
 # How long a key may wait until it is looked at.
 SECONDS = 0.05
 
