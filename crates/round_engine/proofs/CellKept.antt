@@ -30,7 +30,7 @@ use Rattle.round_engine.specs.CellAnswers.{AreGroups, HoldGroups, HasRoom, HaveC
 use Rattle.round_engine.specs.Cells.{cells_in}
 use Rattle.round_engine.specs.KeptProducts.{AreKeptProducts}
 use Rattle.round_engine.specs.KeptSums.{columns_of as columns_at}
-use Rattle.round_engine.specs.Moves.{AreMoved, is_marked, is_moved}
+use Rattle.round_engine.specs.Moves.{AreMoved, is_moved}
 use Rattle.round_engine.specs.OneCell.{HoldMasks}
 use Rattle.round_engine.specs.Stages.{IsOpenQuery, IsOpenShape, IsOpenStage, Stage, stepped}
 use Rattle.round_engine.proofs.CellRows.{groups_within}
@@ -193,18 +193,6 @@ stand_still before c bits item running rows_stay unread stand =
     }
 
 -- ---- marks
-
--- where all are marked, room is enough
-pub all_for_others : (stage : Stage) (marks : List Bool) (runnings : List Tallies) → ((i : ℕ) → i < length stage.query.items → is_marked marks i ≡ true) → HaveCells stage.query.items (most_cells stage) runnings → StandForOthers stage marks runnings
-all_for_others stage marks runnings all have = record {
-  count = have.count;
-  each = λ i item running at_item at_running.
-      (let here = have.each i item running at_item at_running in
-      record {
-        has_room = record { kind = here.0; room = here.1 };
-        stands = λ unmarked. absurd (unmarked (all i (slice_get_within stage.query.items i item at_item)));
-      });
-}
 
 -- what the column does not move stands still
 pub moved_for_others : (before : Stage) (c : ℕ) (bits marks : List Bool) (runnings : List Tallies) → moves_rows before.query c ≡ false → AreMoved before.query c marks → StandForEach before runnings → StandForOthers (stepped before c bits) marks runnings

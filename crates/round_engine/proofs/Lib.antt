@@ -11,6 +11,7 @@ pub mod MaskTruths
 pub mod Narrow
 pub mod Declared
 pub mod Places
+pub mod PresenceCounts
 pub mod Unmoved
 pub mod Covers
 pub mod Walks

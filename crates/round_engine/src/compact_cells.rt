@@ -78,7 +78,8 @@ fn sum_block(
     let values = ShortValues::read(&item.arg, columns, number);
     let may = filter.may().word(number) & values.possible;
     let must = filter.must().word(number) & values.sure;
-    for row in 64 * number..(64 * number + 64).min(columns.rows()) {
+    let end = (64 * number + 64).min(columns.rows());
+    for row in 64 * number..end {
         let cell = cells.cell_of(row);
         let perhaps = has_bit(may, row % 64);
         let surely = has_bit(must, row % 64);

@@ -5,8 +5,9 @@ ghost use Rattle.kleene_filter.specs.Filters.{truths_under};
 ghost use Rattle.known_column.specs.KnownTables.{unread_table};
 ghost use Rattle.query_model.specs.declared.query.ItemKind.TheVariants.{Avg};
 ghost use Rattle.product_sums.specs.KeptProducts.{IsKeptProduct};
+ghost use Rattle.query_model.specs.Answers.{every_row};
 ghost use Rattle.query_model.specs.Bounds.{fractions_of};
-ghost use Rattle.round_engine.specs.CellAnswers.{AreGroups, HasCell, HasItem, HasRoom, HoldGroups};
+ghost use Rattle.round_engine.specs.CellAnswers.{AreGroups, HasCell, HasItem, HasRoom, HaveCells, HoldGroups, most_cells};
 ghost use Rattle.round_engine.specs.CellAnswers.{IsParted, StandForCells, StandForEach, StandForOthers, WereGroups};
 ghost use Rattle.row_groups.specs.Partition.{is_legal_cell, ranges_in, ranges_of_cell};
 ghost use Rattle.round_engine.specs.Cells.{absence_in_cell, average_in_cell, bound_in_cell, cells_in, parts_in};
@@ -23,6 +24,7 @@ use crate::kept_products::open_products;
 use crate::moved::{moved_items, moves_rows};
 use crate::one_cell::CellMasks;
 use crate::one_key::tell_single;
+use crate::presence_counts::copy_each;
 use crate::totals::is_by_masks;
 use aggregates::Running;
 use kleene_filter::Filter;
@@ -130,6 +132,38 @@ fn fill_each(
     }
 }
 
+// Adds all rows of each item anew. COUNT(*) is told by the rows that were counted of each cell.
+fn fill_all(
+    query: &TypedQuery,
+    columns: &LentColumns<'_>,
+    filter: &Filter,
+    block: &mut RowBlock,
+    cells: &Cells,
+    single: &[bool],
+    presence: &Running,
+    masks: &mut CellMasks,
+    runnings: &mut [Running],
+    products: &mut [Option<KeptProduct>],
+)
+    requires open_stage { IsOpenStage (stage_of query.now columns.now) }
+    requires judged { filter.now.truths ≡ truths_under query.now.pred columns.now }
+    requires same { block.old.frame.columns ≡ columns.now.frame.columns }
+    requires parted { IsParted (stage_of query.now columns.now) cells.now single.now }
+    requires presence { StandForCells (stage_of query.now columns.now) every_row presence.now }
+    requires masks { HoldMasks columns.now.frame.rows masks.old }
+    requires room { HaveCells query.now.items (most_cells (stage_of query.now columns.now)) runnings.old }
+    requires products { AreKeptProducts columns.now query.now.items products.old }
+    ensures products { AreKeptProducts columns.now query.now.items products.new }
+    ensures same { block.new.frame.columns ≡ columns.now.frame.columns }
+    ensures masks { HoldMasks columns.now.frame.rows masks.new }
+    ensures stand { StandForEach (stage_of query.now columns.now) runnings.new }
+{
+    let others = copy_each(query, columns, cells, presence, runnings);
+    fill_each(
+        query, columns, filter, block, cells, single, &others, masks, runnings, products,
+    );
+}
+
 impl Groups {
     // Room for the cells of a query of whose columns nothing is read. All of it is taken here.
     pub(crate) fn open(
@@ -189,15 +223,14 @@ impl Groups {
             &mut self.presence,
             &mut None,
         );
-        let all = [true; 16];
-        fill_each(
+        fill_all(
             query,
             columns,
             filter,
             block,
             &self.cells,
             &self.single,
-            &all,
+            &self.presence,
             &mut self.masks,
             &mut self.runnings,
             &mut self.products,

@@ -28,6 +28,7 @@ mod moved;
 mod narrowness;
 mod one_cell;
 mod one_key;
+mod presence_counts;
 mod progress;
 mod ranking;
 mod rankings;
