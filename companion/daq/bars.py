@@ -59,7 +59,10 @@ def mean_column(title: str) -> Optional[str]:
 
 
 class Chart:
-    """Draws the blocks of one query. The scale of an item is what its first block leaves open, of the average of a column its values."""
+    """Draws the blocks of one query. The scale of an item is what its first block leaves open, of the average of a column its values.
+
+    Groups are parts of a table: where their counts or sums take less than a quarter of the scale, it is cut to them, with 0.
+    """
 
     def __init__(self, columns: Sequence[Column]) -> None:
         self._columns = {column.name: column for column in columns}
@@ -71,6 +74,8 @@ class Chart:
         rows = rows_of(block)
         for row in rows:
             self._widen(row)
+        for title in {_scale_name(row) for row in rows if row.keys and row.item.startswith(("COUNT(", "SUM("))}:
+            self._cut(title, [row for row in rows if _scale_name(row) == title and row.low is not None])
         return rows
 
     def ends(self, row: Row) -> Optional[tuple[float, float]]:
@@ -98,6 +103,12 @@ class Chart:
             return
         least, greatest = self._spans.get(title, (low, high))
         self._spans[title] = (min(least, low), max(greatest, high))
+
+    def _cut(self, title: str, rows: Sequence[Row]) -> None:
+        span = min([0, *(row.low for row in rows)]), max([0, *(row.high for row in rows)])
+        least, greatest = self._spans.get(title, span)
+        if 4 * (span[1] - span[0]) < greatest - least:
+            self._spans[title] = span
 
     def _rows(self, rows: Sequence[Row], width: int) -> list[str]:
         names, texts = [printable(row_name(row)) for row in rows], [row_text(row) for row in rows]

@@ -58,6 +58,13 @@ class Bars(unittest.TestCase):
         lines = Chart([column]).lines(read(GROUPS)[1][0], 100)
         self.assertRegex(lines[2], r"AVG\(qty\) +\|<:+>\|")
 
+    def test_the_scale_of_groups_is_cut_to_them(self):
+        text = ("query SELECT city, SUM(price) FROM t GROUP BY city\nround 0\ngroup 'Bern'..'Rome' possible\n1 [3, 480] or null\n"
+                "round 1 city 1/1\ngroup 'Bern' present\n1 [20, 40]\ngroup 'Rome' present\n1 [30, 60]\nend rounds\n")
+        chart = Chart([])
+        ends = [[chart.ends(row) for row in chart.rows(block)] for block in read(text)[1]]
+        self.assertEqual(ends, [[(0, 1)], [(1 / 3, 2 / 3), (0.5, 1)]])
+
     def test_no_line_is_too_long_and_hidden_rows_are_counted(self):
         lines = Chart([]).lines(read(GROUPS)[1][1], 40, 4)
         self.assertEqual((len(lines), max(map(len, lines)) <= 40, lines[-1]), (4, True, "2 more rows"))
@@ -99,7 +106,8 @@ class Commands(FakeTest):
     def test_load(self):
         with open(self.path("my.csv"), "w", encoding="utf-8") as file:
             file.write("id;price;city\n1;NA;Oslo\n2;7;Rome\n")
-        loaded = {"made": "new", "out": "loaded 2 rows, 2 columns, 2 planes, 100 bytes\n", "log": self.path("log"), "copy": self.path("given.csv")}
+        loaded = {"made": "new", "out": "loaded 2 rows, 2 columns, 2 planes, 100 bytes\n", "log": self.path("log"),
+                  "copy": self.path("given.csv")}
         self.scene(load=loaded, info={"out": "version 2 rows 2 columns 2\ncolumn 1 price int? width 0 from 7 to 7\n"
                                              "column 2 city text width 1 from 'Oslo' to 'Rome'\n"})
         ran = self.view("load", self.path("my.csv"), self.path("my.daq"), "--skip", "id", "--null", "NA", "--delimiter", ";")
