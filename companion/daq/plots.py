@@ -37,8 +37,11 @@ def _end(value: Any) -> Any:
 
 
 def _draw_rounds(area: Any, rows: Sequence[Row]) -> None:
-    lows, highs = [_end(row.low) for row in rows], [_end(row.high) for row in rows]
-    area.fill_between([row.round for row in rows], lows, highs, step="post", alpha=0.5)
+    """A band between the ends, with lines that show where it is thinner than a dot."""
+    planes, lows, highs = [row.round for row in rows], [_end(row.low) for row in rows], [_end(row.high) for row in rows]
+    area.fill_between(planes, lows, highs, step="post", alpha=0.5)
+    for ends in (lows, highs):
+        area.step(planes, ends, where="post", color="C0", linewidth=1.5)
     area.set_xlabel("planes read")
 
 
