@@ -86,8 +86,8 @@ fn all_steps(level: Level, known: &Known, may: &Mask, step: i128) -> i128
     times(level.count(known, may), step)
 }
 
-// How far the shares of an end of the sum move where the clip cuts the numbers at that end: those of the rows whose prefix is that of
-// the clip's own number. Rows that surely pass have no number beyond it.
+// How far an end of the sum moves where the clip cuts it: only rows whose prefix is that of the clip's own number move. Rows that surely
+// pass have no number beyond it.
 fn sum_move(end: End, engine: &EngineView<'_>, item: usize, clip: Clip) -> i128
     requires item { item < length engine.now.query.items }
     requires clip { IfSome (slice_get engine.now.query.items item) (λ i. clip_of engine.now.query i ≡ Some clip) }

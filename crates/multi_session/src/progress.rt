@@ -131,9 +131,9 @@ fn told_of(members: &[Member], columns: &Columns, width: u64) -> ColumnUses
 }
 
 impl Session {
-    /// How far the session has come: of its columns the planes that some query awaits, those that are read, what these queries read them
-    /// for, and whether they give values; at how many rows the conditions of the queries that are not finished are unknown, and at how many
-    /// they may hold, all added; and the number of steps.
+    /// How far the session has come. Of each column: the planes that some query awaits, those that are read, what these queries read them
+    /// for, and whether they give values. Of the queries that are not finished, added: at how many rows their conditions are unknown, and
+    /// at how many they may hold. And the number of steps.
     pub fn progress(&self) -> Progress
         ensures progress { IsSessionProgress self.now result }
         ensures unread { (column : ℕ) → IsUnread (outlook_of result) column → IsUnread (session_outlook self.now) column }

@@ -160,8 +160,8 @@ impl Session {
         self.members[query].own(self.columns.places[column])
     }
 
-    /// A query that is not finished, or to which the last step went. It stands as it would alone, whatever the other queries are:
-    /// after the planes of its own columns that were read up to its first narrow round.
+    /// What is known of a query that is not finished, or whose block the last step wrote. Other queries do not change it: it is that of
+    /// the planes of its own columns, read up to its first narrow round.
     pub fn view(&self, query: usize) -> EngineView<'_>
         requires query { query < length self.now.stages }
         requires current { (slice_get self.now.moved query ≡ Some true)

@@ -27,7 +27,7 @@ pub trait Running {
     ghost rows: { Self → ℕ };
     /// What a policy sees.
     ghost outlook: { Self → Outlook };
-    /// The table's column that a column of its own is.
+    /// Which column of the table each of its own columns is.
     ghost place: { Self → ℕ → ℕ };
     /// The number of the next plane of a column of its own.
     ghost number: { Self → ℕ → ℕ };

@@ -40,7 +40,7 @@ impl<T: Drop> From<AllocFailed<T>> for LineFault {
     }
 }
 
-/// Why a line of the input is refused. Of several faults that which is named first here is answered.
+/// Why a line of the input is refused. Of several faults the one that stands first here is answered.
 #[derive(Debug, PartialEq, Eq, Drop, Error)]
 pub enum InputFault {
     /// No tab stands in it.
@@ -108,7 +108,7 @@ impl From<BlockFault> for CourseFault {
     }
 }
 
-/// Why the input may not end. Of both faults that which is named first is answered.
+/// Why the input may not end. Of both the one that stands first is answered.
 #[derive(Clone, Copy, Debug, PartialEq, Eq, Drop, Error)]
 pub enum EndFault {
     /// The report of the part at that place ends early, and no earlier part's.
@@ -149,7 +149,7 @@ impl<T: Drop> From<AllocFailed<T>> for BlockFault {
     }
 }
 
-/// Why the answers of parts are not combined. Of several faults that which is named first here is answered.
+/// Why the answers of parts are not combined. Of several faults the one that stands first here is answered.
 #[derive(Debug, PartialEq, Eq, Drop, Error)]
 pub enum CombineFault {
     /// The numbers of two parts have other decimals.

@@ -20,8 +20,8 @@ pub fn reports_are_answered()
     kinds_are_one();
 }
 
-/// Where an input tells bytes that are refused behind lines that are right, nothing but that refusal stops the report, or want of memory
-/// and faults of devices do.
+/// Where right lines are followed by bytes that are refused, only that refusal stops the report, unless memory runs out or a device
+/// fails.
 pub fn faults_are_told()
     ensures { FaultsAreTold }
 {

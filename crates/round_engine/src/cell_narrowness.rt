@@ -56,7 +56,7 @@ impl Groups {
         }
     }
 
-    // Whether each cell is narrow. A cell without a row that may count is told by its count.
+    // Whether each cell is narrow. Its count tells that a cell has no row that may count.
     pub(crate) fn is_narrow(&self, width: u64) -> bool
         requires answers { AreSomeGroups self.now }
         requires width { width < 2 ^ 63 }
