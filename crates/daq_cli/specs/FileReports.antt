@@ -34,7 +34,8 @@ PlaneCause head opened last fault =
 abbrev pub seen_in : Head → List ℕ → Seen
 seen_in head bytes = seen_by (plane_places head) (IsUnpadded head bytes)
 
--- what becomes of a course over the store of a file with that head, where it tells its bytes, behind a line
+-- what becomes of a course over the store of a file with that head, where it tells its bytes, behind a line: by the result, *Finishes*,
+-- *Fails* or *Stops*, of the rounds that are shown over the file's planes, from the output `out` to `out'`
 abbrev pub EndsFile : List ℕ → (Planes → Shown) → Head → Result (Unit {0}) (Stop PlaneFault) → StoreState → StoreState
     → SinkState → SinkState → Type 0
 EndsFile line shown head result opened last out out' =

@@ -98,7 +98,8 @@ pub record Seen : Type 1 where
 abbrev pub seen_by : Places → OfPlanes → Seen
 seen_by places shows = record { places = places; shows = shows }
 
--- all rounds were written, and the places of their planes handed over, each of which shows what is said of a plane that was read
+-- all rounds were written, and the places of their planes handed over, each of which shows what is said of a plane that was read. `old` and
+-- `new` are the output before and after, `from` and `to` what the source has handed over before and after
 pub record Finishes (line : List ℕ) (shown : Shown) (seen : Seen) (old new : SinkState) (from to : Option (List ℕ)) : Type 0 where
   pub reads : List ℕ
   pub rounds : AreAllReads shown.course reads
@@ -147,7 +148,8 @@ EndsTold line shown told seen causes result old new from to =
 
 -- ---- what holds of each source, told or not
 
--- the causes of a source that was the first one, and is the last: it fails after it handed over these places
+-- the causes of a source that was the first one, and is the last: it fails after it handed over these places. So a refusal is told of the
+-- plane at which the rounds stopped, behind all that was read before
 abbrev pub FailsSince : {S E : Type 0} → (S → Option (List ℕ)) → (S → S → Type 0) → (S → S → Causes E) → S → S → CausesAfter E
 FailsSince handed since fails first last at column number error =
     (mid : _) × since first mid × (handed mid ≡ at) × fails mid last column number error
@@ -159,7 +161,8 @@ HasStopCause causes (Err Failed) old new = Rose old.faults new.faults
 HasStopCause causes (Err (Step fault)) old new =
     OnFailed fault (λ error. (at : Option (List ℕ)) × (column : ℕ) × (number : ℕ) × causes at column number error)
 
--- rounds over some planes, which come to this, were written behind a line
+-- rounds over some planes, which come to this, were written behind a line. It is what can be said of a source that tells no planes: what
+-- was written is the text of such rounds, whatever the planes are
 pub record WritesOverSome (line : List ℕ) (shown : Planes → Shown) (come : Option Ending → Type 0) (old new : SinkState) : Type 0 where
   pub bits : Planes
   pub reads : List ℕ

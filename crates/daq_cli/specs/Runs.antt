@@ -188,7 +188,8 @@ Uses words one = (command : Command) × IsCommand words command × IsTrue (uses 
 abbrev pub IsUnwritten : WorldState → WorldState → Type 0
 IsUnwritten before after = (after.made ≡ before.made) × (after.out ≡ before.out)
 
--- the words are a `query` whose rounds can begin, a `session` whose steps can, or a `combine` whose report can
+-- the words are a `query` whose rounds can begin, a `session` whose steps can, or a `combine` whose report can. It says when anything may
+-- be written at all, and so takes whichever state the file is opened in; what was written then is said by the cause of the refusal
 pub data BeginsRounds (words : List (List ℕ)) (before : WorldState) : Type 0 where
   in_query : (q : line.Query) (opened : StoreState) → IsCommand words (query q) → Begins q before.planes opened → BeginsRounds words before
   in_session : (s : Session) (read : SourceState) (opened : StoreState) → IsCommand words (session s) →
@@ -212,11 +213,14 @@ abbrev pub FailsInRounds : List (List ℕ) → Status → WorldState → WorldSt
 FailsInRounds words status before after =
     BeginsRounds words before × Rose before.out.faults after.out.faults × IsTold WriteFault status before.err after.err
 
--- the run tells of the refusal, or that memory ran out; or a read failed, or the write of a report before the plane that is refused
+-- a device failed before the refusal came: a read, or the write of a report before the plane that is refused
+abbrev pub FailsBefore : List (List ℕ) → Status → WorldState → WorldState → Type 0
+FailsBefore words status before after = ReadFails words before after ⊎ FailsInRounds words status before after
+
+-- the run tells of the refusal, or that memory ran out, or a device failed before
 abbrev pub EndsSo : List (List ℕ) → Refusal → Status → WorldState → WorldState → Type 0
 EndsSo words why status before after =
-    IsTold why status before.err after.err ⊎ IsTold NoMemory status before.err after.err ⊎ ReadFails words before after
-    ⊎ FailsInRounds words status before after
+    IsTold why status before.err after.err ⊎ IsTold NoMemory status before.err after.err ⊎ FailsBefore words status before after
 
 -- a write failed
 abbrev pub WriteFails : List (List ℕ) → WorldState → WorldState → Type 0

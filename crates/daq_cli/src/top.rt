@@ -83,7 +83,7 @@ pub fn run<S: Source, P: Store, K: Sink>(
     ensures stays { (device : Device) → ¬ Uses words.now device → IsSame device world.old world.new }
     ensures untouched { IsRefused words.now → (device : Device) → IsSame device world.old world.new }
     ensures aside { IsRefusedAside words.now world.old → (device : Device) → device ≢ side → IsSame device world.old world.new }
-    // But for a failed write, and for rounds that can begin, nothing was written.
+    // But for a failed write, and for rounds that can begin, nothing was written: a refusal before the rounds leaves no text.
     ensures early { result ≢ Status.Done → result ≢ Status.WriteFault
         → IsUnwritten world.old world.new ⊎ BeginsRounds words.now world.old }
     ensures quiet { result ≡ Status.Done → world.new.err ≡ world.old.err }
