@@ -123,6 +123,8 @@ class Watch:
             return "stopped"
         finally:
             self._feed.stop()
+            if self._key:
+                self._draw(are_keys_shown=False)
 
     def _end(self) -> str:
         return end_text(Result(self._last.query, [self._last], self._question.end)) if self._last else ""
@@ -139,11 +141,11 @@ class Watch:
             self._feed, self._steps = Feed(self._question), 1
         self._draw()
 
-    def _draw(self) -> None:
+    def _draw(self, are_keys_shown: bool = True) -> None:
         if self._last is None:
             return
         state = "paused" if self._paused else "running"
-        foot = "%s, policy %s: %s" % (state, self._question.policy, HELP) if self._key else ""
+        foot = "%s, policy %s: %s" % (state, self._question.policy, HELP) if self._key and are_keys_shown else ""
         last = self._last
         self._screen.draw(lambda width, height: self._chart.lines(last, width, height), foot)
 

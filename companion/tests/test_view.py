@@ -178,8 +178,9 @@ class Terminal(FakeTest):
     def test_a_block_takes_the_place_of_the_one_before(self):
         self.play(pause=0.05)
         status, shown = self.watched()
-        self.assertEqual((status, shown.count("\x1b[3A")), (0, 4))
+        self.assertEqual((status, shown.count("\x1b[3A")), (0, 5))
         self.assertIn("running, policy widest: q stops", shown)
+        self.assertNotIn("q stops", shown.rpartition("\x1b[3A")[2])
         self.assertTrue(shown.endswith("4 planes read, finished\r\n"), shown)
 
     def test_pause_waits_for_keys(self):
