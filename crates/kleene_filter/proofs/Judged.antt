@@ -7,8 +7,8 @@ use Rattle.std.proofs.lemmas.Simd.{get_or-chunk}
 use Rattle.query_model.specs.Queries.{Condition}
 use Rattle.query_model.specs.declared.bounds.Truth.{Truth}
 use Rattle.known_column.specs.KnownTables.{KnownTable}
-use Rattle.plane_kernels.specs.Rows.{block_rows, digit_at}
-use Rattle.kleene_filter.specs.Blocks.{bit_in, IsPut}
+use Rattle.plane_kernels.specs.Rows.{block_rows, digit_at, rows_of}
+use Rattle.kleene_filter.specs.Blocks.{bit_in, AreRowsIn, IsPut}
 use Rattle.kleene_filter.specs.Filters.{truth_at, is_certain, is_possible, AreJudged, AreRightWhereSame, AreSettled, AreSettledBeside, HasBits, IsJudged, IsWritten}
 
 -- ---- rows from one to another
@@ -112,6 +112,12 @@ is_settled one must may undecided beside same = record {
     | inr apart ↦ beside.same block j h apart (sym (get_or-set_other undecided one block false false apart) ∙ off)
   ];
 }
+
+-- a block of which both masks have the same rows
+pub same_rows : (block : ℕ) (must may : List Bool) (certain possible : List ℕ) → AreRowsIn must block certain → AreRowsIn may block possible → length may ≡ length must → certain ≡ possible →
+    take 512 (drop (512 * block) must) ≡ take 512 (drop (512 * block) may)
+same_rows block must may certain possible here there long same =
+    sym here.are ∙ ap (rows_of (block_rows (length must) block)) same ∙ ap (λ k. rows_of (block_rows k block) possible) (sym long) ∙ there.are
 
 -- ---- counts
 

@@ -1,5 +1,5 @@
 -- Rows parted by their prefixes, plane by plane, and the sides of their blocks.
-use Rattle.std.proofs.Common.{◌≡◌, ℕ, ℤ, suc, ◌+◌, ◌-◌, ◌*◌, ◌^◌, ◌<◌, ◌≤◌, ◌==◌, nat_lt, min, Bool, true, false, not, ◌&&◌, ◌||◌, List, [], ◌∷◌, length, map, replicate, take, drop, get_or, slice_get, cond, if◌then◌else◌, Some, None, IsTrue, refl, ap, sym, subst, ◌∙◌, arith}
+use Rattle.std.proofs.Common.{◌≡◌, ◌⊎◌, inl, inr, ℕ, ℤ, suc, ◌+◌, ◌-◌, ◌*◌, ◌^◌, ◌<◌, ◌≤◌, ◌==◌, nat_lt, min, Bool, true, false, not, ◌&&◌, ◌||◌, List, [], ◌∷◌, length, map, replicate, take, drop, get_or, slice_get, cond, if◌then◌else◌, Some, None, IsTrue, refl, ap, sym, subst, ◌∙◌, arith}
 use Rattle.std.specs.Prelude.{nat_abs, ◌-ℤ◌}
 use Rattle.std.specs.List.{position, position_or_len}
 use Rattle.std.proofs.lemmas.Bool.{eqb-true, false≢true}
@@ -14,12 +14,14 @@ use Rattle.plane_kernels.specs.Rows.{bits_of, block_rows, digit_at, kept_rows}
 use Rattle.plane_kernels.proofs.RowLemmas.{get-bits_of}
 use Rattle.daq_table.specs.declared.head.Ends.{Ends}
 use Rattle.daq_table.specs.Tables.{code, first_code, planes, spread}
+use Rattle.query_model.specs.declared.bounds.Nullity.{Nullity}
 use Rattle.query_model.specs.declared.bounds.Nullity.TheVariants.{Always, Never, Possibly}
 use Rattle.query_model.specs.declared.bounds.Truth.{Truth}
 use Rattle.query_model.specs.declared.query.Comparison.{Comparison}
 use Rattle.query_model.specs.Knowledge.{IsLegal, bit_at, longer, prefix_of, range_of}
 use Rattle.query_model.specs.Meaning.{compares}
-use Rattle.query_model.specs.Truths.{may_be_null, may_be_number, truth_over}
+use Rattle.query_model.specs.declared.bounds.Truth.TheVariants.{False, Unknown, True}
+use Rattle.query_model.specs.Truths.{may_be_null, may_be_number, truth_over, truths_from, truths_over}
 use Rattle.known_column.specs.Columns.{KnownColumn, missing_at, numbers_at, range_at, rows_of_column, rows_where}
 use Rattle.known_column.specs.RowBlocks.{IsKnownColumn}
 use Rattle.known_column.proofs.CodeDigits.{prefix_further, spread_small}
@@ -30,7 +32,7 @@ use Rattle.known_column.proofs.Steps.{equal_further}
 use Rattle.kleene_filter.specs.declared.parted.BlockSides.{BlockSides}
 use Rattle.kleene_filter.specs.declared.parted.Sides.{Sides}
 use Rattle.kleene_filter.specs.declared.parted.Sides.TheVariants as sides
-use Rattle.kleene_filter.specs.Blocks.{bit_in}
+use Rattle.kleene_filter.specs.Blocks.{at_best, bit_in}
 use Rattle.kleene_filter.specs.Parted.{cell_with, equal_at, greater_holds, is_level, is_passed, less_holds, others_hold, passed_at, passed_rows, AreBlockSides, HasRow, HasSides, IsAtEqual, IsBetweenEnds, IsTruthAt, ReadFurther}
 use Rattle.kleene_filter.proofs.SideTruths.{IsTold, told_all_less, told_all_greater, told_parted}
 
@@ -249,3 +251,39 @@ row_told column op value s block r own has known few on some =
     let equal = on.equal r (omega arith) inside in
     subst (λ b. IsTold own.at_equal truth b (bit_in r own.equal)) (sym passed)
     (subst (λ b. IsTold own.at_equal truth (passed_at op s row) b) (sym equal) (told_sides column op value s row own.at_equal has known (omega arith) on.at_equal some))
+
+-- ---- comparisons that hold at best
+
+-- where no other numbers compare so, no row passed
+passed_none : (column : KnownColumn) (op : Comparison) (value : ℤ) (s : Sides) (row : ℕ) → HasSides column op value s → row < rows_of_column column → less_holds op ≡ false → greater_holds op ≡ false → passed_at op s row ≡ false
+passed_none column op value sides.AllLess row has below less greater = less
+passed_none column op value (sides.Parted parted) row has below less greater =
+    let p = get_or column.known.prefixes row 0 in
+    let m = prefix_of column.ends column.known.read (cell_with value column.ends) in
+    row_where (is_passed op value) column parted.passed row has.passed below
+    ∙ ap (λ b. (b && nat_lt p m) || (greater_holds op && nat_lt m p)) less ∙ ap (λ b. b && nat_lt m p) greater
+passed_none column op value sides.AllGreater row has below less greater = greater
+
+-- a test of a number of which nothing is known where a bit is 1, and which fails where it is 0
+told_at_best : (null : Nullity) (t : Truth) (equal : Bool) → may_be_null null ≡ false → IsTold Unknown t false equal → truths_from null t ≡ at_best equal
+told_at_best Never False false never told = refl
+told_at_best Never False true never told = absurd (false≢true (sym told.hold))
+told_at_best Never Unknown false never told = absurd (false≢true told.hold)
+told_at_best Never Unknown true never told = refl
+told_at_best Never True false never told = absurd (false≢true told.hold)
+told_at_best Never True true never told = absurd (false≢true (sym told.fail))
+told_at_best Possibly t equal never told = absurd (false≢true (sym never))
+told_at_best Always t equal never told = absurd (false≢true (sym never))
+
+pub side_at_best : (column : KnownColumn) (op : Comparison) (value : ℤ) (s : Sides) (row : ℕ) → HasSides column op value s → IsKnownColumn column → row < rows_of_column column → IsAtEqual s Unknown →
+    less_holds op ≡ false → greater_holds op ≡ false → column.ends.nullable ≡ false → truths_over (range_at column row) (λ x. compares op x value) ≡ at_best (equal_at s row)
+side_at_best column op value s row has known below is less greater plain =
+    let never = never_null column row plain in
+    let truth = truth_over (numbers_at column row) (λ x. compares op x value) in
+    told_at_best (missing_at column row) truth (equal_at s row) never.1
+    (subst (λ b. IsTold Unknown truth b (equal_at s row)) (passed_none column op value s row has below less greater) (told_sides column op value s row Unknown has known below is never.0))
+
+-- past the column's ends no row has the number's own prefix
+pub beyond_ends : (s : Sides) (row : ℕ) → (s ≡ sides.AllLess) ⊎ (s ≡ sides.AllGreater) → (equal_at s row ≡ false) × IsAtEqual s Unknown
+beyond_ends s row (inl is) = subst (λ (s : Sides). (equal_at s row ≡ false) × IsAtEqual s Unknown) (sym is) (refl, tt)
+beyond_ends s row (inr is) = subst (λ (s : Sides). (equal_at s row ≡ false) × IsAtEqual s Unknown) (sym is) (refl, tt)

@@ -1,5 +1,6 @@
 -- Sets of truths of the rows of a block of 512, and some of its rows: a bit for each row, in eight words.
-use Rattle.std.specs.Prelude.{◌≡◌, ℕ, ◌+◌, ◌*◌, ◌/◌, ◌%◌, ◌≤◌, ◌<◌, ℤ, Bool, false, not, IsTrue, List, length, take, drop, slice_index_or}
+use Rattle.std.specs.Prelude.{◌≡◌, ℕ, ◌+◌, ◌*◌, ◌/◌, ◌%◌, ◌≤◌, ◌<◌, ℤ}
+use Rattle.std.specs.Prelude.{Bool, true, false, not, IsTrue, List, length, take, drop, slice_index_or}
 use Rattle.plane_kernels.specs.Rows.{block_rows, digit_at, rows_of, IsPadded}
 use Rattle.query_model.specs.declared.bounds.Truths.{Truths}
 use Rattle.query_model.specs.Truths.{is_false, is_true, may_be_number, truth_over, truths_over}
@@ -17,7 +18,15 @@ pub record HasTruths (row : ℕ) (truths : Truths) (block : BlockTruths) : Type 
   pub fail : bit_in row block.may_fail ≡ truths.may_fail
   pub null : bit_in row block.may_be_null ≡ truths.may_be_null
 
--- so for the rows of a block from one to another
+-- the truths of a condition that may fail in any case, is not null, and may hold at best
+abbrev pub at_best : Bool → Truths
+at_best may_hold = record { may_hold = may_hold; may_fail = true; may_be_null = false }
+
+-- such are its truths at the first rows of a block, and it may hold at these of them
+abbrev pub HoldsAtBest : ℕ → (ℕ → Truths) → List ℕ → Type 0
+HoldsAtBest count at rows = (row : ℕ) → row < count → at row ≡ at_best (bit_in row rows)
+
+-- the bits of the rows of a block from one to another are their truths
 abbrev pub AreTruthsFrom : ℕ → ℕ → (ℕ → Truths) → BlockTruths → Type 0
 AreTruthsFrom from to at block = (row : ℕ) → from ≤ row → row < to → HasTruths row (at row) block
 

@@ -88,7 +88,8 @@ pub record AreRowsOf (table : KnownTable) (place : Place) (other : KnownTable) :
   pub first : place.first ≤ 16777216
   pub within : place.first + place.to ≤ other.frame.rows + 64 * place.word
   pub ranges : (row : ℕ) → 64 * place.word ≤ row → row < place.to →
-      ranges_of other.frame other.known (place.first + (row - 64 * place.word)) ≡ ranges_of table.frame table.known (512 * place.block + row)
+      ranges_of other.frame other.known (place.first + (row - 64 * place.word))
+      ≡ ranges_of table.frame table.known (512 * place.block + row)
 
 -- masks of these atoms were added to those that stood there
 pub record AddsMasks (old new : List AtomMasks) (atoms : List Atom) (table : KnownTable) : Type 0 where

@@ -52,7 +52,8 @@ greater_holds Ge = true
 
 -- all numbers of the prefix compare so with the number, whose own prefix is less or greater
 abbrev pub is_passed : Comparison → ℤ → Ends → ℕ → ℕ → Bool
-is_passed op value ends read prefix = (less_holds op && is_less value ends read prefix) || (greater_holds op && is_greater value ends read prefix)
+is_passed op value ends read prefix =
+    (less_holds op && is_less value ends read prefix) || (greater_holds op && is_greater value ends read prefix)
 
 -- the rows whose digit is not the number's compare so
 abbrev pub others_hold : Comparison → Bool → Bool

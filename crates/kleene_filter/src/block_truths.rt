@@ -3,7 +3,7 @@
 ghost use Rattle.std.specs.Prelude.{◌≡◌, ◌≢◌, ◌≤◌, ◌<◌, ◌+◌, ◌-◌, ◌*◌, ◌/◌, ℕ, true, false};
 ghost use Rattle.query_model.specs.declared.bounds.Truths.{Truths};
 ghost use Rattle.query_model.specs.Truths.{and_over, not_over, or_over, truth_among};
-ghost use Rattle.kleene_filter.specs.Blocks.{bit_in, AreTruthsFrom, HasTruths};
+ghost use Rattle.kleene_filter.specs.Blocks.{at_best, bit_in, AreTruthsFrom, HasTruths};
 ghost use Rattle.kleene_filter.specs.Filters.{is_certain};
 ghost use Rattle.kleene_filter.specs.Words.{AreTruthsAt};
 
@@ -75,6 +75,17 @@ pub(crate) fn or(left: &BlockTruths, right: &BlockTruths) -> BlockTruths
             &both(&left.may_be_null, &null_or_false),
             &both(&left.may_fail, &right.may_be_null),
         ),
+    }
+}
+
+// Beside another condition that may fail in any case, is nowhere null, and may hold at these rows: it only adds them.
+pub(crate) fn or_at_best(truths: &BlockTruths, rows: &[u64; 8]) -> BlockTruths
+    ensures { (row : ℕ) (t : Truths) → row < 512 → HasTruths row t truths.now
+        → HasTruths row (or_over t (at_best (bit_in row rows.now))) result }
+{
+    BlockTruths {
+        may_hold: either(&truths.may_hold, rows),
+        ..*truths
     }
 }
 

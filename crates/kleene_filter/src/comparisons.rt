@@ -1,9 +1,12 @@
 //! Comparisons of a column with one number or with two, which follow the column plane by plane.
 
-ghost use Rattle.std.specs.Prelude.{◌≡◌, ◌<◌, ◌*◌, length, IfOk};
+ghost use Rattle.std.specs.Prelude.{◌≡◌, ◌<◌, ◌*◌, ◌+◌, length, IfOk, IfSome};
+ghost use Rattle.plane_kernels.specs.Rows.{block_rows};
 ghost use Rattle.query_model.specs.Meaning.{between, compares};
+ghost use Rattle.query_model.specs.Truths.{truths_over};
+ghost use Rattle.known_column.specs.Columns.{range_at};
 ghost use Rattle.known_column.specs.KnownTables.{column_at, IsKnownTable};
-ghost use Rattle.kleene_filter.specs.Blocks.{AreTruthsInTable};
+ghost use Rattle.kleene_filter.specs.Blocks.{AreTruthsInTable, HoldsAtBest};
 ghost use Rattle.kleene_filter.specs.Masks.{IsCompared, IsRanged, KeepsTest, Was};
 
 use crate::block_truths::{BlockTruths, and};
@@ -78,6 +81,20 @@ impl Compared {
     {
         let column = columns.column(self.column);
         self.sides.truths(self.op, self.value, column, block)
+    }
+
+    // The rows of a block at which the comparison may hold, where it may fail in any case and is nowhere null.
+    pub(crate) fn at_best(&self, columns: &LentColumns<'_>, block: usize) -> Option<[u64; 8]>
+        requires within { self.now.column < length columns.now.frame.columns }
+        requires compared { IsCompared self.now columns.now }
+        requires known { IsKnownTable columns.now }
+        requires block { 512 * block < columns.now.frame.rows }
+        ensures { IfSome result (HoldsAtBest (block_rows columns.now.frame.rows block)
+            (λ r. truths_over (range_at (column_at columns.now self.now.column) (512 * block + r))
+            (λ x. compares self.now.op x self.now.value))) }
+    {
+        let column = columns.column(self.column);
+        self.sides.at_best(self.op, self.value, column, block)
     }
 }
 

@@ -17,7 +17,7 @@ use crate::judging::{Place, pred_truths};
 use crate::lanes::write_block;
 use crate::masks::{AtomMasks, is_untouched};
 use crate::reads::pred_reads;
-use crate::truth_masks::{KeptTruths, TruthMasks, even_mask, recounted, settle};
+use crate::truth_masks::{KeptTruths, TruthMasks, even_mask, recounted};
 use known_column::{LentColumns, RowBlock, blocks_have_their_rows};
 use plane_kernels::{Mask, Plane};
 use query_model::Pred;
@@ -227,7 +227,9 @@ fn decide_block(
     let after = truths.masks.rows_in(block);
     truths.certain = recounted(truths.certain, &before.certain, &after.certain);
     truths.possible = recounted(truths.possible, &before.possible, &after.possible);
-    settle(&mut truths.undecided, &truths.masks, block);
+    if after.are_decided() {
+        truths.undecided.set(block, false);
+    }
 }
 
 // Sets each row's bits by what is known of the condition there, block by block. Before, bits that are the same are right: a block that

@@ -1,18 +1,19 @@
 //! What is known of a condition at rows of a block of 512.
 
-ghost use Rattle.std.specs.Prelude.{◌≡◌, ◌<◌, ◌≤◌, ◌*◌, ◌+◌, ◌-◌, length};
+ghost use Rattle.std.specs.Prelude.{◌≡◌, ◌<◌, ◌≤◌, ◌*◌, ◌+◌, ◌-◌, length, IfSome};
+ghost use Rattle.plane_kernels.specs.Rows.{block_rows};
 ghost use Rattle.query_model.specs.Knowledge.{ranges_of};
 ghost use Rattle.query_model.specs.Meaning.{AtomReadsBelow, PredReadsBelow};
 ghost use Rattle.query_model.specs.Queries.{condition_of};
 ghost use Rattle.query_model.specs.Truths.{truths_of_atom};
 ghost use Rattle.known_column.specs.KnownTables.{IsKnownTable};
-ghost use Rattle.kleene_filter.specs.Blocks.{AreTruthsFrom};
+ghost use Rattle.kleene_filter.specs.Blocks.{AreTruthsFrom, HoldsAtBest};
 ghost use Rattle.kleene_filter.specs.Filters.{truths_at};
 ghost use Rattle.kleene_filter.specs.Masks.{atoms_of, AreMasksOf, AreRowsOf, Follows};
 ghost use Rattle.kleene_filter.specs.Words.{AreTruthsAt};
 
 use crate::atoms::atom_at;
-use crate::block_truths::{self, BlockTruths, all, and, not, or};
+use crate::block_truths::{self, BlockTruths, all, and, not, or, or_at_best};
 use crate::masks::AtomMasks;
 use crate::nulls::null_truths;
 use crate::words::{self, TruthWords};
@@ -89,6 +90,49 @@ fn atom_truths<R: KnownRows>(
     }
 }
 
+// The rows of a block at which an atom may hold, where it may fail in any case and is nowhere null.
+fn atom_at_best(
+    atom: &Atom,
+    masks: &AtomMasks,
+    columns: &LentColumns<'_>,
+    block: usize,
+) -> Option<[u64; 8]>
+    requires columns { AtomReadsBelow (length columns.now.frame.columns) atom.now }
+    requires follows { Follows masks.now atom.now columns.now }
+    requires known { IsKnownTable columns.now }
+    requires block { 512 * block < columns.now.frame.rows }
+    ensures { IfSome result (HoldsAtBest (block_rows columns.now.frame.rows block)
+        (λ row. truths_of_atom atom.now (ranges_of columns.now.frame columns.now.known (512 * block + row)))) }
+{
+    match masks {
+        AtomMasks::Compared(compared) => compared.at_best(columns, block),
+        AtomMasks::ByRows | AtomMasks::Null { .. } | AtomMasks::Ranged(_) | AtomMasks::Member(_) =>
+            None,
+    }
+}
+
+// The same for a condition that is an atom, whose masks stand at a place.
+fn pred_at_best(
+    pred: &Pred,
+    masks: &[AtomMasks],
+    at: usize,
+    columns: &LentColumns<'_>,
+    block: usize,
+) -> Option<[u64; 8]>
+    requires columns { PredReadsBelow (length columns.now.frame.columns) (condition_of pred.now) }
+    requires masks { AreMasksOf masks.now at (atoms_of (condition_of pred.now)) columns.now }
+    requires known { IsKnownTable columns.now }
+    requires block { 512 * block < columns.now.frame.rows }
+    ensures one { IfSome result (λ rows. length (atoms_of (condition_of pred.now)) ≡ 1) }
+    ensures rows { IfSome result (HoldsAtBest (block_rows columns.now.frame.rows block)
+        (λ row. truths_at (condition_of pred.now) columns.now (512 * block + row))) }
+{
+    match pred {
+        Pred::Atom(atom) => atom_at_best(atom, &masks[at], columns, block),
+        Pred::All | Pred::And(_, _) | Pred::Or(_, _) | Pred::Not(_) => None,
+    }
+}
+
 // The truths of a condition at rows of a block, and the place behind the masks of its atoms.
 #[derive(Clone, Copy)]
 pub(crate) struct Judged {
@@ -133,6 +177,12 @@ pub(crate) fn pred_truths<R: KnownRows>(
         }
         Pred::Or(a, b) => {
             let left = pred_truths(a, masks, at, columns, rows, place);
+            if let Some(added) = pred_at_best(b, masks, left.next, columns, place.block) {
+                return Judged {
+                    truths: or_at_best(&left.truths, &added),
+                    next: left.next + 1,
+                };
+            }
             let right = pred_truths(b, masks, left.next, columns, rows, place);
             Judged {
                 truths: or(&left.truths, &right.truths),

@@ -1,9 +1,9 @@
 //! The rows at which a condition holds for certain, and those at which it may, with the blocks of 512 that are not decided.
 
-ghost use Rattle.std.specs.Prelude.{◌≡◌, ◌≤◌, ◌<◌, ◌+◌, ◌*◌, true, length, take, drop, replicate, sum_by, IfOk, IsTrue};
+ghost use Rattle.std.specs.Prelude.{◌≡◌, ◌≤◌, ◌<◌, ◌+◌, ◌*◌, length, replicate, sum_by, IfOk, IsTrue};
 ghost use Rattle.std.specs.Int.Count.{ones};
 ghost use Rattle.kleene_filter.specs.Blocks.{AreRowsIn};
-ghost use Rattle.kleene_filter.specs.Filters.{AreKept, AreSettled, AreSettledBeside};
+ghost use Rattle.kleene_filter.specs.Filters.{AreKept};
 
 use plane_kernels::{Mask, count_ones};
 use std::alloc::{AllocError, Global};
@@ -76,28 +76,14 @@ impl TruthMasks {
             possible: self.may.block(block),
         }
     }
-
-    // Whether both masks have the same rows of a block of 512.
-    fn are_same_in(&self, block: usize) -> bool
-        requires rows { length self.now.may ≡ length self.now.must }
-        requires block { 512 * block < length self.now.must }
-        ensures { result ≡ true → take 512 (drop (512 * block) self.now.must) ≡ take 512 (drop (512 * block) self.now.may) }
-    {
-        let must = self.must.block(block);
-        let may = self.may.block(block);
-        are_same(&must, &may)
-    }
 }
 
-// Notes that a block is decided, if it is.
-pub(crate) fn settle(undecided: &mut Mask, masks: &TruthMasks, block: usize)
-    requires rows { length masks.now.may ≡ length masks.now.must }
-    requires block { 512 * block < length masks.now.must }
-    requires beside { AreSettledBeside block masks.now.must masks.now.may undecided.old }
-    ensures { AreSettled masks.now.must masks.now.may undecided.new }
-{
-    if masks.are_same_in(block) {
-        undecided.set(block, false);
+impl BlockRows {
+    // Whether the rows that are possible are those that are certain.
+    pub(crate) fn are_decided(&self) -> bool
+        ensures { IsTrue result → self.now.certain ≡ self.now.possible }
+    {
+        are_same(&self.certain, &self.possible)
     }
 }
 

@@ -1,4 +1,4 @@
-use Rattle.std.proofs.Common.{◌≡◌, ℕ, ◌+◌, ◌*◌, ◌≤◌, Bool, false, List, length, count_by, sum_by, get_or, refl, ◌∙◌, arith}
+use Rattle.std.proofs.Common.{◌≡◌, ℕ, ◌+◌, ◌*◌, ◌≤◌, Bool, false, List, length, count_by, sum_by, get_or, refl, sym, subst, ◌∙◌, arith}
 use Rattle.std.specs.Int.Count.{ones}
 use Rattle.std.proofs.lemmas.Option.{get_or_from_slice_get}
 use Rattle.std.proofs.lemmas.List.Sums.{count_by-le-length}
@@ -6,9 +6,12 @@ use Rattle.query_model.specs.declared.bounds.Truth.{Truth}
 use Rattle.query_model.specs.Queries.{Condition, condition_of}
 use Rattle.known_column.specs.KnownTables.{KnownTable}
 use Rattle.kleene_filter.specs.Blocks.{AreRowsIn}
-use Rattle.kleene_filter.specs.Filters.{is_certain, is_possible, AreJudged}
+use Rattle.kleene_filter.specs.declared.truth_masks.BlockRows.{BlockRows}
+use Rattle.kleene_filter.specs.declared.truth_masks.KeptTruths.{KeptTruths}
+use Rattle.kleene_filter.specs.declared.truth_masks.TruthMasks.{TruthMasks}
+use Rattle.kleene_filter.specs.Filters.{is_certain, is_possible, AreJudged, AreKept, AreSettled}
 use Rattle.kleene_filter.proofs.BlockBits.{rows_counted}
-use Rattle.kleene_filter.proofs.Judged.{counted_within, decided, recounted, settled_beside}
+use Rattle.kleene_filter.proofs.Judged.{counted_within, decided, is_settled, recounted, same_rows, settled_beside, stays_open}
 use Rattle.kleene_filter.proofs.filter.decide_block.Goals as goal
 
 pub returns-then-not-get-clause-must : goal.returns-then-not-get-clause-must
@@ -35,13 +38,6 @@ returns-then-not-get-clause-may c =
 
 pub returns-then-not-get-clause-same : goal.returns-then-not-get-clause-same
 returns-then-not-get-clause-same c = λ row first. c.requires.same row (omega (arith, first))
-
-pub settle-requires-clause-beside : goal.settle-requires-clause-beside
-settle-requires-clause-beside c =
-    let old = c.args.truths.now in
-    let new = c.judge_block.new.truths in
-    settled_beside (condition_of c.args.pred.now) c.args.columns.now c.args.block old.masks.must old.masks.may new.must new.may old.undecided c.requires.kept.settled
-    (get_or_from_slice_get old.undecided c.args.block c.get.result false c.get.ensures ∙ c.if-not-get.false) c.judge_block.ensures.must c.judge_block.ensures.may
 
 -- a mask has the rows of its blocks, and what is counted moves by those of a block
 few_in : (block count : ℕ) (mask : List Bool) (rows : List ℕ) → count ≡ count_by (λ b. b) mask → AreRowsIn mask block rows → sum_by ones rows ≤ count
@@ -78,16 +74,41 @@ pub recounted-truths-requires-2-clause-some : goal.recounted-truths-requires-2-c
 recounted-truths-requires-2-clause-some c =
     few_there c.args.block c.args.truths.now.masks.may c.judge_block.new.truths.may c.rows_in-after.result.possible c.rows_in-after.ensures.possible c.judge_block.ensures.may.rows (omega (arith, c.requires.may, c.rows-rows.ensures.known.few_rows))
 
-pub returns-clause-kept : goal.returns-clause-kept
-returns-clause-kept c =
-    let pred = condition_of c.args.pred.now in
-    let table = c.args.columns.now in
+-- what is kept once the block is judged, whether it is decided or not
+kept : (pred : Condition) (table : KnownTable) (block : ℕ) (old : KeptTruths) (new : TruthMasks) (undecided : List Bool) (before after : BlockRows) (certain possible : ℕ) → AreKept old → AreRowsIn old.masks.must block before.certain → AreRowsIn old.masks.may block before.possible →
+    AreRowsIn new.must block after.certain → AreRowsIn new.may block after.possible → certain + sum_by ones before.certain ≡ old.certain + sum_by ones after.certain → possible + sum_by ones before.possible ≡ old.possible + sum_by ones after.possible →
+    AreJudged is_certain pred table (512 * block) (512 * block + 512) old.masks.must new.must → AreJudged is_possible pred table (512 * block) (512 * block + 512) old.masks.may new.may → AreSettled new.must new.may undecided →
+    AreKept (record { masks = new; undecided = undecided; certain = certain; possible = possible })
+kept pred table block old new undecided before after certain possible was first second third fourth moved moved' judged judged' settled = record {
+  settled = settled;
+  certain = counted is_certain pred table block old.certain certain old.masks.must new.must before.certain after.certain was.certain first third moved judged;
+  possible = counted is_possible pred table block old.possible possible old.masks.may new.may before.possible after.possible was.possible second fourth moved' judged';
+}
+
+pub returns-then-are_decided-clause-kept : goal.returns-then-are_decided-clause-kept
+returns-then-are_decided-clause-kept c =
     let old = c.args.truths.now in
-    let new = c.judge_block.new.truths in
-    let before = c.rows_in-before in
+    let judged = c.judge_block in
     let after = c.rows_in-after in
-    record {
-      settled = c.settle.ensures;
-      certain = counted is_certain pred table c.args.block old.certain c.recounted-truths.result old.masks.must new.must before.result.certain after.result.certain c.requires.kept.certain before.ensures.certain after.ensures.certain c.recounted-truths.ensures c.judge_block.ensures.must;
-      possible = counted is_possible pred table c.args.block old.possible c.recounted-truths-2.result old.masks.may new.may before.result.possible after.result.possible c.requires.kept.possible before.ensures.possible after.ensures.possible c.recounted-truths-2.ensures c.judge_block.ensures.may;
-    }
+    let new = judged.new.truths in
+    let beside =
+    settled_beside (condition_of c.args.pred.now) c.args.columns.now c.args.block old.masks.must old.masks.may new.must new.may old.undecided c.requires.kept.settled
+    (get_or_from_slice_get old.undecided c.args.block c.get.result false c.get.ensures ∙ c.if-not-get.false) judged.ensures.must judged.ensures.may in
+    let same = same_rows c.args.block new.must new.may after.result.certain after.result.possible after.ensures.certain after.ensures.possible
+    (omega (arith, judged.ensures.must.rows, judged.ensures.may.rows, c.requires.must, c.requires.may)) (c.are_decided.ensures c.if-are_decided.true) in
+    kept (condition_of c.args.pred.now) c.args.columns.now c.args.block old new c.set.new.self c.rows_in-before.result after.result c.recounted-truths.result c.recounted-truths-2.result c.requires.kept
+    c.rows_in-before.ensures.certain c.rows_in-before.ensures.possible after.ensures.certain after.ensures.possible c.recounted-truths.ensures c.recounted-truths-2.ensures judged.ensures.must judged.ensures.may
+    (subst (λ (l : List Bool). AreSettled new.must new.may l) (sym c.set.ensures) (is_settled c.args.block new.must new.may old.undecided beside same))
+
+pub returns-else-are_decided-clause-kept : goal.returns-else-are_decided-clause-kept
+returns-else-are_decided-clause-kept c =
+    let old = c.args.truths.now in
+    let judged = c.judge_block in
+    let after = c.rows_in-after in
+    let new = judged.new.truths in
+    let beside =
+    settled_beside (condition_of c.args.pred.now) c.args.columns.now c.args.block old.masks.must old.masks.may new.must new.may old.undecided c.requires.kept.settled
+    (get_or_from_slice_get old.undecided c.args.block c.get.result false c.get.ensures ∙ c.if-not-get.false) judged.ensures.must judged.ensures.may in
+    kept (condition_of c.args.pred.now) c.args.columns.now c.args.block old new old.undecided c.rows_in-before.result after.result c.recounted-truths.result c.recounted-truths-2.result c.requires.kept
+    c.rows_in-before.ensures.certain c.rows_in-before.ensures.possible after.ensures.certain after.ensures.possible c.recounted-truths.ensures c.recounted-truths-2.ensures judged.ensures.must judged.ensures.may
+    (stays_open c.args.block new.must new.may old.undecided beside)
