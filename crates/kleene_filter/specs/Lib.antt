@@ -6,3 +6,4 @@ pub mod Parted
 pub mod Members
 pub mod Kept
 pub mod Masks
+pub mod Moved

@@ -10,14 +10,15 @@ ghost use Rattle.kleene_filter.specs.Blocks.{bit_in};
 ghost use Rattle.kleene_filter.specs.Filters.{is_certain, is_possible, is_unknown, truths_under, AreJudged, AreKept};
 ghost use Rattle.kleene_filter.specs.Filters.{AreRightWhereSame, AreSettled, AreUnread, IsJudged, IsWritten, StandsFor, StoodBefore};
 ghost use Rattle.kleene_filter.specs.Kept.{kept_by_all};
+ghost use Rattle.kleene_filter.specs.Moved.{AreMoved};
 ghost use Rattle.kleene_filter.specs.Masks.{atoms_of, AddsMasks, AreMasksOf, WereMasksOf};
 
 use crate::block_truths::must_hold;
 use crate::judging::{Place, pred_truths};
-use crate::lanes::write_block;
+use crate::lanes::renew_block;
 use crate::masks::{AtomMasks, is_untouched};
 use crate::reads::pred_reads;
-use crate::truth_masks::{KeptTruths, TruthMasks, even_mask, recounted};
+use crate::truth_masks::{BlockRows, KeptTruths, MovedRows, TruthMasks, even_mask, recounted};
 use known_column::{LentColumns, RowBlock, blocks_have_their_rows};
 use plane_kernels::{Mask, Plane};
 use query_model::Pred;
@@ -131,14 +132,14 @@ fn judge_words(
     }
 }
 
-// The same at once. An atom without masks would be read row by row at all rows of the block.
+// The same at once, and tells which rows the block had and has. An atom without masks would be read row by row at all rows of the block.
 fn judge_at_once(
     pred: &Pred,
     masks: &[AtomMasks],
     columns: &LentColumns<'_>,
     block: usize,
     truths: &mut TruthMasks,
-)
+) -> MovedRows
     requires columns { PredReadsBelow (length columns.now.frame.columns) (condition_of pred.now) }
     requires masks { AreMasksOf masks.now 0 (atoms_of (condition_of pred.now)) columns.now }
     requires block { 512 * block < columns.now.frame.rows }
@@ -148,6 +149,7 @@ fn judge_at_once(
         truths.old.must truths.new.must }
     ensures may { AreJudged is_possible (condition_of pred.now) columns.now (512 * block) (512 * block + 512)
         truths.old.may truths.new.may }
+    ensures moved { AreMoved block truths.old truths.new result }
 {
     let place = Place {
         block,
@@ -156,12 +158,17 @@ fn judge_at_once(
         first: 512 * block,
     };
     let rows = columns.again();
+    let before = truths.rows_in(block);
     let found = pred_truths(pred, masks, 0, columns, &rows, place).truths;
-    write_block(&mut truths.must, block, &must_hold(&found));
-    write_block(&mut truths.may, block, &found.may_hold);
+    let certain = renew_block(&mut truths.must, block, &before.certain, &must_hold(&found));
+    let possible = renew_block(&mut truths.may, block, &before.possible, &found.may_hold);
+    MovedRows {
+        before,
+        after: BlockRows { certain, possible },
+    }
 }
 
-// Sets the bits of the rows of a block of 512 by what is known of the condition there.
+// Sets the bits of the rows of a block of 512 by what is known of the condition there, and tells which it had and has.
 fn judge_block(
     pred: &Pred,
     masks: &[AtomMasks],
@@ -169,7 +176,7 @@ fn judge_block(
     block: usize,
     rows: &mut RowBlock,
     truths: &mut TruthMasks,
-)
+) -> MovedRows
     requires columns { PredReadsBelow (length columns.now.frame.columns) (condition_of pred.now) }
     requires masks { AreMasksOf masks.now 0 (atoms_of (condition_of pred.now)) columns.now }
     requires block { 512 * block < columns.now.frame.rows }
@@ -183,11 +190,17 @@ fn judge_block(
     ensures may { AreJudged is_possible (condition_of pred.now) columns.now (512 * block) (512 * block + 512)
         truths.old.may truths.new.may }
     ensures same { AreRightWhereSame (condition_of pred.now) columns.now (512 * block + 512) truths.new.must truths.new.may }
+    ensures moved { AreMoved block truths.old truths.new result }
 {
     if masks.iter().any(|own| own.is_by_rows()) {
+        let before = truths.rows_in(block);
         judge_words(pred, masks, columns, block, rows, truths);
+        MovedRows {
+            before,
+            after: truths.rows_in(block),
+        }
     } else {
-        judge_at_once(pred, masks, columns, block, truths);
+        judge_at_once(pred, masks, columns, block, truths)
     }
 }
 
@@ -222,9 +235,8 @@ fn decide_block(
     }
     // The counts are at most the rows, which are few.
     let _rows = columns.rows();
-    let before = truths.masks.rows_in(block);
-    judge_block(pred, masks, columns, block, rows, &mut truths.masks);
-    let after = truths.masks.rows_in(block);
+    let moved = judge_block(pred, masks, columns, block, rows, &mut truths.masks);
+    let (before, after) = (moved.before, moved.after);
     truths.certain = recounted(truths.certain, &before.certain, &after.certain);
     truths.possible = recounted(truths.possible, &before.possible, &after.possible);
     if after.are_decided() {

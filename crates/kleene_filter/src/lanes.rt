@@ -1,8 +1,8 @@
 //! A bit for each row of a block of 512, as eight words side by side.
 
-ghost use Rattle.std.specs.Prelude.{◌≡◌, ◌≢◌, ◌<◌, ◌+◌, ◌*◌, ◌/◌, ◌%◌, ◌&&◌, ◌||◌, ℕ, not, false, length, slice_index_or};
+ghost use Rattle.std.specs.Prelude.{◌≡◌, ◌≢◌, ◌<◌, ◌+◌, ◌*◌, ◌/◌, ◌%◌, ◌&&◌, ◌||◌, ℕ, not, false, length, slice_index_or, IsTrue};
 ghost use Rattle.plane_kernels.specs.Rows.{digit_at};
-ghost use Rattle.kleene_filter.specs.Blocks.{bit_in, IsPut};
+ghost use Rattle.kleene_filter.specs.Blocks.{bit_in, AreRowsIn, IsPut};
 
 use plane_kernels::Mask;
 use std::simd::prelude::*;
@@ -61,4 +61,30 @@ pub(crate) fn write_block(mask: &mut Mask, block: usize, rows: &[u64; 8])
     ensures { IsPut block rows.now mask.old mask.new }
 {
     mask.set_block(block, *rows);
+}
+
+// Whether both words have the same rows.
+pub(crate) fn are_same(words: &[u64; 8], others: &[u64; 8]) -> bool
+    ensures { IsTrue result → words.now ≡ others.now }
+{
+    words == others
+}
+
+// Makes the mask's rows of a block these, where it has others, and gives them as they stand there then: none behind the last row.
+pub(crate) fn renew_block(
+    mask: &mut Mask,
+    block: usize,
+    old: &[u64; 8],
+    rows: &[u64; 8],
+) -> [u64; 8]
+    requires block { 512 * block < length mask.old }
+    requires old { AreRowsIn mask.old block old.now }
+    ensures put { IsPut block rows.now mask.old mask.new }
+    ensures rows { AreRowsIn mask.new block result }
+{
+    if are_same(old, rows) {
+        return *old;
+    }
+    write_block(mask, block, rows);
+    mask.block(block)
 }

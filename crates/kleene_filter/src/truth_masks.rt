@@ -5,6 +5,7 @@ ghost use Rattle.std.specs.Int.Count.{ones};
 ghost use Rattle.kleene_filter.specs.Blocks.{AreRowsIn};
 ghost use Rattle.kleene_filter.specs.Filters.{AreKept};
 
+use crate::lanes::are_same;
 use plane_kernels::{Mask, count_ones};
 use std::alloc::{AllocError, Global};
 
@@ -31,6 +32,13 @@ pub(crate) struct BlockRows {
     pub(crate) possible: [u64; 8],
 }
 
+// The rows of a block before and after it was judged.
+#[derive(Clone, Copy)]
+pub(crate) struct MovedRows {
+    pub(crate) before: BlockRows,
+    pub(crate) after: BlockRows,
+}
+
 // The mask with each row or with none.
 pub(crate) fn even_mask(alloc: Global, rows: usize, bit: bool) -> Result<Mask, AllocError>
     ensures { IfOk result (λ mask. mask ≡ replicate rows bit) }
@@ -40,13 +48,6 @@ pub(crate) fn even_mask(alloc: Global, rows: usize, bit: bool) -> Result<Mask, A
     } else {
         Mask::none(alloc, rows)
     }
-}
-
-// Whether both words have the same rows.
-fn are_same(words: &[u64; 8], others: &[u64; 8]) -> bool
-    ensures { IsTrue result → words.now ≡ others.now }
-{
-    words == others
 }
 
 // How many rows a mask has of which so many were counted, after those of a block changed. A plane moves rows of one mask alone where one

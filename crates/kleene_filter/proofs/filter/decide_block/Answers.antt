@@ -55,24 +55,24 @@ counted test pred table block count next old new before after is here there move
     omega (arith, is, moved, rows_counted old block before here, rows_counted new block after there, recounted (512 * block) old new judged.rows judged.before judged.behind)
 
 pub recounted-truths-requires-clause-counted : goal.recounted-truths-requires-clause-counted
-recounted-truths-requires-clause-counted c = few_in c.args.block c.args.truths.now.certain c.args.truths.now.masks.must c.rows_in-before.result.certain c.requires.kept.certain c.rows_in-before.ensures.certain
+recounted-truths-requires-clause-counted c = few_in c.args.block c.args.truths.now.certain c.args.truths.now.masks.must c.judge_block-moved.result.before.certain c.requires.kept.certain c.judge_block-moved.ensures.moved.certain_before
 
 pub recounted-truths-requires-clause-few : goal.recounted-truths-requires-clause-few
 recounted-truths-requires-clause-few c = few_all c.args.truths.now.certain c.args.truths.now.masks.must c.requires.kept.certain (omega (arith, c.requires.must, c.rows-rows.ensures.known.few_rows))
 
 pub recounted-truths-requires-clause-some : goal.recounted-truths-requires-clause-some
 recounted-truths-requires-clause-some c =
-    few_there c.args.block c.args.truths.now.masks.must c.judge_block.new.truths.must c.rows_in-after.result.certain c.rows_in-after.ensures.certain c.judge_block.ensures.must.rows (omega (arith, c.requires.must, c.rows-rows.ensures.known.few_rows))
+    few_there c.args.block c.args.truths.now.masks.must c.judge_block-moved.new.truths.must c.judge_block-moved.result.after.certain c.judge_block-moved.ensures.moved.certain c.judge_block-moved.ensures.must.rows (omega (arith, c.requires.must, c.rows-rows.ensures.known.few_rows))
 
 pub recounted-truths-requires-2-clause-counted : goal.recounted-truths-requires-2-clause-counted
-recounted-truths-requires-2-clause-counted c = few_in c.args.block c.args.truths.now.possible c.args.truths.now.masks.may c.rows_in-before.result.possible c.requires.kept.possible c.rows_in-before.ensures.possible
+recounted-truths-requires-2-clause-counted c = few_in c.args.block c.args.truths.now.possible c.args.truths.now.masks.may c.judge_block-moved.result.before.possible c.requires.kept.possible c.judge_block-moved.ensures.moved.possible_before
 
 pub recounted-truths-requires-2-clause-few : goal.recounted-truths-requires-2-clause-few
 recounted-truths-requires-2-clause-few c = few_all c.args.truths.now.possible c.args.truths.now.masks.may c.requires.kept.possible (omega (arith, c.requires.may, c.rows-rows.ensures.known.few_rows))
 
 pub recounted-truths-requires-2-clause-some : goal.recounted-truths-requires-2-clause-some
 recounted-truths-requires-2-clause-some c =
-    few_there c.args.block c.args.truths.now.masks.may c.judge_block.new.truths.may c.rows_in-after.result.possible c.rows_in-after.ensures.possible c.judge_block.ensures.may.rows (omega (arith, c.requires.may, c.rows-rows.ensures.known.few_rows))
+    few_there c.args.block c.args.truths.now.masks.may c.judge_block-moved.new.truths.may c.judge_block-moved.result.after.possible c.judge_block-moved.ensures.moved.possible c.judge_block-moved.ensures.may.rows (omega (arith, c.requires.may, c.rows-rows.ensures.known.few_rows))
 
 -- what is kept once the block is judged, whether it is decided or not
 kept : (pred : Condition) (table : KnownTable) (block : ℕ) (old : KeptTruths) (new : TruthMasks) (undecided : List Bool) (before after : BlockRows) (certain possible : ℕ) → AreKept old → AreRowsIn old.masks.must block before.certain → AreRowsIn old.masks.may block before.possible →
@@ -88,27 +88,29 @@ kept pred table block old new undecided before after certain possible was first 
 pub returns-then-are_decided-clause-kept : goal.returns-then-are_decided-clause-kept
 returns-then-are_decided-clause-kept c =
     let old = c.args.truths.now in
-    let judged = c.judge_block in
-    let after = c.rows_in-after in
+    let judged = c.judge_block-moved in
+    let rows = judged.result in
+    let moved = judged.ensures.moved in
     let new = judged.new.truths in
     let beside =
     settled_beside (condition_of c.args.pred.now) c.args.columns.now c.args.block old.masks.must old.masks.may new.must new.may old.undecided c.requires.kept.settled
     (get_or_from_slice_get old.undecided c.args.block c.get.result false c.get.ensures ∙ c.if-not-get.false) judged.ensures.must judged.ensures.may in
-    let same = same_rows c.args.block new.must new.may after.result.certain after.result.possible after.ensures.certain after.ensures.possible
+    let same = same_rows c.args.block new.must new.may rows.after.certain rows.after.possible moved.certain moved.possible
     (omega (arith, judged.ensures.must.rows, judged.ensures.may.rows, c.requires.must, c.requires.may)) (c.are_decided.ensures c.if-are_decided.true) in
-    kept (condition_of c.args.pred.now) c.args.columns.now c.args.block old new c.set.new.self c.rows_in-before.result after.result c.recounted-truths.result c.recounted-truths-2.result c.requires.kept
-    c.rows_in-before.ensures.certain c.rows_in-before.ensures.possible after.ensures.certain after.ensures.possible c.recounted-truths.ensures c.recounted-truths-2.ensures judged.ensures.must judged.ensures.may
+    kept (condition_of c.args.pred.now) c.args.columns.now c.args.block old new c.set.new.self c.judge_block-moved.result.before rows.after c.recounted-truths.result c.recounted-truths-2.result c.requires.kept
+    c.judge_block-moved.ensures.moved.certain_before c.judge_block-moved.ensures.moved.possible_before moved.certain moved.possible c.recounted-truths.ensures c.recounted-truths-2.ensures judged.ensures.must judged.ensures.may
     (subst (λ (l : List Bool). AreSettled new.must new.may l) (sym c.set.ensures) (is_settled c.args.block new.must new.may old.undecided beside same))
 
 pub returns-else-are_decided-clause-kept : goal.returns-else-are_decided-clause-kept
 returns-else-are_decided-clause-kept c =
     let old = c.args.truths.now in
-    let judged = c.judge_block in
-    let after = c.rows_in-after in
+    let judged = c.judge_block-moved in
+    let rows = judged.result in
+    let moved = judged.ensures.moved in
     let new = judged.new.truths in
     let beside =
     settled_beside (condition_of c.args.pred.now) c.args.columns.now c.args.block old.masks.must old.masks.may new.must new.may old.undecided c.requires.kept.settled
     (get_or_from_slice_get old.undecided c.args.block c.get.result false c.get.ensures ∙ c.if-not-get.false) judged.ensures.must judged.ensures.may in
-    kept (condition_of c.args.pred.now) c.args.columns.now c.args.block old new old.undecided c.rows_in-before.result after.result c.recounted-truths.result c.recounted-truths-2.result c.requires.kept
-    c.rows_in-before.ensures.certain c.rows_in-before.ensures.possible after.ensures.certain after.ensures.possible c.recounted-truths.ensures c.recounted-truths-2.ensures judged.ensures.must judged.ensures.may
+    kept (condition_of c.args.pred.now) c.args.columns.now c.args.block old new old.undecided c.judge_block-moved.result.before rows.after c.recounted-truths.result c.recounted-truths-2.result c.requires.kept
+    c.judge_block-moved.ensures.moved.certain_before c.judge_block-moved.ensures.moved.possible_before moved.certain moved.possible c.recounted-truths.ensures c.recounted-truths-2.ensures judged.ensures.must judged.ensures.may
     (stays_open c.args.block new.must new.may old.undecided beside)

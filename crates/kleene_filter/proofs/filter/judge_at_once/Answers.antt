@@ -15,11 +15,11 @@ pred_truths-requires-clause-rows c =
 
 pub returns-clause-must : goal.returns-clause-must
 returns-clause-must c =
-    judged_put is_certain (condition_of c.args.pred.now) c.args.columns.now c.args.block c.must_hold.result c.args.truths.now.must c.write_block.new.mask c.write_block.ensures c.requires.must
+    judged_put is_certain (condition_of c.args.pred.now) c.args.columns.now c.args.block c.must_hold.result c.args.truths.now.must c.renew_block-certain.new.mask c.renew_block-certain.ensures.put c.requires.must
     (λ row few. c.must_hold.ensures row _ (omega (arith, few)) (c.pred_truths.ensures.truths row (omega arith) (omega (arith, few, c.min.ensures, c.rows.ensures.rows))))
 
 pub returns-clause-may : goal.returns-clause-may
 returns-clause-may c =
-    judged_put is_possible (condition_of c.args.pred.now) c.args.columns.now c.args.block c.pred_truths.result.truths.may_hold c.args.truths.now.may c.write_block-2.new.mask c.write_block-2.ensures c.requires.may
+    judged_put is_possible (condition_of c.args.pred.now) c.args.columns.now c.args.block c.pred_truths.result.truths.may_hold c.args.truths.now.may c.renew_block-possible.new.mask c.renew_block-possible.ensures.put c.requires.may
     (λ row few. (c.pred_truths.ensures.truths row (omega arith) (omega (arith, few, c.min.ensures, c.rows.ensures.rows))).hold
     ∙ may_hold_is_possible (truths_at (condition_of c.args.pred.now) c.args.columns.now (512 * c.args.block + row)))
