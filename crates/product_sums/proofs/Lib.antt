@@ -12,6 +12,7 @@ pub mod LinearSums
 pub mod ProductParts
 pub mod StaysKept
 pub mod MaskSums
+pub mod EvenMasks
 pub mod MovedSums
 pub mod Hulls
 pub mod Distributing

@@ -3,16 +3,20 @@ use Rattle.std.proofs.Common.{◌≡◌, ℕ, ◌+◌, ◌-◌, ◌*◌, ◌<◌
 use Rattle.std.specs.Simd.Lanes.{zip2}
 use Rattle.std.proofs.lemmas.Int.{ints}
 use Rattle.std.proofs.lemmas.Simd.{length-zip2}
+use Rattle.daq_table.specs.Tables.{ends_at}
 use Rattle.aggregates.specs.Selections.{block_of}
-use Rattle.known_column.specs.KnownTables.{IsKnownTable, KnownTable}
+use Rattle.aggregates.proofs.NumberRows.{first_plane}
+use Rattle.known_column.specs.KnownTables.{IsKnownTable, KnownTable, column_at}
 use Rattle.query_model.specs.Knowledge.{known_at}
 use Rattle.product_sums.specs.declared.pair_sums.Pair.{Pair}
 use Rattle.product_sums.specs.declared.pair_sums.PairSums.{PairSums}
-use Rattle.product_sums.specs.KeptProducts.{AreReadOn, first_number, whole_number}
+use Rattle.product_sums.specs.KeptProducts.{AreReadOn, IsPair, first_number, whole_number}
+use Rattle.product_sums.specs.Fetched.{first_digit}
 use Rattle.product_sums.specs.Products.{CanMultiply, sum_over}
 use Rattle.product_sums.proofs.DigitSums.{long_block}
 use Rattle.product_sums.proofs.MaskSums.{next_block, whole_mask}
-use Rattle.product_sums.proofs.PairSums.{over_moved}
+use Rattle.product_sums.proofs.KeptProducts.{kept_first}
+use Rattle.product_sums.proofs.PairSums.{once, over_moved}
 use Rattle.product_sums.proofs.Residues.{wrapped}
 
 -- rows of a block that one mask has there and another has not
@@ -98,4 +102,35 @@ module _ (table : KnownTable) where
         };
         all_first = are.first_read;
         all_second = are.second_read;
+      }
+
+  -- while no plane tells a digit all of them are 0, whatever moved
+  pub unmoved : (known : IsKnownTable table) (old new : List Bool) (pair : Pair) (sums : PairSums) → IsPair table pair → length new ≡ table.frame.rows →
+      (known_at table.known pair.first).read ≤ first_digit (column_at table pair.first) → (known_at table.known pair.second).read ≤ first_digit (column_at table pair.second) →
+      AreReadOn table old pair sums → AreReadOn table new pair sums
+  unmoved known old new pair sums is long none_first none_second are =
+      let long_old = are.sums_are.rows in
+      let first : ℕ → ℤ = λ r. pos (first_number table pair.first sums.first_read r) in
+      let second : ℕ → ℤ = λ r. pos (first_number table pair.second sums.second_read r) in
+      let reads : ℕ = (known_at table.known pair.first).read in
+      let others : ℕ = (known_at table.known pair.second).read in
+      let few_first : sums.first_read ≤ first_plane (ends_at table.frame pair.first) reads = omega (arith, none_first, are.all_first) in
+      let few_second : sums.second_read ≤ first_plane (ends_at table.frame pair.second) others = omega (arith, none_second, are.all_second) in
+      let no_first : (rows : List Bool) → length rows ≡ table.frame.rows → sum_over rows first ≡ pos 0 =
+      λ rows same. sym (once table rows pair.first (reads - sums.first_read)) ∙ kept_first table known rows same pair.first is.first (λ r. pos 1) sums.first_read few_first in
+      let no_second : (rows : List Bool) → length rows ≡ table.frame.rows → sum_over rows second ≡ pos 0 =
+      λ rows same. sym (once table rows pair.second (others - sums.second_read)) ∙ kept_first table known rows same pair.second is.second (λ r. pos 1) sums.second_read few_second in
+      let no_both : (rows : List Bool) → length rows ≡ table.frame.rows → sum_over rows (λ r. first r *ℤ second r) ≡ pos 0 =
+      λ rows same. kept_first table known rows same pair.first is.first second sums.first_read few_first in
+      record {
+        sums_are = record {
+          rows = long;
+          first_read = are.sums_are.first_read;
+          second_read = are.sums_are.second_read;
+          first = are.sums_are.first ∙ ap wrapped (no_first old long_old ∙ sym (no_first new long));
+          second = are.sums_are.second ∙ ap wrapped (no_second old long_old ∙ sym (no_second new long));
+          both = are.sums_are.both ∙ ap wrapped (no_both old long_old ∙ sym (no_both new long));
+        };
+        all_first = are.all_first;
+        all_second = are.all_second;
       }

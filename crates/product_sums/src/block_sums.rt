@@ -12,11 +12,11 @@ ghost use Rattle.product_sums.specs.Fetched.{IsLone};
 ghost use Rattle.product_sums.specs.Products.{sum_of_products, sum_over, product_at, term_end, CanMultiply, HasValue};
 
 use crate::column_ends::{ColumnEnd, weight_of_all, weight_of_digits, weight_of_top};
-use crate::factors::{Factor, Parts, is_longer, joined, other};
+use crate::factors::{Factor, Parts, is_longer, joined, subtrahend};
 use crate::fetched::{Fetched, PlaneRoom, fetch_lone};
 use crate::fetched_sums::sum_fetched;
 use crate::rows::Rows;
-use crate::signs::end_beside;
+use crate::signs::factor_beside;
 use crate::wrapping::{minus, plus, times};
 use aggregates::{End, number_planes};
 use known_column::LentColumns;
@@ -204,25 +204,13 @@ fn sum_first<'a>(
             sum_first(columns, block, rows, Factor { term: a, end }, rest, room),
             sum_first(columns, block, rows, Factor { term: b, end }, rest, room),
         ),
-        Expr::Sub(a, b) => {
-            let less = Factor {
-                term: b,
-                end: other(end),
-            };
-            minus(
-                sum_first(columns, block, rows, Factor { term: a, end }, rest, room),
-                sum_first(columns, block, rows, less, rest, room),
-            )
-        }
+        Expr::Sub(a, b) => minus(
+            sum_first(columns, block, rows, Factor { term: a, end }, rest, room),
+            sum_first(columns, block, rows, subtrahend(b, end), rest, room),
+        ),
         Expr::Mul(a, b) => {
-            let left = Factor {
-                term: a,
-                end: end_beside(b, end, columns),
-            };
-            let right = Factor {
-                term: b,
-                end: end_beside(a, end, columns),
-            };
+            let left = factor_beside(a, b, end, columns);
+            let right = factor_beside(b, a, end, columns);
             if is_longer(a, b, columns) {
                 let parts = Parts {
                     first: right,

@@ -38,6 +38,17 @@ pub(crate) fn other(end: End) -> End
     }
 }
 
+// What is taken off a factor at this end: the term at its other end.
+pub(crate) fn subtrahend<'a>(term: &'a Expr, end: End) -> Factor<'a>
+    ensures term { result.term.now ≡ term.now }
+    ensures end { result.end ≡ other_end end }
+{
+    Factor {
+        term,
+        end: other(end),
+    }
+}
+
 // A factor before others, of which there are few.
 pub(crate) fn joined<'a>(first: Factor<'a>, rest: &[Factor<'a>]) -> [Factor<'a>; 4]
     requires { length rest.now ≤ 3 }

@@ -1,7 +1,7 @@
 //! Ends of a product of a column and a part that is linear in another column, added up over a mask's rows and followed from one plane to
 //! the next.
 
-ghost use Rattle.std.specs.Prelude.{◌≡◌, ◌<◌, ◌*ℤ◌, ℤ, pos, length, IfOk, IsTrue};
+ghost use Rattle.std.specs.Prelude.{◌≡◌, ◌<◌, ◌*ℤ◌, ℤ, pos, length, count_by, IfOk, IsTrue};
 ghost use Rattle.std.specs.Int.{int_wrap, w128};
 ghost use Rattle.aggregates.specs.declared.ends.End.TheVariants.{High};
 ghost use Rattle.known_column.specs.KnownTables.{KnownTable};
@@ -33,11 +33,39 @@ fn are_same(words: &[u64; 8], others: &[u64; 8]) -> bool
     words == others
 }
 
+// Whether a mask has no row.
+fn has_no_row(mask: &Mask) -> bool
+    ensures { IsTrue result → count_by (λ b. b) mask.now ≡ 0 }
+{
+    mask.first_one().is_none()
+}
+
+// Whether a mask has all rows: where its first 64 say so, the others are counted.
+fn has_all_rows(mask: &Mask) -> bool
+    ensures { IsTrue result → count_by (λ b. b) mask.now ≡ length mask.now }
+{
+    mask.rows() > 0 && mask.word(0) == u64::MAX && mask.count() == mask.rows() as u64
+}
+
+// Whether both masks have no row, or both have all: of even masks no word is read.
+fn are_both_even(mask: &Mask, other: &Mask) -> bool
+    requires { length other.now ≡ length mask.now }
+    ensures { IsTrue result → mask.now ≡ other.now }
+{
+    if has_no_row(mask) {
+        return has_no_row(other);
+    }
+    has_all_rows(mask) && has_all_rows(other)
+}
+
 // Whether both masks have the same rows.
 pub(crate) fn have_same_rows(mask: &Mask, other: &Mask) -> bool
     requires { length other.now ≡ length mask.now }
     ensures { IsTrue result → mask.now ≡ other.now }
 {
+    if are_both_even(mask, other) {
+        return true;
+    }
     for block in 0..mask.rows().div_ceil(512) {
         if !are_same(&mask.block(block), &other.block(block)) {
             return false;
@@ -224,11 +252,9 @@ impl KeptPair {
             weight_of_digits(known),
             self.sum_numbered(columns, pair, &clipped, parts.other),
         );
-        let all = times(
-            weight_of_all(parts.column, known),
-            self.sum_alone(columns, pair, &clipped, parts.other),
-        );
-        let less = sum_clipped(columns, mask, pair.first, parts, room);
+        let alone = self.sum_alone(columns, pair, &clipped, parts.other);
+        let all = times(weight_of_all(parts.column, known), alone);
+        let less = sum_clipped(columns, mask, pair.first, parts, alone, room);
         minus(plus(digits, all), less)
     }
 }

@@ -1,9 +1,11 @@
 //! What rows that moved change of the sums of two columns, block by block of 512: what those give that came is added, and what those give
 //! that left is taken off. The planes of one column are fetched once for a block, and counted in the rows of each plane of the other.
 
-ghost use Rattle.std.specs.Prelude.{◌≡◌, ◌<◌, ◌+◌, ◌*◌, [], ◌*ℤ◌, length, IfSome};
+ghost use Rattle.std.specs.Prelude.{◌≡◌, ◌≤◌, ◌<◌, ◌+◌, ◌*◌, [], ◌*ℤ◌, false, length, IfSome};
 ghost use Rattle.std.specs.Int.{int_wrap, w128};
-ghost use Rattle.product_sums.specs.Fetched.{IsFetchedColumn};
+ghost use Rattle.known_column.specs.KnownTables.{column_at};
+ghost use Rattle.query_model.specs.Knowledge.{known_at};
+ghost use Rattle.product_sums.specs.Fetched.{first_digit, IsFetchedColumn};
 ghost use Rattle.product_sums.specs.KeptProducts.{whole_number, AreBlockSums, AreReadOn, IsPair};
 ghost use Rattle.product_sums.specs.Products.{sum_over, CanMultiply};
 
@@ -104,7 +106,17 @@ fn sums_in_block(
     }
 }
 
-// The sums over the rows of another mask, where these are all planes' over one. Blocks without a row that moved are passed over.
+// Whether some plane that was read tells a digit of the column's numbers. Where none does, all of them are 0.
+fn has_digits(columns: &LentColumns<'_>, column: u8) -> bool
+    requires { column < length columns.now.frame.columns }
+    ensures { result ≡ false → (known_at columns.now.known column).read ≤ first_digit (column_at columns.now column) }
+{
+    let (from, to) = number_planes(columns.column(usize::from(column)));
+    from < to
+}
+
+// The sums over the rows of another mask, where these are all planes' over one. Blocks without a row that moved are passed over;
+// while no plane tells a digit all sums stay 0, whatever moved.
 pub(crate) fn move_sums(
     columns: &LentColumns<'_>,
     pair: Pair,
@@ -118,6 +130,9 @@ pub(crate) fn move_sums(
     ensures { AreReadOn columns.now new.now pair result }
 {
     let _rows = columns.rows();
+    if !has_digits(columns, pair.first) && !has_digits(columns, pair.second) {
+        return sums;
+    }
     let mut room = PlaneRoom::new();
     let mut sums = sums;
     for block in 0..new.rows().div_ceil(512) {

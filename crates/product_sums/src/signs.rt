@@ -8,7 +8,7 @@ ghost use Rattle.query_model.specs.Truths.{span_of};
 ghost use Rattle.query_model.specs.Validity.{declared_ranges, FitsWide};
 ghost use Rattle.product_sums.specs.Products.{degree, end_beside, has_signs, is_never_negative, keeps_sign, IsProductSum};
 
-use crate::factors::other;
+use crate::factors::{Factor, other};
 use aggregates::{End, number_planes};
 use interval_calc::{Interval, exactly};
 use known_column::{Known, LentColumns};
@@ -65,6 +65,24 @@ pub(crate) fn end_beside(factor: &Expr, end: End, columns: &LentColumns<'_>) -> 
         end
     } else {
         other(end)
+    }
+}
+
+// A factor at the end that gives this end of its product with another.
+pub(crate) fn factor_beside<'a>(
+    term: &'a Expr,
+    factor: &Expr,
+    end: End,
+    columns: &LentColumns<'_>,
+) -> Factor<'a>
+    requires columns { ReadsBelow (length columns.now.frame.columns) (term_of factor.now) }
+    requires fits { FitsWide (term_of factor.now) (declared_ranges columns.now.frame) }
+    ensures term { result.term.now ≡ term.now }
+    ensures end { result.end ≡ end_beside (is_never_negative columns.now.frame (term_of factor.now)) end }
+{
+    Factor {
+        term,
+        end: end_beside(factor, end, columns),
     }
 }
 

@@ -12,20 +12,24 @@ ghost use Rattle.product_sums.specs.Products.{sum_over};
 
 use crate::column_ends::weight_of_top;
 use crate::factors::PartEnds;
+use crate::kept_pair::have_same_rows;
 use crate::sums::sum_wrapped;
 use crate::wrapping::times;
 use known_column::LentColumns;
 use plane_kernels::Mask;
 
-// What the rows at the prefix of the column's top give less, where the high end is clipped by top.
+// What the rows at the prefix of the column's top give less, where the high end is clipped by top. `whole` is what the other part gives
+// over all rows of the mask: while all of them are at that prefix, none is counted.
 pub(crate) fn sum_clipped<'a>(
     columns: &LentColumns<'_>,
     mask: &Mask,
     column: u8,
     parts: PartEnds<'a>,
+    whole: i128,
     room: &mut Mask,
 ) -> i128
     requires follow { CanFollow columns.now mask.now column (term_of parts.other.term.now) }
+    requires whole { whole ≡ int_wrap w128 (sum_over mask.now (factor_end columns.now parts.other)) }
     requires room { length room.old ≡ columns.now.frame.rows }
     ensures room { length room.new ≡ columns.now.frame.rows }
     ensures sum { result ≡ int_wrap w128 (weight_of_top parts.entry.column (column_at columns.now column)
@@ -39,6 +43,9 @@ pub(crate) fn sum_clipped<'a>(
     }
     room.copy_from(mask);
     room.and_into(known.at_top());
+    if have_same_rows(room, mask) {
+        return times(weight, whole);
+    }
     let other = parts.other;
     times(weight, sum_wrapped(other.end, other.term, columns, room))
 }

@@ -143,26 +143,26 @@ sum_first-returns-in-Sub t c =
     let whole : to_z w128 (of_z w128 c.minus.result) ≡ c.minus.result = omega (arith, ints) in
     whole
     ∙ minus_is c.minus.result c.sum_first-in-Sub.result c.sum_first-in-Sub-2.result _ _ c.minus.ensures (omega (arith, ints)) (omega (arith, ints)) c.sum_first-in-Sub.ensures c.sum_first-in-Sub-2.ensures
-    ∙ ap wrapped (sym (sub_sum c.args.columns.now c.args.block c.args.rows.now c.args.rest.now c.args.first (record { term = c.deref-in-Sub-2.result; end = c.args.first.end }) (record { term = c.deref-in-Sub.result; end = c.other.result }) (term_of c.in-Sub.a.value) (term_of c.in-Sub.b.value)
-    (ap term_of c.in-Sub.is) (ap term_of c.deref-in-Sub-2.ensures) (ap term_of c.deref-in-Sub.ensures) refl c.other.ensures))
+    ∙ ap wrapped (sym (sub_sum c.args.columns.now c.args.block c.args.rows.now c.args.rest.now c.args.first (record { term = c.deref-in-Sub.result; end = c.args.first.end }) c.subtrahend.result (term_of c.in-Sub.a.value) (term_of c.in-Sub.b.value)
+    (ap term_of c.in-Sub.is) (ap term_of c.deref-in-Sub.ensures) (ap term_of (c.subtrahend.ensures.term ∙ c.deref-in-Sub-2.ensures)) refl c.subtrahend.ensures.end))
 
 pub sum_first-returns-then-is_longer : goal.sum_first-returns-then-is_longer
 sum_first-returns-then-is_longer t c =
     let whole : to_z w128 (of_z w128 c.sum_both.result) ≡ c.sum_both.result = omega (arith, ints) in
     whole ∙ c.sum_both.ensures
-    ∙ ap wrapped (sym (mul_turned c.args.columns.now c.args.block c.args.rows.now c.args.rest.now c.args.first (record { term = c.deref-in-Mul.result; end = c.end_beside.result }) (record { term = c.deref-in-Mul-3.result; end = c.end_beside-in-Mul.result }) c.requires (term_of c.in-Mul.a.value) (term_of c.in-Mul.b.value)
-    (ap term_of c.in-Mul.is) (ap term_of c.deref-in-Mul.ensures) (ap term_of c.deref-in-Mul-3.ensures)
-    (c.end_beside.ensures ∙ ap (λ (t : Term). end_beside (is_never_negative c.args.columns.now.frame t) c.args.first.end) (ap term_of c.deref-in-Mul-2.ensures))
-    (c.end_beside-in-Mul.ensures ∙ ap (λ (t : Term). end_beside (is_never_negative c.args.columns.now.frame t) c.args.first.end) (ap term_of c.deref-in-Mul-4.ensures))))
+    ∙ ap wrapped (sym (mul_turned c.args.columns.now c.args.block c.args.rows.now c.args.rest.now c.args.first c.factor_beside-left.result c.factor_beside-right.result c.requires (term_of c.in-Mul.a.value) (term_of c.in-Mul.b.value)
+    (ap term_of c.in-Mul.is) (ap term_of (c.factor_beside-left.ensures.term ∙ c.deref-in-Mul.ensures)) (ap term_of (c.factor_beside-right.ensures.term ∙ c.deref-in-Mul-3.ensures))
+    (c.factor_beside-left.ensures.end ∙ ap (λ (t : Term). end_beside (is_never_negative c.args.columns.now.frame t) c.args.first.end) (ap term_of c.deref-in-Mul-2.ensures))
+    (c.factor_beside-right.ensures.end ∙ ap (λ (t : Term). end_beside (is_never_negative c.args.columns.now.frame t) c.args.first.end) (ap term_of c.deref-in-Mul-4.ensures))))
 
 pub sum_first-returns-else-is_longer : goal.sum_first-returns-else-is_longer
 sum_first-returns-else-is_longer t c =
     let whole : to_z w128 (of_z w128 c.sum_both-else-is_longer.result) ≡ c.sum_both-else-is_longer.result = omega (arith, ints) in
     whole ∙ c.sum_both-else-is_longer.ensures
-    ∙ ap wrapped (sym (mul_sum c.args.columns.now c.args.block c.args.rows.now c.args.rest.now c.args.first (record { term = c.deref-in-Mul.result; end = c.end_beside.result }) (record { term = c.deref-in-Mul-3.result; end = c.end_beside-in-Mul.result }) c.requires (term_of c.in-Mul.a.value) (term_of c.in-Mul.b.value)
-    (ap term_of c.in-Mul.is) (ap term_of c.deref-in-Mul.ensures) (ap term_of c.deref-in-Mul-3.ensures)
-    (c.end_beside.ensures ∙ ap (λ (t : Term). end_beside (is_never_negative c.args.columns.now.frame t) c.args.first.end) (ap term_of c.deref-in-Mul-2.ensures))
-    (c.end_beside-in-Mul.ensures ∙ ap (λ (t : Term). end_beside (is_never_negative c.args.columns.now.frame t) c.args.first.end) (ap term_of c.deref-in-Mul-4.ensures))))
+    ∙ ap wrapped (sym (mul_sum c.args.columns.now c.args.block c.args.rows.now c.args.rest.now c.args.first c.factor_beside-left.result c.factor_beside-right.result c.requires (term_of c.in-Mul.a.value) (term_of c.in-Mul.b.value)
+    (ap term_of c.in-Mul.is) (ap term_of (c.factor_beside-left.ensures.term ∙ c.deref-in-Mul.ensures)) (ap term_of (c.factor_beside-right.ensures.term ∙ c.deref-in-Mul-3.ensures))
+    (c.factor_beside-left.ensures.end ∙ ap (λ (t : Term). end_beside (is_never_negative c.args.columns.now.frame t) c.args.first.end) (ap term_of c.deref-in-Mul-2.ensures))
+    (c.factor_beside-right.ensures.end ∙ ap (λ (t : Term). end_beside (is_never_negative c.args.columns.now.frame t) c.args.first.end) (ap term_of c.deref-in-Mul-4.ensures))))
 
 pub sum_products-returns-in-empty : goal.sum_products-returns-in-empty
 sum_products-returns-in-empty t c =

@@ -3,7 +3,7 @@ use Rattle.aggregates.specs.Selections.{block_of}
 use Rattle.product_sums.specs.KeptProducts.{AreBlockSums, whole_number}
 use Rattle.product_sums.specs.Products.{CanMultiply}
 use Rattle.product_sums.proofs.DigitSums.{long_block}
-use Rattle.product_sums.proofs.MovedSums.{beside, can_move, moved_begun, moved_done, moved_more}
+use Rattle.product_sums.proofs.MovedSums.{beside, can_move, moved_begun, moved_done, moved_more, unmoved}
 use Rattle.product_sums.proofs.Residues.{wrapped}
 use Rattle.product_sums.proofs.moved_sums.move_sums.Goals as goal
 
@@ -67,3 +67,6 @@ pub returns : goal.returns
 returns c =
     let past : length c.args.new.now ≤ 512 * c.loop-block.block = omega (arith, c.rows.ensures, c.loop-block-test.false, c.div_ceil-block-end.ensures) in
     moved_done c.args.columns.now c.args.old.now c.args.new.now c.loop-block.block c.args.pair c.loop-block.sums c.requires.sums.sums_are.rows c.requires.rows past c.loop-block.invariant
+
+pub returns-then-not-has_digits-2 : goal.returns-then-not-has_digits-2
+returns-then-not-has_digits-2 c = unmoved c.args.columns.now c.rows-rows.ensures.known c.args.old.now c.args.new.now c.args.pair c.args.sums c.requires.pair c.requires.rows (omega arith) (omega arith) c.requires.sums

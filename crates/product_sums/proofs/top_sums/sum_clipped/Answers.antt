@@ -46,8 +46,22 @@ returns-clause-room c =
     let long : length tops ≡ table.frame.rows = ap length c.at_top.ensures ∙ length-map _ _ ∙ c.column-known.ensures.rows in
     ap length (c.and_into.ensures ∙ ap (λ m. zip2 (λ a b. a && b) m tops) c.copy_from.ensures) ∙ length-zip2 (λ a b. a && b) c.args.mask.now tops (c.requires.follow.rows ∙ sym long) ∙ c.requires.follow.rows
 
-pub returns-clause-sum : goal.returns-clause-sum
-returns-clause-sum c =
+pub returns-then-have_same_rows-clause-room : goal.returns-then-have_same_rows-clause-room
+returns-then-have_same_rows-clause-room c =
+    let table = c.args.columns.now in
+    let tops = c.at_top.result.now in
+    let long : length tops ≡ table.frame.rows = ap length c.at_top.ensures ∙ length-map _ _ ∙ c.column-known.ensures.rows in
+    ap length (c.and_into.ensures ∙ ap (λ m. zip2 (λ a b. a && b) m tops) c.copy_from.ensures) ∙ length-zip2 (λ a b. a && b) c.args.mask.now tops (c.requires.follow.rows ∙ sym long) ∙ c.requires.follow.rows
+
+pub have_same_rows-requires : goal.have_same_rows-requires
+have_same_rows-requires c =
+    let table = c.args.columns.now in
+    let tops = c.at_top.result.now in
+    let long : length tops ≡ table.frame.rows = ap length c.at_top.ensures ∙ length-map _ _ ∙ c.column-known.ensures.rows in
+    sym (ap length (c.and_into.ensures ∙ ap (λ m. zip2 (λ a b. a && b) m tops) c.copy_from.ensures) ∙ length-zip2 (λ a b. a && b) c.args.mask.now tops (c.requires.follow.rows ∙ sym long))
+
+pub returns-then-have_same_rows-clause-sum : goal.returns-then-have_same_rows-clause-sum
+returns-then-have_same_rows-clause-sum c =
     let table = c.args.columns.now in
     let e = c.args.parts.column in
     let f : ℕ → ℤ = factor_end table c.args.parts.other in
@@ -56,6 +70,21 @@ returns-clause-sum c =
     let whole : to_z w128 (of_z w128 c.times.result) ≡ c.times.result = omega (arith, ints) in
     let weighs : to_z w128 (of_z w128 c.weight_of_top-weight.result) ≡ weight_of_top e (column_at table c.args.column) = omega (arith, ints) ∙ c.weight_of_top-weight.ensures ∙ ap (weight_of_top e) is in
     let room = c.and_into.ensures ∙ ap (λ m. zip2 (λ a b. a && b) m tops) c.copy_from.ensures ∙ ap (zip2 (λ a b. a && b) c.args.mask.now) (c.at_top.ensures ∙ ap (rows_where is_at_top) is) in
+    let same = sym (c.have_same_rows.ensures c.if-have_same_rows.true) ∙ room in
     whole
-    ∙ times_is c.times.result (weight_of_top e (column_at table c.args.column)) c.sum_wrapped.result _ (c.times.ensures ∙ ap (λ z. wrapped (z *ℤ to_z w128 (of_z w128 c.sum_wrapped.result))) weighs) (omega (arith, ints))
+    ∙ times_is c.times.result (weight_of_top e (column_at table c.args.column)) c.args.whole _ (c.times.ensures ∙ ap (λ z. wrapped (z *ℤ to_z w128 (of_z w128 c.args.whole))) weighs) (omega (arith, ints))
+    (c.requires.whole ∙ ap (λ m. wrapped (sum_over m f)) same)
+
+pub returns-clause-sum : goal.returns-clause-sum
+returns-clause-sum c =
+    let table = c.args.columns.now in
+    let e = c.args.parts.column in
+    let f : ℕ → ℤ = factor_end table c.args.parts.other in
+    let tops = c.at_top.result.now in
+    let is : c.column-known.result.now ≡ column_at table c.args.column = c.column-known.ensures.column ∙ ap (column_at table) c.from.ensures in
+    let whole : to_z w128 (of_z w128 c.times-2.result) ≡ c.times-2.result = omega (arith, ints) in
+    let weighs : to_z w128 (of_z w128 c.weight_of_top-weight.result) ≡ weight_of_top e (column_at table c.args.column) = omega (arith, ints) ∙ c.weight_of_top-weight.ensures ∙ ap (weight_of_top e) is in
+    let room = c.and_into.ensures ∙ ap (λ m. zip2 (λ a b. a && b) m tops) c.copy_from.ensures ∙ ap (zip2 (λ a b. a && b) c.args.mask.now) (c.at_top.ensures ∙ ap (rows_where is_at_top) is) in
+    whole
+    ∙ times_is c.times-2.result (weight_of_top e (column_at table c.args.column)) c.sum_wrapped.result _ (c.times-2.ensures ∙ ap (λ z. wrapped (z *ℤ to_z w128 (of_z w128 c.sum_wrapped.result))) weighs) (omega (arith, ints))
     (c.sum_wrapped.ensures ∙ ap (λ m. wrapped (sum_over m f)) room)

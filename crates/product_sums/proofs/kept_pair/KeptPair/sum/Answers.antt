@@ -23,11 +23,11 @@ returns-clause-sum c =
     let mask = c.args.mask.now in
     let moved : c.follow.new.self.mask ≡ mask = c.follow.ensures.rows in
     let numbered = c.sum_numbered.ensures ∙ ap (λ m. wrapped (sum_over m (λ r. pos (first_number table first (known_at table.known first).read r) *ℤ f r))) moved in
-    let alone = c.sum_alone.ensures ∙ ap (λ m. wrapped (sum_over m f)) moved in
+    let alone = c.sum_alone-alone.ensures ∙ ap (λ m. wrapped (sum_over m f)) moved in
     let digits = times_is c.times-digits.result (weight_of_digits (column_at table first)) c.sum_numbered.result (sum_over mask (λ r. pos (first_number table first (known_at table.known first).read r) *ℤ f r))
     (c.times-digits.ensures ∙ ap (λ z. wrapped (z *ℤ to_z w128 (of_z w128 c.sum_numbered.result))) digits_weigh) (omega (arith, ints)) numbered in
-    let all = times_is c.times-all.result (weight_of_all e (column_at table first)) c.sum_alone.result (sum_over mask f)
-    (c.times-all.ensures ∙ ap (λ z. wrapped (z *ℤ to_z w128 (of_z w128 c.sum_alone.result))) all_weigh) (omega (arith, ints)) alone in
+    let all = times_is c.times-all.result (weight_of_all e (column_at table first)) c.sum_alone-alone.result (sum_over mask f)
+    (c.times-all.ensures ∙ ap (λ z. wrapped (z *ℤ to_z w128 (of_z w128 c.sum_alone-alone.result))) all_weigh) (omega (arith, ints)) alone in
     whole
     ∙ minus_is c.minus.result c.plus.result c.sum_clipped-less.result _ _ c.minus.ensures (omega (arith, ints)) (omega (arith, ints))
     (plus_is c.plus.result c.times-digits.result c.times-all.result _ _ c.plus.ensures (omega (arith, ints)) (omega (arith, ints)) digits all) c.sum_clipped-less.ensures.sum
