@@ -30,7 +30,7 @@ abbrev pub HeadsHaveTexts : Type 0
 HeadsHaveTexts = (bytes : List ℕ) (items : List SchemaItem) (limits : Limits) (table : Contents) → IsTableOf bytes items limits table
     → HeadHasTexts table.head
 
--- the text stands for a table or has a fault, want of memory left aside
+-- unless memory runs out, the text stands for a table or has a fault
 abbrev pub IsAnswered : List ℕ → List SchemaItem → Limits → Type 0
 IsAnswered bytes items limits =
     ((table : Contents) × IsTableOf bytes items limits table)

@@ -123,6 +123,10 @@ pub record TookBelow (limit : ℕ) (old : List State) (fields : Fields) (new : L
   pub took : (c : ℕ) (d : State) → c < end → slice_index_or new c d ≡ state_with (slice_index_or old c d) (slice_index_or fields c [])
   pub rest : (c : ℕ) (d : State) → end ≤ c → slice_index_or new c d ≡ slice_index_or old c d
 
+-- each state has taken its field
+abbrev pub TookAll : ℕ → List State → Fields → List State → Type 0
+TookAll limit old fields new = TookBelow limit old fields new (length old)
+
 -- of the fields at the places of the columns that of one column is refused, and those before it are taken; the fault names its
 -- place among all fields
 pub record RefusesAt (places : List ℕ) (limit entry : ℕ) (old : List State) (fields : Fields) (fault : TableFault) : Type 0 where
@@ -149,7 +153,7 @@ pub record TakesRow (items : List SchemaItem) (limits : Limits) (rows : ℕ) (ol
     : Type 0 where
   pub room : HasRoomFor limits rows (length old)
   pub full : length fields ≡ length items
-  pub took : TookBelow limits.names old (kept_fields items fields) new (length old)
+  pub took : TookAll limits.names old (kept_fields items fields) new
 
 -- a row with a field for each item, and that of a column is refused
 pub record RefusesField (items : List SchemaItem) (limits : Limits) (rows : ℕ) (old : List State) (fields : Fields)
@@ -171,7 +175,8 @@ abbrev pub RefusesRow : List SchemaItem → Limits → ℕ → List State → Fi
 RefusesRow items limits rows old fields NoHeader = ⊥
 RefusesRow items limits rows old fields (HeaderDiffers place) = ⊥
 RefusesRow items limits rows old fields (TooManyRows limit) = (limit ≡ limits.rows) × (limits.rows < suc rows)
-RefusesRow items limits rows old fields (TooManyCells count) = (suc rows ≤ limits.rows) × (count ≡ suc rows * length old) × (limits.cells < count)
+RefusesRow items limits rows old fields (TooManyCells count) =
+    (suc rows ≤ limits.rows) × (count ≡ suc rows * length old) × (limits.cells < count)
 RefusesRow items limits rows old fields (UnequalLength entry got want) = RefusesLength items limits rows old fields entry got want
 RefusesRow items limits rows old fields (BadCell entry place) = RefusesField items limits rows old fields (BadCell entry place)
 RefusesRow items limits rows old fields (TooManyNames place) = RefusesField items limits rows old fields (TooManyNames place)

@@ -2,8 +2,8 @@
 
 ghost use Rattle.csv_load.specs.Laws.{HasAnswer, HasOneFault, HeadsHaveTexts, IsFaultless, StandsOnce};
 
-/// The faults that `load` tells are exact: no text has two of them, and a text that stands for a table has none, want of
-/// memory left aside. So `load` answers a fault where the text has it, or `NoMemory`.
+/// The faults that `load` tells are exact: no text has two of them, and a text that stands for a table has none, unless memory
+/// runs out. So `load` answers a fault where the text has it, or `NoMemory`.
 pub fn faults_are_exact()
     ensures one { HasOneFault }
     ensures none { IsFaultless }

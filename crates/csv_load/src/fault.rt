@@ -7,7 +7,8 @@ use std::alloc::{AllocError, AllocFailed};
 use thiserror::Error;
 
 /// Why a CSV stands for no table, or that memory ran out. The header is record 0, and columns count from 0, those that are
-/// skipped with them. Of several faults the one of the first record is answered; of one record that which is named first here, its cells in turn.
+/// skipped with them. Of several faults that of the first record is answered; within a record the one that stands first here, cell by
+/// cell.
 #[derive(Debug, PartialEq, Eq, Drop, Error)]
 pub enum TableFault {
     /// There is no record.

@@ -6,7 +6,7 @@ ghost use Rattle.daq_table.specs.Schemas.{item_names, kept_places};
 ghost use Rattle.csv_load.specs.Faults.{IsFirstDifference};
 ghost use Rattle.csv_load.specs.Kept.{kept_fields, place_of};
 ghost use Rattle.csv_load.specs.Records.{held};
-ghost use Rattle.csv_load.specs.States.{RefusesAt, RefusesHeader, RefusesRecord, RefusesRow, TakesRecord, TakesRow, TookBelow};
+ghost use Rattle.csv_load.specs.States.{RefusesAt, RefusesHeader, RefusesRecord, RefusesRow, TakesRecord, TakesRow, TookAll};
 
 use crate::column::Column;
 use crate::fault::TableFault;
@@ -91,7 +91,7 @@ fn take_fields(
 ) -> Result<(), TableFault>
     requires wide { length columns.old ≡ length schema.now.columns }
     requires full { length (held fields.now) ≡ length schema.now.items }
-    ensures ok { OnOk result (TookBelow limit columns.old (kept_fields schema.now.items (held fields.now)) columns.new (length columns.old)) }
+    ensures ok { OnOk result (TookAll limit columns.old (kept_fields schema.now.items (held fields.now)) columns.new) }
     ensures err { IfErr result (RefusesAt (kept_places schema.now.items) limit entry columns.old (held fields.now)) }
 {
     for (number, column) in columns.iter_mut().enumerate() {
