@@ -1,0 +1,12 @@
+mod Contains
+mod Done
+mod Exact
+mod Later
+mod LineSets
+mod Nests
+mod Order
+mod Pairs
+mod Places
+mod Present
+mod Spans
+mod Uncertain

@@ -1,0 +1,135 @@
+-- What a combined report says of the keys of a line, from the shards' reports. A shard's report is its cells.
+use Rattle.std.specs.Prelude.{◌≡◌, ℕ, ◌+◌, ◌<◌, pos, Bool, false, List, [], ◌∷◌, drop, length, map, slice_get, slice_index_or, if◌then◌else◌}
+use Rattle.std.specs.declared.option.Option.{Option}
+use Rattle.std.specs.declared.option.Option.TheVariants.{Some, None}
+use Rattle.std.specs.Int.{int_max, int_min}
+use Rattle.std.specs.List.{filter, flat_map, list_any}
+use Rattle.query_model.specs.declared.bounds.Bound.{Bound}
+use Rattle.query_model.specs.declared.bounds.Nullity.{Nullity}
+use Rattle.query_model.specs.declared.bounds.Nullity.TheVariants.{Never, Possibly, Always}
+use Rattle.query_model.specs.declared.query.ItemKind.{ItemKind}
+use Rattle.query_model.specs.declared.query.ItemKind.TheVariants.{Count, Sum, Min, Max, Avg}
+use Rattle.shard_bounds.specs.Combined.{combined, FitsBound}
+use Rattle.shard_groups.specs.declared.cells.Cell.{Cell}
+use Rattle.shard_groups.specs.declared.fault.GroupFault.{GroupFault}
+use Rattle.shard_groups.specs.declared.fault.GroupFault.TheVariants.{NoMemory, TooWide}
+use Rattle.shard_groups.specs.declared.keys.Span.{Span}
+use Rattle.shard_groups.specs.Keys.{is_within}
+use Rattle.shard_groups.specs.Lines.{AreLines}
+
+-- the keys of all cells of all shards
+abbrev pub keys_in : List Cell → List (List Span)
+keys_in cells = map (λ cell. cell.keys) cells
+
+abbrev pub all_keys : List (List Cell) → List (List Span)
+all_keys shards = flat_map keys_in shards
+
+-- ---- a shard
+
+-- where no row counts, the number of rows is 0, and any other answer is NULL
+abbrev pub no_rows : ItemKind → Bound
+no_rows Count = record { null = Never; lo = pos 0; hi = pos 0 }
+no_rows Sum = record { null = Always; lo = pos 0; hi = pos 0 }
+no_rows Min = record { null = Always; lo = pos 0; hi = pos 0 }
+no_rows Max = record { null = Always; lo = pos 0; hi = pos 0 }
+no_rows Avg = record { null = Always; lo = pos 0; hi = pos 0 }
+
+-- what a cell says of an item
+abbrev pub bound_at : ℕ → Cell → Bound
+bound_at item cell = slice_index_or cell.items item (no_rows Sum)
+
+abbrev pub cells_within : List Span → List Cell → List Cell
+cells_within line cells = filter (λ cell. is_within cell.keys line) cells
+
+-- a bound beside others, of which each may be the one that tells the answer, or none
+abbrev pub beside : Bound → Bound → Bound
+beside a b = record { null = Possibly; lo = int_min a.lo b.lo; hi = int_max a.hi b.hi }
+
+abbrev pub alone : Bound → Bound
+alone a = record { null = Possibly; lo = a.lo; hi = a.hi }
+
+abbrev pub wider_by : Nullity → Nullity → Bound → Bound → Bound
+wider_by Always v a b = b
+wider_by Never Always a b = alone a
+wider_by Never Never a b = beside a b
+wider_by Never Possibly a b = beside a b
+wider_by Possibly Always a b = alone a
+wider_by Possibly Never a b = beside a b
+wider_by Possibly Possibly a b = beside a b
+
+abbrev pub wider : ItemKind → Bound → Bound → Bound
+wider Count a b = record { null = Never; lo = b.lo; hi = int_max a.hi b.hi }
+wider Sum a b = wider_by a.null b.null a b
+wider Min a b = wider_by a.null b.null a b
+wider Max a b = wider_by a.null b.null a b
+wider Avg a b = wider_by a.null b.null a b
+
+-- each of some bounds may tell the answer, or none: so many rows as one of them says at most, and else an interval from the least low
+-- to the greatest high, or NULL
+abbrev pub uncertain : ItemKind → List Bound → Bound
+uncertain kind [] = no_rows kind
+uncertain kind (bound ∷ bounds) = wider kind bound (uncertain kind bounds)
+
+-- the first cell within the line is at that place
+pub record IsFirstWithin (line : List Span) (cells : List Cell) (at : ℕ) : Type 0 where
+  pub there : at < length cells
+  pub first : (any : Cell) → cells_within line cells ≡ slice_index_or cells at any ∷ cells_within line (drop (at + 1) cells)
+
+-- the cell, if it is the only one and has all keys of the line
+abbrev pub only : List Span → List Cell → Option Cell
+only line [] = None
+only line (cell ∷ []) = if is_within line cell.keys then Some cell else None
+only line (cell ∷ next ∷ cells) = None
+
+abbrev pub share_by : ItemKind → ℕ → Option Cell → List Cell → Bound
+share_by kind item (Some cell) cells = bound_at item cell
+share_by kind item None cells = uncertain kind (map (bound_at item) cells)
+
+-- the bound of a shard for each key of the line: a cell that has just these keys tells it, others do not tell which of them has the key
+abbrev pub share : ItemKind → ℕ → List Span → List Cell → Bound
+share kind item line cells = share_by kind item (only line (cells_within line cells)) (cells_within line cells)
+
+abbrev pub shares : ItemKind → ℕ → List Span → List (List Cell) → List Bound
+shares kind item line shards = map (share kind item line) shards
+
+abbrev pub is_present_by : Option Cell → Bool
+is_present_by None = false
+is_present_by (Some cell) = cell.present
+
+abbrev pub is_present_in : List Span → List Cell → Bool
+is_present_in line cells = is_present_by (only line (cells_within line cells))
+
+-- ---- all shards
+
+-- the bound over all shards for each key of the line
+abbrev pub bound_over : ItemKind → ℕ → List Span → List (List Cell) → Bound
+bound_over kind item line shards = combined kind (shares kind item line shards)
+
+-- a key is in the result for certain where it is in that of some shard, which has a cell for this key alone
+abbrev pub is_present : List Span → List (List Cell) → Bool
+is_present line shards = list_any (is_present_in line) shards
+
+-- item by item, from one on
+abbrev pub bounds_from : ℕ → List ItemKind → List Span → List (List Cell) → List Bound
+bounds_from item [] line shards = []
+bounds_from item (kind ∷ kinds) line shards = bound_over kind item line shards ∷ bounds_from (item + 1) kinds line shards
+
+-- the line of a combined report
+abbrev pub line_over : List ItemKind → List (List Cell) → List Span → Cell
+line_over kinds shards line = record { keys = line; present = is_present line shards; items = bounds_from 0 kinds line shards }
+
+-- the cells of a combined report: lines of the cells of all shards, and what each says
+pub record IsCombined (kinds : List ItemKind) (shards : List (List Cell)) (cells : List Cell) : Type 0 where
+  pub lines : AreLines (all_keys shards) (keys_in cells)
+  pub each : cells ≡ map (line_over kinds shards) (keys_in cells)
+
+-- there is such an item, and for the keys of some line its bound leaves 128 bits
+pub record IsTooWide (kinds : List ItemKind) (shards : List (List Cell)) (item : ℕ) : Type 0 where
+  pub kind : ItemKind
+  pub is : slice_get kinds item ≡ Some kind
+  pub line : List Span
+  pub wide : FitsBound (bound_over kind item line shards) → ⊥
+
+abbrev pub IsGroupFault : GroupFault → List ItemKind → List (List Cell) → Type 0
+IsGroupFault (TooWide item) kinds shards = IsTooWide kinds shards item
+IsGroupFault NoMemory kinds shards = Unit {0}

@@ -1,0 +1,4 @@
+pub mod Groups
+pub mod Keys
+pub mod Laws
+pub mod Lines

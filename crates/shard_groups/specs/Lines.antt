@@ -1,0 +1,36 @@
+-- The lines of a combined report: which keys each has.
+use Rattle.std.specs.Prelude.{List, [], ◌∷◌, IsTrue, IsFalse, ◌⊎◌}
+use Rattle.shard_groups.specs.declared.keys.Span.{Span}
+use Rattle.shard_groups.specs.Keys.{is_within, meets}
+
+-- one of these has all keys of the cell
+abbrev pub IsCovered : List Span → List (List Span) → Type 0
+IsCovered cell [] = ⊥
+IsCovered cell (line ∷ lines) = IsTrue (is_within cell line) ⊎ IsCovered cell lines
+
+abbrev pub AreCovered : List (List Span) → List (List Span) → Type 0
+AreCovered [] lines = Unit {0}
+AreCovered (cell ∷ cells) lines = IsCovered cell lines × AreCovered cells lines
+
+-- none of these meets the line
+abbrev pub IsApart : List Span → List (List Span) → Type 0
+IsApart line [] = Unit {0}
+IsApart line (other ∷ others) = IsFalse (meets line other) × IsApart line others
+
+-- no two of these meet
+abbrev pub AreApart : List (List Span) → Type 0
+AreApart [] = Unit {0}
+AreApart (line ∷ lines) = IsApart line lines × AreApart lines
+
+-- Each cell lies within one line, no two lines meet, and whichever others are so too, each line lies within one of these: no lines are
+-- narrower. Cells that meet, or that meet the hull of others that do, are so in one line, over all shards
+pub record AreLines (cells lines : List (List Span)) : Type 0 where
+  pub covered : AreCovered cells lines
+  pub apart : AreApart lines
+  pub narrowest : (others : List (List Span)) → AreApart others → AreCovered cells others → AreCovered lines others
+
+-- on the way: a line that may meet others takes in one after another
+pub record AreJoining (cells : List (List Span)) (line : List Span) (lines : List (List Span)) : Type 0 where
+  pub covered : AreCovered cells (line ∷ lines)
+  pub apart : AreApart lines
+  pub narrowest : (others : List (List Span)) → AreApart others → AreCovered cells others → AreCovered (line ∷ lines) others

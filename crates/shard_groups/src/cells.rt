@@ -1,0 +1,17 @@
+//! Reports by groups.
+
+use crate::keys::Keys;
+use daq_table::Listed;
+use query_model::Bound;
+
+/// A line of a report by groups: some keys, whether they are in the result for certain, and for each item where its answer lies, for
+/// each of the keys by itself.
+#[derive(Drop, Debug)]
+pub struct Cell {
+    pub keys: Keys,
+    pub present: bool,
+    pub items: Listed<Bound>,
+}
+
+/// The lines of a report by groups. No key is in two of them, and one that is in none is not in the result.
+pub type Cells = Listed<Cell>;

@@ -1,0 +1,23 @@
+//! The laws of combined reports by groups. Each stands on a function that does nothing.
+
+ghost use Rattle.shard_groups.specs.Laws.{LinesContain, LinesNest, LinesTell, LinesTellKeys};
+
+/// Where the shards' reports are certain of a key, a line that has it contains its answer over the rows of all shards.
+pub fn lines_contain()
+    ensures { LinesContain }
+{}
+
+/// Each key of the whole result is in one line, and each key of a present line is in the result.
+pub fn lines_tell_keys()
+    ensures { LinesTellKeys }
+{}
+
+/// Where the shards' reports are exact, a line that has a key says its answer over the rows of all shards.
+pub fn lines_tell()
+    ensures { LinesTell }
+{}
+
+/// With later reports of the shards, the line of a key and its bound lie within those before.
+pub fn lines_nest()
+    ensures { LinesNest }
+{}

@@ -1,0 +1,16 @@
+//! Reports by groups over a table that is cut into shards.
+#![tactic(auto)]
+
+mod cells;
+mod combined;
+mod fault;
+mod keys;
+mod laws;
+mod lines;
+mod shares;
+
+pub use cells::{Cell, Cells};
+pub use combined::combine_groups;
+pub use fault::GroupFault;
+pub use keys::{Ends, KeyValue, Keys, Span};
+pub use laws::{lines_contain, lines_nest, lines_tell, lines_tell_keys};
