@@ -15,6 +15,7 @@ use Rattle.report_text.proofs.ShownTexts.{equal_ends, high_can, high_end, high_o
 use Rattle.report_text.specs.Answers.{IsAnswerOf, IsAverageFor, IsBoundFor, answer_text}
 use Rattle.report_text.specs.Averages.{CanBeDivided, IsNoAverage, IsShownAverage, IsShownAverageBy, average_text, is_same_ratio, ratio_text}
 use Rattle.report_text.specs.Bounds.{IsNothing, IsShown, IsShownBy, high_text, low_text, shown_text}
+use Rattle.report_text.specs.Extras.{ExtrasSayOne, IsExtraOf, extra_text, extra_word}
 use Rattle.report_text.specs.Layouts.{IsEnd, bracketed_text, single_text, tail_text}
 use Rattle.report_text.specs.Lines.{LinesSayOne}
 use Rattle.report_text.specs.Words.{ends_text, interval_text}
@@ -193,3 +194,16 @@ answer_one kind (Average a) (Value b) h k e = not_both kind b a k h
 pub lines_say_one : LinesSayOne
 lines_say_one kind number a b h k e =
     answer_one kind a b h k (append_cancel_left (codes " ") (answer_text a) (answer_text b) (append_cancel_left (decimal number) (codes " " ++ answer_text a) (codes " " ++ answer_text b) e))
+
+extra_is : (kind : ItemKind) (answer : Answer) → IsExtraOf kind answer → IsAnswerOf kind answer
+extra_is Count answer h = absurd h
+extra_is Sum answer h = h
+extra_is Min answer h = h
+extra_is Max answer h = h
+extra_is Avg answer h = h
+
+pub extras_say_one : ExtrasSayOne
+extras_say_one kind number a b h k e =
+    answer_one kind a b (extra_is kind a h) (extra_is kind b k)
+    (append_cancel_left (extra_word kind) (answer_text a) (answer_text b)
+    (append_cancel_left (codes " ") (extra_text kind a) (extra_text kind b) (append_cancel_left (decimal number) (codes " " ++ extra_text kind a) (codes " " ++ extra_text kind b) e)))

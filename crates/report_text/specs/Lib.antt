@@ -1,6 +1,7 @@
 pub mod Answers
 pub mod Averages
 pub mod Bounds
+pub mod Extras
 pub mod Forms
 pub mod Layouts
 pub mod Lines

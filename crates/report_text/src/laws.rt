@@ -1,8 +1,14 @@
 //! What holds of the lines of reports. Each law stands on a function that does nothing.
 
+ghost use Rattle.report_text.specs.Extras.{ExtrasSayOne};
 ghost use Rattle.report_text.specs.Lines.{LinesSayOne};
 
 /// The line of an item says one answer of its kind.
 pub fn lines_say_one()
     ensures { LinesSayOne }
+{}
+
+/// So does the line behind it.
+pub fn extras_say_one()
+    ensures { ExtrasSayOne }
 {}

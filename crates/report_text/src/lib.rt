@@ -8,6 +8,7 @@ mod bounds;
 mod counts;
 mod dates;
 mod digits;
+mod extras;
 mod forms;
 mod laws;
 mod layouts;
@@ -17,8 +18,9 @@ mod numbers;
 pub use answers::{Answer, read_answer, written_answer};
 pub use averages::{Ratio, ShownAverage, read_average, written_average};
 pub use bounds::{ShownBound, read_bound, written_bound};
+pub use extras::{is_rows_line, read_extra, written_extra};
 pub use forms::{Form, has_texts};
-pub use laws::lines_say_one;
+pub use laws::{extras_say_one, lines_say_one};
 pub use lines::{
     ReportEnd, is_round_line, read_end, read_item, read_parts, text_of_item, written_item,
 };
