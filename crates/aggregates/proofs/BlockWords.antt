@@ -19,7 +19,7 @@ use Rattle.known_column.specs.Columns.{KnownColumn, digit_of}
 use Rattle.aggregates.specs.declared.extreme_rows.Candidate.{Candidate}
 use Rattle.aggregates.specs.declared.extreme_rows.Extreme.{Extreme}
 use Rattle.aggregates.specs.declared.extreme_rows.Extreme.TheVariants.{Least, Greatest}
-use Rattle.aggregates.specs.ExtremeRows.{has_bit, has_place, is_ahead, is_further, number_at, AreBlockRows, AreZero, IsAsFar, IsBestAmong, IsBestOf, IsExtremeDigit, IsNarrowed}
+use Rattle.aggregates.specs.ExtremeRows.{has_bit, has_place, is_ahead, is_further, number_at, number_so_far, AreBlockRows, AreZero, IsAsFar, IsBehind, IsBestAmong, IsBestOf, IsExtremeDigit, IsNarrowed, Reaches}
 use Rattle.aggregates.specs.Selections.{has_row}
 use Rattle.aggregates.proofs.EndSums.{Counts, numbers}
 use Rattle.aggregates.proofs.NumberRows.{first_plane, halved}
@@ -352,7 +352,7 @@ leading_further extreme column mask plane block j words old new number digits di
     }
 
 -- after all digits, the row of a candidate
-leading_last : (extreme : Extreme) (column : KnownColumn) (mask : List Bool) (block k digits : ℕ) (candidates : List ℕ) (number i : ℕ) → k ≡ 0 → AreLeading extreme column mask block k digits candidates number → i < 512 → has_place candidates i ≡ true →
+pub leading_last : (extreme : Extreme) (column : KnownColumn) (mask : List Bool) (block k digits : ℕ) (candidates : List ℕ) (number i : ℕ) → k ≡ 0 → AreLeading extreme column mask block k digits candidates number → i < 512 → has_place candidates i ≡ true →
     IsBestOf extreme column mask (512 * block) (512 * block + 512) (record { row = 512 * block + i; number = number })
 leading_last extreme column mask block k digits candidates number i none lead small has =
     let whole : (r : ℕ) → short_number column k r ≡ number_at column r = λ r. ap (λ e. number_at column r / 2 ^ e) none ∙ div-one (number_at column r) in
@@ -375,36 +375,11 @@ leading_last extreme column mask block k digits candidates number i none lead sm
 
 -- ---- the best so far
 
--- of the rows before a block and those of the block
-both_parts : (extreme : Extreme) (column : KnownColumn) (mask : List Bool) (block number : ℕ) → ((r : ℕ) → r < 512 * block → has_row mask r ≡ true → IsAsFar extreme number (number_at column r)) →
-    ((r : ℕ) → 512 * block ≤ r → r < 512 * block + 512 → has_row mask r ≡ true → IsAsFar extreme number (number_at column r)) →
-    (r : ℕ) → 0 ≤ r → r < 512 * block + 512 → has_row mask r ≡ true → IsAsFar extreme number (number_at column r)
-both_parts extreme column mask block number earlier later r from below has = by_place (place r (512 * block))
-  where
-    by_place : (r < 512 * block) ⊎ (512 * block ≤ r) → IsAsFar extreme number (number_at column r)
-    by_place (inl h) = earlier r h has
-    by_place (inr h) = later r h below has
-
 -- a block without rows
-pub best_stays : (extreme : Extreme) (column : KnownColumn) (mask : List Bool) (block : ℕ) (words : List ℕ) (best : Option Candidate) → AreBlockRows mask block words → AreZero words →
-    IsBestAmong extreme column mask 0 (512 * block) best → IsBestAmong extreme column mask 0 (512 * block + 512) best
-best_stays extreme column mask block words best rows none is = by_best best is
-  where
-    nowhere : (r : ℕ) → 512 * block ≤ r → r < 512 * block + 512 → has_row mask r ≡ false
-    nowhere r from below =
-        let at : 512 * block + (r - 512 * block) ≡ r = omega (arith, from) in
-        sym (ap (has_row mask) at) ∙ sym (rows (r - 512 * block) (omega (arith, from, below))) ∙ no_places words (r - 512 * block) none
-
-    by_best : (best : Option Candidate) → IsBestAmong extreme column mask 0 (512 * block) best → IsBestAmong extreme column mask 0 (512 * block + 512) best
-    by_best None is = λ r from below. elim (place r (512 * block)) [
-      | inl h ↦ is r from h
-      | inr h ↦ nowhere r h below
-    ]
-    by_best (Some b) is = record {
-      has = is.has;
-      number = is.number;
-      furthest = both_parts extreme column mask block b.number (λ r below has. is.furthest r (omega arith) below has) (λ r from below has. absurd (false≢true (sym (nowhere r from below) ∙ has)));
-    }
+pub empty_block : (mask : List Bool) (block : ℕ) (words : List ℕ) → AreBlockRows mask block words → AreZero words → (r : ℕ) → 512 * block ≤ r → r < 512 * block + 512 → has_row mask r ≡ false
+empty_block mask block words rows none r from below =
+    let at : 512 * block + (r - 512 * block) ≡ r = omega (arith, from) in
+    sym (ap (has_row mask) at) ∙ sym (rows (r - 512 * block) (omega (arith, from, below))) ∙ no_places words (r - 512 * block) none
 
 -- before any digit the best so far is not ahead
 pub not_ahead_first : (extreme : Extreme) (column : KnownColumn) (mask : List Bool) (to k : ℕ) (best : Option Candidate) → Counts column mask → k ≡ column.known.read - first_plane column.ends column.known.read →
@@ -416,60 +391,115 @@ not_ahead_first extreme column mask to k (Some b) h is best = by_extreme extreme
     by_extreme Least n e = grind (arith, nat_tests)
     by_extreme Greatest n e = grind (arith, nat_tests)
 
+less_test : (x y : ℕ) → x < y → nat_lt x y ≡ true
+less_test x y h = grind (arith, nat_tests)
+
+test_less : (x y : ℕ) → nat_lt x y ≡ true → x < y
+test_less x y e = grind (arith, nat_tests)
+
+test_not_less : (x y : ℕ) → nat_lt x y ≡ false → y ≤ x
+test_not_less x y e = grind (arith, nat_tests)
+
 -- a number whose first digits lie further out lies further out
-whole_further : (extreme : Extreme) (b n number k : ℕ) → is_further extreme (b / 2 ^ k) number ≡ true → IsAsFar extreme number (n / 2 ^ k) → IsAsFar extreme b n
+pub whole_further : (extreme : Extreme) (b n number k : ℕ) → is_further extreme (b / 2 ^ k) number ≡ true → IsAsFar extreme number (n / 2 ^ k) → is_further extreme b n ≡ true
 whole_further extreme b n number k ahead far = by_extreme extreme ahead far
   where
     short : (x y : ℕ) → x ≤ y → x / 2 ^ k ≤ y / 2 ^ k
     short x y h = (let part = div-mul-le_self x (2 ^ k) in le-div (x / 2 ^ k) y (2 ^ k) (pow_pos k) (omega (arith, part, h)))
 
-    less : (x y : ℕ) → nat_lt x y ≡ true → x < y
-    less x y e = grind (arith, nat_tests)
-
-    by_extreme : (extreme : Extreme) → is_further extreme (b / 2 ^ k) number ≡ true → IsAsFar extreme number (n / 2 ^ k) → IsAsFar extreme b n
-    by_extreme Least ahead far = elim (place n b) [
-      | inl h ↦ (let le : n ≤ b = omega (arith, h) in absurd (omega (arith, less _ _ ahead, far, short n b le)))
-      | inr h ↦ h
+    by_extreme : (extreme : Extreme) → is_further extreme (b / 2 ^ k) number ≡ true → IsAsFar extreme number (n / 2 ^ k) → is_further extreme b n ≡ true
+    by_extreme Least ahead far = elim (place b n) [
+      | inl h ↦ less_test b n h
+      | inr h ↦ absurd (omega (arith, test_less _ _ ahead, far, short n b h))
     ]
-    by_extreme Greatest ahead far = elim (place b n) [
-      | inl h ↦ (let le : b ≤ n = omega (arith, h) in absurd (omega (arith, less _ _ ahead, far, short b n le)))
-      | inr h ↦ h
+    by_extreme Greatest ahead far = elim (place n b) [
+      | inl h ↦ less_test n b h
+      | inr h ↦ absurd (omega (arith, test_less _ _ ahead, far, short b n h))
     ]
 
 -- a block whose rows fall behind
-pub best_ahead : (extreme : Extreme) (column : KnownColumn) (mask : List Bool) (block k digits : ℕ) (candidates : List ℕ) (number : ℕ) (best : Option Candidate) → AreLeading extreme column mask block k digits candidates number →
-    is_ahead extreme best number k ≡ true → IsBestAmong extreme column mask 0 (512 * block) best → IsBestAmong extreme column mask 0 (512 * block + 512) best
-best_ahead extreme column mask block k digits candidates number None lead ahead is = absurd (false≢true ahead)
-best_ahead extreme column mask block k digits candidates number (Some b) lead ahead is = record {
+pub block_behind : (extreme : Extreme) (column : KnownColumn) (mask : List Bool) (block k digits : ℕ) (candidates : List ℕ) (number : ℕ) (best : Option Candidate) → AreLeading extreme column mask block k digits candidates number →
+    is_ahead extreme best number k ≡ true → (r : ℕ) → 512 * block ≤ r → r < 512 * block + 512 → has_row mask r ≡ true → IsBehind extreme (number_so_far best) (number_at column r)
+block_behind extreme column mask block k digits candidates number None lead ahead r from below has = absurd (false≢true ahead)
+block_behind extreme column mask block k digits candidates number (Some b) lead ahead r from below has =
+    let at : 512 * block + (r - 512 * block) ≡ r = omega (arith, from) in
+    let far = lead.furthest (r - 512 * block) (omega (arith, from, below)) (ap (has_row mask) at ∙ has) in
+    whole_further extreme b.number (number_at column r) number k ahead (subst (λ r. IsAsFar extreme number (short_number column k r)) at far)
+
+-- ---- numbers that lie as far out, and further
+
+pub far_itself : (extreme : Extreme) (a : ℕ) → IsAsFar extreme a a
+far_itself Least a = omega arith
+far_itself Greatest a = omega arith
+
+pub far_onward : (extreme : Extreme) (a b c : ℕ) → IsAsFar extreme a b → IsAsFar extreme b c → IsAsFar extreme a c
+far_onward Least a b c f g = omega (arith, f, g)
+far_onward Greatest a b c f g = omega (arith, f, g)
+
+pub further_is_far : (extreme : Extreme) (a b : ℕ) → is_further extreme a b ≡ true → IsAsFar extreme a b
+further_is_far Least a b e = (let less = test_less a b e in omega (arith, less))
+further_is_far Greatest a b e = (let less = test_less b a e in omega (arith, less))
+
+pub no_further : (extreme : Extreme) (a b : ℕ) → is_further extreme a b ≡ false → IsAsFar extreme b a
+no_further Least a b e = test_not_less a b e
+no_further Greatest a b e = test_not_less b a e
+
+pub further_onward : (extreme : Extreme) (a b c : ℕ) → IsAsFar extreme a b → is_further extreme b c ≡ true → is_further extreme a c ≡ true
+further_onward Least a b c far e = (let less = test_less b c e in less_test a c (omega (arith, far, less)))
+further_onward Greatest a b c far e = (let less = test_less c b e in less_test c a (omega (arith, far, less)))
+
+-- ---- the rows before a block and those of the block
+
+both_parts : (extreme : Extreme) (column : KnownColumn) (mask : List Bool) (block number : ℕ) → ((r : ℕ) → r < 512 * block → has_row mask r ≡ true → IsAsFar extreme number (number_at column r)) →
+    ((r : ℕ) → 512 * block ≤ r → r < 512 * block + 512 → has_row mask r ≡ true → IsAsFar extreme number (number_at column r)) →
+    (r : ℕ) → 0 ≤ r → r < 512 * block + 512 → has_row mask r ≡ true → IsAsFar extreme number (number_at column r)
+both_parts extreme column mask block number earlier later r from below has = by_place (place r (512 * block))
+  where
+    by_place : (r < 512 * block) ⊎ (512 * block ≤ r) → IsAsFar extreme number (number_at column r)
+    by_place (inl h) = earlier r h has
+    by_place (inr h) = later r h below has
+
+no_true : (b : Bool) → (b ≡ true → ⊥) → b ≡ false
+no_true true none = absurd (none refl)
+no_true false none = refl
+
+-- a block whose rows lie behind the best
+pub best_stays : (extreme : Extreme) (column : KnownColumn) (mask : List Bool) (block : ℕ) (best : Option Candidate) → ((r : ℕ) → 512 * block ≤ r → r < 512 * block + 512 → has_row mask r ≡ true → IsBehind extreme (number_so_far best) (number_at column r)) →
+    IsBestAmong extreme column mask 0 (512 * block) best → IsBestAmong extreme column mask 0 (512 * block + 512) best
+best_stays extreme column mask block None behind is = λ r from below. elim (place r (512 * block)) [
+  | inl h ↦ is r from h
+  | inr h ↦ no_true (has_row mask r) (behind r h below)
+]
+best_stays extreme column mask block (Some b) behind is = record {
   has = is.has;
   number = is.number;
-  furthest = both_parts extreme column mask block b.number (λ r below has. is.furthest r (omega arith) below has) (λ r from below has.
-      let at : 512 * block + (r - 512 * block) ≡ r = omega (arith, from) in
-      let far = lead.furthest (r - 512 * block) (omega (arith, from, below)) (ap (has_row mask) at ∙ has) in
-      whole_further extreme b.number (number_at column r) number k ahead (subst (λ r. IsAsFar extreme number (short_number column k r)) at far));
+  furthest = both_parts extreme column mask block b.number (λ r below has. is.furthest r (omega arith) below has)
+      (λ r from below has. further_is_far extreme b.number (number_at column r) (behind r from below has));
 }
 
--- a block whose rows do not fall behind
-pub best_found : (extreme : Extreme) (column : KnownColumn) (mask : List Bool) (block k digits : ℕ) (candidates : List ℕ) (number i : ℕ) (best : Option Candidate) → k ≡ 0 → AreLeading extreme column mask block k digits candidates number →
-    is_ahead extreme best number k ≡ false → i < 512 → has_place candidates i ≡ true → IsBestAmong extreme column mask 0 (512 * block) best →
-    IsBestAmong extreme column mask 0 (512 * block + 512) (Some (record { row = 512 * block + i; number = number }))
-best_found extreme column mask block k digits candidates number i best none lead level small has is =
-    let found = leading_last extreme column mask block k digits candidates number i none lead small has in
-    record { has = found.has; number = found.number; furthest = both_parts extreme column mask block number (by_best best level is) found.furthest }
+-- the better one of the best and of that of the block
+pub best_further : (extreme : Extreme) (column : KnownColumn) (mask : List Bool) (block : ℕ) (best : Option Candidate) (found new : Candidate) → (new ≡ found) ⊎ (Some new ≡ best) → IsAsFar extreme new.number found.number →
+    Reaches extreme (Some new.number) (number_so_far best) → IsBestAmong extreme column mask 0 (512 * block) best → IsBestOf extreme column mask (512 * block) (512 * block + 512) found →
+    IsBestAmong extreme column mask 0 (512 * block + 512) (Some new)
+best_further extreme column mask block best found new one far reaches is of =
+    let row = by_one one in
+    record {
+      has = row.0;
+      number = row.1;
+      furthest = both_parts extreme column mask block new.number (by_best best reaches is) (λ r from below has. far_onward extreme new.number found.number (number_at column r) far (of.furthest r from below has));
+    }
   where
-    as_far : (extreme : Extreme) (b n : ℕ) → is_further extreme b number ≡ false → IsAsFar extreme b n → IsAsFar extreme number n
-    as_far Least b n e far = (let le : number ≤ b = not_less b number e in omega (arith, le, far))
-      where
-        not_less : (x y : ℕ) → nat_lt x y ≡ false → y ≤ x
-        not_less x y e = grind (arith, nat_tests)
-    as_far Greatest b n e far = (let le : b ≤ number = not_less number b e in omega (arith, le, far))
-      where
-        not_less : (x y : ℕ) → nat_lt x y ≡ false → y ≤ x
-        not_less x y e = grind (arith, nat_tests)
+    IsRow : Candidate → Type 0
+    IsRow c = (has_row mask c.row ≡ true) × (c.number ≡ number_at column c.row)
 
-    by_best : (best : Option Candidate) → is_ahead extreme best number k ≡ false → IsBestAmong extreme column mask 0 (512 * block) best →
-        (r : ℕ) → r < 512 * block → has_row mask r ≡ true → IsAsFar extreme number (number_at column r)
-    by_best None level is r below has = absurd (false≢true (sym (is r (omega arith) below) ∙ has))
-    by_best (Some b) level is r below has =
-        let whole : b.number / 2 ^ k ≡ b.number = ap (λ e. b.number / 2 ^ e) none ∙ div-one b.number in
-        as_far extreme b.number (number_at column r) (sym (ap (λ n. is_further extreme n number) whole) ∙ level) (is.furthest r (omega arith) below has)
+    of_best : (best : Option Candidate) → IsBestAmong extreme column mask 0 (512 * block) best → Some new ≡ best → IsRow new
+    of_best None is e = cc
+    of_best (Some b) is e = (let same : new ≡ b = cc in subst IsRow (sym same) (is.has, is.number))
+
+    by_one : (new ≡ found) ⊎ (Some new ≡ best) → IsRow new
+    by_one (inl e) = subst IsRow (sym e) (of.has, of.number)
+    by_one (inr e) = of_best best is e
+
+    by_best : (best : Option Candidate) → Reaches extreme (Some new.number) (number_so_far best) → IsBestAmong extreme column mask 0 (512 * block) best → (r : ℕ) → r < 512 * block → has_row mask r ≡ true → IsAsFar extreme new.number (number_at column r)
+    by_best None reaches is r below has = absurd (false≢true (sym (is r (omega arith) below) ∙ has))
+    by_best (Some b) reaches is r below has = far_onward extreme new.number b.number (number_at column r) reaches (is.furthest r (omega arith) below has)

@@ -213,7 +213,7 @@ count-none (suc n) = sum_by-cons (λ b. cond {A = ℕ} b 1 0) false (replicate n
 -- ---- planes that are read
 
 -- the first digits of a prefix stay where a digit follows
-first_digits : (p k : ℕ) (b : Bool) → (2 * p + cond b 1 0) / 2 ^ suc k ≡ p / 2 ^ k
+pub first_digits : (p k : ℕ) (b : Bool) → (2 * p + cond b 1 0) / 2 ^ suc k ≡ p / 2 ^ k
 first_digits p k b =
     let twice : 2 ^ suc k ≡ 2 * 2 ^ k = pow-suc 2 k ∙ omega arith in
     ap (λ n. (2 * p + cond b 1 0) / n) twice ∙ sym (div-div-eq-div-mul (2 * p + cond b 1 0) 2 (2 ^ k)) ∙ ap (λ n. n / 2 ^ k) (half b)

@@ -8,6 +8,7 @@ pub mod EarlyNumbers
 pub mod EndSigns
 pub mod EndSums
 pub mod ExtremeEnds
+pub mod KeptExtremes
 pub mod KeptSums
 pub mod MaskSums
 pub mod NumberRows

@@ -4,6 +4,7 @@ use Rattle.std.specs.Prelude.{◌↔◌, nat_lt, Bool, false, not, ◌&&◌, con
 use Rattle.std.specs.Int.{bit_at}
 use Rattle.std.specs.declared.option.Option.{Option}
 use Rattle.std.specs.declared.option.Option.TheVariants.{Some, None}
+use Rattle.std.specs.Option.{option_map}
 use Rattle.query_model.specs.declared.query.ItemKind.{ItemKind}
 use Rattle.query_model.specs.declared.query.ItemKind.TheVariants.{Min, Max}
 use Rattle.known_column.specs.Columns.{KnownColumn, number_of}
@@ -41,6 +42,21 @@ pub record IsBestOf (extreme : Extreme) (column : KnownColumn) (mask : List Bool
 abbrev pub IsBestAmong : Extreme → KnownColumn → List Bool → ℕ → ℕ → Option Candidate → Type 0
 IsBestAmong extreme column mask from to None = (r : ℕ) → from ≤ r → r < to → has_row mask r ≡ false
 IsBestAmong extreme column mask from to (Some best) = IsBestOf extreme column mask from to best
+
+-- the number of the best so far
+abbrev pub number_so_far : Option Candidate → Option ℕ
+number_so_far best = option_map (λ candidate. candidate.number) best
+
+-- a number lies behind the best one. Where there is none, no number does
+abbrev pub IsBehind : Extreme → Option ℕ → ℕ → Type 0
+IsBehind extreme None n = ⊥
+IsBehind extreme (Some best) n = IsTrue (is_further extreme best n)
+
+-- the best number lies as far out as an earlier one, if there was one
+abbrev pub Reaches : Extreme → Option ℕ → Option ℕ → Type 0
+Reaches extreme best None = Unit {0}
+Reaches extreme None (Some earlier) = ⊥
+Reaches extreme (Some best) (Some earlier) = IsAsFar extreme best earlier
 
 -- a row of the mask of whose rows none lies further out
 pub record IsExtreme (extreme : Extreme) (column : KnownColumn) (mask : List Bool) (row : ℕ) : Type 0 where

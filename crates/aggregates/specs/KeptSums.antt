@@ -5,7 +5,7 @@ use Rattle.aggregates.specs.declared.kept_sum.KeptSum.{KeptSum}
 use Rattle.aggregates.specs.Selections.{sum_of_first}
 use Rattle.aggregates.specs.Widening.{CoverOthers}
 
--- what is kept are rows of the column, how many they are, and what its first planes gave of their numbers. Further planes leave that as it is
+-- rows of the column are kept, how many they are, and what its first planes gave of their numbers. Further planes leave that as it is
 pub record IsKept (column : KnownColumn) (kept : KeptSum) : Type 0 where
   pub rows : length kept.mask ≡ rows_of_column column
   pub count : kept.count ≡ count_by (λ b. b) kept.mask

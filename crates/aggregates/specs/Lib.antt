@@ -1,5 +1,6 @@
 pub mod BlockPairs
 pub mod ExtremeRows
+pub mod KeptExtremes
 pub mod KeptSums
 pub mod RowSums
 pub mod Runnings

@@ -6,8 +6,8 @@ use Rattle.known_column.specs.Columns.{KnownColumn, is_at_top, number_of, rows_o
 use Rattle.aggregates.specs.declared.row_sums.RowSums.{RowSums}
 use Rattle.aggregates.specs.Selections.{MayHaveValues, block_of, sum_where}
 
--- those of a mask's rows that have these prefixes: how many they are, how many of them are at top's prefix, and the digits that were read of
--- their numbers, added up as numbers
+-- those of a mask's rows that have these prefixes: how many they are, how many of them are at top's prefix, and the digits that were read
+-- of their numbers, added up as numbers
 pub record AreSums (column : KnownColumn) (prefixes : List ℕ) (mask : List Bool) (sums : RowSums) : Type 0 where
   pub rows : sums.rows ≡ count_by (λ b. b) mask
   pub at_top : sums.at_top ≡ count_by (λ b. b) (zip2 (λ a b. a && b) mask (map (is_at_top column.ends column.known.read) prefixes))

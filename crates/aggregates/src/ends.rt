@@ -5,11 +5,12 @@ ghost use Rattle.std.specs.Int.{w64};
 ghost use Rattle.query_model.specs.declared.query.ItemKind.TheVariants.{Min, Max};
 ghost use Rattle.query_model.specs.Answers.{answer, total};
 ghost use Rattle.known_column.specs.Columns.{range_at, rows_of_column};
+ghost use Rattle.aggregates.specs.declared.extreme_rows.Extreme.TheVariants.{Greatest, Least};
 ghost use Rattle.aggregates.specs.ExtremeRows.{kind_of, IsExtremeRow};
 ghost use Rattle.aggregates.specs.Selections.{end_at, ends_in, highs_in, lows_in, rows_in, those_of, IsPartOf, IsSmallSum, MayHaveValues};
 
 use crate::digits::number_planes;
-use crate::extreme_rows::{Extreme, extreme_row, extreme_rows};
+use crate::extreme_rows::{Extreme, ExtremeRows, extreme_row, extreme_rows};
 use crate::signs::{highs_above_zero, lows_below_zero, select_none};
 use crate::sums::{SumSpan, add_ends, add_lows};
 use known_column::Known;
@@ -124,6 +125,48 @@ pub struct ExtremeSpan {
     pub high: Option<i128>,
 }
 
+// The least low end at the rows of a mask, and the least high end at some of its rows, by their least rows.
+pub(crate) fn least_ends_at(
+    rows: ExtremeRows,
+    known: &Known,
+    mask: &Mask,
+    some: &Mask,
+) -> ExtremeSpan
+    requires rows { length mask.now ≡ rows_of_column known.now }
+    requires values { MayHaveValues known.now mask.now }
+    requires some { IsPartOf some.now mask.now }
+    requires all_row { IsExtremeRow Least known.now mask.now rows.all }
+    requires some_row { IsExtremeRow Least known.now some.now rows.some }
+    ensures low { result.low ≡ answer Min (lows_in known.now mask.now) }
+    ensures high { result.high ≡ answer Min (highs_in known.now some.now) }
+{
+    ExtremeSpan {
+        low: end_if(End::Low, Extreme::Least, known, mask, rows.all),
+        high: end_if(End::High, Extreme::Least, known, some, rows.some),
+    }
+}
+
+// The greatest low end at some of the rows of a mask, and the greatest high end at all its rows, by their greatest rows.
+pub(crate) fn greatest_ends_at(
+    rows: ExtremeRows,
+    known: &Known,
+    mask: &Mask,
+    some: &Mask,
+) -> ExtremeSpan
+    requires rows { length mask.now ≡ rows_of_column known.now }
+    requires values { MayHaveValues known.now mask.now }
+    requires some { IsPartOf some.now mask.now }
+    requires all_row { IsExtremeRow Greatest known.now mask.now rows.all }
+    requires some_row { IsExtremeRow Greatest known.now some.now rows.some }
+    ensures low { result.low ≡ answer Max (lows_in known.now some.now) }
+    ensures high { result.high ≡ answer Max (highs_in known.now mask.now) }
+{
+    ExtremeSpan {
+        low: end_if(End::Low, Extreme::Greatest, known, some, rows.some),
+        high: end_if(End::High, Extreme::Greatest, known, mask, rows.all),
+    }
+}
+
 /// The least low end at the rows of a mask, and the least high end at some of its rows.
 pub fn least_ends(known: &Known, mask: &Mask, some: &Mask) -> ExtremeSpan
     requires rows { length mask.now ≡ rows_of_column known.now }
@@ -133,10 +176,7 @@ pub fn least_ends(known: &Known, mask: &Mask, some: &Mask) -> ExtremeSpan
     ensures high { result.high ≡ answer Min (highs_in known.now some.now) }
 {
     let rows = extreme_rows(Extreme::Least, known, mask, some);
-    ExtremeSpan {
-        low: end_if(End::Low, Extreme::Least, known, mask, rows.all),
-        high: end_if(End::High, Extreme::Least, known, some, rows.some),
-    }
+    least_ends_at(rows, known, mask, some)
 }
 
 /// The greatest low end at some of the rows of a mask, and the greatest high end at all its rows.
@@ -148,10 +188,7 @@ pub fn greatest_ends(known: &Known, mask: &Mask, some: &Mask) -> ExtremeSpan
     ensures high { result.high ≡ answer Max (highs_in known.now mask.now) }
 {
     let rows = extreme_rows(Extreme::Greatest, known, mask, some);
-    ExtremeSpan {
-        low: end_if(End::Low, Extreme::Greatest, known, some, rows.some),
-        high: end_if(End::High, Extreme::Greatest, known, mask, rows.all),
-    }
+    greatest_ends_at(rows, known, mask, some)
 }
 
 /// Selects the rows of a mask whose low end is below 0.

@@ -1,10 +1,10 @@
 //! The row of a mask whose number is least or greatest, as far as its digits were read, by blocks of 512 rows.
 
-ghost use Rattle.std.specs.Prelude.{◌≡◌, ◌<◌, ◌+◌, ◌*◌, ℕ, true, length, IfSome};
+ghost use Rattle.std.specs.Prelude.{◌≡◌, ◌<◌, ◌≤◌, ◌+◌, ◌*◌, ◌⊎◌, ℕ, true, length, IfSome, IsNone, IsTrue, Some};
 ghost use Rattle.known_column.specs.Columns.{rows_of_column};
-ghost use Rattle.aggregates.specs.ExtremeRows.{is_ahead, is_further, number_at, AreZero, IsAsFar};
-ghost use Rattle.aggregates.specs.ExtremeRows.{IsBestAmong, IsExtreme, IsExtremeDigit, IsExtremeRow, IsNarrowed};
-ghost use Rattle.aggregates.specs.Selections.{IsPartOf, IsSound, MayHaveValues};
+ghost use Rattle.aggregates.specs.ExtremeRows.{is_ahead, is_further, number_at, number_so_far, AreZero, IsAsFar, IsBehind};
+ghost use Rattle.aggregates.specs.ExtremeRows.{IsBestAmong, IsBestOf, IsExtreme, IsExtremeDigit, IsExtremeRow, IsNarrowed, Reaches};
+ghost use Rattle.aggregates.specs.Selections.{has_row, IsPartOf, IsSound, MayHaveValues};
 
 use crate::block_words::{first_place, is_empty};
 use crate::digits::number_planes;
@@ -22,7 +22,7 @@ pub(crate) enum Extreme {
 // A row, and the digits of its number that were read, as one number.
 #[derive(Clone, Copy)]
 pub(crate) struct Candidate {
-    row: usize,
+    pub(crate) row: usize,
     number: u64,
 }
 
@@ -70,8 +70,57 @@ fn is_ahead(extreme: Extreme, best: Option<Candidate>, digits: u64, left: u8) ->
     }
 }
 
-// The extreme row of those before a block, which is known, and of the block. A block is left where its rows fall behind.
-fn extreme_so_far(
+// The extreme row of a block, or none where each of its rows lies behind the best so far. The block is left where its rows fall behind.
+pub(crate) fn extreme_in_block(
+    extreme: Extreme,
+    known: &Known,
+    mask: &Mask,
+    block: usize,
+    best: Option<Candidate>,
+) -> Option<Candidate>
+    requires rows { length mask.now ≡ rows_of_column known.now }
+    requires values { MayHaveValues known.now mask.now }
+    requires block { 512 * block < rows_of_column known.now }
+    requires best { (to : ℕ) × IsBestAmong extreme known.now mask.now 0 to best }
+    ensures behind { IsNone result → (r : ℕ) → 512 * block ≤ r → r < 512 * block + 512 → IsTrue (has_row mask.now r)
+        → IsBehind extreme (number_so_far best) (number_at known.now r) }
+    ensures found { IfSome result (IsBestOf extreme known.now mask.now (512 * block) (512 * block + 512)) }
+{
+    let mut candidates = mask.block(block);
+    if is_empty(&candidates) {
+        return None;
+    }
+    let (from, to) = number_planes(known);
+    let mut number = 0;
+    for j in from..to {
+        let digits = known.plane(j).block(block);
+        let (left, digit) = narrow(extreme, &candidates, &digits);
+        candidates = left;
+        number = 2 * number + u64::from(digit);
+        if is_ahead(extreme, best, number, to - j - 1) {
+            return None;
+        }
+    }
+    Some(Candidate {
+        row: 512 * block + first_place(&candidates),
+        number,
+    })
+}
+
+// The best of those so far and one more: the earlier one, where neither lies further out.
+pub(crate) fn better(extreme: Extreme, best: Option<Candidate>, found: Candidate) -> Candidate
+    ensures one { (result ≡ found) ⊎ (Some result ≡ best) }
+    ensures far { IsAsFar extreme result.number found.number }
+    ensures best { Reaches extreme (Some result.number) (number_so_far best) }
+{
+    match best {
+        Some(best) if !is_further(extreme, found.number, best.number) => best,
+        _ => found,
+    }
+}
+
+// The extreme row of those before a block, which is known, and of the block.
+pub(crate) fn extreme_so_far(
     extreme: Extreme,
     known: &Known,
     mask: &Mask,
@@ -82,27 +131,13 @@ fn extreme_so_far(
     requires values { MayHaveValues known.now mask.now }
     requires block { 512 * block < rows_of_column known.now }
     requires best { IsBestAmong extreme known.now mask.now 0 (512 * block) best }
-    ensures { IsBestAmong extreme known.now mask.now 0 (512 * block + 512) result }
+    ensures best { IsBestAmong extreme known.now mask.now 0 (512 * block + 512) result }
+    ensures reaches { Reaches extreme (number_so_far result) (number_so_far best) }
 {
-    let mut candidates = mask.block(block);
-    if is_empty(&candidates) {
-        return best;
+    match extreme_in_block(extreme, known, mask, block, best) {
+        Some(found) => Some(better(extreme, best, found)),
+        None => best,
     }
-    let (from, to) = number_planes(known);
-    let mut number = 0;
-    for j in from..to {
-        let digits = known.plane(j).block(block);
-        let (left, digit) = narrow(extreme, &candidates, &digits);
-        candidates = left;
-        number = 2 * number + u64::from(digit);
-        if is_ahead(extreme, best, number, to - j - 1) {
-            return best;
-        }
-    }
-    Some(Candidate {
-        row: 512 * block + first_place(&candidates),
-        number,
-    })
 }
 
 // Whether no number lies further out: none is less than 0, and none lies beyond that of top.
@@ -119,7 +154,7 @@ fn is_outermost(extreme: Extreme, known: &Known, found: Candidate) -> bool
 }
 
 // The row of the best so far, where none of the mask can lie further out.
-fn settled_row(
+pub(crate) fn settled_row(
     extreme: Extreme,
     known: &Known,
     mask: &Mask,

@@ -8,6 +8,7 @@ mod digits;
 mod ends;
 mod extreme_rows;
 mod extremes;
+mod kept_extreme;
 mod kept_sum;
 mod others;
 mod row_sums;
@@ -25,6 +26,7 @@ pub use ends::{
     End, ExtremeSpan, greatest_ends, greatest_high, least_ends, least_low, negative_lows,
     positive_highs, sum_ends, sum_highs, sum_lows,
 };
+pub use kept_extreme::KeptExtreme;
 pub use kept_sum::KeptSum;
 pub use others::{OtherRows, sum_others};
 pub use running::Running;

@@ -1,7 +1,7 @@
 //! What rows that may count and need not add to an end of a sum, block by block of 512.
 
-ghost use Rattle.std.specs.Prelude.{◌≡◌, ◌<◌, ◌≤◌, ◌*◌, ◌^◌, ◌<ℤ◌, ◌≤ℤ◌, ◌&&◌, ◌||◌, if◌then◌else◌, List, Bool, pos, int_lt, length, count_by};
-ghost use Rattle.std.specs.Prelude.{IsFalse, IsTrue};
+ghost use Rattle.std.specs.Prelude.{◌≡◌, ◌<◌, ◌≤◌, ◌*◌, ◌^◌, ◌<ℤ◌, ◌≤ℤ◌, ◌&&◌, ◌||◌, if◌then◌else◌};
+ghost use Rattle.std.specs.Prelude.{List, Bool, pos, int_lt, length, count_by, IsFalse, IsTrue};
 ghost use Rattle.std.specs.Simd.Lanes.{zip2};
 ghost use Rattle.plane_kernels.specs.Rows.{block_rows, rows_of, IsPadded};
 ghost use Rattle.query_model.specs.Answers.{total};

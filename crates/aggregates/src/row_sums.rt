@@ -58,8 +58,8 @@ pub(crate) fn ends_of_sums(known: &Known, sums: RowSums) -> SumSpan
     requires sums { AreSomeSums known.now sums }
     ensures low { (mask : List Bool) → length mask ≡ rows_of_column known.now → MayHaveValues known.now mask → AreSumsOf known.now mask sums
         → result.low ≡ total (lows_in known.now mask) }
-    ensures high { (mask : List Bool) → length mask ≡ rows_of_column known.now → MayHaveValues known.now mask → AreSumsOf known.now mask sums
-        → result.high ≡ total (highs_in known.now mask) }
+    ensures high { (mask : List Bool) → length mask ≡ rows_of_column known.now → MayHaveValues known.now mask
+        → AreSumsOf known.now mask sums → result.high ≡ total (highs_in known.now mask) }
     ensures few { IsSmallSum result.low × IsSmallSum result.high }
 {
     let _planes = number_planes(known);

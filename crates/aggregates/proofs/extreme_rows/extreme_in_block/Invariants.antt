@@ -2,7 +2,7 @@ use Rattle.std.proofs.Common.{◌≡◌, ◌-◌, false}
 use Rattle.aggregates.specs.ExtremeRows.{is_ahead}
 use Rattle.aggregates.proofs.BlockWords.{AreLeading}
 use Rattle.aggregates.proofs.NumberRows.{first_plane}
-use Rattle.aggregates.proofs.extreme_rows.extreme_so_far.Given as goal
+use Rattle.aggregates.proofs.extreme_rows.extreme_in_block.Given as goal
 
 abbrev pub invariant-loop-j : goal.invariant-loop-j
 invariant-loop-j l =
