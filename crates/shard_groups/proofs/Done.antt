@@ -7,7 +7,7 @@ use Rattle.query_model.specs.declared.query.ItemKind.{ItemKind}
 use Rattle.shard_groups.specs.declared.cells.Cell.{Cell}
 use Rattle.shard_groups.specs.declared.keys.Span.{Span}
 use Rattle.shard_groups.specs.Groups.{IsCombined, IsFirstWithin, all_keys, cells_within, keys_in, line_over, only}
-use Rattle.shard_groups.specs.Lines.{AreLines}
+use Rattle.shard_groups.specs.Lines.{AreLines, IsAscending}
 
 -- ---- the only cell
 
@@ -30,17 +30,18 @@ keys_of_lines kinds shards [] = refl
 keys_of_lines kinds shards (line ∷ lines) = ap (λ (ls : List (List Span)). line ∷ ls) (keys_of_lines kinds shards lines)
 
 pub combined_done : (kinds : List ItemKind) (shards : List (List Cell)) (lines : List (List Span)) (cells : List Cell) →
-    cells ≡ map (line_over kinds shards) lines → AreLines (all_keys shards) lines → IsCombined kinds shards cells
-combined_done kinds shards lines cells e are =
+    cells ≡ map (line_over kinds shards) lines → AreLines (all_keys shards) lines → IsAscending lines → IsCombined kinds shards cells
+combined_done kinds shards lines cells e are up =
     let keys = ap keys_in e ∙ keys_of_lines kinds shards lines in
     record {
       lines = subst (AreLines (all_keys shards)) (sym keys) are;
+      ascending = subst IsAscending (sym keys) up;
       each = e ∙ ap (map (line_over kinds shards)) (sym keys);
     }
 
 pub combined_at : (kinds : List ItemKind) (shards : List (List Cell)) (lines : List (List Span)) (cells : List Cell) (i : ℕ) → length lines ≤ i →
     cells ++ map (line_over kinds shards) (drop i lines) ≡ map (line_over kinds shards) lines → AreLines (all_keys shards) lines →
-    IsCombined kinds shards cells
-combined_at kinds shards lines cells i end e are =
+    IsAscending lines → IsCombined kinds shards cells
+combined_at kinds shards lines cells i end e are up =
     combined_done kinds shards lines cells
-    (sym (append-nil cells) ∙ ap (λ (ls : List (List Span)). cells ++ map (line_over kinds shards) ls) (sym (drop_all i lines end)) ∙ e) are
+    (sym (append-nil cells) ∙ ap (λ (ls : List (List Span)). cells ++ map (line_over kinds shards) ls) (sym (drop_all i lines end)) ∙ e) are up

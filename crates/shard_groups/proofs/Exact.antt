@@ -18,7 +18,7 @@ use Rattle.shard_groups.specs.Laws.{AreAllToldAt, AreOneKeys, AreToldAt, is_one_
 use Rattle.shard_groups.specs.Lines.{AreApart, AreCovered, AreLines, IsApart, IsCovered}
 use Rattle.shard_groups.proofs.Contains.{AreWithin, are_within}
 use Rattle.shard_groups.proofs.LineSets.{all_more, covered_back, covered_front}
-use Rattle.shard_groups.proofs.Order.{follows}
+use Rattle.shard_groups.proofs.ValueOrder.{follows}
 use Rattle.shard_groups.proofs.Spans.{holds_more, meets_back, meets_more, within_chain, within_itself}
 
 -- ---- cells of one key

@@ -20,7 +20,7 @@ use Rattle.shard_groups.proofs.Spans.{holds_more, meets_back, meets_both, meets_
 
 -- ---- where cells are
 
-meets_within : (a b : List Span) → IsTrue (meets a a) → IsTrue (is_within a b) → IsTrue (meets a b)
+pub meets_within : (a b : List Span) → IsTrue (meets a a) → IsTrue (is_within a b) → IsTrue (meets a b)
 meets_within a b some w = meets_back b a (meets_more a b a w some)
 
 apart_meets : (m line : List Span) (lines : List (List Span)) → IsApart m lines → IsOneOf line lines → IsTrue (meets m line) → ⊥
@@ -142,15 +142,15 @@ keep_none : (t : Bool) (cell : Cell) (rest : List Cell) → (IsTrue t → ⊥) �
 keep_none true cell rest never e = absurd (never refl)
 keep_none false cell rest never e = e
 
-keep_only : (t : Bool) (cell : Cell) (rest : List Cell) → IsTrue t → rest ≡ [] → (if t then cell ∷ rest else rest) ≡ cell ∷ []
+pub keep_only : (t : Bool) (cell : Cell) (rest : List Cell) → IsTrue t → rest ≡ [] → (if t then cell ∷ rest else rest) ≡ cell ∷ []
 keep_only true cell rest t e = ap (λ cs. cell ∷ cs) e
 keep_only false cell rest t e = absurd (false≢true t)
 
-keep_rest : (t : Bool) (cell : Cell) (rest : List Cell) → (IsTrue t → ⊥) → (if t then cell ∷ rest else rest) ≡ rest
+pub keep_rest : (t : Bool) (cell : Cell) (rest : List Cell) → (IsTrue t → ⊥) → (if t then cell ∷ rest else rest) ≡ rest
 keep_rest true cell rest never = absurd (never refl)
 keep_rest false cell rest never = refl
 
-others_none : (line own : List Span) (cells : List Cell) → IsTrue (is_within line own) → AreSome cells → IsApart own (keys_in cells) →
+pub others_none : (line own : List Span) (cells : List Cell) → IsTrue (is_within line own) → AreSome cells → IsApart own (keys_in cells) →
     cells_within line cells ≡ []
 others_none line own [] w some apart = refl
 others_none line own (cell ∷ cells) w some apart =

@@ -1,12 +1,15 @@
+mod Ascending
 mod Contains
 mod Done
 mod Exact
 mod Later
 mod LineSets
 mod Nests
-mod Order
+mod One
+mod ValueOrder
 mod Pairs
 mod Places
 mod Present
+mod Reorders
 mod Spans
 mod Uncertain

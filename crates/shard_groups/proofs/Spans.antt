@@ -6,7 +6,7 @@ use Rattle.shard_groups.specs.declared.keys.KeyValue.{KeyValue}
 use Rattle.shard_groups.specs.declared.keys.Relation.TheVariants.{Meet, Within}
 use Rattle.shard_groups.specs.declared.keys.Span.{Span}
 use Rattle.shard_groups.specs.Keys.{Key, allows, at_most, each_pair, ends_hull, ends_meet, ends_within, greater, holds, hull, is_between, is_within, lesser, meets, related_spans, span_hull}
-use Rattle.shard_groups.proofs.Order.{either, follows, itself}
+use Rattle.shard_groups.proofs.ValueOrder.{either, follows, itself}
 use Rattle.shard_groups.proofs.Pairs.{each_flip, each_itself, each_join}
 
 -- ---- ranges

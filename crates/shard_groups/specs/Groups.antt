@@ -1,5 +1,6 @@
 -- What a combined report says of the keys of a line, from the shards' reports. A shard's report is its cells.
-use Rattle.std.specs.Prelude.{◌≡◌, ℕ, ◌+◌, ◌<◌, pos, Bool, false, List, [], ◌∷◌, drop, length, map, slice_get, slice_index_or, if◌then◌else◌}
+use Rattle.std.specs.Prelude.{◌≡◌, ℕ, ◌+◌, ◌<◌, pos, Bool, false, List}
+use Rattle.std.specs.Prelude.{[], ◌∷◌, drop, length, map, slice_get, slice_index_or, if◌then◌else◌}
 use Rattle.std.specs.declared.option.Option.{Option}
 use Rattle.std.specs.declared.option.Option.TheVariants.{Some, None}
 use Rattle.std.specs.Int.{int_max, int_min}
@@ -15,7 +16,7 @@ use Rattle.shard_groups.specs.declared.fault.GroupFault.{GroupFault}
 use Rattle.shard_groups.specs.declared.fault.GroupFault.TheVariants.{NoMemory, TooWide}
 use Rattle.shard_groups.specs.declared.keys.Span.{Span}
 use Rattle.shard_groups.specs.Keys.{is_within}
-use Rattle.shard_groups.specs.Lines.{AreLines}
+use Rattle.shard_groups.specs.Lines.{AreLines, IsAscending}
 
 -- the keys of all cells of all shards
 abbrev pub keys_in : List Cell → List (List Span)
@@ -118,9 +119,10 @@ bounds_from item (kind ∷ kinds) line shards = bound_over kind item line shards
 abbrev pub line_over : List ItemKind → List (List Cell) → List Span → Cell
 line_over kinds shards line = record { keys = line; present = is_present line shards; items = bounds_from 0 kinds line shards }
 
--- the cells of a combined report: lines of the cells of all shards, and what each says
+-- the cells of a combined report: the lines of the cells of all shards, in order, and what each says
 pub record IsCombined (kinds : List ItemKind) (shards : List (List Cell)) (cells : List Cell) : Type 0 where
   pub lines : AreLines (all_keys shards) (keys_in cells)
+  pub ascending : IsAscending (keys_in cells)
   pub each : cells ≡ map (line_over kinds shards) (keys_in cells)
 
 -- there is such an item, and for the keys of some line its bound leaves 128 bits

@@ -97,3 +97,27 @@ abbrev pub hull : List Span → List Span → List Span
 hull [] b = []
 hull (x ∷ xs) [] = []
 hull (x ∷ xs) (y ∷ ys) = span_hull x y ∷ hull xs ys
+
+-- ---- the order of lines
+
+-- the least part of a key that a span allows: null comes before all values
+abbrev pub first_of : Bool → Option Ends → Option KeyValue
+first_of true ends = None
+first_of false None = None
+first_of false (Some ends) = Some ends.low
+
+abbrev pub first_part : Span → Option KeyValue
+first_part span = first_of span.null span.ends
+
+abbrev pub part_before : Option KeyValue → Option KeyValue → Bool
+part_before None None = false
+part_before None (Some y) = true
+part_before (Some x) None = false
+part_before (Some x) (Some y) = not (at_most y x)
+
+-- the least key of the one comes before that of the other: at the first column in which they differ
+abbrev pub comes_before : List Span → List Span → Bool
+comes_before [] b = false
+comes_before (x ∷ a) [] = false
+comes_before (x ∷ a) (y ∷ b) =
+    part_before (first_part x) (first_part y) || (not (part_before (first_part y) (first_part x)) && comes_before a b)

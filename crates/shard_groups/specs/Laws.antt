@@ -1,5 +1,6 @@
 -- The laws of combined reports by groups, as statements. A public function with an empty body has each as its contract.
-use Rattle.std.specs.Prelude.{◌≡◌, ◌≢◌, ◌⊎◌, ℕ, ◌+◌, ◌<◌, ℤ, pos, ◌≤ℤ◌, Bool, false, not, ◌&&◌, List, [], ◌∷◌, if◌then◌else◌, IsTrue, IsFalse}
+use Rattle.std.specs.Prelude.{◌≡◌, ◌≢◌, ◌⊎◌, ℕ, ◌+◌, ◌<◌, ℤ, pos, ◌≤ℤ◌}
+use Rattle.std.specs.Prelude.{Bool, false, not, ◌&&◌, List, [], ◌∷◌, if◌then◌else◌, IsTrue, IsFalse}
 use Rattle.std.specs.declared.option.Option.{Option}
 use Rattle.std.specs.declared.option.Option.TheVariants.{Some, None}
 use Rattle.std.specs.List.{list_all, list_any}
@@ -10,14 +11,14 @@ use Rattle.query_model.specs.declared.query.ItemKind.{ItemKind}
 use Rattle.query_model.specs.declared.query.ItemKind.TheVariants.{Count, Sum, Min, Max, Avg}
 use Rattle.query_model.specs.Answers.{answer}
 use Rattle.query_model.specs.Bounds.{Admits, IsNested}
-use Rattle.shard_bounds.specs.Combined.{answer_over, IsBoundOf}
+use Rattle.shard_bounds.specs.Combined.{answer_over, IsBoundOf, Reordered}
 use Rattle.shard_bounds.specs.Laws.{Tells}
 use Rattle.shard_groups.specs.declared.cells.Cell.{Cell}
 use Rattle.shard_groups.specs.declared.keys.Ends.{Ends}
 use Rattle.shard_groups.specs.declared.keys.Span.{Span}
 use Rattle.shard_groups.specs.Groups.{all_keys, bound_at, bound_over, is_present, keys_in}
 use Rattle.shard_groups.specs.Keys.{Key, at_most, holds, is_within, meets}
-use Rattle.shard_groups.specs.Lines.{AreApart, AreLines}
+use Rattle.shard_groups.specs.Lines.{AreApart, AreLines, AreCovered}
 
 abbrev pub IsOneOf : List Span → List (List Span) → Type 0
 IsOneOf line [] = ⊥
@@ -43,12 +44,14 @@ abbrev pub AreCertainAt : ItemKind → ℕ → Key → List (List Cell) → List
 AreCertainAt kind item key [] [] = Unit {0}
 AreCertainAt kind item key [] (values ∷ tables) = ⊥
 AreCertainAt kind item key (cells ∷ shards) [] = ⊥
-AreCertainAt kind item key (cells ∷ shards) (values ∷ tables) = IsCertainAt kind item key cells values × AreCertainAt kind item key shards tables
+AreCertainAt kind item key (cells ∷ shards) (values ∷ tables) =
+    IsCertainAt kind item key cells values × AreCertainAt kind item key shards tables
 
 -- a line that has the key contains its answer over the rows of all shards
 abbrev pub LinesContain : Type 0
 LinesContain =
-    (kind : ItemKind) (item : ℕ) (key : Key) (shards : List (List Cell)) (tables : List (List ℤ)) (lines : List (List Span)) (line : List Span) →
+    (kind : ItemKind) (item : ℕ) (key : Key) (shards : List (List Cell)) (tables : List (List ℤ))
+    (lines : List (List Span)) (line : List Span) →
     kind ≢ Avg → AreLines (all_keys shards) lines → IsOneOf line lines → IsTrue (holds line key) →
     AreCertainAt kind item key shards tables → Admits (bound_over kind item line shards) (answer_over kind tables)
 
@@ -81,7 +84,8 @@ IsInLine key lines = (line : List Span) × IsOneOf line lines × IsTrue (holds l
 -- a key of the whole result is in a line, none is in two lines, and each key of a present line is in the result
 pub record AreKeysTold (key : Key) (shards : List (List Cell)) (counts : List ℕ) (lines : List (List Span)) : Type 0 where
   pub found : 0 < all_rows counts → IsInLine key lines
-  pub alone : (line other : List Span) → IsOneOf line lines → IsOneOf other lines → IsTrue (holds line key) → IsTrue (holds other key) → line ≡ other
+  pub alone : (line other : List Span) → IsOneOf line lines → IsOneOf other lines →
+      IsTrue (holds line key) → IsTrue (holds other key) → line ≡ other
   pub present : (line : List Span) → IsOneOf line lines → IsTrue (holds line key) → IsTrue (is_present line shards) → 0 < all_rows counts
 
 abbrev pub LinesTellKeys : Type 0
@@ -124,12 +128,14 @@ abbrev pub AreAllToldAt : ItemKind → ℕ → Key → List (List Cell) → List
 AreAllToldAt kind item key [] [] = Unit {0}
 AreAllToldAt kind item key [] (values ∷ tables) = ⊥
 AreAllToldAt kind item key (cells ∷ shards) [] = ⊥
-AreAllToldAt kind item key (cells ∷ shards) (values ∷ tables) = IsToldAt kind item key cells values × AreAllToldAt kind item key shards tables
+AreAllToldAt kind item key (cells ∷ shards) (values ∷ tables) =
+    IsToldAt kind item key cells values × AreAllToldAt kind item key shards tables
 
 -- where each shard's report is exact, a line that has the key says its answer over the rows of all shards
 abbrev pub LinesTell : Type 0
 LinesTell =
-    (kind : ItemKind) (item : ℕ) (key : Key) (shards : List (List Cell)) (tables : List (List ℤ)) (lines : List (List Span)) (line : List Span) →
+    (kind : ItemKind) (item : ℕ) (key : Key) (shards : List (List Cell)) (tables : List (List ℤ))
+    (lines : List (List Span)) (line : List Span) →
     kind ≢ Avg → AreLines (all_keys shards) lines → IsOneOf line lines → IsTrue (holds line key) →
     AreAllToldAt kind item key shards tables → Tells (bound_over kind item line shards) (answer_over kind tables)
 
@@ -203,7 +209,41 @@ pub record IsNestedLine (kind : ItemKind) (item : ℕ) (before shards : List (Li
 
 abbrev pub LinesNest : Type 0
 LinesNest =
-    (kind : ItemKind) (item : ℕ) (key : Key) (before shards : List (List Cell)) (olds lines : List (List Span)) (old line : List Span) →
+    (kind : ItemKind) (item : ℕ) (key : Key) (before shards : List (List Cell))
+    (olds lines : List (List Span)) (old line : List Span) →
     kind ≢ Avg → AreLines (all_keys before) olds → AreLines (all_keys shards) lines → AreLater kind item before shards →
     IsOneOf old olds → IsOneOf line lines → IsTrue (holds old key) → IsTrue (holds line key) →
     IsNestedLine kind item before shards old line
+
+-- ---- any order, and one shard
+
+-- whatever the order of the shards, they have the same lines, and each says the same
+pub record AreSameLines (kind : ItemKind) (item : ℕ) (shards others : List (List Cell)) (lines : List (List Span)) : Type 0 where
+  pub same : AreLines (all_keys shards) lines → AreLines (all_keys others) lines
+  pub bound : (line : List Span) → bound_over kind item line shards ≡ bound_over kind item line others
+  pub present : (line : List Span) → is_present line shards ≡ is_present line others
+
+abbrev pub OrderIsFree : Type 0
+OrderIsFree =
+    (kind : ItemKind) (item : ℕ) (shards others : List (List Cell)) (lines : List (List Span)) →
+    Reordered shards others → AreSameLines kind item shards others lines
+
+-- and some cells have no other lines: each of these lies within one of those
+abbrev pub LinesAreOne : Type 0
+LinesAreOne = (cells lines others : List (List Span)) → AreLines cells lines → AreLines cells others → AreCovered lines others
+
+abbrev pub IsCellOf : Cell → List Cell → Type 0
+IsCellOf cell [] = ⊥
+IsCellOf cell (other ∷ others) = (cell ≡ other) ⊎ IsCellOf cell others
+
+-- the lines of one shard are its cells, and each says what its cell says
+pub record IsOwnLine (kind : ItemKind) (item : ℕ) (cells : List Cell) (cell : Cell) : Type 0 where
+  pub bound : bound_over kind item cell.keys (cells ∷ []) ≡ bound_at item cell
+  pub present : is_present cell.keys (cells ∷ []) ≡ cell.present
+
+pub record AreOwnLines (kind : ItemKind) (item : ℕ) (cells : List Cell) : Type 0 where
+  pub lines : AreLines (all_keys (cells ∷ [])) (keys_in cells)
+  pub each : (cell : Cell) → IsCellOf cell cells → IsOwnLine kind item cells cell
+
+abbrev pub OneShardIsAll : Type 0
+OneShardIsAll = (kind : ItemKind) (item : ℕ) (cells : List Cell) → kind ≢ Avg → AreCells kind item cells → AreOwnLines kind item cells

@@ -1,7 +1,7 @@
 -- The lines of a combined report: which keys each has.
-use Rattle.std.specs.Prelude.{List, [], ◌∷◌, IsTrue, IsFalse, ◌⊎◌}
+use Rattle.std.specs.Prelude.{List, [], ◌∷◌, IsTrue, IsFalse, ◌⊎◌, if◌then◌else◌}
 use Rattle.shard_groups.specs.declared.keys.Span.{Span}
-use Rattle.shard_groups.specs.Keys.{is_within, meets}
+use Rattle.shard_groups.specs.Keys.{is_within, meets, comes_before}
 
 -- one of these has all keys of the cell
 abbrev pub IsCovered : List Span → List (List Span) → Type 0
@@ -34,3 +34,20 @@ pub record AreJoining (cells : List (List Span)) (line : List Span) (lines : Lis
   pub covered : AreCovered cells (line ∷ lines)
   pub apart : AreApart lines
   pub narrowest : (others : List (List Span)) → AreApart others → AreCovered cells others → AreCovered (line ∷ lines) others
+
+-- ---- their order
+
+-- no line comes before the one in front of it
+abbrev pub IsAscending : List (List Span) → Type 0
+IsAscending [] = Unit {0}
+IsAscending (line ∷ []) = Unit {0}
+IsAscending (line ∷ next ∷ lines) = IsFalse (comes_before next line) × IsAscending (next ∷ lines)
+
+-- the lines with one more, behind those that come before it
+abbrev pub placed : List Span → List (List Span) → List (List Span)
+placed line [] = line ∷ []
+placed line (other ∷ others) = if comes_before other line then other ∷ placed line others else line ∷ other ∷ others
+
+abbrev pub in_order : List (List Span) → List (List Span)
+in_order [] = []
+in_order (line ∷ lines) = placed line (in_order lines)

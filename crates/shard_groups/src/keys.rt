@@ -3,7 +3,8 @@
 ghost use Rattle.std.specs.Prelude.{◌≡◌, IfOk, length};
 ghost use Rattle.std.specs.Cmp.Lexicographic.{slice_cmp};
 ghost use Rattle.std.specs.Ordering.{is_le, nat_cmp};
-ghost use Rattle.shard_groups.specs.Keys.{at_most, greater, hull, lesser, related, related_spans, span_hull, ends_hull, ends_meet, ends_within};
+ghost use Rattle.shard_groups.specs.Keys.{at_most, greater, hull, lesser, related, related_spans};
+ghost use Rattle.shard_groups.specs.Keys.{ends_hull, ends_meet, ends_within, span_hull};
 
 use daq_table::{Listed, Text};
 use std::alloc::{AllocError, Global};
@@ -42,7 +43,7 @@ pub(crate) enum Relation {
 }
 
 // Numbers come before texts, and texts go by their bytes.
-fn at_most(a: &KeyValue, b: &KeyValue) -> bool
+pub(crate) fn at_most(a: &KeyValue, b: &KeyValue) -> bool
     ensures { result ≡ at_most a.now b.now }
 {
     match (a, b) {

@@ -1,6 +1,6 @@
 //! The laws of combined reports by groups. Each stands on a function that does nothing.
 
-ghost use Rattle.shard_groups.specs.Laws.{LinesContain, LinesNest, LinesTell, LinesTellKeys};
+ghost use Rattle.shard_groups.specs.Laws.{LinesAreOne, LinesContain, LinesNest, LinesTell, LinesTellKeys, OneShardIsAll, OrderIsFree};
 
 /// Where the shards' reports are certain of a key, a line that has it contains its answer over the rows of all shards.
 pub fn lines_contain()
@@ -20,4 +20,19 @@ pub fn lines_tell()
 /// With later reports of the shards, the line of a key and its bound lie within those before.
 pub fn lines_nest()
     ensures { LinesNest }
+{}
+
+/// In any order the shards have the same lines, and each says the same.
+pub fn order_is_free()
+    ensures { OrderIsFree }
+{}
+
+/// Some cells have no other lines.
+pub fn lines_are_one()
+    ensures { LinesAreOne }
+{}
+
+/// The lines of one shard are its cells, and each says what its cell says.
+pub fn one_shard_is_all()
+    ensures { OneShardIsAll }
 {}

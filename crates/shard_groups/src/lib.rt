@@ -7,10 +7,14 @@ mod fault;
 mod keys;
 mod laws;
 mod lines;
+mod order;
 mod shares;
 
 pub use cells::{Cell, Cells};
 pub use combined::combine_groups;
 pub use fault::GroupFault;
 pub use keys::{Ends, KeyValue, Keys, Span};
-pub use laws::{lines_contain, lines_nest, lines_tell, lines_tell_keys};
+pub use laws::{
+    lines_are_one, lines_contain, lines_nest, lines_tell, lines_tell_keys, one_shard_is_all,
+    order_is_free,
+};

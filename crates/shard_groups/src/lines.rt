@@ -3,11 +3,12 @@
 ghost use Rattle.std.specs.Prelude.{◌<◌, IfOk, IfNone, IfSome, IsTrue, List, OnOk, [], ◌∷◌, ◌++◌, length, slice_index_or};
 ghost use Rattle.shard_groups.specs.Groups.{all_keys, keys_in};
 ghost use Rattle.shard_groups.specs.Keys.{meets};
-ghost use Rattle.shard_groups.specs.Lines.{AreLines, IsApart};
+ghost use Rattle.shard_groups.specs.Lines.{AreLines, IsApart, IsAscending};
 ghost use Rattle.shard_groups.specs.declared.keys.Span.{Span};
 
 use crate::cells::{Cell, Cells};
 use crate::keys::{Keys, Relation, Span, copied_keys, hull, related};
+use crate::order::in_order;
 use std::alloc::{AllocError, Global};
 
 // The first line that has a key of `line`.
@@ -50,8 +51,8 @@ fn add_all(alloc: Global, lines: &mut Vec<Keys>, cells: &[Cell]) -> Result<(), A
     Ok(())
 }
 
-// The lines of the cells of all shards.
-pub(crate) fn lines(alloc: Global, shards: &[Cells]) -> Result<Vec<Keys>, AllocError>
+// The lines of the cells of all shards, in any order.
+fn lines_in_any_order(alloc: Global, shards: &[Cells]) -> Result<Vec<Keys>, AllocError>
     ensures { IfOk result (λ lines. AreLines (all_keys shards.now) lines.items) }
 {
     let mut lines = Vec::new(alloc);
@@ -61,4 +62,14 @@ pub(crate) fn lines(alloc: Global, shards: &[Cells]) -> Result<Vec<Keys>, AllocE
         add_all(alloc, &mut lines, shards[i].as_slice())?;
     }
     Ok(lines)
+}
+
+// The lines of the cells of all shards.
+pub(crate) fn lines(alloc: Global, shards: &[Cells]) -> Result<Vec<Keys>, AllocError>
+    ensures lines { IfOk result (λ lines. AreLines (all_keys shards.now) lines.items) }
+    ensures ascending { IfOk result (λ lines. IsAscending lines.items) }
+{
+    let lines = lines_in_any_order(alloc, shards)?;
+    let ordered = in_order(alloc, &lines)?;
+    Ok(ordered)
 }

@@ -1,7 +1,8 @@
 //! What a shard says of the keys of a line.
 
 ghost use Rattle.std.specs.Prelude.{◌≡◌, ◌+◌, IfNone, IfSome, None, Some, [], map};
-ghost use Rattle.shard_groups.specs.Groups.{IsFirstWithin, bound_at, cells_within, is_present, is_present_in, no_rows, only, share, uncertain, wider};
+ghost use Rattle.shard_groups.specs.Groups.{IsFirstWithin, bound_at, cells_within, is_present, is_present_in};
+ghost use Rattle.shard_groups.specs.Groups.{no_rows, only, share, uncertain, wider};
 ghost use Rattle.shard_groups.specs.Keys.{is_within};
 
 use crate::cells::{Cell, Cells};

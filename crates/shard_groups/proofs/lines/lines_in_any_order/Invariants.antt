@@ -1,7 +1,7 @@
 use Rattle.std.proofs.Common.{◌≤◌, drop, length}
 use Rattle.shard_groups.specs.Groups.{all_keys}
 use Rattle.shard_groups.specs.Lines.{AreLines}
-use Rattle.shard_groups.proofs.lines.lines.Given as goal
+use Rattle.shard_groups.proofs.lines.lines_in_any_order.Given as goal
 
 abbrev pub invariant-loop-i : goal.invariant-loop-i
 invariant-loop-i l = AreLines (all_keys (drop l.i l.shards)) l.lines.items × (l.i ≤ length l.shards)
