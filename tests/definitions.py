@@ -1,8 +1,8 @@
 #!/usr/bin/env python3
 """Lists the definitions on which the headline of `run` in the words of SQL rests, and checks that docs/proof/definitions.md lists them.
 
-From the clause `headline` of `run` (crates/run_headline) it follows the names through the files of specs/: from a definition to those that
-its text names, as the file's `use` lines lead. Types of the program that a definition names stand in src/. What std defines is not listed.
+From *IsHeadline*, which the clause `done` of `run` gives (crates/run_headline), it follows the names through the files of specs/: from a
+definition to those that its text names, as the file's `use` lines lead. Types of the program that a definition names stand in src/. What std defines is not listed.
 
 definitions.py prints a line where the page is stale, and ends with 0 only where it is not; definitions.py --write brings the page up to date.
 """
@@ -12,7 +12,7 @@ import sys
 
 TOP = os.path.dirname(os.path.dirname(os.path.abspath(__file__)))
 PAGE = "docs/proof/definitions.md"
-CLAUSE = ("crates/run_headline/specs/Headline.antt", "IsHeadline")
+HEADLINE = ("crates/run_headline/specs/Headline.antt", "IsHeadline")
 # The crates that say what is claimed; the others say which table is asked, and which tree a text is.
 CLAIM = ("run_headline", "sql_headline", "sql_meaning")
 BEGIN, END = "<!-- The list, by tests/definitions.py --write -->", "<!-- The end of the list -->"
@@ -158,7 +158,7 @@ class Specs:
 
 
 def listed():
-    found = Specs().reached(*CLAUSE)
+    found = Specs().reached(*HEADLINE)
     paths = sorted({path for path, _ in found})
     claim = [place for place in found if place[0].split("/")[1] in CLAIM]
     rows = [
@@ -176,7 +176,7 @@ def listed():
 
 
 def stale():
-    """A line where the page does not list what the clause rests on."""
+    """A line where the page does not list what the headline rests on."""
     page = read(PAGE)
     if BEGIN not in page or END not in page or page.split(BEGIN)[1].split(END)[0].strip() != listed():
         yield "%s: its list is stale; tests/definitions.py --write brings it up to date" % PAGE
@@ -193,7 +193,7 @@ def main():
     if "--write" in sys.argv[1:]:
         write()
     faults = list(stale())
-    print("\n".join(faults) or "ok: the list of definitions is that of the clause")
+    print("\n".join(faults) or "ok: the list of definitions is that of the headline")
     sys.exit(bool(faults))
 
 

@@ -1,5 +1,5 @@
 -- How often a column of the query was read is how often its column of the table was.
-use Rattle.std.proofs.Common.{◌≡◌, ◌≢◌, ◌⊎◌, ℕ, zero, suc, ◌+◌, ◌<◌, ◌≤◌, ◌==◌, true, false, cond, List, [], ◌∷◌, length, map, take, get_or, refl, sym, subst, arith, inl, inr, count_by}
+use Rattle.std.proofs.Common.{◌≡◌, ◌≢◌, ◌⊎◌, ℕ, zero, suc, ◌+◌, ◌<◌, ◌≤◌, ◌==◌, true, false, cond, List, [], ◌∷◌, length, map, take, get_or, refl, sym, ap, subst, arith, inl, inr, count_by}
 use Rattle.std.proofs.lemmas.Bool.{cases_eq}
 use Rattle.std.proofs.lemmas.Bool.Decides.{nat_tests}
 use Rattle.std.proofs.lemmas.List.Sums.{sum_by-cons}
@@ -61,3 +61,18 @@ first_below n zero xs h i lt = absurd (omega arith)
 first_below n (suc k) [] h i lt = absurd (omega arith)
 first_below n (suc k) (x ∷ xs) h zero lt = h 0 (omega arith)
 first_below n (suc k) (x ∷ xs) h (suc i) lt = first_below n k xs (λ j below. h (suc j) (omega arith)) i (omega arith)
+
+-- a number that is counted in a list is of one that stands there
+pub counted_in : (f : ℕ → ℕ) (column n : ℕ) (xs : List ℕ) → n < count_by (λ p. p == column) (map f xs) → (i : ℕ) × (i < length xs) × (f (get_or xs i 0) ≡ column)
+counted_in f column n [] h = absurd (omega (arith, h))
+counted_in f column n (x ∷ xs) h = by (cases_eq (f x) column) (λ more. counted_in f column n xs more)
+  where
+    by : (f x ≡ column) ⊎ (f x ≢ column) → (n < count_by (λ p. p == column) (map f xs) → (i : ℕ) × (i < length xs) × (f (get_or xs i 0) ≡ column)) → (i : ℕ) × (i < length (x ∷ xs)) × (f (get_or (x ∷ xs) i 0) ≡ column)
+    by (inl e) later = (0, omega arith, e)
+    by (inr other) later =
+        let none : (f x == column) ≡ false = grind (arith, nat_tests) in
+        let sum = sum_by-cons (λ p. cond (p == column) 1 0) (f x) (map f xs) in
+        let zero_here : ◌≡◌ {A = ℕ} (cond (f x == column) 1 0) 0 = ap (λ b. cond b 1 0) none in
+        let rest = later (omega (arith, h, sum, zero_here)) in
+        let lt = rest.1 in
+        (suc rest.0, omega (arith, lt), rest.2)

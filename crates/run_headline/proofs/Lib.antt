@@ -1,5 +1,9 @@
 pub mod Counts
-pub mod Items
+pub mod Ran
 pub mod Totals
+pub mod Groups
+pub mod Rankings
+pub mod Told
 pub mod Own
+pub mod Sessions
 pub mod Commands

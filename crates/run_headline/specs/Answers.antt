@@ -1,46 +1,51 @@
--- What the intervals of a report hold of an item, in each round: the answer to the item as it is written, in each world.
-use Rattle.std.specs.Prelude.{◌≡◌, ℕ, ◌+◌, ◌<◌, ◌≤◌, List}
+-- What the lines of a report say of an item, in each round: where the answer to the item as it is written lies, in each world.
+use Rattle.std.specs.Prelude.{◌≡◌, ◌≢◌, ℕ, ◌+◌, ◌<◌, ◌≤◌, ⊤, List, IsTrue}
 use Rattle.std.specs.declared.option.Option.{Option}
-use Rattle.std.specs.declared.option.Option.TheVariants.{Some}
-use Rattle.std.specs.List.{filter_map}
+use Rattle.std.specs.declared.option.Option.TheVariants.{Some, None}
 use Rattle.daq_table.specs.Tables.{Cells}
-use Rattle.sql_headline.specs.Intervals.{Encloses, EnclosesShare, Interval, IsAlone, IsShareAlone, LiesInside, ShareLiesInside, Shares}
-use Rattle.sql_headline.specs.Intervals.{Shows, ShowsShares}
-use Rattle.sql_meaning.specs.Answers.{Share, answer, average}
-use Rattle.sql_meaning.specs.Expressions.{value}
-use Rattle.sql_text.specs.declared.tree.CallKind.TheVariants.{Avg}
-use Rattle.sql_text.specs.Tree.{Call, Expr, Item}
+use Rattle.query_model.specs.declared.bounds.Nullity.TheVariants.{Always, Possibly}
+use Rattle.sql_headline.specs.Attained.{HasTexts, names_each_once}
+use Rattle.sql_headline.specs.Intervals.{Interval}
+use Rattle.sql_headline.specs.Spans.{IsIt, IsShown, LiesIn, Narrows, Span, answered, shares, values}
+use Rattle.sql_meaning.specs.Answers.{answer, is_same}
+use Rattle.sql_meaning.specs.Values.{Value}
+use Rattle.sql_text.specs.Tree.{Item}
 use Rattle.run_headline.specs.Readings.{IsAllRead, IsWorld, Reading, last_round, rows_in}
 
--- for an item whose texts these are, round by round, there is an interval in each round
-pub record HoldsAnswers (reading : Reading) (item : Item) (texts : ℕ → Option (List ℕ)) : Type 0 where
-  pub intervals : ℕ → Interval
+-- ---- how far out the ends are
+
+-- in some world of the round this is the answer: the value, or null
+pub record Occurs (reading : Reading) (round : ℕ) (item : Item) (v : Option Value) : Type 0 where
+  pub world : Cells
+  pub is_world : IsWorld reading round world
+  pub is : IsTrue (is_same v (answer item (rows_in reading world 0)))
+
+-- each end is the answer in some world, and where the answer may be null it is so in one
+pub record IsTight (reading : Reading) (round : ℕ) (item : Item) (interval : Interval) : Type 0 where
+  pub low : interval.null ≢ Always → Occurs reading round item interval.low
+  pub high : interval.null ≢ Always → Occurs reading round item interval.high
+  pub null : interval.null ≡ Possibly → Occurs reading round item None
+
+-- of an average this is not said
+abbrev pub IsTightSpan : Reading → ℕ → Item → Span → Type 0
+IsTightSpan reading round item (values interval) = IsTight reading round item interval
+IsTightSpan reading round item (shares averages) = ⊤
+
+-- ---- what a report says of an item
+
+-- for an item whose texts these are, round by round, its answer lies in a span in each round
+pub record Holds (reading : Reading) (item : Item) (texts : ℕ → Option (List ℕ)) : Type 0 where
+  pub spans : ℕ → Span
   -- the text shows it
-  pub shown : (round : ℕ) → round ≤ last_round reading → (text : List ℕ) → texts round ≡ Some text → Shows (intervals round) text
-  -- in each world it encloses the value of the item
-  pub encloses : (round : ℕ) → round ≤ last_round reading → (world : Cells) (one : ℕ) → IsWorld reading round world →
-      Encloses (intervals round) (answer item (rows_in reading world one))
-  -- it lies inside the one before
-  pub nested : (round : ℕ) → round < last_round reading → LiesInside (intervals round) (intervals (round + 1))
-  -- with all planes read it is the value
+  pub shown : (round : ℕ) → round ≤ last_round reading → (text : List ℕ) → texts round ≡ Some text → IsShown (spans round) text
+  -- in each world the answer lies there
+  pub lies : (round : ℕ) → round ≤ last_round reading → (world : Cells) (one : ℕ) → IsWorld reading round world →
+      LiesIn (spans round) (answered item (rows_in reading world one))
+  -- the span lies inside the one before
+  pub narrows : (round : ℕ) → round < last_round reading → Narrows (spans round) (spans (round + 1))
+  -- with all planes read it is the answer alone
   pub exact : (round : ℕ) → round ≤ last_round reading → IsAllRead reading round → (world : Cells) (one : ℕ) →
-      IsWorld reading round world → IsAlone (intervals round) (answer item (rows_in reading world one))
-
--- the average of an expression
-abbrev pub average_in : Reading → Expr → Cells → ℕ → Option Share
-average_in reading e world one = average (filter_map (value e) (rows_in reading world one))
-
--- so it is with averages, whose ends are values over counts
-pub record HoldsAverages (reading : Reading) (e : Expr) (texts : ℕ → Option (List ℕ)) : Type 0 where
-  pub shares : ℕ → Shares
-  pub shown : (round : ℕ) → round ≤ last_round reading → (text : List ℕ) → texts round ≡ Some text → ShowsShares (shares round) text
-  pub encloses : (round : ℕ) → round ≤ last_round reading → (world : Cells) (one : ℕ) → IsWorld reading round world →
-      EnclosesShare (shares round) (average_in reading e world one)
-  pub nested : (round : ℕ) → round < last_round reading → ShareLiesInside (shares round) (shares (round + 1))
-  pub exact : (round : ℕ) → round ≤ last_round reading → IsAllRead reading round → (world : Cells) (one : ℕ) →
-      IsWorld reading round world → IsShareAlone (shares round) (average_in reading e world one)
-
--- of an item, whichever it is
-abbrev pub Holds : Reading → Item → (ℕ → Option (List ℕ)) → Type 0
-Holds reading (Call Avg e) texts = HoldsAverages reading e texts
-Holds reading item texts = HoldsAnswers reading item texts
+      IsWorld reading round world → IsIt (spans round) (answered item (rows_in reading world one))
+  -- where the query names no column twice, and each column of texts has one, no end is farther out than it must be
+  pub tight : (round : ℕ) → round ≤ last_round reading → IsTrue (names_each_once reading.text item) → HasTexts reading.head →
+      IsTightSpan reading round item (spans round)

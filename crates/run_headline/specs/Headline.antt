@@ -1,8 +1,8 @@
--- The headline of `run` in the words of SQL: what it has written where it answers Done to an `ask`, a `demo` or a `query`.
-use Rattle.std.specs.Prelude.{◌≡◌, ℕ, List}
+-- The headline of `run` in the words of SQL: what it has written where it answers Done to questions.
+use Rattle.std.specs.Prelude.{◌≡◌, ℕ, List, length}
 use Rattle.std.specs.Io.KnownBytes.{Appends}
 use Rattle.std.specs.declared.option.Option.TheVariants.{Some}
-use Rattle.command_line.specs.Commands.{Ask, Demo, IsAsk, IsDemo, IsQuery, Options}
+use Rattle.command_line.specs.Commands.{Ask, Demo, IsAsk, IsDemo, IsQuery, IsSession, Options, Session}
 use Rattle.command_line.specs.Commands as line
 use Rattle.daq_cli.specs.Inputs.{IsTableText, most_bytes}
 use Rattle.daq_cli.specs.Runs.{IsDone}
@@ -19,9 +19,11 @@ use Rattle.plane_file.specs.Opening.{IsFileHead}
 use Rattle.query_model.specs.Knowledge.{plane_of}
 use Rattle.sql_meaning.specs.Laws.{HasValues}
 use Rattle.sql_text.specs.Answer.{IsText}
-use Rattle.sql_text.specs.Tree.{Nothing, Query}
+use Rattle.sql_text.specs.Tree.{Query}
 use Rattle.table_rounds.specs.Rounds.{Planes}
-use Rattle.run_headline.specs.Printed.{IsReport}
+use Rattle.run_headline.specs.Printed.{HasBlocks}
+use Rattle.run_headline.specs.Sessions.{AreAnswered, HasScript}
+use Rattle.run_headline.specs.Told.{IsTold}
 
 -- the SQL text is a query, of which a report was written: that of some rounds over a table with this head and these planes
 pub record IsAnswered (sql : List ℕ) (options : Options) (head : Head) (bits : Planes) (out out' : SinkState) : Type 0 where
@@ -30,7 +32,9 @@ pub record IsAnswered (sql : List ℕ) (options : Options) (head : Head) (bits :
   pub text : List ℕ
   pub written : Appends out.written out'.written text
   pub columns : List ℕ
-  pub totals : query.ending ≡ Nothing → IsReport (record { text = query; head = head; bits = bits; columns = columns }) options text
+  pub block : ℕ → List ℕ
+  pub blocks : HasBlocks block (length columns) text
+  pub told : IsTold (record { text = query; head = head; bits = bits; columns = columns }) options block
 
 -- the same of a table that is told whole
 abbrev pub IsAnsweredOn : List ℕ → Options → Contents → SinkState → SinkState → Type 0
@@ -47,7 +51,7 @@ pub record HasRead (schema : List ℕ) (input input' : SourceState) (table : Con
   pub is_table : IsTable (frame_of table.head) table.cells
   pub has_values : HasValues table.head table.cells
 
--- for an `ask`, a `demo` and, where the store tells its bytes, a `query`
+-- for an `ask`, a `demo` and, where the store tells its bytes, a `query` and a `session`
 pub record IsHeadline (words : List (List ℕ)) (before after : WorldState) : Type 0 where
   pub asked : (a : Ask) → IsAsk words a →
       (table : Contents) × HasRead a.schema before.input after.input table × IsAnsweredOn a.sql a.options table before.out after.out
@@ -56,6 +60,10 @@ pub record IsHeadline (words : List (List ℕ)) (before after : WorldState) : Ty
   pub queried : (q : line.Query) (bytes : List ℕ) → IsQuery words q → before.planes.held ≡ Some bytes →
       (version : ℕ) × (head : Head) × IsFileHead bytes version head ×
       IsAnswered q.sql q.options head (bits_at head bytes) before.out after.out
+  pub together : (s : Session) (bytes : List ℕ) → IsSession words s → before.planes.held ≡ Some bytes →
+      (version : ℕ) × (head : Head) × IsFileHead bytes version head ×
+      (queries : List Query) × HasScript before.side after.side queries
+      × AreAnswered queries s.options head (bits_at head bytes) before.out after.out
 
 -- what `run` says of words that were done, this says in the words of SQL
 abbrev pub RunsHoldAnswers : Type 0

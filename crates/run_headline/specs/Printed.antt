@@ -1,4 +1,4 @@
--- The report of totals: a line of the query, a block for each round with a line for each item, and why the rounds ended.
+-- The report of a query: a line of the query, a block for each round, and why the rounds ended. Of totals a block has a line for each item.
 use Rattle.std.specs.Prelude.{◌≡◌, ℕ, zero, suc, ◌≤◌, false, List, [], ◌++◌, codes, decimal, length, slice_get}
 use Rattle.std.specs.declared.option.Option.{Option}
 use Rattle.std.specs.declared.option.Option.TheVariants.{Some, None}
@@ -32,19 +32,21 @@ column_text reading round (Some column) =
     codes " " ++ (name_of (slice_get reading.head.columns column) ++ (codes " " ++ (decimal (count_read reading round column) ++
     (codes "/" ++ decimal (planes (ends_at (frame_of reading.head) column))))))
 
+-- the line of a round
+abbrev pub line_of_round : Reading → ℕ → List ℕ
+line_of_round reading round =
+    codes "round " ++ (decimal round ++ (column_text reading round (column_read reading.columns round) ++ codes "\n"))
+
 -- the block has the line of its round, and for each item a line with its text; behind such a line there are lines besides where
 -- `--clip` or `--exact-avg` is given, and else none
 pub record HasLines (reading : Reading) (options : Options) (round : ℕ) (texts : List (List ℕ)) (block : List ℕ) : Type 0 where
   pub besides : List (List ℕ)
   pub alone : options.clip ≡ false → options.exact ≡ false → besides ≡ []
-  pub is : block ≡ (codes "round " ++ (decimal round ++ (column_text reading round (column_read reading.columns round) ++ codes "\n")))
-      ++ lines_of 1 texts besides
+  pub is : block ≡ line_of_round reading round ++ lines_of 1 texts besides
 
--- the text is the report of a query without GROUP BY and ORDER BY: the texts of its lines show intervals that hold the answers
-pub record IsReport (reading : Reading) (options : Options) (text : List ℕ) : Type 0 where
-  pub block : ℕ → List ℕ
+-- so are the blocks of a query without GROUP BY and ORDER BY: the texts of their lines hold the answers
+pub record HoldsTotals (reading : Reading) (options : Options) (block : ℕ → List ℕ) : Type 0 where
   pub texts : ℕ → List (List ℕ)
-  pub blocks : HasBlocks block (last_round reading) text
   pub lines : (round : ℕ) → round ≤ last_round reading → HasLines reading options round (texts round) (block round)
   pub as_many : (round : ℕ) → round ≤ last_round reading → length (texts round) ≡ length (asked reading.text.head)
   pub holds : (place : ℕ) (item : Item) → slice_get (asked reading.text.head) place ≡ Some item →

@@ -47,16 +47,16 @@ share_of s ratio = record { total = Number (record { digits = ratio.num; behind 
 abbrev pub shares_of : ℕ → AverageBound → Shares
 shares_of s bound = record { null = bound.null; low = share_of s bound.lo; high = share_of s bound.hi }
 
-one_share : (s : ℕ) (a b : Fraction) → is_same_fraction a b ≡ true → share_of s a ≡ share_of s b
+pub one_share : (s : ℕ) (a b : Fraction) → is_same_fraction a b ≡ true → share_of s a ≡ share_of s b
 one_share s a b h =
     let num : a.num ≡ b.num = (Decides-int_eq a.num b.num).0 (and_left (int_eq a.num b.num) (a.den == b.den) h) in
     let den : a.den ≡ b.den = (Decides-eqb a.den b.den).0 (and_right (int_eq a.num b.num) (a.den == b.den) h) in
     ap (λ n. share_of s (record { num = n; den = a.den })) num ∙ ap (λ d. share_of s (record { num = b.num; den = d })) den
 
-shown_shares : (head : Head) (query : Query) (s : ℕ) (bound : AverageBound) → ShowsShares (shares_of s bound) (average_text head query (faces.Number s) bound)
+pub shown_shares : (head : Head) (query : Query) (s : ℕ) (bound : AverageBound) → ShowsShares (shares_of s bound) (average_text head query (faces.Number s) bound)
 shown_shares head query s bound = record { are_one = is_same_fraction bound.lo bound.hi; one = one_share s bound.lo bound.hi; written = refl }
 
-inside : (s : ℕ) (old new : AverageBound) → IsNestedAverage old new → ShareLiesInside (shares_of s old) (shares_of s new)
+pub inside : (s : ℕ) (old new : AverageBound) → IsNestedAverage old new → ShareLiesInside (shares_of s old) (shares_of s new)
 inside s old new nested = record {
   null = nested.null;
   full = nested.full;
@@ -65,7 +65,7 @@ inside s old new nested = record {
 }
 
 module _ (table : List ColumnHead) (columns : List ℕ) (s : ℕ) (bound : AverageBound) where
-  enclosed : (o : Option (ℤ × ℕ)) (values : List Value) → IsAverage (shown table columns (faces.Number s)) o values → AdmitsAverage bound o → EnclosesShare (shares_of s bound) (average values)
+  pub enclosed : (o : Option (ℤ × ℕ)) (values : List Value) → IsAverage (shown table columns (faces.Number s)) o values → AdmitsAverage bound o → EnclosesShare (shares_of s bound) (average values)
   enclosed None values is h = rw is h
   enclosed (Some (sum, count)) values is h =
       let found = sum_is table columns s sum count values is in
@@ -81,7 +81,7 @@ module _ (table : List ColumnHead) (columns : List ℕ) (s : ℕ) (bound : Avera
       let pair : ◌≡◌ {A = ℤ × ℕ} (sum, count) (end.num, end.den) = same_Some {A = ℤ × ℕ} (sum, count) (end.num, end.den) e in
       (subst (λ (n : ℤ). IsTrue (is_same (Some (Number (record { digits = n; behind = s }))) (Some v))) (ap (λ (p : ℤ × ℕ). p.0) pair) h, sym (ap (λ (p : ℤ × ℕ). p.1) pair))
 
-  alone : (o : Option (ℤ × ℕ)) (values : List Value) → IsAverage (shown table columns (faces.Number s)) o values → AdmitsAverage bound o → bound.null ≢ Possibly
+  pub alone : (o : Option (ℤ × ℕ)) (values : List Value) → IsAverage (shown table columns (faces.Number s)) o values → AdmitsAverage bound o → bound.null ≢ Possibly
       → (bound.null ≢ Always → (o ≡ Some (bound.lo.num, bound.lo.den)) × (o ≡ Some (bound.hi.num, bound.hi.den))) → IsShareAlone (shares_of s bound) (average values)
   alone None values is h told ends = rw is (always bound.null told h)
   alone (Some (sum, count)) values is h told ends =
@@ -96,38 +96,38 @@ module _ (table : List ColumnHead) (columns : List ℕ) (s : ℕ) (bound : Avera
 
 module _ (law : Laws) (run : Run) (plan : Plan) (is : IsSure run plan) (e : tree.Expr) (typed : Aggregate) (key : Key) (asked : IsAsked run.text run.query (tree.Call calls.Avg e) typed)
     (on : IsKeyOn run.query (frame_of run.head) key) where
-  abbrev scale : ℕ
+  abbrev pub scale : ℕ
   scale = scale_of run.head.columns e
 
-  face_is : typed.face ≡ faces.Number scale
+  pub face_is : typed.face ≡ faces.Number scale
   face_is = average_face run.text run.head run.query e typed is.typed asked
 
-  kind_is : typed.kind ≡ kinds.Avg
+  pub kind_is : typed.kind ≡ kinds.Avg
   kind_is = average_kind run.text run.head run.query e typed is.typed asked
 
   there : slice_get run.query.items asked.place ≡ Some typed
   there = asked.in_query
 
-  abbrev bound : ℕ → AverageBound
+  abbrev pub bound : ℕ → AverageBound
   bound round = average_under run.query typed key (stage_at run round).frame (stage_at run round).known
 
-  is_certain : (round : ℕ) → round ≤ length run.reads → IsCertainAverage (stage_at run round) typed key (frame_of run.head)
+  pub is_certain : (round : ℕ) → round ≤ length run.reads → IsCertainAverage (stage_at run round) typed key (frame_of run.head)
   is_certain round h = ((certain law run plan is).certain round h key on asked.place typed there).average kind_is
 
-  meant : (round : ℕ) (world : Cells) (one : ℕ) → IsWorld run round world → IsGroupOf run world key one
+  pub meant : (round : ℕ) (world : Cells) (one : ℕ) → IsWorld run round world → IsGroupOf run world key one
       → IsAverage (shown run.head.columns run.query.columns (faces.Number scale)) (average_on run.query typed key (frame_of run.head) world) (filter_map (value e) (rows_in run world one))
   meant round world one is_world group =
       subst (λ (f : Face). IsAverage (shown run.head.columns run.query.columns f) (average_on run.query typed key (frame_of run.head) world) (filter_map (value e) (rows_in run world one))) face_is
       (subst (λ (k : Key). IsAverage (shown run.head.columns run.query.columns typed.face) (average_on run.query typed k (frame_of run.head) world) (filter_map (value e) (rows_in run world one)))
       (sym group.same) (averages_mean run.text run.head run.query world one e typed is.typed is_world.has_values asked group.row))
 
-  abbrev shares : ℕ → Shares
+  abbrev pub shares : ℕ → Shares
   shares round = shares_of scale (bound round)
 
-  shown_here : (round : ℕ) → ShowsShares (shares round) (average_text run.head run.query typed.face (bound round))
+  pub shown_here : (round : ℕ) → ShowsShares (shares round) (average_text run.head run.query typed.face (bound round))
   shown_here round = subst (λ (f : Face). ShowsShares (shares round) (average_text run.head run.query f (bound round))) (sym face_is) (shown_shares run.head run.query scale (bound round))
 
-  shows_key : (round : ℕ) → round ≤ length run.reads → (text : List ℕ) → IsAverageShownFor run.head (stage_at run round) typed key text → ShowsShares (shares round) text
+  pub shows_key : (round : ℕ) → round ≤ length run.reads → (text : List ℕ) → IsAverageShownFor run.head (stage_at run round) typed key text → ShowsShares (shares round) text
   shows_key round h text (inl all) =
       subst (ShowsShares (shares round))
       (ap (λ (k : Key). average_text run.head run.query typed.face (average_under run.query typed k (stage_at run round).frame (stage_at run round).known)) (no_parts (frame_of run.head) run.query key on all.0) ∙ sym all.1)

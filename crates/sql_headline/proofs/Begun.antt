@@ -5,7 +5,7 @@ use Rattle.query_model.specs.Projection.{projected}
 use Rattle.plane_schedule.specs.declared.policy.Plan.{Plan}
 use Rattle.query_model.specs.Answers.{Key, groups_of}
 use Rattle.query_model.specs.Groups.{IsKey}
-use Rattle.query_model.specs.Knowledge.{plane_of}
+use Rattle.query_model.specs.Knowledge.{IsKnowledge, plane_of}
 use Rattle.query_model.specs.Laws.{TablesAgree, ValidQueriesNameColumns}
 use Rattle.query_model.specs.Queries.{Query}
 use Rattle.query_model.specs.Worlds.{AgreesWith, NamesColumns}
@@ -73,6 +73,15 @@ module _ (law : Laws) (run : Run) (plan : Plan) (is : IsSure run plan) where
       let told = law.tables run.query frame world counts named has.table are in
       subst (λ (s : Stage). AgreesWith run.query frame s.known world) (sym told ∙ same)
       (law.agree run.query frame (part_of run.query frame) world counts (is_part run.query frame named) has.table are).agrees
+
+  -- what is known after a round is a knowledge
+  pub knowledge : (round : ℕ) → round ≤ length run.reads → IsKnowledge (part_of run.query frame) (stage_at run round).known
+  knowledge round h =
+      let counts = counts_after run.query run.reads round in
+      let table = (certain.itself round h).table in
+      let are = reads_after plan run.query frame (plane_of frame run.cells) run.reads is.rounds round h in
+      subst (λ (s : Stage). IsKnowledge (part_of run.query frame) s.known) (sym (law.tables run.query frame run.cells counts named table are))
+      (law.agree run.query frame (part_of run.query frame) run.cells counts (is_part run.query frame named) table are).knowledge
 
 -- the cell of a key is the one that is told of
 pub own_cell : (stage : Stage) (key : Key) (cell : ℕ) → (has : HasCell stage key) → IsCellOf stage key cell → cell ≡ has.cell

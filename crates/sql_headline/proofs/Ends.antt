@@ -42,7 +42,7 @@ module _ (table : List ColumnHead) (columns : List ℕ) (face : Face) where
   abbrev pub interval_of : Bound → Interval
   interval_of bound = record { null = bound.null; low = shows bound.lo; high = shows bound.hi }
 
-  at_most : (x y : ℤ) → x ≤ℤ y → IsAtMost (shows x) (shows y)
+  pub at_most : (x y : ℤ) → x ≤ℤ y → IsAtMost (shows x) (shows y)
   at_most x y h u v e f = ap (is_some_and (λ o. not (is_gt o))) (in_order table columns face x y u v e f) ∙ not_above x y h
 
   low_end : (x z : ℤ) (w v : Value) → x ≤ℤ z → shows z ≡ Some w → IsTrue (is_same (Some w) (Some v)) → IsAtMost (shows x) (Some v)

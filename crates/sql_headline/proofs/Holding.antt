@@ -58,25 +58,25 @@ typed_kind table columns (tree.Call calls.Avg x) t e other h = true≢false othe
 
 module _ (law : Laws) (run : Run) (plan : Plan) (is : IsSure run plan) (item : tree.Item) (typed : Aggregate) (key : Key) (asked : IsAsked run.text run.query item typed)
     (on : IsKeyOn run.query (frame_of run.head) key) where
-  there : slice_get run.query.items asked.place ≡ Some typed
+  pub there : slice_get run.query.items asked.place ≡ Some typed
   there = asked.in_query
 
-  abbrev bound : ℕ → Bound
+  abbrev pub bound : ℕ → Bound
   bound round = bound_under run.query typed key (stage_at run round).frame (stage_at run round).known
 
-  is_certain : typed.kind ≢ kinds.Avg → (round : ℕ) → round ≤ length run.reads → IsCertainBound (stage_at run round) typed key (frame_of run.head)
+  pub is_certain : typed.kind ≢ kinds.Avg → (round : ℕ) → round ≤ length run.reads → IsCertainBound (stage_at run round) typed key (frame_of run.head)
   is_certain plain round h = ((certain law run plan is).certain round h key on asked.place typed there).bound plain
 
-  meant : (round : ℕ) (world : Cells) (one : ℕ) → IsWorld run round world → IsGroupOf run world key one
+  pub meant : (round : ℕ) (world : Cells) (one : ℕ) → IsWorld run round world → IsGroupOf run world key one
       → IsShownAs (shown run.head.columns run.query.columns typed.face) (answer_on run.query typed key (frame_of run.head) world) (answer item (rows_in run world one))
   meant round world one is_world group =
       subst (λ (k : Key). IsShownAs (shown run.head.columns run.query.columns typed.face) (answer_on run.query typed k (frame_of run.head) world) (answer item (rows_in run world one)))
       (sym group.same) (answers_mean run.text run.head run.query world one item typed is.typed is_world.has_values asked group.row)
 
-  abbrev interval : ℕ → Interval
+  abbrev pub interval : ℕ → Interval
   interval round = interval_of run.head.columns run.query.columns typed.face (bound round)
 
-  shows_key : (round : ℕ) → round ≤ length run.reads → (text : List ℕ) → IsShownFor run.head (stage_at run round) typed key text → Shows (interval round) text
+  pub shows_key : (round : ℕ) → round ≤ length run.reads → (text : List ℕ) → IsShownFor run.head (stage_at run round) typed key text → Shows (interval round) text
   shows_key round h text (inl all) =
       subst (Shows (interval round))
       (ap (λ (k : Key). bound_text run.head run.query typed.face (bound_under run.query typed k (stage_at run round).frame (stage_at run round).known)) (no_parts (frame_of run.head) run.query key on all.0) ∙ sym all.1)

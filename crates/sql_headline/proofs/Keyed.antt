@@ -1,10 +1,11 @@
 -- Rows of worlds have keys.
-use Rattle.std.proofs.Common.{◌≡◌, ◌≢◌, ℕ, ◌<◌, List, [], ◌∷◌, length, map, Some, None, sym, ap, subst, arith}
+use Rattle.std.proofs.Common.{◌≡◌, ◌≢◌, ℕ, ◌<◌, ◌≤◌, List, [], ◌∷◌, length, map, Some, None, sym, ap, subst, arith}
 use Rattle.std.proofs.lemmas.Int.{ints}
 use Rattle.std.specs.List.{AllByRecursion}
 use Rattle.daq_table.specs.Tables.{Cell, Cells, Frame, IsCell, IsTable, ends_at, frame_of, row_of, value_of}
 use Rattle.daq_table.specs.declared.head.Ends.{Ends}
 use Rattle.daq_table.specs.declared.table_head.Head.{Head}
+use Rattle.plane_schedule.specs.declared.policy.Plan.{Plan}
 use Rattle.query_model.specs.Answers.{Key, groups_of}
 use Rattle.query_model.specs.Groups.{IsKey, IsKeyPart}
 use Rattle.query_model.specs.Projection.{projected}
@@ -16,8 +17,9 @@ use Rattle.sql_text.specs.Tree as tree
 use Rattle.sql_typing.specs.Typing.{columns_of, typed_ending}
 use Rattle.sql_meaning.specs.Answers.{grouping}
 use Rattle.table_rounds.proofs.Reached.{columns_of_part, part_of}
-use Rattle.sql_headline.specs.Worlds.{RowsHaveKeys}
-use Rattle.sql_headline.proofs.Begun.{Laws, part_there, sure}
+use Rattle.table_rounds.specs.Headline.{IsKeyOn}
+use Rattle.sql_headline.specs.Worlds.{IsGroupOf, IsWorld, RowsHaveKeys, Run}
+use Rattle.sql_headline.proofs.Begun.{IsSure, Laws, part_there, sure}
 
 key_part : (ends : Ends) (cell : Cell) → IsCell ends cell → IsKeyPart ends (value_of ends cell)
 key_part ends None h = h
@@ -43,10 +45,10 @@ by_ending head columns part cells r (tree.Ordered key down limit) table some h =
 by_ending head columns part cells r (tree.Grouped []) table some h = tt
 by_ending head columns part cells r (tree.Grouped (n ∷ ns)) table some h = keys_of part cells r _ table (some (cons_nil n ns)) h
 
-pub rows_have : Laws → RowsHaveKeys
-rows_have law run plan round world key one is h is_world group =
+pub have_keys : (law : Laws) (run : Run) (plan : Plan) → IsSure run plan → (round : ℕ) (world : Cells) (key : Key) (one : ℕ) → round ≤ length run.reads → IsWorld run round world → IsGroupOf run world key one → IsKeyOn run.query (frame_of run.head) key
+have_keys law run plan is round world key one h is_world group =
     let part = part_of run.query (frame_of run.head) in
-    let table = part_there law run plan (sure law run plan is) round h world is_world in
+    let table = part_there law run plan is round h world is_world in
     let valid = law.valid run.text run.head run.query is.typed in
     let inside : AllByRecursion (λ c. c < length part.columns) (groups_of run.query.shape) =
     subst (λ n. AllByRecursion (λ c. c < n) (groups_of run.query.shape)) (sym (columns_of_part run.query (frame_of run.head))) (groups_in run.head run.query run.query.shape valid.shape) in
@@ -54,3 +56,6 @@ rows_have law run plan round world key one is h is_world group =
     let keyed = subst (λ (s : Shape). AllByRecursion (λ c. c < length part.columns) (groups_of s) → IsKey part (groups_of s) (map (row_of part (projected run.query world) one) (groups_of s)))
     (sym shape_is) (by_ending run.head (columns_of run.head.columns run.text) part (projected run.query world) one run.text.ending table group.row) inside in
     subst (λ (k : Key). IsKey part (groups_of run.query.shape) k) (sym group.same) keyed
+
+pub rows_have : Laws → RowsHaveKeys
+rows_have law run plan round world key one is h is_world group = have_keys law run plan (sure law run plan is) round world key one h is_world group

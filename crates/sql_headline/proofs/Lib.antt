@@ -8,3 +8,13 @@ pub mod Keyed
 pub mod Same
 pub mod Cut
 pub mod Lined
+pub mod Sectioned
+pub mod Spanned
+pub mod Names
+pub mod GroupParts
+pub mod Items
+pub mod Grouped
+pub mod Ranked
+pub mod Once
+pub mod Worlds
+pub mod Tight

@@ -56,7 +56,7 @@ place_text head query c n (Some p) e =
     subst (λ (k : ℕ). IsEndText (value_of (slice_get head.columns p) (Some n)) (report.value_of (slice_get head.columns k) n))
     (sym (get_or_from_slice_get query.columns c p (length head.columns) e)) (there_text (slice_get head.columns p) n)
 
-end_text : (head : Head) (query : Query) (face : Face) (n : ℤ) → IsEndText (shown head.columns query.columns face n) (face_text head query face n)
+pub end_text : (head : Head) (query : Query) (face : Face) (n : ℤ) → IsEndText (shown head.columns query.columns face n) (face_text head query face n)
 end_text head query (faces.Number places) n = refl
 end_text head query (faces.OfColumn c) n = place_text head query c n (slice_get query.columns c) refl
 

@@ -76,15 +76,18 @@ abbrev pub IsEndText : Option Value → List ℕ → Type 0
 IsEndText None text = (text ≡ codes "-") ⊎ (text ≡ [])
 IsEndText (Some v) text = text ≡ text_of v
 
--- the text shows the interval: one value where its ends are one, else both, and whether the answer may be null
-pub record Shows (interval : Interval) (text : List ℕ) : Type 0 where
+-- the text shows the interval: one value where its ends are one, else both, as they are put together, and whether the answer may be null
+pub record ShowsBy (together : Bool → List ℕ → List ℕ → List ℕ) (interval : Interval) (text : List ℕ) : Type 0 where
   pub low : List ℕ
   pub high : List ℕ
   pub are_one : Bool
   pub low_end : IsEndText interval.low low
   pub high_end : IsEndText interval.high high
   pub one : IsTrue are_one → interval.low ≡ interval.high
-  pub written : text ≡ interval_text interval.null (ends_text are_one low high)
+  pub written : text ≡ interval_text interval.null (together are_one low high)
+
+abbrev pub Shows : Interval → List ℕ → Type 0
+Shows = ShowsBy ends_text
 
 -- a value over a count, as `12.5/3`
 abbrev pub text_of_share : Share → List ℕ

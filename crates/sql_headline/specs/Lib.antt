@@ -6,3 +6,6 @@ pub mod Cuts
 pub mod Headline
 pub mod Results
 pub mod Lined
+pub mod Spans
+pub mod Sections
+pub mod Attained

@@ -1,4 +1,4 @@
--- Each aggregate of a text is typed, at the same place.
+-- Each aggregate of a text is typed, at the same place, where the query is not of rows in an order.
 use Rattle.std.proofs.Common.{◌≡◌, ℕ, zero, suc, List, [], ◌∷◌, length, filter, Some, refl, ap, ◌∙◌, slice_get}
 use Rattle.std.proofs.lemmas.Option.{none-some}
 use Rattle.std.specs.List.{filter_map}
@@ -36,9 +36,10 @@ module _ (table : List ColumnHead) (columns : List ℕ) where
   found_in (tree.Items items) k item e = found items k item e
   found_in tree.Star k item e = absurd (none-some item e)
 
-module _ (q : tree.Query) (head : table_head.Head) (query : Query) (typed : IsTyped q head query) (plain : q.ending ≡ tree.Nothing) where
-  items_are : query.items ≡ typed_head head.columns (typing.columns_of head.columns q) q.head
-  items_are = ap (λ (w : Query). w.items) typed.same ∙ ap (λ e. typed_items head.columns (typing.columns_of head.columns q) e q.head) plain
+module _ (q : tree.Query) (head : table_head.Head) (query : Query) (typed : IsTyped q head query)
+    (whole : typed_items head.columns (typing.columns_of head.columns q) q.ending q.head ≡ typed_head head.columns (typing.columns_of head.columns q) q.head) where
+  pub items_are : query.items ≡ typed_head head.columns (typing.columns_of head.columns q) q.head
+  items_are = ap (λ (w : Query). w.items) typed.same ∙ whole
 
   pub as_many : length query.items ≡ length (asked q.head)
   as_many = ap length items_are ∙ many_in head.columns (typing.columns_of head.columns q) q.head

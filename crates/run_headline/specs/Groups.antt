@@ -1,0 +1,57 @@
+-- The report of groups: in each round a block of sections, and what these say of the groups of each world.
+use Rattle.std.specs.Prelude.{◌≡◌, ℕ, ◌+◌, ◌<◌, ◌≤◌, true, IsTrue, List, ◌++◌}
+use Rattle.std.specs.List.{AllZip, Contains}
+use Rattle.daq_table.specs.Tables.{Cells}
+use Rattle.query_model.specs.Meaning.{is_sql_true}
+use Rattle.sql_headline.specs.Sections.{AreSections, IsKeyOf, Section}
+use Rattle.sql_headline.specs.Spans.{IsIt, LiesIn, Narrows, answered}
+use Rattle.sql_meaning.specs.Answers.{asked}
+use Rattle.sql_meaning.specs.Conditions.{truth_of_where}
+use Rattle.sql_meaning.specs.Rows.{row_at}
+use Rattle.run_headline.specs.Printed.{line_of_round}
+use Rattle.run_headline.specs.Readings.{IsAllRead, IsWorld, Reading, last_round, rows_in}
+
+-- the condition is true at a row of a world: the group of the row is in the result
+pub record IsInResult (reading : Reading) (world : Cells) (row : ℕ) : Type 0 where
+  pub within : row < reading.head.rows
+  pub counts : IsTrue (is_sql_true (truth_of_where reading.text.pred (row_at reading.head world row)))
+
+-- of these sections this is one for the group of a row: the values of the row in the columns of GROUP BY lie where it says
+pub record IsFor (reading : Reading) (sections : List Section) (world : Cells) (row : ℕ) (section : Section) : Type 0 where
+  pub within : row < reading.head.rows
+  pub there : Contains sections section
+  pub key : IsKeyOf section reading.text (row_at reading.head world row)
+
+pub record HoldsGroups (reading : Reading) (sections : ℕ → List Section) : Type 0 where
+  -- each group of the result of a world has a section. So a key without a section is in none
+  pub each : (round : ℕ) → round ≤ last_round reading → (world : Cells) (row : ℕ) → IsWorld reading round world →
+      IsInResult reading world row → (section : Section) × IsFor reading (sections round) world row section
+  -- in each world a section of present keys is for a group of the result
+  pub present : (round : ℕ) → round ≤ last_round reading → (section : Section) → Contains (sections round) section →
+      section.present ≡ true → (world : Cells) → IsWorld reading round world →
+      (row : ℕ) × IsInResult reading world row × IsFor reading (sections round) world row section
+  -- of each section that is for a group: the answers over the rows of the group lie in its spans
+  pub lies : (round : ℕ) → round ≤ last_round reading → (world : Cells) (row : ℕ) → IsWorld reading round world →
+      (section : Section) → IsFor reading (sections round) world row section →
+      AllZip (λ span item. LiesIn span (answered item (rows_in reading world row))) section.spans (asked reading.text.head)
+  -- these lie inside those of the round before
+  pub narrows : (round : ℕ) → round < last_round reading → (world : Cells) (row : ℕ) → IsWorld reading (round + 1) world →
+      (old new : Section) → IsFor reading (sections round) world row old → IsFor reading (sections (round + 1)) world row new →
+      AllZip Narrows old.spans new.spans
+  -- with all planes read its keys are present, and its spans are the answers alone
+  pub exact : (round : ℕ) → round ≤ last_round reading → IsAllRead reading round → (world : Cells) (row : ℕ) →
+      IsWorld reading round world → (section : Section) → IsFor reading (sections round) world row section →
+      (section.present ≡ true)
+      × AllZip (λ span item. IsIt span (answered item (rows_in reading world row))) section.spans (asked reading.text.head)
+
+-- the block has the line of its round, and the sections
+pub record HasSections (reading : Reading) (round : ℕ) (sections : List Section) (block : List ℕ) : Type 0 where
+  pub text : List ℕ
+  pub are : AreSections sections text
+  pub is : block ≡ line_of_round reading round ++ text
+
+-- so are the blocks of a query with GROUP BY: their sections hold the groups
+pub record HoldsSections (reading : Reading) (block : ℕ → List ℕ) : Type 0 where
+  pub sections : ℕ → List Section
+  pub shown : (round : ℕ) → round ≤ last_round reading → HasSections reading round (sections round) (block round)
+  pub holds : HoldsGroups reading sections

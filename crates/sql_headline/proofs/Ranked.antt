@@ -1,0 +1,129 @@
+-- A run of rows in an order: the lines of its blocks, and where the values of the rows lie.
+use Rattle.std.proofs.Common.{◌≡◌, ℕ, ◌+◌, ◌<◌, ◌≤◌, nat_abs, Bool, List, [], ◌∷◌, ◌++◌, length, Option, Some, None, refl, sym, ap, subst, ◌∙◌, arith, if◌then◌else◌}
+use Rattle.std.proofs.lemmas.Int.{ints}
+use Rattle.std.proofs.lemmas.Option.{slice_get_within}
+use Rattle.std.specs.List.{AllByRecursion, flat_map, range_with_len}
+use Rattle.std.specs.Prelude.{codes}
+use Rattle.daq_report.specs.Blocks.{block_text, form_text, round_line}
+use Rattle.daq_report.specs.Intervals.{bound_text}
+use Rattle.daq_report.specs.Rankings.{bound_of_range, row_start, row_text, standing_at, top_line}
+use Rattle.daq_table.specs.Tables.{Cells, ends_at, frame_of}
+use Rattle.plane_schedule.specs.declared.policy.Extras.{Extras}
+use Rattle.plane_schedule.specs.declared.policy.Plan.{Plan}
+use Rattle.query_model.proofs.Blocks.{range_ordered}
+use Rattle.query_model.specs.Knowledge.{known_at, prefix_at, ranges_of}
+use Rattle.query_model.specs.Queries.{Query}
+use Rattle.query_model.specs.Ranking.{StandingKept}
+use Rattle.query_model.specs.Validity.{IsTop}
+use Rattle.query_model.specs.Truths.{IsNarrower, Range}
+use Rattle.query_model.specs.declared.bounds.Standing.{Standing}
+use Rattle.query_model.specs.declared.bounds.Standing.TheVariants.{Certain, Excluded, Possible}
+use Rattle.query_model.specs.declared.query.Face.TheVariants.{OfColumn}
+use Rattle.query_model.specs.declared.query.Shape.{Shape}
+use Rattle.query_model.specs.declared.query.Shape.TheVariants.{Top}
+use Rattle.sql_text.specs.Tree as tree
+use Rattle.sql_text.specs.Tree.{Name}
+use Rattle.sql_text.specs.declared.tree.Num.{Num}
+use Rattle.sql_typing.specs.Names.{names_in, names_in_ending, names_in_filter, names_in_head, number_of}
+use Rattle.sql_typing.specs.Typing.{columns_of, typed_ending}
+use Rattle.sql_typing.proofs.Alls.{all_right}
+use Rattle.sql_meaning.specs.Rows.{row_at}
+use Rattle.table_rounds.proofs.Reached.{columns_of_part, part_of}
+use Rattle.sql_headline.specs.Intervals.{Encloses, Interval, LiesInside, Shows}
+use Rattle.sql_headline.specs.Worlds.{IsWorld, Run, stage_at}
+use Rattle.sql_headline.proofs.Begun.{IsSure, Laws, agrees, certain, knowledge}
+use Rattle.sql_headline.proofs.Ends.{at_most, interval_of}
+use Rattle.sql_headline.proofs.GroupParts.{lies, null_in, null_out, number_in, number_out}
+use Rattle.sql_headline.proofs.Names.{IsKnown, IsShownIn, all_known, names_shown}
+use Rattle.sql_headline.proofs.Shown.{shown_interval}
+
+-- ---- lines
+
+-- the row, counted from 1, its standing, and its value
+abbrev pub line_with : List ℕ → ℕ → List ℕ → List ℕ
+line_with standing row text = row_start standing row ++ (text ++ codes "\n")
+
+abbrev pub line_by : Bool → ℕ → List ℕ → Standing → List ℕ
+line_by list row text Certain = line_with (codes " certain ") row text
+line_by list row text Possible = if list then line_with (codes " possible ") row text else []
+line_by list row text Excluded = []
+
+pub flat_same : {X A : Type 0} (f g : X → List A) → ((x : X) → f x ≡ g x) → (xs : List X) → flat_map f xs ≡ flat_map g xs
+flat_same f g each [] = refl
+flat_same f g each (x ∷ xs) = ap (λ l. l ++ flat_map f xs) (each x) ∙ ap (λ l. g x ++ l) (flat_same f g each xs)
+
+module _ (law : Laws) (run : Run) (plan : Plan) (is : IsSure run plan) (key : Name) (down : Bool) (limit : Num) (ordered : run.text.ending ≡ tree.Ordered key down limit) where
+  abbrev number : ℕ
+  number = number_of run.head.columns run.query.columns key.name
+
+  shape_is : run.query.shape ≡ Top number down (nat_abs limit.units)
+  shape_is =
+      ap (λ (w : Query). w.shape) is.typed.same ∙ ap (typed_ending run.head.columns (columns_of run.head.columns run.text)) ordered
+      ∙ ap (λ cs. Top (number_of run.head.columns cs key.name) down (nat_abs limit.units)) (sym (ap (λ (w : Query). w.columns) is.typed.same))
+
+  of_key : (P : Name → Type 0) → AllByRecursion P (names_in run.text) → P key
+  of_key P h = (subst (λ e. AllByRecursion P (names_in_ending e)) ordered (all_right P (names_in_head run.text.head ++ names_in_filter run.text.pred) (names_in_ending run.text.ending) h)).0
+
+  known : IsKnown run.head.columns run.query.columns key
+  known = of_key (IsKnown run.head.columns run.query.columns) (all_known run.text run.head run.query is.typed)
+
+  inside : number < length run.query.columns
+  inside = slice_get_within run.query.columns number known.place known.number
+
+  abbrev range : ℕ → ℕ → Range
+  range round row = ranges_of (stage_at run round).frame (stage_at run round).known row number
+
+  -- where the value of a row lies, and its text
+  abbrev pub interval : ℕ → ℕ → Interval
+  interval round row = interval_of run.head.columns run.query.columns (OfColumn number) (bound_of_range (range round row))
+
+  abbrev pub text : ℕ → ℕ → List ℕ
+  text round row = bound_text run.head run.query (OfColumn number) (bound_of_range (range round row))
+
+  pub shown : (round row : ℕ) → Shows (interval round row) (text round row)
+  shown round row = shown_interval run.head run.query (OfColumn number) (bound_of_range (range round row))
+
+  line_is : (list : Bool) (round row : ℕ) (standing : Standing) → row_text run.head (stage_at run round) number list row standing ≡ line_by list row (text round row) standing
+  line_is list round row Certain = refl
+  line_is list round row Possible = refl
+  line_is list round row Excluded = refl
+
+  pub block_is : (list : Bool) (extras : Extras) (round : ℕ) (last : Option ℕ) →
+      block_text run.head list extras (stage_at run round) round last
+      ≡ round_line run.head (stage_at run round) round last ++ (top_line (stage_at run round) (nat_abs limit.units)
+      ++ flat_map (λ row. line_by list row (text round row) (standing_at (stage_at run round) row)) (range_with_len 0 run.head.rows))
+  block_is list extras round last =
+      let stage = stage_at run round in
+      ap (λ (s : Shape). round_line run.head stage round last ++ form_text run.head list extras stage s) shape_is
+      ∙ ap (λ l. round_line run.head stage round last ++ (top_line stage (nat_abs limit.units) ++ l))
+      (flat_same (λ row. row_text run.head stage number list row (standing_at stage row)) (λ row. line_by list row (text round row) (standing_at stage row))
+      (λ row. line_is list round row (standing_at stage row)) (range_with_len 0 run.head.rows))
+
+  -- certain and excluded rows stay so
+  pub stays : (round row : ℕ) → round < length run.reads → row < run.head.rows → StandingKept (standing_at (stage_at run round) row) (standing_at (stage_at run (round + 1)) row)
+  stays round row h row_in = (certain law run plan is).kept (subst IsTop (sym shape_is) tt) round h row row_in
+
+  -- ---- values
+
+  -- the value of a row lies in its interval, in each world
+  pub lies_there : (round row : ℕ) → round ≤ length run.reads → row < run.head.rows → (world : Cells) → IsWorld run round world → Encloses (interval round row) (row_at run.head world row key.name)
+  lies_there round row h row_in world is_world =
+      lies run.head.columns run.query.columns number (range round row) _ (row_at run.head world row key.name)
+      (of_key (IsShownIn run.query run.head world row) (names_shown run.text run.head world row row_in run.query is.typed is_world.has_values))
+      ((certain law run plan is).values round h row number row_in inside world (agrees law run plan is round h world is_world))
+
+  pub narrows : (round row : ℕ) → round < length run.reads → row < run.head.rows → LiesInside (interval round row) (interval (round + 1) row)
+  narrows round row h row_in =
+      let narrower : IsNarrower (range (round + 1) row) (range round row) = (certain law run plan is).values_nested round h row number row_in in
+      let after : round + 1 ≤ length run.reads = omega (arith, h) in
+      let in_part : number < length (part_of run.query (frame_of run.head)).columns = subst (λ n. number < n) (sym (columns_of_part run.query (frame_of run.head))) inside in
+      let legal = (knowledge law run plan is (round + 1) after).legal number row in_part row_in in
+      let stage = stage_at run (round + 1) in
+      let low_high = range_ordered (ends_at (part_of run.query (frame_of run.head)) number) (known_at stage.known number).read (prefix_at stage.known number row) legal in
+      let new = range (round + 1) row in
+      record {
+        null = λ some. null_out (range round row).null (narrower.values None (null_in new.null some));
+        full = λ some. number_out (range round row).null (narrower.values (Some new.numbers.low) (number_in new.null some, record { above = omega (arith, ints); below = low_high })).0;
+        low = λ some. at_most run.head.columns run.query.columns (OfColumn number) (range round row).numbers.low new.numbers.low narrower.numbers.low;
+        high = λ some. at_most run.head.columns run.query.columns (OfColumn number) new.numbers.high (range round row).numbers.high narrower.numbers.high;
+      }
