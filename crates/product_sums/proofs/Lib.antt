@@ -10,6 +10,7 @@ pub mod PairSums
 pub mod FirstNumbers
 pub mod LinearSums
 pub mod ProductParts
+pub mod Thirds
 pub mod StaysKept
 pub mod MaskSums
 pub mod EvenMasks

@@ -11,10 +11,10 @@ use Rattle.query_model.specs.Knowledge.{known_at}
 use Rattle.product_sums.specs.declared.pair_sums.Pair.{Pair}
 use Rattle.product_sums.specs.declared.pair_sums.PairSums.{PairSums}
 use Rattle.product_sums.specs.Fetched.{ones_of}
-use Rattle.product_sums.specs.KeptProducts.{ArePairSums, IsPair, first_number, first_sum, turned_pair, turned_sums}
+use Rattle.product_sums.specs.KeptProducts.{ArePairSums, IsPair, first_number, first_sum, no_sums, turned_pair, turned_sums}
 use Rattle.product_sums.specs.Products.{sum_over}
 use Rattle.product_sums.proofs.Distributing.{swapped}
-use Rattle.product_sums.proofs.KeptProducts.{kept_next, kept_started}
+use Rattle.product_sums.proofs.KeptProducts.{kept_first, kept_next, kept_started}
 use Rattle.product_sums.proofs.Residues.{wrapped}
 use Rattle.product_sums.proofs.RowSums.{over_none, over_ones, over_same}
 
@@ -94,6 +94,26 @@ module _ (table : KnownTable) (mask : List Bool) (pair : Pair) where
           second = same_second ∙ are.second ∙ ap (λ n. wrapped (sum_over mask (λ r. pos (first_number table pair.second n r)))) (sym same_read);
           both = same_both ∙ are.both ∙ ap wrapped (kept_started table known mask long pair.first is.first f sums.first_read begun.first_read from)
               ∙ ap (λ n. wrapped (sum_over mask (λ r. pos (first_number table pair.first begun.first_read r) *ℤ pos (first_number table pair.second n r)))) (sym same_read);
+        }
+
+    -- no plane that was counted gives nothing, over whichever rows
+    pub unread_are : (sums : PairSums) → sums ≡ no_sums → ArePairSums table mask pair sums
+    unread_are sums is_none =
+        let no_first : sums.first_read ≡ 0 = ap (λ (s : PairSums). s.first_read) is_none in
+        let no_second : sums.second_read ≡ 0 = ap (λ (s : PairSums). s.second_read) is_none in
+        let others : ℕ = (known_at table.known pair.second).read in
+        let f : ℕ → ℤ = λ r. pos (first_number table pair.second sums.second_read r) in
+        let few_first : sums.first_read ≤ first_plane (ends_at table.frame pair.first) reads = omega (arith, no_first) in
+        let few_second : sums.second_read ≤ first_plane (ends_at table.frame pair.second) others = omega (arith, no_second) in
+        record {
+          rows = long;
+          first_read = omega (arith, no_first);
+          second_read = omega (arith, no_second);
+          first = ap (λ (s : PairSums). s.first) is_none ∙ nothing
+              ∙ ap wrapped (sym (sym (once table mask pair.first (reads - sums.first_read)) ∙ kept_first table known mask long pair.first is.first (λ r. pos 1) sums.first_read few_first));
+          second = ap (λ (s : PairSums). s.second) is_none ∙ nothing
+              ∙ ap wrapped (sym (sym (once table mask pair.second (others - sums.second_read)) ∙ kept_first table known mask long pair.second is.second (λ r. pos 1) sums.second_read few_second));
+          both = ap (λ (s : PairSums). s.both) is_none ∙ nothing ∙ ap wrapped (sym (kept_first table known mask long pair.first is.first f sums.first_read few_first));
         }
 
     -- a plane more of the first column

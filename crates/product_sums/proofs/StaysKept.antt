@@ -1,26 +1,35 @@
 -- Sums of products that are kept stay, whatever plane is read.
-use Rattle.std.proofs.Common.{◌≡◌, ℕ, zero, suc, ◌+◌, ◌-◌, ◌*◌, ◌/◌, ◌^◌, ◌<◌, ◌≤◌, inl, inr, pos, ◌*ℤ◌, Bool, true, false, cond, List, [], ◌∷◌, length, refl, ap, sym, ◌∙◌, arith, get_or, subst, IsTrue}
-use Rattle.std.specs.Prelude.{◌≢◌, slice_index}
+use Rattle.std.proofs.Common.{◌≡◌, ℕ, zero, suc, ◌+◌, ◌-◌, ◌*◌, ◌/◌, ◌%◌, ◌^◌, ◌<◌, ◌≤◌, ◌==◌, ◌&&◌, inl, inr, pos, ◌*ℤ◌, Bool, true, false, cond, List, [], ◌∷◌, length, map, refl, ap, sym, ◌∙◌, arith, get_or, subst, IsTrue, IfSome}
+use Rattle.std.specs.Prelude.{◌≢◌, None, Some, slice_index}
+use Rattle.std.specs.declared.option.Option.{Option}
+use Rattle.std.specs.Simd.Lanes.{zip2}
 use Rattle.std.specs.Int.{int_wrap, w128}
 use Rattle.std.proofs.Math.Nat.{div-div-eq-div-mul, pow-suc}
 use Rattle.std.proofs.lemmas.Bool.{cases_eq}
 use Rattle.std.proofs.lemmas.List.{get_or-set_other, get_or-set_same}
 use Rattle.std.proofs.lemmas.List.Elements.{All-weaker}
+use Rattle.std.proofs.lemmas.Simd.{length-zip2}
 use Rattle.daq_table.specs.Tables.{ends_at, planes}
 use Rattle.daq_table.specs.declared.head.Ends.{Ends}
 use Rattle.aggregates.specs.ExtremeRows.{number_at}
 use Rattle.aggregates.specs.Selections.{has_row}
-use Rattle.aggregates.proofs.BlockWords.{row_within}
+use Rattle.aggregates.proofs.BlockWords.{place, row_within}
 use Rattle.aggregates.proofs.EarlyNumbers.{early_row}
-use Rattle.known_column.specs.Columns.{number_of}
+use Rattle.known_column.specs.Columns.{digit_of, number_of}
 use Rattle.known_column.specs.KnownTables.{IsKnownTable, KnownTable, column_at, read_column}
 use Rattle.query_model.specs.Knowledge.{ColumnKnowledge, IsLegal, Knowledge, known_at, longer, longer_column, taken}
 use Rattle.query_model.specs.Meaning.{ReadsBelow}
-use Rattle.query_model.specs.Queries.{Term}
+use Rattle.query_model.specs.Queries.{Term, Column, Literal, Add, Sub, Mul}
+use Rattle.product_sums.specs.declared.kept_column.KeptColumns.{KeptColumns}
+use Rattle.product_sums.specs.declared.kept_column.Third.{Third}
+use Rattle.product_sums.specs.declared.kept_planes.Kept.{Kept}
 use Rattle.product_sums.specs.declared.kept_product.KeptProduct.{KeptProduct}
 use Rattle.product_sums.specs.declared.pair_sums.Pair.{Pair}
 use Rattle.product_sums.specs.declared.pair_sums.PairSums.{PairSums}
-use Rattle.product_sums.specs.KeptProducts.{AreKeptEnds, ArePairSums, IsKeptProduct, IsPair, first_number}
+use Rattle.product_sums.specs.KeptProducts.{AreColumnsOf, AreKeptEnds, ArePairSums, ArePlaneSums, IsKept, IsKeptProduct, IsPair, IsThird, first_number, no_sums, rows_with}
+use Rattle.product_sums.specs.Fetched.{ones_of}
+use Rattle.product_sums.proofs.KeptProducts.{length-ones}
+use Rattle.product_sums.proofs.PairSums.{unread_are}
 use Rattle.product_sums.proofs.RowSums.{over_same}
 
 -- ---- planes of another column
@@ -45,6 +54,18 @@ digits_stay p k b =
     half : (b : Bool) → (2 * p + cond b 1 0) / 2 ≡ p
     half true = omega arith
     half false = omega arith
+
+-- the digits of the planes before stay too
+digit_stays : (read j p : ℕ) (b : Bool) → j < read → digit_of (read + 1) j (2 * p + cond b 1 0) ≡ digit_of read j p
+digit_stays read j p b below =
+    let one_more : read + 1 - (j + 1) ≡ suc (read - (j + 1)) = omega (arith, below) in
+    ap (λ k. ((2 * p + cond b 1 0) / 2 ^ k) % 2 == 1) one_more ∙ ap (λ n. n % 2 == 1) (digits_stay p (read - (j + 1)) b)
+
+longer_digits : (read j : ℕ) (ps : List ℕ) (bits : List Bool) → length bits ≡ length ps → j < read → map (digit_of (read + 1) j) (longer ps bits) ≡ map (digit_of read j) ps
+longer_digits read j [] bits e below = refl
+longer_digits read j (p ∷ ps) [] e below = absurd (omega (arith, e))
+longer_digits read j (p ∷ ps) (b ∷ bits) e below =
+    ap (λ x. x ∷ map (digit_of (read + 1) j) (longer ps bits)) (digit_stays read j p b below) ∙ ap (λ l. digit_of read j p ∷ l) (longer_digits read j ps bits (omega (arith, e)) below)
 
 -- ---- a plane of any column
 
@@ -114,15 +135,71 @@ module _ (table : KnownTable) (known : IsKnownTable table) (d : ℕ) (bits : Lis
             (λ r has. ap (λ z. z *ℤ pos (first_number table pair.second sums.second_read r)) (first r has) ∙ ap (λ z. pos (first_number read_after pair.first sums.first_read r) *ℤ z) (second r has)));
       }
 
+  -- the rows with the bit of a plane
+  ones_stay : (c j : ℕ) → c < length table.frame.columns → j < (known_at table.known c).read → ones_of (column_at read_after c) j ≡ ones_of (column_at table c) j
+  ones_stay c j there below = elim (cases_eq c d) [
+    | inl here ↦ ap (λ (v : ColumnKnowledge). map (digit_of v.read j) v.prefixes) (read_once c there here)
+        ∙ longer_digits (known_at table.known c).read j (known_at table.known c).prefixes bits (bits_long ∙ sym (known.knowledge.rows c there)) below
+    | inr other ↦ ap (λ (v : ColumnKnowledge). map (digit_of v.read j) v.prefixes) (same_known table.known d bits c other)
+  ]
+
+  -- what planes gave over them stays, and a plane that is new has given nothing yet
+  planes_stay : (mask : List Bool) (pair : Pair) (c : ℕ) (sums : List PairSums) → IsPair table pair → length mask ≡ table.frame.rows → ArePlaneSums table mask pair c sums → ArePlaneSums read_after mask pair c sums
+  planes_stay mask pair c sums is long are =
+      let grows = read_grows c are.there in
+      let pair_after : IsPair read_after pair = record { first = is.first; second = is.second } in
+      let within : (known_at (taken table.known d bits) c).read ≤ planes (ends_at table.frame c) = next.knowledge.read c are.there in
+      record {
+        there = are.there;
+        size = are.size;
+        read = λ j from below. elim (place j (known_at table.known c).read) [
+          | inl h ↦ (let old : ArePairSums table (rows_with table mask c j) pair (get_or sums j no_sums) = are.read j (omega (arith, from, grows)) h in
+              subst (λ l. ArePairSums read_after (zip2 (λ a b. a && b) mask l) pair (get_or sums j no_sums)) (sym (ones_stay c j are.there h)) (sums_stay (rows_with table mask c j) pair (get_or sums j no_sums) is old))
+          | inr h ↦ (let rows : length (rows_with read_after mask c j) ≡ table.frame.rows =
+              length-zip2 (λ a b. a && b) mask (ones_of (column_at read_after c) j) (long ∙ sym (length-ones read_after next c are.there j)) ∙ long in
+              unread_are read_after (rows_with read_after mask c j) pair next pair_after rows (get_or sums j no_sums) (are.unread j h (omega (arith, below, within, are.size))))
+        ];
+        unread = λ j from below. are.unread j (omega (arith, from, grows)) below;
+      }
+
+  kept_stays : (columns : KeptColumns) (kept : Kept) → IsPair table columns.pair → IsKept table columns kept → IsKept read_after columns kept
+  kept_stays columns kept is are = record {
+    whole = sums_stay kept.whole.mask columns.pair kept.whole.sums is are.whole;
+    planes = by_third columns.third are.planes;
+    top = sums_stay kept.top.mask columns.pair kept.top.sums is are.top;
+  }
+    where
+      by_third : (third : Option Third) → IfSome third (λ third. ArePlaneSums table kept.whole.mask columns.pair third.column kept.planes.items) →
+          IfSome third (λ third. ArePlaneSums read_after kept.whole.mask columns.pair third.column kept.planes.items)
+      by_third None planes = tt
+      by_third (Some third) planes = planes_stay kept.whole.mask columns.pair third.column kept.planes.items is are.whole.rows planes
+
+  third_stays : (third : Third) (term : Term) → IsThird table third term → IsThird read_after third term
+  third_stays third (Column k) is = is
+  third_stays third (Literal n) is = is
+  third_stays third (Add a b) is = is
+  third_stays third (Sub a b) is = is
+  third_stays third (Mul a b) is = is
+
+  columns_stay : (term : Term) (columns : KeptColumns) → AreColumnsOf table term columns → AreColumnsOf read_after term columns
+  columns_stay term columns are = record {
+    pair_is = record { first = are.pair_is.first; second = are.pair_is.second };
+    product = are.product;
+    linear = are.linear;
+    third = by_third columns.third are.third;
+  }
+    where
+      by_third : (third : Option Third) → IfSome third (λ third. IsThird table third term) → IfSome third (λ third. IsThird read_after third term)
+      by_third None is = tt
+      by_third (Some third) is = third_stays third term is
+
   -- the ends of an expression
   pub product_stays : (term : Term) (kept : KeptProduct) → ReadsBelow (length table.frame.columns) term → IsKeptProduct table term kept → IsKeptProduct read_after term kept
   product_stays term kept reads is = record {
-    product = is.product;
-    linear = is.linear;
-    pair_is = record { first = is.pair_is.first; second = is.pair_is.second };
-    cells_are = All-weaker (AreKeptEnds table kept.pair) (AreKeptEnds read_after kept.pair) (λ ends are. record {
-      low = sums_stay ends.low.mask kept.pair ends.low.sums is.pair_is are.low;
-      high = sums_stay ends.high.mask kept.pair ends.high.sums is.pair_is are.high;
+    columns_are = columns_stay term kept.columns is.columns_are;
+    cells_are = All-weaker (AreKeptEnds table kept.columns) (AreKeptEnds read_after kept.columns) (λ ends are. record {
+      low = kept_stays kept.columns ends.low is.columns_are.pair_is are.low;
+      high = kept_stays kept.columns ends.high is.columns_are.pair_is are.high;
     }) kept.cells.items is.cells_are;
-    room_is = is.room_is;
+    rooms_are = record { ones = is.rooms_are.ones; rows = is.rooms_are.rows; part = is.rooms_are.part };
   }

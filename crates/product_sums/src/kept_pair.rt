@@ -1,8 +1,9 @@
 //! Ends of a product of a column and a part that is linear in another column, added up over a mask's rows and followed from one plane to
 //! the next.
 
-ghost use Rattle.std.specs.Prelude.{◌≡◌, ◌<◌, ◌*ℤ◌, ℤ, pos, length, count_by, IfOk, IsTrue};
+ghost use Rattle.std.specs.Prelude.{◌≡◌, ◌<◌, ◌&&◌, ◌*ℤ◌, ℤ, pos, length, count_by, IfOk, IsTrue};
 ghost use Rattle.std.specs.Int.{int_wrap, w128};
+ghost use Rattle.std.specs.Simd.Lanes.{zip2};
 ghost use Rattle.aggregates.specs.declared.ends.End.TheVariants.{High};
 ghost use Rattle.known_column.specs.KnownTables.{KnownTable};
 ghost use Rattle.query_model.specs.Knowledge.{known_at};
@@ -23,7 +24,7 @@ use crate::top_sums::sum_clipped;
 use crate::wrapping::{minus, plus, times};
 use aggregates::{End, number_planes};
 use known_column::LentColumns;
-use plane_kernels::Mask;
+use plane_kernels::{Mask, Plane};
 use std::alloc::{AllocError, Global};
 
 // Whether both words have the same rows.
@@ -135,19 +136,33 @@ pub(crate) struct KeptPair {
 impl KeptPair {
     // Room for so many rows. So far it has none of them.
     pub(crate) fn open(alloc: Global, rows: usize) -> Result<KeptPair, AllocError>
-        ensures { IfOk result (λ kept. (table : KnownTable) (pair : Pair) → table.frame.rows ≡ rows → IsPair table pair
+        ensures rows { IfOk result (λ kept. length kept.mask ≡ rows) }
+        ensures kept { IfOk result (λ kept. (table : KnownTable) (pair : Pair) → table.frame.rows ≡ rows → IsPair table pair
             → IsKeptPair table pair kept) }
     {
         Ok(KeptPair {
             mask: Mask::none(alloc, rows)?,
-            sums: PairSums {
-                first_read: 0,
-                second_read: 0,
-                first: 0,
-                second: 0,
-                both: 0,
-            },
+            sums: PairSums::none(),
         })
+    }
+
+    // Takes what planes gave over those rows of another that have the bit of 1 in a plane.
+    pub(crate) fn start(&mut self, whole: &KeptPair, sums: PairSums, plane: &Plane)
+        requires rows { length whole.now.mask ≡ length self.old.mask }
+        requires plane { length plane.now ≡ length self.old.mask }
+        ensures rows { self.new.mask ≡ zip2 (λ a b. a && b) whole.now.mask plane.now }
+        ensures sums { self.new.sums ≡ sums }
+    {
+        self.mask.copy_from(&whole.mask);
+        self.mask.keep(plane, true);
+        self.sums = sums;
+    }
+
+    // What planes gave.
+    pub(crate) fn given(&self) -> PairSums
+        ensures { result ≡ self.now.sums }
+    {
+        self.sums
     }
 
     // Whether its rows are those of the mask.
@@ -240,6 +255,7 @@ impl KeptPair {
         requires values { HasValues columns.now (Column pair.first) mask.now }
         requires room { length room.old ≡ columns.now.frame.rows }
         ensures kept { IsKeptPair columns.now pair self.new }
+        ensures rows { self.new.mask ≡ mask.now }
         ensures room { length room.new ≡ columns.now.frame.rows }
         ensures sum { result ≡ int_wrap w128 (sum_over mask.now
             (λ r. term_end columns.now parts.entry.column (Column pair.first) r *ℤ factor_end columns.now parts.entry.other r)) }

@@ -1,24 +1,19 @@
 //! Sums of an expression that are kept from one plane to the next.
 
-ghost use Rattle.std.specs.Prelude.{◌≡◌, ◌<◌, ◌*ℤ◌, length, map, IfOk, IfSome};
+ghost use Rattle.std.specs.Prelude.{◌≡◌, ◌<◌, ◌*ℤ◌, None, length, map, IfOk, IfSome};
 ghost use Rattle.std.specs.Int.{int_wrap, w128};
 ghost use Rattle.std.specs.List.{All};
 ghost use Rattle.aggregates.specs.declared.ends.End.TheVariants.{High, Low};
 ghost use Rattle.aggregates.specs.Selections.{rows_in};
-ghost use Rattle.known_column.specs.KnownTables.{KnownTable};
 ghost use Rattle.query_model.specs.Answers.{total};
-ghost use Rattle.query_model.specs.Queries.{Column, term_of};
+ghost use Rattle.query_model.specs.Queries.{term_of};
 ghost use Rattle.query_model.specs.Truths.{span_of};
 ghost use Rattle.query_model.specs.Validity.{declared_ranges, FitsSum};
-ghost use Rattle.product_sums.specs.declared.pair_sums.Pair.{Pair as PairOf};
-ghost use Rattle.product_sums.specs.KeptProducts.{factor_end, AreKeptEnds, CanFollow, IsKeptProduct, IsLinear, IsPair};
+ghost use Rattle.product_sums.specs.KeptProducts.{factor_end, inner_end, AreKeptEnds, AreOuter, AreRooms, CanFollowPair, IsKeptProduct, IsPair};
 ghost use Rattle.product_sums.specs.Products.{sum_over, term_end, HasValues, IsProductSum};
 
-use crate::factors::{Factor, PartEnds};
-use crate::kept_column::{columns_to_keep, other_part};
-use crate::kept_pair::KeptPair;
-use crate::pair_sums::Pair;
-use crate::signs::{end_beside, end_beside_column};
+use crate::kept_column::{KeptColumns, columns_to_keep, inner_part, outer_ends, part_ends};
+use crate::kept_planes::{Kept, ProductEnds, Rooms};
 use crate::sums::sum_ends;
 use aggregates::End;
 use known_column::LentColumns;
@@ -29,19 +24,24 @@ use std::alloc::{AllocError, Global};
 // What planes gave over the rows of the low ends, and over those of the high ends while these are others.
 #[derive(Drop)]
 pub(crate) struct KeptEnds {
-    low: KeptPair,
-    high: KeptPair,
+    low: Kept,
+    high: Kept,
 }
 
 impl KeptEnds {
-    // Room for so many rows. So far there is none.
-    fn open(alloc: Global, rows: usize) -> Result<KeptEnds, AllocError>
-        ensures { IfOk result (λ kept. (table : KnownTable) (pair : PairOf) → table.frame.rows ≡ rows → IsPair table pair
-            → AreKeptEnds table pair kept) }
+    // Room for the rows of the columns. So far there is none.
+    fn open(
+        alloc: Global,
+        columns: &LentColumns<'_>,
+        chosen: KeptColumns,
+    ) -> Result<KeptEnds, AllocError>
+        requires pair { IsPair columns.now chosen.pair }
+        requires third { IfSome chosen.third (λ third. third.column < length columns.now.frame.columns) }
+        ensures { IfOk result (AreKeptEnds columns.now chosen) }
     {
         Ok(KeptEnds {
-            low: KeptPair::open(alloc, rows)?,
-            high: KeptPair::open(alloc, rows)?,
+            low: Kept::open(alloc, columns, chosen)?,
+            high: Kept::open(alloc, columns, chosen)?,
         })
     }
 
@@ -50,29 +50,30 @@ impl KeptEnds {
     fn sum<'a>(
         &mut self,
         columns: &LentColumns<'_>,
-        pair: Pair,
-        parts: PartEnds<'a>,
+        chosen: KeptColumns,
+        ends: ProductEnds<'a>,
         mask: &Mask,
-        room: &mut Mask,
+        rooms: &mut Rooms,
     ) -> i128
-        requires pair { IsPair columns.now pair }
-        requires kept { AreKeptEnds columns.now pair self.old }
-        requires linear { IsLinear pair.second (term_of parts.other.term.now) }
-        requires follow { CanFollow columns.now mask.now pair.first (term_of parts.other.term.now) }
-        requires values { HasValues columns.now (Column pair.first) mask.now }
-        requires room { length room.old ≡ columns.now.frame.rows }
-        ensures kept { AreKeptEnds columns.now pair self.new }
-        ensures room { length room.new ≡ columns.now.frame.rows }
-        ensures sum { result ≡ int_wrap w128 (sum_over mask.now
-            (λ r. term_end columns.now parts.entry.column (Column pair.first) r *ℤ factor_end columns.now parts.entry.other r)) }
+        requires pair { IsPair columns.now chosen.pair }
+        requires kept { AreKeptEnds columns.now chosen self.old }
+        requires follow { CanFollowPair columns.now mask.now chosen.pair ends.parts }
+        requires outer { AreOuter columns.now mask.now chosen.third ends.outer }
+        requires rooms { AreRooms columns.now rooms.old }
+        ensures kept { AreKeptEnds columns.now chosen self.new }
+        ensures rooms { AreRooms columns.now rooms.new }
+        ensures inner { chosen.third ≡ None → result
+            ≡ int_wrap w128 (sum_over mask.now (inner_end columns.now chosen.pair.first ends.entry.parts)) }
+        ensures product { IfSome ends.entry.outer (λ outer. result ≡ int_wrap w128 (sum_over mask.now
+            (λ r. factor_end columns.now outer r *ℤ inner_end columns.now chosen.pair.first ends.entry.parts r))) }
     {
-        match parts.column {
-            End::Low => self.low.sum(columns, pair, parts, mask, room),
+        match ends.parts.column {
+            End::Low => self.low.sum(columns, chosen, ends, mask, rooms),
             End::High => {
                 if self.low.is_of(mask) {
-                    self.low.sum(columns, pair, parts, mask, room)
+                    self.low.sum(columns, chosen, ends, mask, rooms)
                 } else {
-                    self.high.sum(columns, pair, parts, mask, room)
+                    self.high.sum(columns, chosen, ends, mask, rooms)
                 }
             }
         }
@@ -80,29 +81,35 @@ impl KeptEnds {
 }
 
 // Room for so many cells.
-fn open_cells(alloc: Global, rows: usize, cells: usize) -> Result<Vec<KeptEnds>, AllocError>
-    ensures { IfOk result (λ kept. (table : KnownTable) (pair : PairOf) → table.frame.rows ≡ rows → IsPair table pair
-        → All (AreKeptEnds table pair) kept.items) }
+fn open_cells(
+    alloc: Global,
+    columns: &LentColumns<'_>,
+    chosen: KeptColumns,
+    cells: usize,
+) -> Result<Vec<KeptEnds>, AllocError>
+    requires pair { IsPair columns.now chosen.pair }
+    requires third { IfSome chosen.third (λ third. third.column < length columns.now.frame.columns) }
+    ensures { IfOk result (λ kept. All (AreKeptEnds columns.now chosen) kept.items) }
 {
     let mut kept = Vec::with_capacity(alloc, cells)?;
     for _cell in 0..cells {
-        kept.push(KeptEnds::open(alloc, rows)?)?;
+        kept.push(KeptEnds::open(alloc, columns, chosen)?)?;
     }
     Ok(kept)
 }
 
-/// A product of a column and a part that adds and takes off numbers and one column alone: what planes gave of it in each of some cells, and
-/// room for rows.
+/// A product of a column and a part that adds and takes off numbers and one column alone, or of such a product and a third part like that:
+/// what planes gave of it in each of some cells, and room for rows.
 #[derive(Drop)]
 pub struct KeptProduct {
-    pair: Pair,
+    columns: KeptColumns,
     cells: Vec<KeptEnds>,
-    room: Mask,
+    rooms: Rooms,
 }
 
 impl KeptProduct {
     /// Room for the ends of the expression in so many cells, where it is a product of a column and a part that adds and takes off numbers
-    /// and one column alone. So far they have no row.
+    /// and one column alone, or one of such a product and a third part like that. So far they have no row.
     pub fn open(
         alloc: Global,
         expr: &Expr,
@@ -111,13 +118,12 @@ impl KeptProduct {
     ) -> Result<Option<KeptProduct>, AllocError>
         ensures { IfOk result (λ kept. IfSome kept (IsKeptProduct columns.now (term_of expr.now))) }
     {
-        let rows = columns.rows();
         match columns_to_keep(expr, columns) {
             None => Ok(None),
-            Some(pair) => Ok(Some(KeptProduct {
-                pair,
-                cells: open_cells(alloc, rows, cells)?,
-                room: Mask::none(alloc, rows)?,
+            Some(chosen) => Ok(Some(KeptProduct {
+                columns: chosen,
+                cells: open_cells(alloc, columns, chosen, cells)?,
+                rooms: Rooms::open(alloc, columns)?,
             })),
         }
     }
@@ -143,17 +149,23 @@ impl KeptProduct {
         if cell >= self.cells.len() {
             return sum_ends(end, expr, columns, mask);
         }
-        let pair = self.pair;
-        let other = other_part(expr, pair.first);
-        let at_column = end_beside(other, end, columns);
-        let at_other = end_beside_column(pair.first, end, columns);
-        let parts = PartEnds {
-            column: at_column,
-            other: Factor {
-                term: other,
-                end: at_other,
-            },
-        };
-        self.cells[cell].sum(columns, pair, parts, mask, &mut self.room)
+        let chosen = self.columns;
+        match chosen.third {
+            None => {
+                let parts = part_ends(expr, chosen.pair.first, end, columns);
+                let ends = ProductEnds { parts, outer: None };
+                self.cells[cell].sum(columns, chosen, ends, mask, &mut self.rooms)
+            }
+            Some(third) => {
+                let (at_inner, outer) = outer_ends(expr, third, end, columns);
+                let inner = inner_part(expr, chosen.third);
+                let parts = part_ends(inner, chosen.pair.first, at_inner, columns);
+                let ends = ProductEnds {
+                    parts,
+                    outer: Some(outer),
+                };
+                self.cells[cell].sum(columns, chosen, ends, mask, &mut self.rooms)
+            }
+        }
     }
 }

@@ -10,6 +10,7 @@ mod fetched_sums;
 mod first_numbers;
 mod kept_column;
 mod kept_pair;
+mod kept_planes;
 mod kept_product;
 mod linear_sums;
 mod moved_sums;

@@ -6,7 +6,7 @@ ghost use Rattle.std.specs.Int.{int_wrap, w128};
 ghost use Rattle.known_column.specs.KnownTables.{column_at};
 ghost use Rattle.query_model.specs.Knowledge.{known_at};
 ghost use Rattle.product_sums.specs.Fetched.{first_digit};
-ghost use Rattle.product_sums.specs.KeptProducts.{turned_pair, turned_sums, ArePairSums, AreReadOn, IsPair};
+ghost use Rattle.product_sums.specs.KeptProducts.{no_sums, turned_pair, turned_sums, ArePairSums, AreReadOn, IsPair};
 
 use crate::first_numbers::sum_first;
 use crate::wrapping::{minus, plus, times};
@@ -34,7 +34,7 @@ impl Pair {
 }
 
 // A sum, twice, and what a plane more adds.
-fn doubled(sum: i128, more: i128) -> i128
+pub(crate) fn doubled(sum: i128, more: i128) -> i128
     ensures { (a b : ℤ) → sum ≡ int_wrap w128 a → more ≡ int_wrap w128 b → result ≡ int_wrap w128 ((a *ℤ pos 2) +ℤ b) }
 {
     plus(times(sum, 2), more)
@@ -59,6 +59,19 @@ pub(crate) struct PairSums {
 }
 
 impl PairSums {
+    // What no plane gives.
+    pub(crate) fn none() -> PairSums
+        ensures { result ≡ no_sums }
+    {
+        PairSums {
+            first_read: 0,
+            second_read: 0,
+            first: 0,
+            second: 0,
+            both: 0,
+        }
+    }
+
     // The same the other way round.
     fn turned(self) -> PairSums
         ensures { result ≡ turned_sums self }
