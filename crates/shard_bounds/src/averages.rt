@@ -46,8 +46,8 @@ fn hull_of_two(a: &AverageBound, b: &AverageBound) -> AverageBound
     }
 }
 
-// The average over all shards lies between the least and the greatest of theirs.
-fn hull(shards: &[AverageBound]) -> AverageBound
+/// From the least to the greatest of the shards' averages: there the average over all shards lies, whether or not a shard's is exact.
+pub fn hull_of_averages(shards: &[AverageBound]) -> AverageBound
     ensures { fractions_of result ≡ hull_of_averages (map fractions_of shards.now) }
 {
     let mut hull = no_average();
@@ -147,6 +147,6 @@ pub fn combine_averages(shards: &[AverageBound]) -> Option<AverageBound>
     if are_exact(shards) {
         exactly(shards)
     } else {
-        Some(hull(shards))
+        Some(hull_of_averages(shards))
     }
 }

@@ -8,7 +8,7 @@ mod fractions;
 mod laws;
 mod wide;
 
-pub use averages::combine_averages;
+pub use averages::{combine_averages, hull_of_averages};
 pub use combined::combine;
 pub use laws::{
     averages_nest, combinations_contain, combinations_nest, combinations_report_averages,
