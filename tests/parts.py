@@ -123,12 +123,15 @@ def read(kind, text, any_kind):
 # ---- an answer over all parts
 
 
+def look_alike(parts):
+    """Refuses answers of several forms."""
+    if len({part.form.name for part in parts if part.word != "always"}) > 1:
+        raise Refused("scales of item %d differ")
+
+
 def combined(kind, parts):
     """Where the answer over all parts lies, from where each part's lies: a part is like a row whose value lies so."""
     told = [part for part in parts if part.word != "always"]
-    forms = {part.form.name for part in told}
-    if len(forms) > 1:
-        raise Refused("scales of item %d differ")
     if kind == "COUNT":
         return fitting(Known("never", sum(p.low for p in parts), sum(p.high for p in parts), number_form(0)))
     if not told:
@@ -137,6 +140,28 @@ def combined(kind, parts):
         return combined_average(parts, told)
     pairs = [(part.word == "never", part.low, part.high) for part in told]
     return fitting(Known(*reports.bound(kind, pairs), told[0].form))
+
+
+def combined_extra(kind, parts):
+    """What the lines behind tell over all parts: of exact averages the rows are not known, so these are never added up."""
+    told = [part for part in parts if part.word != "always"]
+    return hull(told) if kind == "AVG" and told else combined(kind, parts)
+
+
+def combined_entry(kind, entries):
+    """The answer over all parts, and what the line behind it tells, where each part has one."""
+    answers, extras = zip(*entries)
+    shown = all(extras)
+    look_alike(answers)
+    if shown:
+        look_alike(extras)
+    return combined(kind, answers), combined_extra(kind, extras) if shown else None
+
+
+def entry_lines(number, kind, entry):
+    """The lines of an item."""
+    word = "exact" if kind == "AVG" else "clip"
+    return ["%d %s" % (number, entry[0].text())] + (["%d %s %s" % (number, word, entry[1].text())] if entry[1] else [])
 
 
 def combined_average(parts, told):
@@ -197,9 +222,12 @@ def look_at_query(line):
 
 
 class Part:
+    """The report of a part. A block has for each item its answer and what the line behind tells, or None; `closing` says whether a block
+    ends with such a line, once the first is whole."""
+
     def __init__(self, query, any_kind=True):
         self.query, self.kinds, self.blocks, self.current, self.end, self.place = query, kinds_of(query), [], None, None, "query"
-        self.any_kind = any_kind
+        self.any_kind, self.closing = any_kind, "item" if self.kinds[-1] == "COUNT" else None
 
     def take(self, line):
         if self.place == "query":
@@ -207,37 +235,65 @@ class Part:
                 raise Refused("another query")
             self.place = "opened"
             return
-        if self.end is not None or not (self.takes_item(line) or self.takes_round(line)):
+        if self.end is not None or not (self.takes_in_block(line) or self.takes_round(line)):
             raise Refused("no line of a report at this place")
 
-    def takes_item(self, line):
+    def takes_in_block(self, line):
         if self.current is None:
+            return self.closing == "extra" and self.tells_rows(len(self.kinds), line)
+        count = len(self.current)
+        if self.takes_item(count, line) or count and self.takes_extra(count, line):
+            if len(self.current) == len(self.kinds) and (self.closing == "item" or self.closing == "extra" and self.current[-1][1]):
+                self.close()
+            return True
+        return bool(count and self.current[-1][1] and self.tells_rows(count, line))
+
+    def takes_item(self, count, line):
+        known = None
+        if count < len(self.kinds) and line.startswith("%d " % (count + 1)):
+            known = read(self.kinds[count], line.partition(" ")[2], self.any_kind)
+        if known:
+            self.current.append((known, None))
+        return known is not None
+
+    def takes_extra(self, count, line):
+        answer, extra = self.current[-1]
+        kind = self.kinds[count - 1]
+        start = "%d %s " % (count, "exact" if kind == "AVG" else "clip")
+        if extra or kind == "COUNT" or not line.startswith(start):
             return False
-        place = len(self.current)
-        if place < len(self.kinds) and line.startswith("%d " % (place + 1)):
-            known = read(self.kinds[place], line.partition(" ")[2], self.any_kind)
-            if known:
-                self.current.append(known)
-            if known and len(self.current) == len(self.kinds):
-                self.blocks.append(self.current)
-                self.current, self.place = None, "round"
-            return known is not None
-        return False
+        known = read(kind, line[len(start):], self.any_kind)
+        if known:
+            self.current[-1] = answer, known
+        return known is not None
+
+    def tells_rows(self, number, line):
+        return self.kinds[number - 1] == "AVG" and line.startswith(("%d low takes " % number, "%d high takes " % number))
+
+    def close(self):
+        self.closing = "extra" if self.current[-1][1] else "item"
+        self.blocks.append(self.current)
+        self.current, self.place = None, "round"
 
     def takes_round(self, line):
-        if self.current is not None:
+        inside = self.current is not None
+        if inside and (self.closing or len(self.current) < len(self.kinds)):
             return False
-        if self.place == "opened" and re.fullmatch(r"parts (0|[1-9]\d*)", line):
+        if self.place == "opened" and not inside and re.fullmatch(r"parts (0|[1-9]\d*)", line):
             self.place = "round"
             return True
-        if self.blocks and line in ("end narrow", "end rounds", "end reads"):
+        count = len(self.blocks) + inside
+        ends = count > 0 and line in ("end narrow", "end rounds", "end reads")
+        start = "round %d" % count
+        if not ends and line != start and not line.startswith(start + " "):
+            return False
+        if inside:
+            self.close()
+        if ends:
             self.end = line
-            return True
-        start = "round %d" % len(self.blocks)
-        if line == start or line.startswith(start + " "):
+        else:
             self.current = []
-            return True
-        return False
+        return True
 
     def has_block(self, number):
         return self.end is not None or number < len(self.blocks)
@@ -299,12 +355,14 @@ class Combined:
         block = []
         for place, kind in enumerate(parts[0].kinds):
             try:
-                block.append(combined(kind, [b[place] for b in blocks]))
+                block.append(combined_entry(kind, [b[place] for b in blocks]))
             except Refused as why:
                 raise Refused(str(why) % (place + 1))
-        self.lines += ["round %d" % self.number] + ["%d %s" % (i, known.text()) for i, known in enumerate(block, 1)]
+        self.lines.append("round %d" % self.number)
+        for number, (kind, entry) in enumerate(zip(parts[0].kinds, block), 1):
+            self.lines += entry_lines(number, kind, entry)
         self.blocks.append(block)
-        if all(is_near(known, self.width) for known in block):
+        if all(is_near(answer, self.width) for answer, _ in block):
             self.finish("end narrow")
         elif self.number == self.rounds:
             self.finish("end rounds")
@@ -364,11 +422,19 @@ def cut(chance, text, count):
     return [head + "".join(rows[a:b]) for a, b in zip([0] + places, places + [len(rows)])]
 
 
+def some_options(chance):
+    """The options of the parts: a policy for each, and mostly the same lines behind the items."""
+    all_have = ["--clip", "--exact-avg"]
+    shown = [chance.choice([all_have, all_have, [], [chance.choice(all_have)]])] * 2
+    shown[1] = chance.choice([shown[0]] * 4 + [[]])
+    return lambda: ["--policy", chance.choice(["widest", "order", "filter", "balanced"])] + chance.choice(shown)
+
+
 def tagged(chance, texts, schema, sql):
     """For each part its report's lines behind its tag, by options of its own; the tags are in the order of the parts."""
-    lists = []
+    lists, options = [], some_options(chance)
     for number, text in enumerate(texts):
-        words = ["--policy", chance.choice(["widest", "order", "filter", "balanced"])]
+        words = options()
         lines = reports.report(text, schema, sql, words).splitlines(True)
         lists.append([b"p%04d\t" % number + line.encode() for line in lines])
     return lists
@@ -396,6 +462,24 @@ def is_same(kind, known, answer):
     return holds(kind, known, answer) and is_within(kind, known, answer)
 
 
+def faults_of_blocks(kinds, blocks, answers):
+    """What is wrong with the blocks of a combined report: each interval holds the answer, lies within the one before, and is the answer at
+    the end. Of exact averages the last is not asked."""
+    wrong = []
+    for number, block in enumerate(blocks):
+        before = blocks[max(number - 1, 0)]
+        for place, kind in enumerate(kinds):
+            for behind in (0, 1):
+                told, old, answer = block[place][behind], before[place][behind], answers[place][0]
+                if (told is None) != (old is None) or told and not (holds(kind, told, answer) and is_within(kind, told, old)):
+                    wrong.append("block %d item %d%s" % (number, place + 1, " behind" if behind else ""))
+    for place, kind in enumerate(kinds):
+        told, behind = blocks[-1][place]
+        if not is_same(kind, told, answers[place][0]) or behind and kind != "AVG" and not is_same(kind, behind, answers[place][0]):
+            wrong.append("at the end %s" % entry_lines(place + 1, kind, blocks[-1][place]))
+    return wrong
+
+
 def faults(chance, text, schema, sql, count):
     """What is wrong with the combined reports of a table that is cut."""
     lists = tagged(chance, cut(chance, text, count), schema, sql)
@@ -407,18 +491,11 @@ def faults(chance, text, schema, sql, count):
         other, refusal = combine(count, interleaved(chance, lists))
         if refusal or other.lines != first.lines:
             wrong.append("another order of lines: %s %s" % (refusal, other.lines))
-    last = Part("query " + sql)
-    for line in reports.report(text, schema, sql, []).splitlines():
-        last.take(line)
-    answers, kinds = last.blocks[-1], last.kinds
-    for number, block in enumerate(first.blocks):
-        before = first.blocks[max(number - 1, 0)]
-        for place, kind in enumerate(kinds):
-            if not holds(kind, block[place], answers[place]) or not is_within(kind, block[place], before[place]):
-                wrong.append("block %d item %d" % (number, place + 1))
-    if not all(is_same(k, known, answer) for k, known, answer in zip(kinds, first.blocks[-1], answers)):
-        wrong.append("at the end %s, not %s" % ([k.text() for k in first.blocks[-1]], [k.text() for k in answers]))
-    return wrong
+    again, refusal = combine(1, "".join("all\t%s\n" % line for line in first.lines).encode())
+    if refusal or again.lines[2:] != first.lines[2:]:
+        wrong.append("as the report of one part: %s %s" % (refusal, again.lines))
+    last = read_back(sql, reports.report(text, schema, sql, []))
+    return wrong + faults_of_blocks(last.kinds, first.blocks, last.blocks[-1])
 
 
 def certain(count, seed):
@@ -441,19 +518,19 @@ def certain(count, seed):
 
 def told_by(program, folder, texts, schema, sql, chance):
     """What the program's `combine` prints of the parts, which it loads and asks side by side: lines come as they come."""
-    started = []
+    started, options = [], some_options(chance)
     for number, text in enumerate(texts):
         path = os.path.join(folder, "p%04d" % number)
         with open(path + ".csv", "w", newline="") as file:
             file.write(text)
         subprocess.run([program, "load", path + ".csv", path + ".daq", schema], check=True, stdout=subprocess.DEVNULL)
-        started.append((path + ".daq", chance.choice(["widest", "order", "filter", "balanced"])))
+        started.append((path + ".daq", options()))
     words = [program, "combine", str(len(texts)), "/dev/stdin"]
-    ask = '"$1" query "$2" "$3" --policy "$4" | sed -u "s,^,$5\t,"'
+    ask = 'tag=$1; shift; "$@" | sed -u "s,^,$tag\t,"'
     with tempfile.TemporaryFile() as out:
         combined = subprocess.Popen(words, stdin=subprocess.PIPE, stdout=out, stderr=subprocess.PIPE)
-        asking = [subprocess.Popen(["sh", "-c", ask, "ask", program, path, sql, policy, "p%04d" % number], stdout=combined.stdin)
-                  for number, (path, policy) in enumerate(started)]
+        asking = [subprocess.Popen(["sh", "-c", ask, "ask", "p%04d" % number, program, "query", path, sql] + words, stdout=combined.stdin)
+                  for number, (path, words) in enumerate(started)]
         combined.stdin.close()
         refusal = combined.stderr.read().decode()
         status = combined.wait()
@@ -483,17 +560,12 @@ def faults_of_program(program, folder, chance, text, schema, sql, count):
     status, told, refusal, started = told_by(program, folder, texts, schema, sql, chance)
     if status or refusal:
         return ["status %d: %s" % (status, refusal)]
-    lists = [[b"p%04d\t" % number + line.encode() for line in reports.report(part, schema, sql, ["--policy", policy]).splitlines(True)]
-             for number, (part, (_, policy)) in enumerate(zip(texts, started))]
+    lists = [[b"p%04d\t" % number + line.encode() for line in reports.report(part, schema, sql, words).splitlines(True)]
+             for number, (part, (_, words)) in enumerate(zip(texts, started))]
     wanted, refusal = combine(count, b"".join(line for lines in lists for line in lines), any_kind=False)
     wrong = [] if told.splitlines() == wanted.lines else ["not what is worked out: %s" % (refusal or wanted.lines)]
-    answers, kinds = read_back(sql, reports.report(text, schema, sql, [])).blocks[-1], kinds_of("query " + sql)
-    blocks = read_back(sql, told).blocks
-    wrong += ["block %d item %d" % (number, place + 1) for number, block in enumerate(blocks) for place, kind in enumerate(kinds)
-              if not holds(kind, block[place], answers[place]) or not is_within(kind, block[place], blocks[max(number - 1, 0)][place])]
-    if not all(is_same(kind, known, answer) for kind, known, answer in zip(kinds, blocks[-1], answers)):
-        wrong.append("at the end %s" % told.splitlines()[-1 - len(kinds):])
-    return wrong
+    last = read_back(sql, reports.report(text, schema, sql, []))
+    return wrong + faults_of_blocks(last.kinds, read_back(sql, told).blocks, last.blocks[-1])
 
 
 def by_program(program, count, seed):

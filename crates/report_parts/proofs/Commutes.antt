@@ -115,7 +115,7 @@ other_stays told tag (part ∷ parts) ne =
 line_tag : (query : List ℕ) (kinds : List ItemKind) (parts : List Told) (line : List ℕ) (next : List Told) (h : TakesTagged query kinds parts line next) →
     h.told.tag ≡ tag_of line
 line_tag query kinds parts line next h =
-    tag_stays (told_of (tag_of line) parts).place query kinds (told_of (tag_of line) parts) (behind_tag line) h.told h.taken ∙ tag_of_told (tag_of line) parts
+    tag_stays query kinds (told_of (tag_of line) parts) (behind_tag line) h.told h.taken ∙ tag_of_told (tag_of line) parts
 
 -- the second line first
 pub record TakesFirst (query : List ℕ) (kinds : List ItemKind) (parts : List Told) (first second : List ℕ) (last : List Told) : Type 0 where

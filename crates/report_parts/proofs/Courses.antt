@@ -8,13 +8,13 @@ use Rattle.std.specs.List.{list_all}
 use Rattle.std.specs.declared.cmp.Ordering.{Ordering}
 use Rattle.std.specs.declared.cmp.Ordering.TheVariants.{Less, Equal, Greater}
 use Rattle.query_model.specs.declared.query.ItemKind.{ItemKind}
-use Rattle.report_text.specs.declared.answers.Answer.{Answer}
 use Rattle.report_text.specs.declared.lines.ReportEnd.{ReportEnd}
 use Rattle.report_text.specs.declared.lines.ReportEnd.TheVariants.{Narrow, Rounds}
-use Rattle.report_parts.proofs.FromRounds.{all_both, block_fault_too, cases_lt, refused_too, same_answers_over, same_count, same_end_of_all, same_has, same_over_all, takes_tagged_too}
+use Rattle.report_parts.proofs.FromRounds.{all_both, block_fault_too, cases_lt, refused_too, same_entries_over, same_count, same_end_of_all, same_has, same_over_all, takes_tagged_too}
 use Rattle.report_parts.proofs.Grows.{all_keep, only_grow, same_over}
 use Rattle.report_parts.proofs.Kept.{not_all_yet}
 use Rattle.report_parts.proofs.Ordered.{tag_is}
+use Rattle.report_parts.proofs.Stays.{follows}
 use Rattle.report_parts.specs.Course.{Adds, Course, GoesOnTo, Holds, IsAhead, IsLineFault, IsOpen, IsStopped, IsText, IsWritten, Moves, Passes, Rests, Stands, StandsIsCombined, Stops, StopsBy, TakesLine, Task, Tell, is_over_before, wanted_of}
 use Rattle.report_parts.specs.Ends.{end_behind, end_of_all}
 use Rattle.report_parts.specs.Laws.{AllReach}
@@ -23,32 +23,19 @@ use Rattle.report_parts.specs.Passed.{AllTellFrom}
 use Rattle.report_parts.specs.Reports.{IsBlockFault, block_text, blocks_text}
 use Rattle.report_parts.specs.Rounds.{has_block, is_ended, is_over}
 use Rattle.report_parts.specs.Tags.{IsRefused, TakesTagged, against, behind_tag, by_order, tag_of, told_of, with_part}
-use Rattle.report_parts.specs.Told.{Takes, TakesAt, Told, nothing_told}
+use Rattle.report_parts.specs.Told.{Takes, Told, nothing_told}
 use Rattle.report_parts.specs.Written.{Wanted, Writes, end_at, end_text, is_narrow_at}
 use Rattle.report_parts.specs.Written.Writes.{ends, goes as goes_behind, waits}
+use Rattle.report_parts.specs.declared.entry.Entry.{Entry}
 use Rattle.report_parts.specs.declared.fault.BlockFault.{BlockFault}
 use Rattle.report_parts.specs.declared.fault.BlockFault.TheVariants.{NoMemory, OtherDecimals, TooWide}
 use Rattle.report_parts.specs.declared.fault.InputFault.{InputFault}
-use Rattle.report_parts.specs.declared.part.Place.{Place}
-use Rattle.report_parts.specs.declared.part.Place.TheVariants.{Query, Opened, Round, Items, Ended}
 
 -- ---- the parts of which lines came are those that take the next
 
 -- a line leaves the tag
-kept_by : (last : Bool) (told : Told) (a b : Told) → a.tag ≡ told.tag → b.tag ≡ told.tag → (if last then a else b).tag ≡ told.tag
-kept_by true told a b e f = e
-kept_by false told a b e f = f
-
-pub tag_stays : (place : Place) (query : List ℕ) (kinds : List ItemKind) (told : Told) (line : List ℕ) (next : Told) →
-    TakesAt place query kinds told line next → next.tag ≡ told.tag
-tag_stays Query query kinds told line next h = ap (λ (t : Told). t.tag) h.opened
-tag_stays Opened query kinds told line next (inl h) = ap (λ (t : Told). t.tag) h.passed
-tag_stays Opened query kinds told line next (inr h) = ap (λ (t : Told). t.tag) h.begun
-tag_stays Round query kinds told line next (inl h) = ap (λ (t : Told). t.tag) h.begun
-tag_stays Round query kinds told line next (inr h) = ap (λ (t : Told). t.tag) h.ended
-tag_stays Items query kinds told line next h =
-    ap (λ (t : Told). t.tag) h.told_so ∙ kept_by (length told.current + 1 == length kinds) told _ _ refl refl
-tag_stays (Ended end) query kinds told line next h = absurd h
+pub tag_stays : (query : List ℕ) (kinds : List ItemKind) (told : Told) (line : List ℕ) (next : Told) → Takes query kinds told line next → next.tag ≡ told.tag
+tag_stays query kinds told line next h = (follows told.place query kinds told line next refl h).tag
 
 pub by_each : (P : Ordering → Type 0) (o : Ordering) → (o ≡ Less → P Less) → (o ≡ Equal → P Equal) → (o ≡ Greater → P Greater) → P o
 by_each P Less a b c = a refl
@@ -86,7 +73,7 @@ pub all_reach : (query : List ℕ) (kinds : List ItemKind) (parts : List Told) (
     TakesTagged query kinds parts line next → length next ≤ length parts → AllReach query kinds parts next
 all_reach query kinds parts line next h few =
     let own = told_of (tag_of line) parts in
-    let tagged : h.told.tag ≡ tag_of line = tag_stays own.place query kinds own (behind_tag line) h.told h.taken ∙ tag_of_told (tag_of line) parts in
+    let tagged : h.told.tag ≡ tag_of line = tag_stays query kinds own (behind_tag line) h.told h.taken ∙ tag_of_told (tag_of line) parts in
     subst (λ (ps : List Told). AllReach query kinds parts ps) (sym h.put)
     (reach_by query kinds (tag_of line) (behind_tag line) h.told parts tagged h.taken (subst (λ (ps : List Told). length ps ≤ length parts) h.put few))
 
@@ -100,7 +87,7 @@ pub passes_on : (query : List ℕ) (wanted : Wanted) (parts laters : List Told) 
     Passes wanted parts round text → Passes wanted laters round text
 passes_on query wanted parts laters round text h p = record {
   has = λ r below. all_keep query wanted.kinds r parts laters h (p.has r below);
-  wide = λ r below. ap (λ (answers : List Answer). wanted.narrow answers) (same_over query wanted.kinds wanted.kinds r 0 parts laters h (p.has r below)) ∙ p.wide r below;
+  wide = λ r below. ap (λ (entries : List Entry). wanted.narrow entries) (same_over query wanted.kinds wanted.kinds r 0 parts laters h (p.has r below)) ∙ p.wide r below;
   more = p.more;
   goes = λ r below. elim (yes_or_no (list_all (is_over r) laters)) [
     | inl over ↦ absurd (false≢true (sym (not_all_yet query wanted.kinds r parts laters h over (p.goes r below)) ∙ p.has (r + 1) below))
@@ -317,7 +304,7 @@ waits_for_parts before mid lines text e other h =
 
 same_block_over : (from round : ℕ) (kinds : List ItemKind) (wholes parts : List Told) → from ≤ round → AllTellFrom from wholes parts →
     block_text round kinds parts ≡ block_text round kinds wholes
-same_block_over from round kinds wholes parts le h = rw (same_answers_over from round 0 kinds wholes parts le h) refl
+same_block_over from round kinds wholes parts le h = rw (same_entries_over from round 0 kinds wholes parts le h) refl
 
 same_behind : (narrow last : Bool) (round : ℕ) (wholes parts : List Told) → AllTellFrom round wholes parts →
     end_behind narrow last round parts ≡ end_behind narrow last round wholes
@@ -325,7 +312,7 @@ same_behind narrow last round wholes parts h = rw (same_over_all round round who
 
 same_end_at : (wanted : Wanted) (round : ℕ) (wholes parts : List Told) → AllTellFrom round wholes parts → end_at wanted round parts ≡ end_at wanted round wholes
 same_end_at wanted round wholes parts h =
-    ap (λ (answers : List Answer). end_behind (wanted.narrow answers) (wanted.last round) round parts) (same_answers_over round round 0 wanted.kinds wholes parts (omega arith) h)
+    ap (λ (entries : List Entry). end_behind (wanted.narrow entries) (wanted.last round) round parts) (same_entries_over round round 0 wanted.kinds wholes parts (omega arith) h)
     ∙ same_behind (is_narrow_at wanted round wholes) (wanted.last round) round wholes parts h
 
 pub same_over_before : (from round : ℕ) (wholes parts : List Told) → AllTellFrom from wholes parts → is_over_before round parts ≡ is_over_before round wholes

@@ -1,5 +1,5 @@
 -- That a part of which the passed blocks are forgotten goes on as the whole report does, and says the same in each round behind them.
-use Rattle.std.proofs.Common.{◌≡◌, ◌⊎◌, ℕ, zero, suc, ◌+◌, ◌-◌, ◌<◌, ◌≤◌, ◌==◌, min, Bool, true, false, Some, slice_get, List, [], ◌∷◌, ◌++◌, length, map, set, remove, get_or, if◌then◌else◌, refl, sym, ap, subst, ◌∙◌, inl, inr, arith, replicate, length-append, take, drop}
+use Rattle.std.proofs.Common.{◌≡◌, ◌⊎◌, ℕ, zero, suc, ◌+◌, ◌-◌, ◌<◌, ◌≤◌, ◌==◌, min, Bool, true, false, Some, None, slice_get, List, [], ◌∷◌, ◌++◌, length, map, set, remove, get_or, if◌then◌else◌, refl, sym, ap, subst, ◌∙◌, inl, inr, arith, replicate, length-append, take, drop}
 use Rattle.std.proofs.Math.Seq.{get_or-append_seam, take-append_seam}
 use Rattle.std.proofs.Math.ListN.{get_or-eq_default}
 use Rattle.std.proofs.lemmas.List.{get_or-append_right, get_or-replicate, get_or_append_left, length-replicate}
@@ -10,15 +10,20 @@ use Rattle.std.specs.Ordering.{nat_cmp}
 use Rattle.std.specs.declared.cmp.Ordering.{Ordering}
 use Rattle.std.specs.declared.cmp.Ordering.TheVariants.{Less, Equal, Greater}
 use Rattle.query_model.specs.declared.query.ItemKind.{ItemKind}
+use Rattle.query_model.specs.declared.query.ItemKind.TheVariants.{Avg}
+use Rattle.report_text.specs.Extras.{IsRowsLine, extra_line}
 use Rattle.report_text.specs.Lines.{IsRoundLine, item_line}
-use Rattle.report_text.specs.declared.answers.Answer.{Answer}
 use Rattle.report_parts.specs.Ends.{end_of_all, ends_narrow}
 use Rattle.report_parts.specs.Passed.{AllTellFrom, TellsFrom}
-use Rattle.report_parts.specs.Combined.{AreAlike, FitsOver}
-use Rattle.report_parts.specs.Reports.{IsBlockFault, answers_over}
-use Rattle.report_parts.specs.Rounds.{answer_in, answers_in, has_block, is_over, no_answer}
+use Rattle.report_parts.specs.Combined.{AreAlikeEntries, FitEntries}
+use Rattle.report_parts.specs.Entries.{ends_with_extra, last_entry, no_entry}
+use Rattle.report_parts.specs.Reports.{IsBlockFault, entries_over}
+use Rattle.report_parts.specs.Rounds.{entries_in, entry_in, has_block, is_over}
 use Rattle.report_parts.specs.Tags.{AreInOrder, CannotTake, IsLineRefused, IsRefused, TakesTagged, against, behind_tag, by_order, tag_of, told_of, with_part}
-use Rattle.report_parts.specs.Told.{Takes, TakesAt, Told, at_place, nothing_told, with_answer}
+use Rattle.report_parts.specs.Told.{Answers, Closes, Extends, GoesOn, OrElse, PassesBehind, PassesInside, Takes, TakesAt, TakesBehind, TakesBehindAnswer, TakesInside, TakesRest, Told, at_place, closed, is_whole, nothing_told, settled, with_answer, with_current, with_extra}
+use Rattle.report_parts.specs.declared.closing.Closing.{Closing}
+use Rattle.report_parts.specs.declared.closing.Closing.TheVariants.{Unknown}
+use Rattle.report_parts.specs.declared.entry.Entry.{Entry}
 use Rattle.report_parts.specs.declared.fault.BlockFault.{BlockFault}
 use Rattle.report_parts.specs.declared.fault.BlockFault.TheVariants.{NoMemory as NoBlock, OtherDecimals, TooWide}
 use Rattle.report_parts.specs.declared.fault.InputFault.{InputFault}
@@ -31,15 +36,16 @@ use Rattle.report_parts.specs.declared.part.Place.TheVariants.{Query, Opened, Ro
 -- ---- the same from a round on
 
 pub tells_here : (round : ℕ) (told : Told) → TellsFrom round told told
-tells_here round told = record { tag = refl; current = refl; place = refl; count = refl; same = λ later from. refl }
+tells_here round told = record { tag = refl; closing = refl; current = refl; place = refl; count = refl; same = λ later from. refl }
 
 pub tells_back : (round : ℕ) (whole told : Told) → TellsFrom round whole told → TellsFrom round told whole
 tells_back round whole told h =
-    record { tag = sym h.tag; current = sym h.current; place = sym h.place; count = sym h.count; same = λ later from. sym (h.same later from) }
+    record { tag = sym h.tag; closing = sym h.closing; current = sym h.current; place = sym h.place; count = sym h.count; same = λ later from. sym (h.same later from) }
 
 pub tells_both : (from to : ℕ) (whole told next : Told) → from ≤ to → TellsFrom from whole told → TellsFrom to told next → TellsFrom to whole next
 tells_both from to whole told next le h k = record {
   tag = k.tag ∙ h.tag;
+  closing = k.closing ∙ h.closing;
   current = k.current ∙ h.current;
   place = k.place ∙ h.place;
   count = k.count ∙ h.count;
@@ -91,19 +97,19 @@ same_narrow from (whole ∷ wholes) (part ∷ parts) h = rw (h.0.place, same_nar
 pub same_end_of_all : (from : ℕ) (wholes parts : List Told) → AllTellFrom from wholes parts → end_of_all parts ≡ end_of_all wholes
 same_end_of_all from wholes parts h = rw (same_narrow from wholes parts h) refl
 
-same_in : (from round item : ℕ) (wholes parts : List Told) → from ≤ round → AllTellFrom from wholes parts → answers_in round item parts ≡ answers_in round item wholes
+same_in : (from round item : ℕ) (wholes parts : List Told) → from ≤ round → AllTellFrom from wholes parts → entries_in round item parts ≡ entries_in round item wholes
 same_in from round item [] [] le h = refl
 same_in from round item [] (part ∷ parts) le h = absurd h
 same_in from round item (whole ∷ wholes) [] le h = absurd h
 same_in from round item (whole ∷ wholes) (part ∷ parts) le h =
-    let one : answer_in round item part ≡ answer_in round item whole = ap (λ (block : List Answer). get_or block item no_answer) (h.0.same round le) in
+    let one : entry_in round item part ≡ entry_in round item whole = ap (λ (block : List Entry). get_or block item no_entry) (h.0.same round le) in
     rw (one, same_in from round item wholes parts le h.1) refl
 
-pub same_answers_over : (from round item : ℕ) (kinds : List ItemKind) (wholes parts : List Told) → from ≤ round → AllTellFrom from wholes parts →
-    answers_over round item kinds parts ≡ answers_over round item kinds wholes
-same_answers_over from round item [] wholes parts le h = refl
-same_answers_over from round item (kind ∷ kinds) wholes parts le h =
-    rw (same_in from round item wholes parts le h, same_answers_over from round (item + 1) kinds wholes parts le h) refl
+pub same_entries_over : (from round item : ℕ) (kinds : List ItemKind) (wholes parts : List Told) → from ≤ round → AllTellFrom from wholes parts →
+    entries_over round item kinds parts ≡ entries_over round item kinds wholes
+same_entries_over from round item [] wholes parts le h = refl
+same_entries_over from round item (kind ∷ kinds) wholes parts le h =
+    rw (same_in from round item wholes parts le h, same_entries_over from round (item + 1) kinds wholes parts le h) refl
 
 -- ---- a line more
 
@@ -111,13 +117,13 @@ moved_too : (round : ℕ) (whole told next : Told) (place : Place) → TellsFrom
     TellsFrom round (at_place whole place) next
 moved_too round whole told next place h e =
     subst (λ (t : Told). TellsFrom round (at_place whole place) t) (sym e)
-    (record { tag = h.tag; current = h.current; place = refl; count = h.count; same = h.same })
+    (record { tag = h.tag; closing = h.closing; current = h.current; place = refl; count = h.count; same = h.same })
 
 pub cases_lt : (a b : ℕ) → (a < b) ⊎ (b ≤ a)
 cases_lt a b = grind arith
 
 -- the block for a round once there is one more
-last_or : (round later : ℕ) (whole told : List (List Answer)) (block : List Answer) → length told ≡ length whole → round ≤ later →
+last_or : (round later : ℕ) (whole told : List (List Entry)) (block : List Entry) → length told ≡ length whole → round ≤ later →
     ((there : ℕ) → round ≤ there → get_or told (min there (length told - 1)) [] ≡ get_or whole (min there (length whole - 1)) []) →
     get_or (told ++ block ∷ []) (min later (length (told ++ block ∷ []) - 1)) [] ≡ get_or (whole ++ block ∷ []) (min later (length (whole ++ block ∷ []) - 1)) []
 last_or round later whole told block count le same =
@@ -145,35 +151,169 @@ last_or round later whole told block count le same =
           ∙ sym (ap (λ (k : ℕ). get_or (whole ++ block ∷ []) k []) b)
     ]
 
-abbrev answered : Bool → Told → List Answer → Told
-answered last told current =
-    if last
-    then record { tag = told.tag; blocks = told.blocks ++ current ∷ []; current = []; place = Round }
-    else record { tag = told.tag; blocks = told.blocks; current = current; place = Items }
+abbrev closed_with : Told → List Entry → Told
+closed_with told current = closed (with_current told current)
 
-answered_too : (round : ℕ) (last : Bool) (whole told : Told) (current : List Answer) → TellsFrom round whole told →
-    TellsFrom round (answered last whole current) (answered last told current)
-answered_too round true whole told current h = record {
-  tag = h.tag;
-  current = refl;
-  place = refl;
-  count = length-append told.blocks (current ∷ []) ∙ ap (λ (n : ℕ). n + 1) h.count ∙ sym (length-append whole.blocks (current ∷ []));
-  same = λ later le. last_or round later whole.blocks told.blocks current h.count le h.same;
+-- the block that was begun is whole
+closed_too : (round : ℕ) (whole told : Told) → TellsFrom round whole told → TellsFrom round (closed whole) (closed told)
+closed_too round whole told h =
+    subst (λ (current : List Entry). TellsFrom round (closed_with whole current) (closed_with told told.current)) h.current (record {
+      tag = h.tag;
+      closing = refl;
+      current = refl;
+      place = refl;
+      count = length-append told.blocks (told.current ∷ []) ∙ ap (λ (n : ℕ). n + 1) h.count ∙ sym (length-append whole.blocks (told.current ∷ []));
+      same = λ later le. last_or round later whole.blocks told.blocks told.current h.count le h.same;
+    })
+
+with_current_too : (round : ℕ) (whole told : Told) (current : List Entry) → TellsFrom round whole told →
+    TellsFrom round (with_current whole current) (with_current told current)
+with_current_too round whole told current h = record { tag = h.tag; closing = h.closing; current = refl; place = h.place; count = h.count; same = h.same }
+
+settled_by : (b : Bool) (round : ℕ) (whole told : Told) → TellsFrom round whole told →
+    TellsFrom round (if b then closed whole else at_place whole Items) (if b then closed told else at_place told Items)
+settled_by true round whole told h = closed_too round whole told h
+settled_by false round whole told h = moved_too round whole told (at_place told Items) Items h refl
+
+settled_too : (round : ℕ) (kinds : List ItemKind) (whole told : Told) → TellsFrom round whole told → TellsFrom round (settled kinds whole) (settled kinds told)
+settled_too round kinds whole told h =
+    subst (λ (b : Bool). TellsFrom round (if b then closed whole else at_place whole Items) (settled kinds told))
+    (ap (λ (closing : Closing). is_whole kinds closing told.current) h.closing ∙ ap (λ (current : List Entry). is_whole kinds whole.closing current) h.current)
+    (settled_by (is_whole kinds told.closing told.current) round whole told h)
+
+-- what is put in the block that was begun
+put_too : (round : ℕ) (kinds : List ItemKind) (put : List Entry → List Entry) (whole told : Told) → TellsFrom round whole told →
+    TellsFrom round (settled kinds (with_current whole (put whole.current))) (settled kinds (with_current told (put told.current)))
+put_too round kinds put whole told h =
+    subst (λ (current : List Entry). TellsFrom round (settled kinds (with_current whole (put current))) (settled kinds (with_current told (put told.current)))) h.current
+    (settled_too round kinds (with_current whole (put told.current)) (with_current told (put told.current)) (with_current_too round whole told (put told.current) h))
+
+-- the whole report goes the same way, and tells the same from the round on
+pub record GoesToo (round : ℕ) (whole : Told) (Way : Told → Told → Type 0) (next : Told) : Type 0 where
+  pub wholly : Told
+  pub taken : Way whole wholly
+  pub tells : TellsFrom round wholly next
+
+-- so it is of each report of which that one tells the same
+abbrev IsTaken : ℕ → (Told → Told → Type 0) → Type 0
+IsTaken round Way = (whole told next : Told) → TellsFrom round whole told → Way told next → GoesToo round whole Way next
+
+or_else : (round : ℕ) (First Second : Told → Told → Type 0) → IsTaken round First → IsTaken round Second →
+    IsTaken round (λ told. OrElse (First told) (Second told))
+or_else round First Second one two whole told next h (inl k) =
+    let g = one whole told next h k in
+    record { wholly = g.wholly; taken = inl g.taken; tells = g.tells }
+or_else round First Second one two whole told next h (inr k) =
+    let g = two whole told next h k.1 in
+    record {
+      wholly = g.wholly;
+      taken = inr (λ other f. k.0 (one told whole other (tells_back round whole told h) f).wholly (one told whole other (tells_back round whole told h) f).taken, g.taken);
+      tells = g.tells;
+    }
+
+goes_on : (round : ℕ) (line : List ℕ) → IsTaken round (λ told next. GoesOn told line next)
+goes_on round line whole told next h (inl k) = record {
+  wholly = at_place whole Items;
+  taken = inl (record { is_round = subst (λ (n : ℕ). IsRoundLine n line) h.count k.is_round; begun = refl });
+  tells = moved_too round whole told next Items h k.begun;
 }
-answered_too round false whole told current h = record { tag = h.tag; current = refl; place = refl; count = h.count; same = h.same }
+goes_on round line whole told next h (inr k) = record {
+  wholly = at_place whole (Ended k.end);
+  taken = inr (record { end = k.end; some = subst (λ (n : ℕ). 0 < n) h.count k.some; is_line = k.is_line; ended = refl });
+  tells = moved_too round whole told next (Ended k.end) h k.ended;
+}
 
-with_answer_too : (round items : ℕ) (whole told : Told) (answer : Answer) → TellsFrom round whole told →
-    TellsFrom round (with_answer items whole answer) (with_answer items told answer)
-with_answer_too round items whole told answer h =
-    subst (λ (current : List Answer). TellsFrom round (answered (length current + 1 == items) whole (current ++ answer ∷ []))
-    (answered (length told.current + 1 == items) told (told.current ++ answer ∷ []))) h.current
-    (answered_too round (length told.current + 1 == items) whole told (told.current ++ answer ∷ []) h)
+answers : (round : ℕ) (kinds : List ItemKind) (line : List ℕ) → IsTaken round (λ told next. Answers kinds told line next)
+answers round kinds line whole told next h k = record {
+  wholly = with_answer kinds whole k.answer;
+  taken = record {
+    kind = k.kind;
+    answer = k.answer;
+    is_next = record {
+      there = subst (λ (current : List Entry). slice_get kinds (length current) ≡ Some k.kind) h.current k.is_next.there;
+      of_kind = k.is_next.of_kind;
+      is_line = subst (λ (current : List Entry). item_line (length current + 1) k.answer ≡ line) h.current k.is_next.is_line;
+    };
+    told_so = refl;
+  };
+  tells = subst (λ (t : Told). TellsFrom round (with_answer kinds whole k.answer) t) (sym k.told_so)
+      (put_too round kinds (λ current. current ++ record { answer = k.answer; extra = None } ∷ []) whole told h);
+}
+
+extends : (round : ℕ) (kinds : List ItemKind) (line : List ℕ) → IsTaken round (λ told next. Extends kinds told line next)
+extends round kinds line whole told next h k = record {
+  wholly = with_extra kinds whole k.extra;
+  taken = record {
+    kind = k.kind;
+    extra = k.extra;
+    is_next = record {
+      some = subst (λ (current : List Entry). 0 < length current) h.current k.is_next.some;
+      first = subst (λ (current : List Entry). ends_with_extra current ≡ false) h.current k.is_next.first;
+      there = subst (λ (current : List Entry). slice_get kinds (length current - 1) ≡ Some k.kind) h.current k.is_next.there;
+      of_kind = k.is_next.of_kind;
+      is_line = subst (λ (current : List Entry). extra_line k.kind (length current) k.extra ≡ line) h.current k.is_next.is_line;
+    };
+    told_so = refl;
+  };
+  tells = subst (λ (t : Told). TellsFrom round (with_extra kinds whole k.extra) t) (sym k.told_so)
+      (put_too round kinds (λ current. set current (length current - 1) (record { answer = (last_entry current).answer; extra = Some k.extra })) whole told h);
+}
+
+passes_inside : (round : ℕ) (kinds : List ItemKind) (line : List ℕ) → IsTaken round (λ told next. PassesInside kinds told line next)
+passes_inside round kinds line whole told next h k = record {
+  wholly = whole;
+  taken = record {
+    average = subst (λ (current : List Entry). slice_get kinds (length current - 1) ≡ Some Avg) h.current k.average;
+    exact = subst (λ (current : List Entry). ends_with_extra current ≡ true) h.current k.exact;
+    is_line = subst (λ (current : List Entry). IsRowsLine (length current) line) h.current k.is_line;
+    same = refl;
+  };
+  tells = subst (λ (t : Told). TellsFrom round whole t) (sym k.same) h;
+}
+
+passes_behind : (round : ℕ) (kinds : List ItemKind) (line : List ℕ) → IsTaken round (λ told next. PassesBehind kinds told line next)
+passes_behind round kinds line whole told next h k = record {
+  wholly = whole;
+  taken = record { average = k.average; exact = sym h.closing ∙ k.exact; is_line = k.is_line; same = refl };
+  tells = subst (λ (t : Told). TellsFrom round whole t) (sym k.same) h;
+}
+
+closes : (round : ℕ) (kinds : List ItemKind) (line : List ℕ) → IsTaken round (λ told next. Closes kinds told line next)
+closes round kinds line whole told next h k =
+    let g = goes_on round line (closed whole) (closed told) next (closed_too round whole told h) k.goes_on in
+    record {
+      wholly = g.wholly;
+      taken = record {
+        first = sym h.closing ∙ k.first;
+        all = subst (λ (current : List Entry). length current ≡ length kinds) h.current k.all;
+        goes_on = g.taken;
+      };
+      tells = g.tells;
+    }
+
+rest : (round : ℕ) (kinds : List ItemKind) (line : List ℕ) → IsTaken round (λ told next. TakesRest kinds told line next)
+rest round kinds line =
+    or_else round (λ told next. PassesInside kinds told line next) (λ told next. Closes kinds told line next)
+    (passes_inside round kinds line) (closes round kinds line)
+
+behind_answer : (round : ℕ) (kinds : List ItemKind) (line : List ℕ) → IsTaken round (λ told next. TakesBehindAnswer kinds told line next)
+behind_answer round kinds line =
+    or_else round (λ told next. Extends kinds told line next) (λ told next. TakesRest kinds told line next)
+    (extends round kinds line) (rest round kinds line)
+
+inside : (round : ℕ) (kinds : List ItemKind) (line : List ℕ) → IsTaken round (λ told next. TakesInside kinds told line next)
+inside round kinds line =
+    or_else round (λ told next. Answers kinds told line next) (λ told next. TakesBehindAnswer kinds told line next)
+    (answers round kinds line) (behind_answer round kinds line)
+
+behind : (round : ℕ) (kinds : List ItemKind) (line : List ℕ) → IsTaken round (λ told next. TakesBehind kinds told line next)
+behind round kinds line =
+    or_else round (λ told next. GoesOn told line next) (λ told next. PassesBehind kinds told line next)
+    (goes_on round line) (passes_behind round kinds line)
 
 -- the whole report takes the line, and tells the same from the round on
-pub record TakesToo (place : Place) (query : List ℕ) (kinds : List ItemKind) (round : ℕ) (whole : Told) (line : List ℕ) (next : Told) : Type 0 where
-  pub wholly : Told
-  pub taken : TakesAt place query kinds whole line wholly
-  pub tells : TellsFrom round wholly next
+abbrev pub TakesToo : Place → List ℕ → List ItemKind → ℕ → Told → List ℕ → Told → Type 0
+TakesToo place query kinds round whole line next = GoesToo round whole (λ told after. TakesAt place query kinds told line after) next
 
 takes_at : (place : Place) (query : List ℕ) (kinds : List ItemKind) (round : ℕ) (whole told : Told) (line : List ℕ) (next : Told) →
     TellsFrom round whole told → TakesAt place query kinds told line next → TakesToo place query kinds round whole line next
@@ -192,31 +332,8 @@ takes_at Opened query kinds round whole told line next h (inr k) = record {
   taken = inr (record { is_round = subst (λ (n : ℕ). IsRoundLine n line) h.count k.is_round; begun = refl });
   tells = moved_too round whole told next Items h k.begun;
 }
-takes_at Round query kinds round whole told line next h (inl k) = record {
-  wholly = at_place whole Items;
-  taken = inl (record { is_round = subst (λ (n : ℕ). IsRoundLine n line) h.count k.is_round; begun = refl });
-  tells = moved_too round whole told next Items h k.begun;
-}
-takes_at Round query kinds round whole told line next h (inr k) = record {
-  wholly = at_place whole (Ended k.end);
-  taken = inr (record { end = k.end; some = subst (λ (n : ℕ). 0 < n) h.count k.some; is_line = k.is_line; ended = refl });
-  tells = moved_too round whole told next (Ended k.end) h k.ended;
-}
-takes_at Items query kinds round whole told line next h k = record {
-  wholly = with_answer (length kinds) whole k.answer;
-  taken = record {
-    kind = k.kind;
-    answer = k.answer;
-    is_next = record {
-      there = subst (λ (current : List Answer). slice_get kinds (length current) ≡ Some k.kind) h.current k.is_next.there;
-      of_kind = k.is_next.of_kind;
-      is_line = subst (λ (current : List Answer). item_line (length current + 1) k.answer ≡ line) h.current k.is_next.is_line;
-    };
-    told_so = refl;
-  };
-  tells = subst (λ (t : Told). TellsFrom round (with_answer (length kinds) whole k.answer) t) (sym k.told_so)
-      (with_answer_too round (length kinds) whole told k.answer h);
-}
+takes_at Round query kinds round whole told line next h k = behind round kinds line whole told next h k
+takes_at Items query kinds round whole told line next h k = inside round kinds line whole told next h k
 takes_at (Ended end) query kinds round whole told line next h k = absurd k
 
 pub takes_too : (query : List ℕ) (kinds : List ItemKind) (round : ℕ) (whole told : Told) (line : List ℕ) (next : Told) →
@@ -277,7 +394,7 @@ takes_tagged_too query kinds round wholes parts line next h k =
 
 -- ---- a block is forgotten
 
-forgotten : (n : ℕ) (block : List Answer) (blocks : List (List Answer)) (i : ℕ) → n + 1 ≤ i →
+forgotten : (n : ℕ) (block : List Entry) (blocks : List (List Entry)) (i : ℕ) → n + 1 ≤ i →
     get_or (replicate (n + 1) [] ++ blocks) i [] ≡ get_or (replicate n [] ++ block ∷ blocks) i []
 forgotten n block blocks i le =
     let next : i - n ≡ suc (i - (n + 1)) = omega (arith, le) in
@@ -286,17 +403,18 @@ forgotten n block blocks i le =
     ∙ sym (get_or-append_right (replicate n []) (block ∷ blocks) n i [] (length-replicate n []) (omega (arith, le)))
 
 -- where it is before the round, and not the last
-pub passed_on : (tag : List ℕ) (n round : ℕ) (blocks : List (List Answer)) (current : List Answer) (place : Place) → n < round → 1 < length blocks →
-    TellsFrom round (record { tag = tag; blocks = replicate n [] ++ blocks; current = current; place = place })
-    (record { tag = tag; blocks = replicate (n + 1) [] ++ remove blocks 0; current = current; place = place })
-passed_on tag n round [] current place less some = absurd (omega (arith, some))
-passed_on tag n round (block ∷ blocks) current place less some =
+pub passed_on : (tag : List ℕ) (n round : ℕ) (blocks : List (List Entry)) (closing : Closing) (current : List Entry) (place : Place) → n < round → 1 < length blocks →
+    TellsFrom round (record { tag = tag; blocks = replicate n [] ++ blocks; closing = closing; current = current; place = place })
+    (record { tag = tag; blocks = replicate (n + 1) [] ++ remove blocks 0; closing = closing; current = current; place = place })
+passed_on tag n round [] closing current place less some = absurd (omega (arith, some))
+passed_on tag n round (block ∷ blocks) closing current place less some =
     let before : length (replicate n [] ++ block ∷ blocks) ≡ n + suc (length blocks) =
     length-append (replicate n []) (block ∷ blocks) ∙ ap (λ (k : ℕ). k + suc (length blocks)) (length-replicate n []) in
     let behind : length (replicate (n + 1) [] ++ blocks) ≡ n + 1 + length blocks =
     length-append (replicate (n + 1) []) blocks ∙ ap (λ (k : ℕ). k + length blocks) (length-replicate (n + 1) []) in
     record {
       tag = refl;
+      closing = refl;
       current = refl;
       place = refl;
       count = omega (arith, before, behind);
@@ -330,17 +448,18 @@ same_tags round (whole ∷ wholes) (part ∷ parts) h = rw (h.0.tag, same_tags r
 
 -- ---- what is refused
 
-empty_list : (blocks : List (List Answer)) → 0 ≡ length blocks → blocks ≡ []
+empty_list : (blocks : List (List Entry)) → 0 ≡ length blocks → blocks ≡ []
 empty_list [] e = refl
 empty_list (block ∷ blocks) e = absurd (omega (arith, e))
 
 -- a part that has told nothing
 nothing_is : (round : ℕ) (tag : List ℕ) (whole : Told) → TellsFrom round whole (nothing_told tag) → whole ≡ nothing_told tag
 nothing_is round tag whole h =
-    subst (λ (t : List ℕ). whole ≡ record { tag = t; blocks = []; current = []; place = Query }) (sym h.tag)
-    (subst (λ (b : List (List Answer)). whole ≡ record { tag = whole.tag; blocks = b; current = []; place = Query }) (empty_list whole.blocks h.count)
-    (subst (λ (c : List Answer). whole ≡ record { tag = whole.tag; blocks = whole.blocks; current = c; place = Query }) (sym h.current)
-    (subst (λ (p : Place). whole ≡ record { tag = whole.tag; blocks = whole.blocks; current = whole.current; place = p }) (sym h.place) refl)))
+    subst (λ (t : List ℕ). whole ≡ record { tag = t; blocks = []; closing = Unknown; current = []; place = Query }) (sym h.tag)
+    (subst (λ (b : List (List Entry)). whole ≡ record { tag = whole.tag; blocks = b; closing = Unknown; current = []; place = Query }) (empty_list whole.blocks h.count)
+    (subst (λ (c : Closing). whole ≡ record { tag = whole.tag; blocks = whole.blocks; closing = c; current = []; place = Query }) (sym h.closing)
+    (subst (λ (c : List Entry). whole ≡ record { tag = whole.tag; blocks = whole.blocks; closing = whole.closing; current = c; place = Query }) (sym h.current)
+    (subst (λ (p : Place). whole ≡ record { tag = whole.tag; blocks = whole.blocks; closing = whole.closing; current = whole.current; place = p }) (sym h.place) refl))))
 
 cannot_too : (query : List ℕ) (kinds : List ItemKind) (round : ℕ) (whole told : Told) (line : List ℕ) → TellsFrom round whole told →
     CannotTake query kinds told line → CannotTake query kinds whole line
@@ -372,42 +491,42 @@ refused_too (Line why) query kinds most round wholes parts line h refused =
 pub block_fault_too : (why : BlockFault) (round : ℕ) (kinds : List ItemKind) (wholes parts : List Told) → AllTellFrom round wholes parts →
     IsBlockFault why round kinds parts → IsBlockFault why round kinds wholes
 block_fault_too (OtherDecimals item) round kinds wholes parts h refused =
-    subst (λ (answers : List Answer). ¬ AreAlike answers) (same_in round round item wholes parts (omega arith) h) refused
+    subst (λ (entries : List Entry). ¬ AreAlikeEntries entries) (same_in round round item wholes parts (omega arith) h) refused
 block_fault_too (TooWide item) round kinds wholes parts h refused = record {
   kind = refused.kind;
   there = refused.there;
-  alike = subst (λ (answers : List Answer). AreAlike answers) (same_in round round item wholes parts (omega arith) h) refused.alike;
-  wide = subst (λ (answers : List Answer). ¬ FitsOver refused.kind answers) (same_in round round item wholes parts (omega arith) h) refused.wide;
+  alike = subst (λ (entries : List Entry). AreAlikeEntries entries) (same_in round round item wholes parts (omega arith) h) refused.alike;
+  wide = subst (λ (entries : List Entry). ¬ FitEntries refused.kind entries) (same_in round round item wholes parts (omega arith) h) refused.wide;
 }
 block_fault_too NoBlock round kinds wholes parts h refused = tt
 
 -- ---- a block among those that are kept
 
-kept_count : (n : ℕ) (blocks : List (List Answer)) → length (replicate n [] ++ blocks) ≡ n + length blocks
+kept_count : (n : ℕ) (blocks : List (List Entry)) → length (replicate n [] ++ blocks) ≡ n + length blocks
 kept_count n blocks = length-append (replicate n []) blocks ∙ ap (λ (k : ℕ). k + length blocks) (length-replicate n [])
 
-pub count_is : (count n : ℕ) (blocks : List (List Answer)) → count ≡ n + length blocks → count ≡ length (replicate n [] ++ blocks)
+pub count_is : (count n : ℕ) (blocks : List (List Entry)) → count ≡ n + length blocks → count ≡ length (replicate n [] ++ blocks)
 count_is count n blocks e = e ∙ sym (kept_count n blocks)
 
-last_is : (count n round : ℕ) (blocks : List (List Answer)) → count ≡ length (replicate n [] ++ blocks) →
+last_is : (count n round : ℕ) (blocks : List (List Entry)) → count ≡ length (replicate n [] ++ blocks) →
     min round (length (replicate n [] ++ blocks) - 1) ≡ min round (count - 1)
 last_is count n round blocks e = ap (λ (k : ℕ). min round (k - 1)) (sym e)
 
-pub none_kept : (count n round : ℕ) (blocks : List (List Answer)) → count ≡ length (replicate n [] ++ blocks) → count ≡ 0 →
+pub none_kept : (count n round : ℕ) (blocks : List (List Entry)) → count ≡ length (replicate n [] ++ blocks) → count ≡ 0 →
     [] ≡ get_or (replicate n [] ++ blocks) (min round (length (replicate n [] ++ blocks) - 1)) []
 none_kept count n round blocks e none = sym (get_or-eq_default (replicate n [] ++ blocks) [] (let nothing : length (replicate n [] ++ blocks) ≤ min round (length (replicate n [] ++ blocks) - 1) = omega (arith, e, none) in nothing))
 
-long : (n k : ℕ) → k < n → k < length (replicate {A = List Answer} n [])
+long : (n k : ℕ) → k < n → k < length (replicate {A = List Entry} n [])
 long n k less = subst (λ (m : ℕ). k < m) (sym (length-replicate n [])) less
 
-pub block_forgotten : (count n round : ℕ) (blocks : List (List Answer)) → count ≡ length (replicate n [] ++ blocks) → min round (count - 1) < n →
+pub block_forgotten : (count n round : ℕ) (blocks : List (List Entry)) → count ≡ length (replicate n [] ++ blocks) → min round (count - 1) < n →
     [] ≡ get_or (replicate n [] ++ blocks) (min round (length (replicate n [] ++ blocks) - 1)) []
 block_forgotten count n round blocks e less =
     sym (ap (λ (k : ℕ). get_or (replicate n [] ++ blocks) k []) (last_is count n round blocks e)
     ∙ get_or_append_left (replicate n []) blocks [] (min round (count - 1)) (long n (min round (count - 1)) less)
     ∙ get_or-replicate n (min round (count - 1)) [] [] less)
 
-pub block_kept : (count n round : ℕ) (blocks : List (List Answer)) → count ≡ length (replicate n [] ++ blocks) → n ≤ min round (count - 1) →
+pub block_kept : (count n round : ℕ) (blocks : List (List Entry)) → count ≡ length (replicate n [] ++ blocks) → n ≤ min round (count - 1) →
     get_or blocks (min round (count - 1) - n) [] ≡ get_or (replicate n [] ++ blocks) (min round (length (replicate n [] ++ blocks) - 1)) []
 block_kept count n round blocks e le =
     sym (ap (λ (k : ℕ). get_or (replicate n [] ++ blocks) k []) (last_is count n round blocks e)

@@ -3,13 +3,14 @@ use Rattle.std.proofs.Common.{◌≡◌, ℕ, zero, suc, ◌+◌, true, List, []
 use Rattle.std.proofs.lemmas.Bool.{and_parts}
 use Rattle.std.specs.List.{list_all}
 use Rattle.query_model.specs.declared.query.ItemKind.{ItemKind}
-use Rattle.report_text.specs.declared.answers.Answer.{Answer}
 use Rattle.report_parts.proofs.Stays.{blocks_stay}
+use Rattle.report_parts.specs.Entries.{no_entry}
 use Rattle.report_parts.specs.Laws.{AllReach, KeepsBlock, Reaches, ReportsOnlyGrow}
 use Rattle.report_parts.specs.Laws.Reaches.{goes, stays}
-use Rattle.report_parts.specs.Reports.{AreTold, answers_over, block_text, blocks_text}
-use Rattle.report_parts.specs.Rounds.{answer_in, answers_in, has_block, no_answer}
+use Rattle.report_parts.specs.Reports.{AreTold, block_text, blocks_text, entries_over}
+use Rattle.report_parts.specs.Rounds.{entries_in, entry_in, has_block}
 use Rattle.report_parts.specs.Told.{Told}
+use Rattle.report_parts.specs.declared.entry.Entry.{Entry}
 
 -- a part keeps the block that it has told
 keeps : (query : List ℕ) (kinds : List ItemKind) (round : ℕ) (told later : Told) → Reaches query kinds told later → has_block round told ≡ true → KeepsBlock round told later
@@ -30,23 +31,23 @@ all_keep query kinds round (part ∷ parts) (later ∷ laters) h has =
     let one = keeps query kinds round part later h.0 each.0 in
     rw (one.has, all_keep query kinds round parts laters h.1 each.1) refl
 
-pub same_answers : (query : List ℕ) (kinds : List ItemKind) (round item : ℕ) (parts laters : List Told) → AllReach query kinds parts laters →
-    list_all (has_block round) parts ≡ true → answers_in round item laters ≡ answers_in round item parts
-same_answers query kinds round item [] [] h has = refl
-same_answers query kinds round item [] (later ∷ laters) h has = absurd h
-same_answers query kinds round item (part ∷ parts) [] h has = absurd h
-same_answers query kinds round item (part ∷ parts) (later ∷ laters) h has =
+pub same_entries : (query : List ℕ) (kinds : List ItemKind) (round item : ℕ) (parts laters : List Told) → AllReach query kinds parts laters →
+    list_all (has_block round) parts ≡ true → entries_in round item laters ≡ entries_in round item parts
+same_entries query kinds round item [] [] h has = refl
+same_entries query kinds round item [] (later ∷ laters) h has = absurd h
+same_entries query kinds round item (part ∷ parts) [] h has = absurd h
+same_entries query kinds round item (part ∷ parts) (later ∷ laters) h has =
     let each = and_parts (has_block round part) (list_all (has_block round) parts) has in
     let one = keeps query kinds round part later h.0 each.0 in
-    let same : answer_in round item later ≡ answer_in round item part = ap (λ (block : List Answer). get_or block item no_answer) one.same in
-    rw (same, same_answers query kinds round item parts laters h.1 each.1) refl
+    let same : entry_in round item later ≡ entry_in round item part = ap (λ (block : List Entry). get_or block item no_entry) one.same in
+    rw (same, same_entries query kinds round item parts laters h.1 each.1) refl
 
--- and with them the answers over all
+-- and with them what is said over all
 pub same_over : (query : List ℕ) (kinds some : List ItemKind) (round item : ℕ) (parts laters : List Told) → AllReach query kinds parts laters →
-    list_all (has_block round) parts ≡ true → answers_over round item some laters ≡ answers_over round item some parts
+    list_all (has_block round) parts ≡ true → entries_over round item some laters ≡ entries_over round item some parts
 same_over query kinds [] round item parts laters h has = refl
 same_over query kinds (kind ∷ some) round item parts laters h has =
-    rw (same_answers query kinds round item parts laters h has, same_over query kinds some round (item + 1) parts laters h has) refl
+    rw (same_entries query kinds round item parts laters h has, same_over query kinds some round (item + 1) parts laters h has) refl
 
 pub same_block : (query : List ℕ) (kinds : List ItemKind) (round : ℕ) (parts laters : List Told) → AllReach query kinds parts laters →
     list_all (has_block round) parts ≡ true → block_text round kinds laters ≡ block_text round kinds parts

@@ -6,16 +6,16 @@ use Rattle.std.proofs.lemmas.List.{append_assoc}
 use Rattle.std.proofs.lemmas.Option.{none-some}
 use Rattle.std.specs.List.{list_all}
 use Rattle.query_model.specs.declared.query.ItemKind.{ItemKind}
-use Rattle.report_text.specs.declared.answers.Answer.{Answer}
 use Rattle.report_text.specs.declared.lines.ReportEnd.{ReportEnd}
 use Rattle.report_parts.proofs.Grows.{all_keep, same_block, same_over}
 use Rattle.report_parts.proofs.Stays.{none_behind, only_add}
 use Rattle.report_parts.specs.Ends.{end_behind, end_of_all}
 use Rattle.report_parts.specs.Laws.{AllReach, Reaches}
 use Rattle.report_parts.specs.Laws.Reaches.{goes as reaches, stays as rests}
-use Rattle.report_parts.specs.Reports.{answers_over, block_text}
+use Rattle.report_parts.specs.Reports.{block_text, entries_over}
 use Rattle.report_parts.specs.Rounds.{has_block, is_ended, is_over}
 use Rattle.report_parts.specs.Told.{Told}
+use Rattle.report_parts.specs.declared.entry.Entry.{Entry}
 use Rattle.report_parts.specs.Written.{Wanted, Writes, WrittenStays, end_at, end_text, is_narrow_at}
 use Rattle.report_parts.specs.Written.Writes.{ends, goes, waits}
 
@@ -128,15 +128,15 @@ nothing_yet wanted parts round text end (goes r rest e has there k) fails = absu
 -- whether the block is narrow does not change
 pub same_end : (query : List ℕ) (wanted : Wanted) (round : ℕ) (parts laters : List Told) → AllReach query wanted.kinds parts laters →
     list_all (has_block round) parts ≡ true →
-    end_at wanted round laters ≡ end_behind (wanted.narrow (answers_over round 0 wanted.kinds parts)) (wanted.last round) round laters
+    end_at wanted round laters ≡ end_behind (wanted.narrow (entries_over round 0 wanted.kinds parts)) (wanted.last round) round laters
 same_end query wanted round parts laters h has =
-    ap (λ (answers : List Answer). end_behind (wanted.narrow answers) (wanted.last round) round laters) (same_over query wanted.kinds wanted.kinds round 0 parts laters h has)
+    ap (λ (entries : List Entry). end_behind (wanted.narrow entries) (wanted.last round) round laters) (same_over query wanted.kinds wanted.kinds round 0 parts laters h has)
 
 pub end_stays : (query : List ℕ) (wanted : Wanted) (round : ℕ) (parts laters : List Told) (end : ReportEnd) → AllReach query wanted.kinds parts laters →
     list_all (has_block round) parts ≡ true → end_at wanted round parts ≡ Some end → end_at wanted round laters ≡ Some end
 end_stays query wanted round parts laters end h has e =
     same_end query wanted round parts laters h has
-    ∙ end_rests query wanted.kinds (wanted.narrow (answers_over round 0 wanted.kinds parts)) (wanted.last round) (list_all (is_over round) parts) round parts laters end
+    ∙ end_rests query wanted.kinds (wanted.narrow (entries_over round 0 wanted.kinds parts)) (wanted.last round) (list_all (is_over round) parts) round parts laters end
     refl h e
 
 pub some_same : (a b : ReportEnd) → Some a ≡ Some b → a ≡ b

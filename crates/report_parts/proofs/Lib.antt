@@ -1,6 +1,7 @@
 pub mod Certain
 pub mod Commutes
 pub mod Courses
+pub mod EntryLines
 pub mod FromRounds
 pub mod Grows
 pub mod Headlines

@@ -1,42 +1,96 @@
 -- That a line takes nothing back of what a part has told.
-use Rattle.std.proofs.Common.{◌≡◌, ℕ, ◌+◌, ◌-◌, ◌<◌, ◌==◌, min, Bool, true, false, ◌||◌, List, [], ◌∷◌, ◌++◌, length, get_or, if◌then◌else◌, refl, sym, ap, ◌∙◌, inl, inr, arith, length-append, append-nil}
+use Rattle.std.proofs.Common.{◌≡◌, ◌≢◌, ℕ, ◌+◌, ◌-◌, ◌<◌, min, Bool, true, false, ◌||◌, Some, None, List, [], ◌∷◌, ◌++◌, length, set, get_or, if◌then◌else◌, refl, sym, ap, ◌∙◌, inl, inr, arith, length-append, append-nil}
 use Rattle.std.proofs.lemmas.Bool.{false≢true, lt-ltb, ltb-true}
 use Rattle.std.proofs.lemmas.List.{get_or_append_left}
 use Rattle.query_model.specs.declared.query.ItemKind.{ItemKind}
-use Rattle.report_text.specs.declared.answers.Answer.{Answer}
+use Rattle.report_parts.specs.Entries.{last_entry}
 use Rattle.report_parts.specs.Laws.{GoesBehind, KeepsBlock, LinesOnlyAdd, ToldBlocksStay}
 use Rattle.report_parts.specs.Rounds.{is_ended}
-use Rattle.report_parts.specs.Told.{TakesAt, Told, at_place}
+use Rattle.report_parts.specs.Told.{GoesOn, TakesAt, TakesBehindAnswer, TakesInside, TakesRest, Told, at_place, closed, is_whole, with_current}
+use Rattle.report_parts.specs.declared.entry.Entry.{Entry}
 use Rattle.report_parts.specs.declared.part.Place.{Place}
 use Rattle.report_parts.specs.declared.part.Place.TheVariants.{Query, Opened, Round, Items, Ended}
 
--- ---- a line only adds
+-- what holds behind each line that is taken: the tag stays, the report has begun, and no block is taken back
+pub record Follows (told next : Told) : Type 0 where
+  pub tag : next.tag ≡ told.tag
+  pub begun : next.place ≢ Query
+  pub behind : GoesBehind told next
 
-moved : (told next : Told) (place : Place) → next ≡ at_place told place → GoesBehind told next
-moved told next place e = record { more = []; blocks = ap (λ (t : Told). t.blocks) e ∙ sym (append-nil told.blocks) }
+moved : (told next : Told) (place : Place) → place ≢ Query → next ≡ at_place told place → Follows told next
+moved told next place other e = record {
+  tag = ap (λ (t : Told). t.tag) e;
+  begun = λ f. other (sym (ap (λ (t : Told). t.place) e) ∙ f);
+  behind = record { more = []; blocks = ap (λ (t : Told). t.blocks) e ∙ sym (append-nil told.blocks) };
+}
 
-abbrev whole : (told : Told) (answer : Answer) → Told
-whole told answer = record { tag = told.tag; blocks = told.blocks ++ (told.current ++ answer ∷ []) ∷ []; current = []; place = Round }
+-- once the block that was begun is whole
+moved_behind : (told next : Told) (place : Place) → place ≢ Query → next ≡ at_place (closed told) place → Follows told next
+moved_behind told next place other e = record {
+  tag = ap (λ (t : Told). t.tag) e;
+  begun = λ f. other (sym (ap (λ (t : Told). t.place) e) ∙ f);
+  behind = record { more = told.current ∷ []; blocks = ap (λ (t : Told). t.blocks) e };
+}
 
-abbrev begun : (told : Told) (answer : Answer) → Told
-begun told answer = record { tag = told.tag; blocks = told.blocks; current = told.current ++ answer ∷ []; place = Items }
+rests : (told next : Told) → told.place ≢ Query → next ≡ told → Follows told next
+rests told next other e = record {
+  tag = ap (λ (t : Told). t.tag) e;
+  begun = λ f. other (sym (ap (λ (t : Told). t.place) e) ∙ f);
+  behind = record { more = []; blocks = ap (λ (t : Told). t.blocks) e ∙ sym (append-nil told.blocks) };
+}
 
-answered : (last : Bool) (told next : Told) (answer : Answer) → next ≡ (if last then whole told answer else begun told answer) → GoesBehind told next
-answered true told next answer e = record { more = (told.current ++ answer ∷ []) ∷ []; blocks = ap (λ (t : Told). t.blocks) e }
-answered false told next answer e = record { more = []; blocks = ap (λ (t : Told). t.blocks) e ∙ sym (append-nil told.blocks) }
+put_in : (whole : Bool) (told next : Told) (current : List Entry) →
+    next ≡ (if whole then closed (with_current told current) else at_place (with_current told current) Items) → Follows told next
+put_in true told next current e = record {
+  tag = ap (λ (t : Told). t.tag) e;
+  begun = λ f. absurd (let g : Round ≡ Query = sym (ap (λ (t : Told). t.place) e) ∙ f in cc);
+  behind = record { more = current ∷ []; blocks = ap (λ (t : Told). t.blocks) e };
+}
+put_in false told next current e = record {
+  tag = ap (λ (t : Told). t.tag) e;
+  begun = λ f. absurd (let g : Items ≡ Query = sym (ap (λ (t : Told). t.place) e) ∙ f in cc);
+  behind = record { more = []; blocks = ap (λ (t : Told). t.blocks) e ∙ sym (append-nil told.blocks) };
+}
 
-adds_at : (place : Place) (query : List ℕ) (kinds : List ItemKind) (told : Told) (line : List ℕ) (next : Told) →
-    TakesAt place query kinds told line next → GoesBehind told next
-adds_at Query query kinds told line next h = moved told next Opened h.opened
-adds_at Opened query kinds told line next (inl h) = moved told next Round h.passed
-adds_at Opened query kinds told line next (inr h) = moved told next Items h.begun
-adds_at Round query kinds told line next (inl h) = moved told next Items h.begun
-adds_at Round query kinds told line next (inr h) = moved told next (Ended h.end) h.ended
-adds_at Items query kinds told line next h = answered (length told.current + 1 == length kinds) told next h.answer h.told_so
-adds_at (Ended end) query kinds told line next h = absurd h
+is_begun : Items ≢ Query
+is_begun e = absurd cc
+
+goes_on : (told next : Told) (line : List ℕ) → GoesOn told line next → Follows told next
+goes_on told next line (inl h) = moved told next Items is_begun h.begun
+goes_on told next line (inr h) = moved told next (Ended h.end) (λ e. absurd cc) h.ended
+
+closes : (told next : Told) (line : List ℕ) → GoesOn (closed told) line next → Follows told next
+closes told next line (inl h) = moved_behind told next Items is_begun h.begun
+closes told next line (inr h) = moved_behind told next (Ended h.end) (λ e. absurd cc) h.ended
+
+rest : (kinds : List ItemKind) (told : Told) (line : List ℕ) (next : Told) → told.place ≢ Query → TakesRest kinds told line next → Follows told next
+rest kinds told line next other (inl h) = rests told next other h.same
+rest kinds told line next other (inr h) = closes told next line h.1.goes_on
+
+behind_answer : (kinds : List ItemKind) (told : Told) (line : List ℕ) (next : Told) → told.place ≢ Query → TakesBehindAnswer kinds told line next → Follows told next
+behind_answer kinds told line next other (inl h) =
+    let current = set told.current (length told.current - 1) (record { answer = (last_entry told.current).answer; extra = Some h.extra }) in
+    put_in (is_whole kinds told.closing current) told next current h.told_so
+behind_answer kinds told line next other (inr h) = rest kinds told line next other h.1
+
+inside : (kinds : List ItemKind) (told : Told) (line : List ℕ) (next : Told) → told.place ≢ Query → TakesInside kinds told line next → Follows told next
+inside kinds told line next other (inl h) =
+    let current = told.current ++ record { answer = h.answer; extra = None } ∷ [] in
+    put_in (is_whole kinds told.closing current) told next current h.told_so
+inside kinds told line next other (inr h) = behind_answer kinds told line next other h.1
+
+pub follows : (place : Place) (query : List ℕ) (kinds : List ItemKind) (told : Told) (line : List ℕ) (next : Told) → told.place ≡ place →
+    TakesAt place query kinds told line next → Follows told next
+follows Query query kinds told line next e h = moved told next Opened (λ f. absurd cc) h.opened
+follows Opened query kinds told line next e (inl h) = moved told next Round (λ f. absurd cc) h.passed
+follows Opened query kinds told line next e (inr h) = moved told next Items is_begun h.begun
+follows Round query kinds told line next e (inl h) = goes_on told next line h
+follows Round query kinds told line next e (inr h) = rests told next (λ f. absurd (let g : Round ≡ Query = sym e ∙ f in cc)) h.1.same
+follows Items query kinds told line next e h = inside kinds told line next (λ f. is_begun (sym e ∙ f)) h
+follows (Ended end) query kinds told line next e h = absurd h
 
 pub only_add : LinesOnlyAdd
-only_add query kinds told line next h = adds_at told.place query kinds told line next h
+only_add query kinds told line next h = (follows told.place query kinds told line next refl h).behind
 
 -- ---- a told block stays
 
@@ -66,7 +120,7 @@ kept round told next behind below =
       has = or_right (is_ended next.place) _ (lt-ltb round (length next.blocks) within);
       same =
           ap (λ (k : ℕ). get_or next.blocks k []) now
-          ∙ ap (λ (xs : List (List Answer)). get_or xs round []) behind.blocks
+          ∙ ap (λ (xs : List (List Entry)). get_or xs round []) behind.blocks
           ∙ get_or_append_left told.blocks behind.more [] round below
           ∙ sym (ap (λ (k : ℕ). get_or told.blocks k []) before);
     }

@@ -4,8 +4,9 @@ use Rattle.std.proofs.lemmas.Bool.{false≢true}
 use Rattle.std.proofs.lemmas.Option.{none-some, same_Some}
 use Rattle.std.specs.List.{list_all}
 use Rattle.query_model.specs.declared.query.ItemKind.{ItemKind}
-use Rattle.report_text.proofs.OneAnswer.{lines_say_one}
+use Rattle.report_text.proofs.OneAnswer.{extras_say_one, lines_say_one}
 use Rattle.report_text.specs.Answers.{IsAnswerOf}
+use Rattle.report_text.specs.Extras.{IsExtraOf, extra_line}
 use Rattle.report_text.specs.Lines.{end_line}
 use Rattle.report_text.specs.declared.answers.Answer.{Answer}
 use Rattle.report_text.specs.declared.lines.ReportEnd.{ReportEnd}
@@ -20,7 +21,7 @@ use Rattle.report_parts.specs.Reports.{block_text}
 use Rattle.report_parts.specs.Rounds.{has_block, is_over}
 use Rattle.report_parts.specs.Tags.{TakesTagged, behind_tag, tag_of, told_of, with_part}
 use Rattle.report_parts.specs.Telling.{EndedStays, TellingIsOne}
-use Rattle.report_parts.specs.Told.{BeginsRound, Ends, TakesAt, TellsParts, Told, at_place, with_answer}
+use Rattle.report_parts.specs.Told.{Answers, BeginsRound, Closes, Ends, Extends, GoesOn, OrElse, PassesBehind, PassesInside, TakesAt, TakesBehindAnswer, TakesInside, TakesRest, TellsParts, Told, at_place, closed, with_answer, with_extra}
 use Rattle.report_parts.specs.Written.{Wanted, Writes, end_text, is_narrow_at}
 use Rattle.report_parts.specs.Written.Writes.{ends, goes, waits}
 use Rattle.report_parts.specs.declared.part.Place.{Place}
@@ -59,6 +60,48 @@ end_one Rounds Reads e = apart (end_line Rounds) (end_line Reads) e (λ (f : ◌
 end_one Reads Narrow e = apart (end_line Reads) (end_line Narrow) e (λ (f : ◌≡◌ {A = ℕ} 101 97). omega (arith, f))
 end_one Reads Rounds e = apart (end_line Reads) (end_line Rounds) e (λ (f : ◌≡◌ {A = ℕ} 101 111). omega (arith, f))
 
+-- a way that leads to one end
+abbrev IsOneWay : (Told → Type 0) → Type 0
+IsOneWay Way = (a b : Told) → Way a → Way b → b ≡ a
+
+or_else : (First Second : Told → Type 0) → IsOneWay First → IsOneWay Second → IsOneWay (OrElse First Second)
+or_else First Second one two a b (inl h) (inl k) = one a b h k
+or_else First Second one two a b (inl h) (inr k) = absurd (k.0 a h)
+or_else First Second one two a b (inr h) (inl k) = absurd (h.0 b k)
+or_else First Second one two a b (inr h) (inr k) = two a b h.1 k.1
+
+goes_on : (told : Told) (line : List ℕ) → IsOneWay (GoesOn told line)
+goes_on told line a b (inl h) (inl k) = k.begun ∙ sym h.begun
+goes_on told line a b (inl h) (inr k) = round_or_end told line a b h k
+goes_on told line a b (inr h) (inl k) = round_or_end told line b a k h
+goes_on told line a b (inr h) (inr k) =
+    k.ended ∙ ap (λ (end : ReportEnd). at_place told (Ended end)) (end_one h.end k.end (h.is_line ∙ sym k.is_line)) ∙ sym h.ended
+
+answers : (kinds : List ItemKind) (told : Told) (line : List ℕ) → IsOneWay (Answers kinds told line)
+answers kinds told line a b h k =
+    let kind = same_Some h.kind k.kind (sym h.is_next.there ∙ k.is_next.there) in
+    let mine : IsAnswerOf k.kind h.answer = subst (λ (x : ItemKind). IsAnswerOf x h.answer) kind h.is_next.of_kind in
+    let answer = lines_say_one k.kind (length told.current + 1) h.answer k.answer mine k.is_next.of_kind (h.is_next.is_line ∙ sym k.is_next.is_line) in
+    k.told_so ∙ ap (λ (x : Answer). with_answer kinds told x) (sym answer) ∙ sym h.told_so
+
+extends : (kinds : List ItemKind) (told : Told) (line : List ℕ) → IsOneWay (Extends kinds told line)
+extends kinds told line a b h k =
+    let kind = same_Some h.kind k.kind (sym h.is_next.there ∙ k.is_next.there) in
+    let mine : IsExtraOf k.kind h.extra = subst (λ (x : ItemKind). IsExtraOf x h.extra) kind h.is_next.of_kind in
+    let my_line : extra_line k.kind (length told.current) h.extra ≡ line =
+    subst (λ (x : ItemKind). extra_line x (length told.current) h.extra ≡ line) kind h.is_next.is_line in
+    let extra = extras_say_one k.kind (length told.current) h.extra k.extra mine k.is_next.of_kind (my_line ∙ sym k.is_next.is_line) in
+    k.told_so ∙ ap (λ (x : Answer). with_extra kinds told x) (sym extra) ∙ sym h.told_so
+
+rest : (kinds : List ItemKind) (told : Told) (line : List ℕ) → IsOneWay (TakesRest kinds told line)
+rest kinds told line =
+    or_else (PassesInside kinds told line) (Closes kinds told line) (λ a b h k. k.same ∙ sym h.same) (λ a b h k. goes_on (closed told) line a b h.goes_on k.goes_on)
+
+inside : (kinds : List ItemKind) (told : Told) (line : List ℕ) → IsOneWay (TakesInside kinds told line)
+inside kinds told line =
+    or_else (Answers kinds told line) (TakesBehindAnswer kinds told line) (answers kinds told line)
+    (or_else (Extends kinds told line) (TakesRest kinds told line) (extends kinds told line) (rest kinds told line))
+
 takes_one : (place : Place) (query : List ℕ) (kinds : List ItemKind) (told : Told) (line : List ℕ) (a b : Told) →
     TakesAt place query kinds told line a → TakesAt place query kinds told line b → b ≡ a
 takes_one Query query kinds told line a b h k = k.opened ∙ sym h.opened
@@ -66,16 +109,9 @@ takes_one Opened query kinds told line a b (inl h) (inl k) = k.passed ∙ sym h.
 takes_one Opened query kinds told line a b (inl h) (inr k) = parts_or_round told line a b h k
 takes_one Opened query kinds told line a b (inr h) (inl k) = parts_or_round told line b a k h
 takes_one Opened query kinds told line a b (inr h) (inr k) = k.begun ∙ sym h.begun
-takes_one Round query kinds told line a b (inl h) (inl k) = k.begun ∙ sym h.begun
-takes_one Round query kinds told line a b (inl h) (inr k) = round_or_end told line a b h k
-takes_one Round query kinds told line a b (inr h) (inl k) = round_or_end told line b a k h
-takes_one Round query kinds told line a b (inr h) (inr k) =
-    k.ended ∙ ap (λ (end : ReportEnd). at_place told (Ended end)) (end_one h.end k.end (h.is_line ∙ sym k.is_line)) ∙ sym h.ended
-takes_one Items query kinds told line a b h k =
-    let kind = same_Some h.kind k.kind (sym h.is_next.there ∙ k.is_next.there) in
-    let mine : IsAnswerOf k.kind h.answer = subst (λ (x : ItemKind). IsAnswerOf x h.answer) kind h.is_next.of_kind in
-    let answer = lines_say_one k.kind (length told.current + 1) h.answer k.answer mine k.is_next.of_kind (h.is_next.is_line ∙ sym k.is_next.is_line) in
-    k.told_so ∙ ap (λ (x : Answer). with_answer (length kinds) told x) (sym answer) ∙ sym h.told_so
+takes_one Round query kinds told line a b h k =
+    or_else (GoesOn told line) (PassesBehind kinds told line) (goes_on told line) (λ x y f g. g.same ∙ sym f.same) a b h k
+takes_one Items query kinds told line a b h k = inside kinds told line a b h k
 takes_one (Ended end) query kinds told line a b h k = absurd h
 
 tagged_one : (query : List ℕ) (kinds : List ItemKind) (parts : List Told) (line : List ℕ) (a b : List Told) →

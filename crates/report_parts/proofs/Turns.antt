@@ -1,6 +1,9 @@
--- That of two lines which may come next the one is taken or the other.
-use Rattle.std.proofs.Common.{Bool, true, false, sym, subst, ◌∙◌, inl, inr, ◌⊎◌, MatchBool}
-use Rattle.report_parts.specs.Told.{Refuses, Told}
+-- That of several ways in which a line may be taken the first is taken that it goes.
+use Rattle.std.proofs.Common.{◌≡◌, ℕ, List, length, Bool, true, false, Result, Ok, Err, IfOk, refl, sym, subst, ◌∙◌, inl, inr, ◌⊎◌, MatchBool}
+use Rattle.std.proofs.lemmas.Bool.{false≢true}
+use Rattle.query_model.specs.declared.query.ItemKind.{ItemKind}
+use Rattle.report_parts.specs.Told.{Closes, GoesOn, OrElse, Refuses, Told, closed}
+use Rattle.report_parts.specs.declared.closing.Closing.TheVariants.{Unknown}
 
 -- where the first is refused, which changes nothing, the second decides
 pub second_decides : (r : Bool) (First Second : Told → Told → Type 0) (old mid new : Told) → Refuses (First old) old mid →
@@ -11,3 +14,43 @@ second_decides false First Second old mid new kept h = (
   h.0 ∙ kept.0,
   λ next either. elim either as (λ _. ⊥) [ inl a ↦ kept.1 next a | inr b ↦ h.1 next (subst (λ (t : Told). Second t next) (sym kept.0) b) ],
 )
+
+-- where the first way is refused, which changes nothing, the other decides
+pub else_decides : (r : Bool) (First Second : Told → Told → Type 0) (old mid new : Told) → Refuses (First old) old mid →
+    MatchBool r (Second mid new) (Refuses (Second mid) mid new) →
+    MatchBool r (OrElse (First old) (Second old) new) (Refuses (OrElse (First old) (Second old)) old new)
+else_decides true First Second old mid new kept h = inr (kept.1, subst (λ (t : Told). Second t new) kept.0 h)
+else_decides false First Second old mid new kept h = (
+  h.0 ∙ kept.0,
+  λ next either. elim either as (λ _. ⊥) [ inl a ↦ kept.1 next a | inr b ↦ h.1 next (subst (λ (t : Told). Second t next) (sym kept.0) b.1) ],
+)
+
+-- the same where memory may run out
+pub else_decides_ok : {E : Type 0} (r : Result Bool E) (First Second : Told → Told → Type 0) (old mid new : Told) → Refuses (First old) old mid →
+    IfOk r (λ taken. MatchBool taken (Second mid new) (Refuses (Second mid) mid new)) →
+    IfOk r (λ taken. MatchBool taken (OrElse (First old) (Second old) new) (Refuses (OrElse (First old) (Second old)) old new))
+else_decides_ok (Ok taken) First Second old mid new kept h = else_decides taken First Second old mid new kept h
+else_decides_ok (Err e) First Second old mid new kept h = tt
+
+pub second_decides_ok : {E : Type 0} (r : Result Bool E) (First Second : Told → Told → Type 0) (old mid new : Told) → Refuses (First old) old mid →
+    IfOk r (λ taken. MatchBool taken (Second mid new) (Refuses (Second mid) mid new)) →
+    IfOk r (λ taken. MatchBool taken (First old new ⊎ Second old new) (Refuses (λ next. First old next ⊎ Second old next) old new))
+second_decides_ok (Ok taken) First Second old mid new kept h = second_decides taken First Second old mid new kept h
+second_decides_ok (Err e) First Second old mid new kept h = tt
+
+pub refused_when : (A B : Type 0) (b : Bool) → b ≡ false → MatchBool b A B → B
+refused_when A B true e h = absurd (false≢true (sym e))
+refused_when A B false e h = h
+
+-- where nothing changes in either case
+pub unchanged : (r : Bool) (Way : Told → Type 0) (told : Told) → MatchBool r (Way told) ((next : Told) → Way next → ⊥) → MatchBool r (Way told) (Refuses Way told told)
+unchanged true Way told h = h
+unchanged false Way told h = (refl, h)
+
+-- what ends the first block
+pub closes_ok : {E : Type 0} (r : Result Bool E) (kinds : List ItemKind) (told : Told) (line : List ℕ) (next : Told) → told.closing ≡ Unknown → length told.current ≡ length kinds →
+    IfOk r (λ taken. MatchBool taken (GoesOn (closed told) line next) (Refuses (GoesOn (closed told) line) told next)) →
+    IfOk r (λ taken. MatchBool taken (Closes kinds told line next) (Refuses (Closes kinds told line) told next))
+closes_ok (Ok true) kinds told line next first all h = record { first = first; all = all; goes_on = h }
+closes_ok (Ok false) kinds told line next first all h = (h.0, λ after k. h.1 after k.goes_on)
+closes_ok (Err e) kinds told line next first all h = tt

@@ -1,6 +1,8 @@
 -- What a line says of an answer over all parts, from what the lines of the parts say of it.
-use Rattle.std.specs.Prelude.{ℕ, ◌==◌, max, pos, Bool, true, false, not, ◌||◌, ◌&&◌, nat_le, List, [], ◌∷◌, map, IsTrue, if◌then◌else◌}
+use Rattle.std.specs.Prelude.{ℕ, ◌==◌, max, pos, ◌≡◌, Bool, true, false, not, ◌||◌, ◌&&◌, nat_le, List, [], ◌∷◌, map, IsTrue, if◌then◌else◌}
 use Rattle.std.specs.List.{list_all}
+use Rattle.std.specs.declared.option.Option.{Option}
+use Rattle.std.specs.declared.option.Option.TheVariants.{Some, None}
 use Rattle.interval_calc.specs.Intervals.{Fraction}
 use Rattle.query_model.specs.Bounds.{AverageBound}
 use Rattle.query_model.specs.declared.bounds.Bound.{Bound}
@@ -10,12 +12,15 @@ use Rattle.query_model.specs.declared.query.ItemKind.{ItemKind}
 use Rattle.query_model.specs.declared.query.ItemKind.TheVariants.{Count, Sum, Min, Max, Avg}
 use Rattle.report_text.specs.declared.answers.Answer.{Answer}
 use Rattle.report_text.specs.declared.answers.Answer.TheVariants.{Average, Value}
+use Rattle.report_text.specs.Answers.{CanBeWritten}
 use Rattle.report_text.specs.Forms.{HasTextsIn}
 use Rattle.report_text.specs.declared.averages.Ratio.{Ratio}
 use Rattle.report_text.specs.declared.averages.ShownAverage.{ShownAverage}
 use Rattle.report_text.specs.declared.forms.Form.{Form}
 use Rattle.report_text.specs.declared.forms.Form.TheVariants.{Date, Decimals}
-use Rattle.shard_bounds.specs.Averages.{FitsAverage, combined_average, no_average}
+use Rattle.report_parts.specs.Entries.{answers_of, extras_of, have_extras}
+use Rattle.report_parts.specs.declared.entry.Entry.{Entry}
+use Rattle.shard_bounds.specs.Averages.{FitsAverage, combined_average, hull_of_averages, no_average}
 use Rattle.shard_bounds.specs.Combined.{FitsBound, combined}
 
 -- ---- in which form the ends are written
@@ -104,6 +109,33 @@ answer_over Min answers = value_over Min answers
 answer_over Max answers = value_over Max answers
 answer_over Avg answers = average_over answers
 
+-- what the lines behind tell is combined as the answers are, but for averages: of two exact averages that are one the rows are not known, so
+-- the whole lies between the least and the greatest of them
+abbrev pub exact_over : List Answer → Answer
+exact_over answers = Average (shown_average (decimals_in (shared_form answers)) (hull_of_averages (map average_of answers)))
+
+abbrev pub extra_over : ItemKind → List Answer → Answer
+extra_over Count answers = value_over Count answers
+extra_over Sum answers = value_over Sum answers
+extra_over Min answers = value_over Min answers
+extra_over Max answers = value_over Max answers
+extra_over Avg answers = exact_over answers
+
+-- there is a line behind where each part has one
+abbrev pub extra_of_all : ItemKind → List Entry → Option Answer
+extra_of_all kind entries = if have_extras entries then Some (extra_over kind (extras_of entries)) else None
+
+-- what the entries of all parts say of the item over all
+abbrev pub entry_over : ItemKind → List Entry → Entry
+entry_over kind entries = record { answer = answer_over kind (answers_of entries); extra = extra_of_all kind entries }
+
+-- the answers have one form, and so do those of the lines behind, where there is one over all
+pub record AreAlikeEntries (entries : List Entry) : Type 0 where
+  pub answers : AreAlike (answers_of entries)
+  pub extras : have_extras entries ≡ true → AreAlike (extras_of entries)
+
+-- ---- what can be written
+
 -- its ends are numbers of 128 bits, which have texts in that form
 pub record FitsValue (form : Form) (bound : Bound) : Type 0 where
   pub fits : FitsBound bound
@@ -119,3 +151,22 @@ FitsOver Sum answers = FitsValues Sum answers
 FitsOver Min answers = FitsValues Min answers
 FitsOver Max answers = FitsValues Max answers
 FitsOver Avg answers = FitsAverage (combined_average (map average_of answers))
+
+-- the ends of exact averages are numbers of 128 bits over 64, and so is the hull
+abbrev pub FitsExtra : ItemKind → List Answer → Type 0
+FitsExtra Count answers = FitsValues Count answers
+FitsExtra Sum answers = FitsValues Sum answers
+FitsExtra Min answers = FitsValues Min answers
+FitsExtra Max answers = FitsValues Max answers
+FitsExtra Avg answers = Unit {0}
+
+pub record FitEntries (kind : ItemKind) (entries : List Entry) : Type 0 where
+  pub answers : FitsOver kind (answers_of entries)
+  pub extras : have_extras entries ≡ true → FitsExtra kind (extras_of entries)
+
+abbrev pub HasExtraText : Option Answer → Type 0
+HasExtraText None = Unit {0}
+HasExtraText (Some answer) = CanBeWritten answer
+
+abbrev pub HasEntryTexts : Entry → Type 0
+HasEntryTexts entry = CanBeWritten entry.answer × HasExtraText entry.extra

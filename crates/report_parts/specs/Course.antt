@@ -32,9 +32,9 @@ abbrev pub is_last : Option ℕ → ℕ → Bool
 is_last None round = false
 is_last (Some last) round = last == round
 
--- a block is narrow where each answer is
+-- a block is narrow where each answer is, whatever the lines behind tell
 abbrev pub wanted_of : Task → Wanted
-wanted_of task = record { kinds = task.kinds; narrow = λ answers. list_all (is_narrow task.width) answers; last = is_last task.last }
+wanted_of task = record { kinds = task.kinds; narrow = λ entries. list_all (λ entry. is_narrow task.width entry.answer) entries; last = is_last task.last }
 
 -- the query and the number of parts, before the blocks
 abbrev pub opening_text : List ℕ → ℕ → List ℕ

@@ -1,55 +1,97 @@
 -- What a combined report says of a table that is cut into parts, where each part's report is certain of its own rows.
-use Rattle.std.specs.Prelude.{◌≡◌, ◌≢◌, ℕ, ◌+◌, ◌<◌, ℤ, List, [], ◌∷◌, length, map, slice_get, slice_index_or}
+use Rattle.std.specs.Prelude.{◌≡◌, ◌≢◌, ℕ, ◌+◌, ◌<◌, ℤ, is_some, true, List, [], ◌∷◌, length, map, slice_get, slice_index_or}
+use Rattle.std.specs.declared.option.Option.{Option}
 use Rattle.std.specs.declared.option.Option.TheVariants.{Some}
 use Rattle.query_model.specs.Answers.{answer, average}
 use Rattle.query_model.specs.Bounds.{Admits, AdmitsAverage, IsNested, IsNestedAverage}
 use Rattle.query_model.specs.declared.query.ItemKind.{ItemKind}
 use Rattle.query_model.specs.declared.query.ItemKind.TheVariants.{Avg}
 use Rattle.report_text.specs.declared.answers.Answer.{Answer}
-use Rattle.shard_bounds.specs.Averages.{ReportsAverage, TellsAverage, combined_average}
+use Rattle.shard_bounds.specs.Averages.{ReportsAverage, TellsAverage, combined_average, hull_of_averages}
 use Rattle.shard_bounds.specs.Combined as shards
 use Rattle.shard_bounds.specs.Combined.{IsBoundOf}
 use Rattle.shard_bounds.specs.Laws.{AreAveragesTold, AreTold, IsNestedReport, Tells}
-use Rattle.report_parts.specs.Combined.{answer_over, average_of, bound_of}
-use Rattle.report_parts.specs.Reports.{answers_over}
-use Rattle.report_parts.specs.Rounds.{answers_in, no_answer}
+use Rattle.report_parts.specs.Combined.{answer_over, average_of, bound_of, exact_over}
+use Rattle.report_parts.specs.Entries.{entry_at, or_no_answer}
+use Rattle.report_parts.specs.Reports.{entries_over}
+use Rattle.report_parts.specs.Rounds.{answers_in, extras_in}
 use Rattle.report_parts.specs.Told.{Told}
+use Rattle.report_parts.specs.declared.entry.Entry.{Entry}
 
--- what a block says of an item
+-- what a block says of an item, and what its line behind tells
 abbrev pub answer_at : ℕ → ℕ → Told → Answer
-answer_at block item told = slice_index_or (slice_index_or told.blocks block []) item no_answer
+answer_at block item told = (entry_at item (slice_index_or told.blocks block [])).answer
 
--- the report of a part is certain of the item, to which the part's rows give these values: there is a block, each contains the answer and
--- says it in the way of a report, and each lies within the one before
-pub record IsCertainOf (item : ℕ) (kind : ItemKind) (told : Told) (values : List ℤ) : Type 0 where
-  pub some : 0 < length told.blocks
-  pub contains : (block : ℕ) → block < length told.blocks → Admits (bound_of (answer_at block item told)) (answer kind values)
-  pub is_bound : (block : ℕ) → block < length told.blocks → IsBoundOf kind (bound_of (answer_at block item told))
-  pub nests : (block : ℕ) → block + 1 < length told.blocks →
-      IsNested (bound_of (answer_at block item told)) (bound_of (answer_at (block + 1) item told))
+abbrev pub extra_at : ℕ → ℕ → Told → Option Answer
+extra_at block item told = (entry_at item (slice_index_or told.blocks block [])).extra
+
+-- so it is of each part with its own values
+abbrev pub OfEach : (Told → List ℤ → Type 0) → List Told → List (List ℤ) → Type 0
+OfEach Is [] [] = Unit {0}
+OfEach Is [] (values ∷ tables) = ⊥
+OfEach Is (part ∷ parts) [] = ⊥
+OfEach Is (part ∷ parts) (values ∷ tables) = Is part values × OfEach Is parts tables
+
+-- ---- of each item but an average
+
+-- so many blocks are certain of the answer to these values: there is one, each contains the answer and says it in the way of a report, and
+-- each lies within the one before
+pub record AreCertainBlocks (kind : ItemKind) (count : ℕ) (says : ℕ → Answer) (values : List ℤ) : Type 0 where
+  pub some : 0 < count
+  pub contains : (block : ℕ) → block < count → Admits (bound_of (says block)) (answer kind values)
+  pub is_bound : (block : ℕ) → block < count → IsBoundOf kind (bound_of (says block))
+  pub nests : (block : ℕ) → block + 1 < count → IsNested (bound_of (says block)) (bound_of (says (block + 1)))
+
+-- the report of a part is certain of the item, to which the part's rows give these values
+abbrev pub IsCertainOf : ℕ → ItemKind → Told → List ℤ → Type 0
+IsCertainOf item kind told values = AreCertainBlocks kind (length told.blocks) (λ block. answer_at block item told) values
 
 abbrev pub AreCertainOf : ℕ → ItemKind → List Told → List (List ℤ) → Type 0
-AreCertainOf item kind [] [] = Unit {0}
-AreCertainOf item kind [] (values ∷ tables) = ⊥
-AreCertainOf item kind (part ∷ parts) [] = ⊥
-AreCertainOf item kind (part ∷ parts) (values ∷ tables) = IsCertainOf item kind part values × AreCertainOf item kind parts tables
+AreCertainOf item kind parts tables = OfEach (IsCertainOf item kind) parts tables
 
--- what is printed of the item in a round contains the answer on the rows of all parts together, the next round's lies within it, and where
--- each part says its answer in the round, it is the answer
+-- what is said over all parts contains the answer on the rows of all together, what is said next lies within it, and where each part says
+-- its answer, it is the answer
+pub record IsCertainOver (kind : ItemKind) (answers nexts : List Answer) (tables : List (List ℤ)) : Type 0 where
+  pub contains : Admits (bound_of (answer_over kind answers)) (shards.answer_over kind tables)
+  pub nests : IsNested (bound_of (answer_over kind answers)) (bound_of (answer_over kind nexts))
+  pub exact : AreTold kind (map bound_of answers) tables → Tells (bound_of (answer_over kind answers)) (shards.answer_over kind tables)
+
+-- what is printed of the item in a round, beside the next round's
 pub record IsCertainIn (round item : ℕ) (kind : ItemKind) (kinds : List ItemKind) (parts : List Told)
     (tables : List (List ℤ)) : Type 0 where
-  pub printed : slice_get (answers_over round 0 kinds parts) item ≡ Some (answer_over kind (answers_in round item parts))
-  pub contains : Admits (bound_of (answer_over kind (answers_in round item parts))) (shards.answer_over kind tables)
-  pub nests : IsNested (bound_of (answer_over kind (answers_in round item parts)))
-      (bound_of (answer_over kind (answers_in (round + 1) item parts)))
-  pub exact : AreTold kind (map bound_of (answers_in round item parts)) tables →
-      Tells (bound_of (answer_over kind (answers_in round item parts))) (shards.answer_over kind tables)
+  pub entry : Entry
+  pub printed : slice_get (entries_over round 0 kinds parts) item ≡ Some entry
+  pub is : entry.answer ≡ answer_over kind (answers_in round item parts)
+  pub certain : IsCertainOver kind (answers_in round item parts) (answers_in (round + 1) item parts) tables
 
 -- the headline for parts: of each item but an average
 abbrev pub CombinedIsCertain : Type 0
 CombinedIsCertain =
     (item : ℕ) (kind : ItemKind) (kinds : List ItemKind) (parts : List Told) (tables : List (List ℤ)) (round : ℕ) →
     kind ≢ Avg → slice_get kinds item ≡ Some kind → AreCertainOf item kind parts tables → IsCertainIn round item kind kinds parts tables
+
+-- ---- its clipped bound, in the line behind
+
+-- each block has that line, and is certain by it
+pub record IsClippedOf (item : ℕ) (kind : ItemKind) (told : Told) (values : List ℤ) : Type 0 where
+  pub shown : (block : ℕ) → block < length told.blocks → is_some (extra_at block item told) ≡ true
+  pub certain : AreCertainBlocks kind (length told.blocks) (λ block. or_no_answer (extra_at block item told)) values
+
+abbrev pub AreClippedOf : ℕ → ItemKind → List Told → List (List ℤ) → Type 0
+AreClippedOf item kind parts tables = OfEach (IsClippedOf item kind) parts tables
+
+-- the line is printed, and what it says is certain
+pub record IsClippedIn (round item : ℕ) (kind : ItemKind) (kinds : List ItemKind) (parts : List Told)
+    (tables : List (List ℤ)) : Type 0 where
+  pub entry : Entry
+  pub printed : slice_get (entries_over round 0 kinds parts) item ≡ Some entry
+  pub is : entry.extra ≡ Some (answer_over kind (extras_in round item parts))
+  pub certain : IsCertainOver kind (extras_in round item parts) (extras_in (round + 1) item parts) tables
+
+abbrev pub CombinedClipsAreCertain : Type 0
+CombinedClipsAreCertain =
+    (item : ℕ) (kind : ItemKind) (kinds : List ItemKind) (parts : List Told) (tables : List (List ℤ)) (round : ℕ) →
+    kind ≢ Avg → slice_get kinds item ≡ Some kind → AreClippedOf item kind parts tables → IsClippedIn round item kind kinds parts tables
 
 -- ---- averages
 
@@ -59,10 +101,7 @@ pub record IsCertainAverage (item : ℕ) (told : Told) (values : List ℤ) : Typ
   pub reports : (block : ℕ) → block < length told.blocks → ReportsAverage (average_of (answer_at block item told)) (average values)
 
 abbrev pub AreCertainAverages : ℕ → List Told → List (List ℤ) → Type 0
-AreCertainAverages item [] [] = Unit {0}
-AreCertainAverages item [] (values ∷ tables) = ⊥
-AreCertainAverages item (part ∷ parts) [] = ⊥
-AreCertainAverages item (part ∷ parts) (values ∷ tables) = IsCertainAverage item part values × AreCertainAverages item parts tables
+AreCertainAverages item parts tables = OfEach (IsCertainAverage item) parts tables
 
 -- each block's bound lies within the one before, and one fraction alone stays as it is
 abbrev pub AverageNests : ℕ → Told → Type 0
@@ -77,7 +116,9 @@ DoAveragesNest item (part ∷ parts) = AverageNests item part × DoAveragesNest 
 -- what is printed shows a bound that contains the average over the rows of all parts together; the next round's lies within it, where those
 -- of the parts do; and where each part says its sum and its number of values in the round, it says those of all
 pub record IsAverageIn (round item : ℕ) (kinds : List ItemKind) (parts : List Told) (tables : List (List ℤ)) : Type 0 where
-  pub printed : slice_get (answers_over round 0 kinds parts) item ≡ Some (answer_over Avg (answers_in round item parts))
+  pub entry : Entry
+  pub printed : slice_get (entries_over round 0 kinds parts) item ≡ Some entry
+  pub is : entry.answer ≡ answer_over Avg (answers_in round item parts)
   pub contains : AdmitsAverage (combined_average (map average_of (answers_in round item parts))) (shards.average_over tables)
   pub nests : DoAveragesNest item parts →
       IsNestedAverage (combined_average (map average_of (answers_in round item parts)))
@@ -89,3 +130,32 @@ abbrev pub CombinedAveragesAreCertain : Type 0
 CombinedAveragesAreCertain =
     (item : ℕ) (kinds : List ItemKind) (parts : List Told) (tables : List (List ℤ)) (round : ℕ) →
     slice_get kinds item ≡ Some Avg → AreCertainAverages item parts tables → IsAverageIn round item kinds parts tables
+
+-- ---- the exact ends of an average, in the line behind
+
+-- each block has that line, which contains the average and lies within that of the block before
+pub record IsExactOf (item : ℕ) (told : Told) (values : List ℤ) : Type 0 where
+  pub some : 0 < length told.blocks
+  pub shown : (block : ℕ) → block < length told.blocks → is_some (extra_at block item told) ≡ true
+  pub contains : (block : ℕ) → block < length told.blocks →
+      AdmitsAverage (average_of (or_no_answer (extra_at block item told))) (average values)
+  pub nests : (block : ℕ) → block + 1 < length told.blocks →
+      IsNestedAverage (average_of (or_no_answer (extra_at block item told))) (average_of (or_no_answer (extra_at (block + 1) item told)))
+
+abbrev pub AreExactOf : ℕ → List Told → List (List ℤ) → Type 0
+AreExactOf item parts tables = OfEach (IsExactOf item) parts tables
+
+-- the line is printed: from the least to the greatest of the parts' averages lies the average over the rows of all parts together, and the
+-- next round's line lies within it
+pub record IsExactIn (round item : ℕ) (kinds : List ItemKind) (parts : List Told) (tables : List (List ℤ)) : Type 0 where
+  pub entry : Entry
+  pub printed : slice_get (entries_over round 0 kinds parts) item ≡ Some entry
+  pub is : entry.extra ≡ Some (exact_over (extras_in round item parts))
+  pub contains : AdmitsAverage (hull_of_averages (map average_of (extras_in round item parts))) (shards.average_over tables)
+  pub nests : IsNestedAverage (hull_of_averages (map average_of (extras_in round item parts)))
+      (hull_of_averages (map average_of (extras_in (round + 1) item parts)))
+
+abbrev pub CombinedExactAveragesAreCertain : Type 0
+CombinedExactAveragesAreCertain =
+    (item : ℕ) (kinds : List ItemKind) (parts : List Told) (tables : List (List ℤ)) (round : ℕ) →
+    slice_get kinds item ≡ Some Avg → AreExactOf item parts tables → IsExactIn round item kinds parts tables

@@ -11,11 +11,12 @@ use Rattle.report_parts.specs.Combined.{answer_over, average_of, bound_of}
 use Rattle.report_parts.specs.Reports.{AreTold, blocks_text}
 use Rattle.report_parts.specs.Rounds.{block_for, has_block}
 use Rattle.report_parts.specs.Told.{Takes, Told}
+use Rattle.report_parts.specs.declared.entry.Entry.{Entry}
 use Rattle.report_text.specs.declared.answers.Answer.{Answer}
 
 -- the blocks of the one are those of the other, and perhaps more
 pub record GoesBehind (told next : Told) : Type 0 where
-  pub more : List (List Answer)
+  pub more : List (List Entry)
   pub blocks : next.blocks ≡ told.blocks ++ more
 
 abbrev pub LinesOnlyAdd : Type 0

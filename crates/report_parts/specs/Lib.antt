@@ -1,6 +1,7 @@
 pub mod Combined
 pub mod Course
 pub mod Ends
+pub mod Entries
 pub mod Headline
 pub mod Laws
 pub mod Narrowness

@@ -6,6 +6,7 @@ use Rattle.report_parts.specs.Told.{Told}
 -- this tells the same as the whole report, but for the blocks before that round
 pub record TellsFrom (round : ℕ) (whole told : Told) : Type 0 where
   pub tag : told.tag ≡ whole.tag
+  pub closing : told.closing ≡ whole.closing
   pub current : told.current ≡ whole.current
   pub place : told.place ≡ whole.place
   pub count : length told.blocks ≡ length whole.blocks

@@ -1,10 +1,9 @@
 -- Which block of a part stands for a round of all parts.
-use Rattle.std.specs.Prelude.{ℕ, ◌-◌, ◌+◌, nat_lt, nat_le, min, pos, Bool, true, false, ◌&&◌, ◌||◌, List, [], length, map, slice_index_or}
-use Rattle.query_model.specs.declared.bounds.Nullity.TheVariants.{Always}
+use Rattle.std.specs.Prelude.{ℕ, ◌-◌, ◌+◌, nat_lt, nat_le, min, Bool, true, false, ◌&&◌, ◌||◌, List, [], length, map, slice_index_or}
 use Rattle.report_text.specs.declared.answers.Answer.{Answer}
-use Rattle.report_text.specs.declared.answers.Answer.TheVariants.{Value}
-use Rattle.report_text.specs.declared.forms.Form.TheVariants.{Decimals}
+use Rattle.report_parts.specs.Entries.{answers_of, entry_at, extras_of}
 use Rattle.report_parts.specs.Told.{Told}
+use Rattle.report_parts.specs.declared.entry.Entry.{Entry}
 use Rattle.report_parts.specs.declared.part.Place.{Place}
 use Rattle.report_parts.specs.declared.part.Place.TheVariants.{Query, Opened, Round, Items, Ended}
 
@@ -20,20 +19,22 @@ abbrev pub has_block : ℕ → Told → Bool
 has_block round told = is_ended told.place || nat_lt round (length told.blocks)
 
 -- its block for the round: where its report has ended before, the last
-abbrev pub block_for : ℕ → Told → List Answer
+abbrev pub block_for : ℕ → Told → List Entry
 block_for round told = slice_index_or told.blocks (min round (length told.blocks - 1)) []
 
--- no answer
-abbrev pub no_answer : Answer
-no_answer = Value (record { form = Decimals 0; bound = record { null = Always; lo = pos 0; hi = pos 0 } })
-
 -- what it says of an item
-abbrev pub answer_in : ℕ → ℕ → Told → Answer
-answer_in round item told = slice_index_or (block_for round told) item no_answer
+abbrev pub entry_in : ℕ → ℕ → Told → Entry
+entry_in round item told = entry_at item (block_for round told)
 
 -- what all parts say of an item in that round
+abbrev pub entries_in : ℕ → ℕ → List Told → List Entry
+entries_in round item parts = map (entry_in round item) parts
+
 abbrev pub answers_in : ℕ → ℕ → List Told → List Answer
-answers_in round item parts = map (answer_in round item) parts
+answers_in round item parts = answers_of (entries_in round item parts)
+
+abbrev pub extras_in : ℕ → ℕ → List Told → List Answer
+extras_in round item parts = extras_of (entries_in round item parts)
 
 -- no part goes on behind that round
 abbrev pub is_over : ℕ → Told → Bool

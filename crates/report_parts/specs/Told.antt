@@ -1,35 +1,91 @@
 -- What the lines of a part's report have told so far, and which line comes next.
-use Rattle.std.specs.Prelude.{◌≡◌, ◌⊎◌, ℕ, ◌+◌, ◌<◌, ◌^◌, ◌==◌, List, [], ◌∷◌, ◌++◌, length, slice_get, if◌then◌else◌}
-use Rattle.std.specs.declared.option.Option.TheVariants.{Some}
+use Rattle.std.specs.Prelude.{◌≡◌, ◌⊎◌, ℕ, ◌+◌, ◌-◌, ◌<◌, ◌^◌, ◌==◌, Bool, true, false, ◌&&◌, List, [], ◌∷◌, ◌++◌, length, set, slice_get}
+use Rattle.std.specs.Prelude.{if◌then◌else◌}
+use Rattle.std.specs.declared.option.Option.{Option}
+use Rattle.std.specs.declared.option.Option.TheVariants.{Some, None}
 use Rattle.query_model.specs.declared.query.ItemKind.{ItemKind}
+use Rattle.query_model.specs.declared.query.ItemKind.TheVariants.{Count, Sum, Min, Max, Avg}
 use Rattle.report_text.specs.Answers.{IsAnswerOf}
+use Rattle.report_text.specs.Extras.{IsExtraOf, IsRowsLine, extra_line}
 use Rattle.report_text.specs.Lines.{IsRoundLine, end_line, item_line, parts_line}
 use Rattle.report_text.specs.declared.answers.Answer.{Answer}
 use Rattle.report_text.specs.declared.lines.ReportEnd.{ReportEnd}
+use Rattle.report_parts.specs.Entries.{ends_with_extra, last_entry}
+use Rattle.report_parts.specs.declared.entry.Entry.{Entry}
+use Rattle.report_parts.specs.declared.closing.Closing.{Closing}
+use Rattle.report_parts.specs.declared.closing.Closing.TheVariants.{Unknown, Item, Extra}
 use Rattle.report_parts.specs.declared.part.Place.{Place}
 use Rattle.report_parts.specs.declared.part.Place.TheVariants.{Query, Opened, Round, Items, Ended}
 
--- the tag of the part; the whole blocks, each with an answer for each item; the answers of a block that is not whole yet; and what comes
--- next
+-- the tag of the part; the whole blocks, each with an entry for each item; the line that is the last of a block; the entries of a block that is
+-- not whole yet; and what comes next
 pub record Told : Type 0 where
   pub tag : List ℕ
-  pub blocks : List (List Answer)
-  pub current : List Answer
+  pub blocks : List (List Entry)
+  pub closing : Closing
+  pub current : List Entry
   pub place : Place
 
 -- before the first line
 abbrev pub nothing_told : List ℕ → Told
-nothing_told tag = record { tag = tag; blocks = []; current = []; place = Query }
+nothing_told tag = record { tag = tag; blocks = []; closing = Unknown; current = []; place = Query }
 
 abbrev pub at_place : Told → Place → Told
-at_place told place = record { tag = told.tag; blocks = told.blocks; current = told.current; place = place }
+at_place told place =
+    record { tag = told.tag; blocks = told.blocks; closing = told.closing; current = told.current; place = place }
 
--- with one answer more: a block with an answer for each of so many items is whole
-abbrev pub with_answer : ℕ → Told → Answer → Told
-with_answer items told answer =
-    if length told.current + 1 == items
-    then record { tag = told.tag; blocks = told.blocks ++ (told.current ++ answer ∷ []) ∷ []; current = []; place = Round }
-    else record { tag = told.tag; blocks = told.blocks; current = told.current ++ answer ∷ []; place = Items }
+-- ---- which line is the last of a block
+
+abbrev pub last_kind : List ItemKind → Option ItemKind
+last_kind kinds = slice_get kinds (length kinds - 1)
+
+abbrev pub is_count : Option ItemKind → Bool
+is_count None = false
+is_count (Some Count) = true
+is_count (Some Sum) = false
+is_count (Some Min) = false
+is_count (Some Max) = false
+is_count (Some Avg) = false
+
+-- behind a number of rows stands no line; behind another last item one stands where it does in the first block
+abbrev pub is_closed : Closing → Option ItemKind → List Entry → Bool
+is_closed Unknown last block = is_count last
+is_closed Item last block = true
+is_closed Extra last block = ends_with_extra block
+
+-- an entry for each item, and the line behind the last
+abbrev pub is_whole : List ItemKind → Closing → List Entry → Bool
+is_whole kinds closing block = (length block == length kinds) && is_closed closing (last_kind kinds) block
+
+abbrev pub closing_of : List Entry → Closing
+closing_of block = if ends_with_extra block then Extra else Item
+
+-- the block is whole
+abbrev pub closed : Told → Told
+closed told = record {
+  tag = told.tag;
+  blocks = told.blocks ++ told.current ∷ [];
+  closing = closing_of told.current;
+  current = [];
+  place = Round;
+}
+
+-- the block goes on, if it is not whole
+abbrev pub settled : List ItemKind → Told → Told
+settled kinds told = if is_whole kinds told.closing told.current then closed told else at_place told Items
+
+abbrev pub with_current : Told → List Entry → Told
+with_current told current =
+    record { tag = told.tag; blocks = told.blocks; closing = told.closing; current = current; place = told.place }
+
+-- with one answer more
+abbrev pub with_answer : List ItemKind → Told → Answer → Told
+with_answer kinds told answer = settled kinds (with_current told (told.current ++ record { answer = answer; extra = None } ∷ []))
+
+-- with the line behind the last answer
+abbrev pub with_extra : List ItemKind → Told → Answer → Told
+with_extra kinds told extra = settled kinds (with_current told
+    (set told.current (length told.current - 1) (record { answer = (last_entry told.current).answer; extra = Some extra })))
 
 -- ---- the line that comes next, and what is told with it
 
@@ -60,7 +116,35 @@ pub record Answers (kinds : List ItemKind) (told : Told) (line : List ℕ) (next
   pub kind : ItemKind
   pub answer : Answer
   pub is_next : IsNextAnswer kinds told line kind answer
-  pub told_so : next ≡ with_answer (length kinds) told answer
+  pub told_so : next ≡ with_answer kinds told answer
+
+-- in the line behind, what is told in another way of the item that was answered last
+pub record IsNextExtra (kinds : List ItemKind) (told : Told) (line : List ℕ) (kind : ItemKind) (extra : Answer) : Type 0 where
+  pub some : 0 < length told.current
+  pub first : ends_with_extra told.current ≡ false
+  pub there : slice_get kinds (length told.current - 1) ≡ Some kind
+  pub of_kind : IsExtraOf kind extra
+  pub is_line : extra_line kind (length told.current) extra ≡ line
+
+pub record Extends (kinds : List ItemKind) (told : Told) (line : List ℕ) (next : Told) : Type 0 where
+  pub kind : ItemKind
+  pub extra : Answer
+  pub is_next : IsNextExtra kinds told line kind extra
+  pub told_so : next ≡ with_extra kinds told extra
+
+-- behind the exact average that was told last, a line of the rows that it takes, which is passed over
+pub record PassesInside (kinds : List ItemKind) (told : Told) (line : List ℕ) (next : Told) : Type 0 where
+  pub average : slice_get kinds (length told.current - 1) ≡ Some Avg
+  pub exact : ends_with_extra told.current ≡ true
+  pub is_line : IsRowsLine (length told.current) line
+  pub same : next ≡ told
+
+-- so it is behind a block that ends with an exact average
+pub record PassesBehind (kinds : List ItemKind) (told : Told) (line : List ℕ) (next : Told) : Type 0 where
+  pub average : last_kind kinds ≡ Some Avg
+  pub exact : told.closing ≡ Extra
+  pub is_line : IsRowsLine (length kinds) line
+  pub same : next ≡ told
 
 -- the end, behind a block at least
 pub record Ends (told : Told) (line : List ℕ) (next : Told) : Type 0 where
@@ -75,11 +159,33 @@ IsOpened told line next = TellsParts told line next ⊎ BeginsRound told line ne
 abbrev pub GoesOn : Told → List ℕ → Told → Type 0
 GoesOn told line next = BeginsRound told line next ⊎ Ends told line next
 
+-- the first block ends with the line before this one
+pub record Closes (kinds : List ItemKind) (told : Told) (line : List ℕ) (next : Told) : Type 0 where
+  pub first : told.closing ≡ Unknown
+  pub all : length told.current ≡ length kinds
+  pub goes_on : GoesOn (closed told) line next
+
+-- the one, or else the other
+abbrev pub OrElse : (Told → Type 0) → (Told → Type 0) → Told → Type 0
+OrElse First Second next = First next ⊎ (((other : Told) → First other → ⊥) × Second next)
+
+abbrev pub TakesBehind : List ItemKind → Told → List ℕ → Told → Type 0
+TakesBehind kinds told line = OrElse (GoesOn told line) (PassesBehind kinds told line)
+
+abbrev pub TakesRest : List ItemKind → Told → List ℕ → Told → Type 0
+TakesRest kinds told line = OrElse (PassesInside kinds told line) (Closes kinds told line)
+
+abbrev pub TakesBehindAnswer : List ItemKind → Told → List ℕ → Told → Type 0
+TakesBehindAnswer kinds told line = OrElse (Extends kinds told line) (TakesRest kinds told line)
+
+abbrev pub TakesInside : List ItemKind → Told → List ℕ → Told → Type 0
+TakesInside kinds told line = OrElse (Answers kinds told line) (TakesBehindAnswer kinds told line)
+
 abbrev pub TakesAt : Place → List ℕ → List ItemKind → Told → List ℕ → Told → Type 0
 TakesAt Query query kinds told line next = Opens query told line next
 TakesAt Opened query kinds told line next = IsOpened told line next
-TakesAt Round query kinds told line next = GoesOn told line next
-TakesAt Items query kinds told line next = Answers kinds told line next
+TakesAt Round query kinds told line next = TakesBehind kinds told line next
+TakesAt Items query kinds told line next = TakesInside kinds told line next
 TakesAt (Ended end) query kinds told line next = ⊥
 
 -- a report of that query, which asks for items of these kinds, may go on with this line

@@ -5,23 +5,23 @@ use Rattle.std.specs.declared.option.Option.TheVariants.{Some, None}
 use Rattle.std.specs.List.{list_all}
 use Rattle.query_model.specs.declared.query.ItemKind.{ItemKind}
 use Rattle.report_text.specs.Lines.{end_line}
-use Rattle.report_text.specs.declared.answers.Answer.{Answer}
 use Rattle.report_text.specs.declared.lines.ReportEnd.{ReportEnd}
 use Rattle.report_parts.specs.Ends.{end_behind}
 use Rattle.report_parts.specs.Laws.{AllReach}
-use Rattle.report_parts.specs.Reports.{answers_over, block_text}
+use Rattle.report_parts.specs.Reports.{block_text, entries_over}
 use Rattle.report_parts.specs.Rounds.{has_block}
 use Rattle.report_parts.specs.Told.{Told}
+use Rattle.report_parts.specs.declared.entry.Entry.{Entry}
 
--- what is asked for: the kinds of the items, which answers are narrow, and which round is the last that is wanted
+-- what is asked for: the kinds of the items, which blocks are narrow, and which round is the last that is wanted
 pub record Wanted : Type 0 where
   pub kinds : List ItemKind
-  pub narrow : List Answer → Bool
+  pub narrow : List Entry → Bool
   pub last : ℕ → Bool
 
 -- the block of the round is narrow
 abbrev pub is_narrow_at : Wanted → ℕ → List Told → Bool
-is_narrow_at wanted round parts = wanted.narrow (answers_over round 0 wanted.kinds parts)
+is_narrow_at wanted round parts = wanted.narrow (entries_over round 0 wanted.kinds parts)
 
 -- how the report ends behind the block of that round, if it does
 abbrev pub end_at : Wanted → ℕ → List Told → Option ReportEnd

@@ -3,14 +3,14 @@
 ghost use Rattle.std.specs.Prelude.{◌≡◌, ◌≢◌, Err, IfOk, map, max};
 ghost use Rattle.query_model.specs.Bounds.{fractions_of};
 ghost use Rattle.shard_bounds.specs.Averages.{FitsAverage, combined_average};
-ghost use Rattle.report_parts.specs.Combined.{average_of, average_over, ratio_of, shown_average};
+ghost use Rattle.report_parts.specs.Combined.{average_of, average_over, exact_over, ratio_of, shown_average};
 
 use crate::fault::CombineFault;
 use crate::forms::{decimals_in, shared_form};
 use interval_calc::Fraction;
 use query_model::{AverageBound, Nullity};
 use report_text::{Answer, Number, Ratio, ShownAverage};
-use shard_bounds::combine_averages;
+use shard_bounds::{combine_averages, hull_of_averages};
 use std::alloc::{AllocError, Global};
 
 // A sum over a number of rows.
@@ -91,4 +91,14 @@ pub(crate) fn average_over(alloc: Global, answers: &[Answer]) -> Result<Answer, 
         }
         None => Err(CombineFault::TooWide),
     }
+}
+
+// What the lines behind tell over all parts, of which each has told an exact average.
+pub(crate) fn exact_over(alloc: Global, answers: &[Answer]) -> Result<Answer, AllocError>
+    ensures { IfOk result (λ answer. answer ≡ exact_over answers.now) }
+{
+    let bounds = averages_of(alloc, answers)?;
+    let decimals = decimals_in(shared_form(answers));
+    let hull = hull_of_averages(&bounds);
+    Ok(Answer::Average(shown_average(decimals, &hull)))
 }

@@ -3,59 +3,60 @@
 ghost use Rattle.std.specs.Prelude.{◌≡◌, ◌≤◌, ◌++◌, IfErr, IfOk, List, OnOk, Some, codes, decimal, length, slice_get};
 ghost use Rattle.std.specs.List.{All};
 ghost use Rattle.query_model.specs.declared.query.ItemKind.{ItemKind};
-ghost use Rattle.report_parts.specs.Combined.{answer_over};
+ghost use Rattle.report_parts.specs.Combined.{HasEntryTexts, HasExtraText, entry_over};
 ghost use Rattle.report_parts.specs.Course.{opening_text};
-ghost use Rattle.report_parts.specs.Reports.{IsBlockFault, answers_over, block_text, item_lines};
-ghost use Rattle.report_parts.specs.Rounds.{answers_in};
-ghost use Rattle.report_text.specs.Answers.{CanBeWritten};
+ghost use Rattle.report_parts.specs.Reports.{IsBlockFault, block_text, entries_over, entry_lines, extra_lines, item_lines};
+ghost use Rattle.report_parts.specs.Rounds.{entries_in};
 ghost use Rattle.report_text.specs.Lines.{parts_line, round_words};
 
 use crate::combined::combine_item;
+use crate::entry::Entry;
 use crate::fault::{BlockFault, CombineFault};
 use crate::part::Part;
 use daq_table::{TextBuf, written_number};
 use query_model::ItemKind;
-use report_text::{Answer, written_item};
+use report_text::{Answer, written_extra, written_item};
 use std::alloc::{AllocError, Global};
 
-// The answer over all parts in a round, of the item of that kind.
+// What is said over all parts in a round, of the item of that kind.
 fn item_over(
     alloc: Global,
     kind: ItemKind,
     round: usize,
     item: usize,
     parts: &[Part],
-) -> Result<Answer, BlockFault>
-    ensures few { IfOk result CanBeWritten }
-    ensures answer { IfOk result (λ answer. answer ≡ answer_over kind (answers_in round item parts.now)) }
+) -> Result<Entry, BlockFault>
+    ensures texts { IfOk result HasEntryTexts }
+    ensures entry { IfOk result (λ entry. entry ≡ entry_over kind (entries_in round item parts.now)) }
     ensures fault { IfErr result (λ why.
         (kinds : List ItemKind) → slice_get kinds item ≡ Some kind → IsBlockFault why round kinds parts.now) }
 {
     match combine_item(alloc, kind, round, item, parts) {
-        Ok(answer) => Ok(answer),
+        Ok(entry) => Ok(entry),
         Err(CombineFault::OtherDecimals) => Err(BlockFault::OtherDecimals(item)),
         Err(CombineFault::TooWide) => Err(BlockFault::TooWide(item)),
         Err(CombineFault::NoMemory) => Err(BlockFault::NoMemory),
     }
 }
 
-// The answers over all parts in a round, of each item.
-pub(crate) fn answers_over(
+// What is said over all parts in a round, of each item.
+pub(crate) fn entries_over(
     alloc: Global,
     round: usize,
     kinds: &[ItemKind],
     parts: &[Part],
-) -> Result<Vec<Answer>, BlockFault>
-    ensures answers { IfOk result (λ answers. answers.items ≡ answers_over round 0 kinds.now parts.now) }
-    ensures few { IfOk result (λ answers. All CanBeWritten answers.items) }
+) -> Result<Vec<Entry>, BlockFault>
+    ensures entries { IfOk result (λ entries. entries.items ≡ entries_over round 0 kinds.now parts.now) }
+    ensures count { IfOk result (λ entries. length kinds.now ≡ length entries.items) }
+    ensures texts { IfOk result (λ entries. All HasEntryTexts entries.items) }
     ensures fault { IfErr result (λ why. IsBlockFault why round kinds.now parts.now) }
 {
-    let mut answers = Vec::with_capacity(alloc, kinds.len())?;
+    let mut entries = Vec::with_capacity(alloc, kinds.len())?;
     for kind in kinds {
-        let answer = item_over(alloc, *kind, round, answers.len(), parts)?;
-        answers.push(answer)?;
+        let entry = item_over(alloc, *kind, round, entries.len(), parts)?;
+        entries.push(entry)?;
     }
-    Ok(answers)
+    Ok(entries)
 }
 
 // Puts a line and its line feed behind the text.
@@ -66,15 +67,44 @@ pub(crate) fn push_line(text: &mut Vec<u8>, line: &[u8]) -> Result<(), AllocErro
     text.extend_from_slice(b"\n")
 }
 
-// Puts the lines of the items behind the text.
-fn push_items(text: &mut Vec<u8>, answers: &[Answer]) -> Result<(), AllocError>
-    requires { All CanBeWritten answers.now }
-    ensures { OnOk result (text.new.items ≡ text.old.items ++ item_lines 1 answers.now) }
+// Puts the line behind that of an item behind the text, if there is one.
+fn push_extra(
+    text: &mut Vec<u8>,
+    kind: ItemKind,
+    number: u64,
+    extra: &Option<Answer>,
+) -> Result<(), AllocError>
+    requires { HasExtraText extra.now }
+    ensures { OnOk result (text.new.items ≡ text.old.items ++ extra_lines kind number extra.now) }
 {
-    let mut number: u64 = 0;
-    for answer in answers {
-        number += 1;
-        push_line(text, written_item(number, answer).bytes())?;
+    match extra {
+        Some(answer) => push_line(text, written_extra(kind, number, answer).bytes()),
+        None => Ok(()),
+    }
+}
+
+// Puts the lines of an item behind the text.
+fn push_entry(
+    text: &mut Vec<u8>,
+    kind: ItemKind,
+    number: u64,
+    entry: &Entry,
+) -> Result<(), AllocError>
+    requires { HasEntryTexts entry.now }
+    ensures { OnOk result (text.new.items ≡ text.old.items ++ entry_lines kind number entry.now) }
+{
+    push_line(text, written_item(number, &entry.answer).bytes())?;
+    push_extra(text, kind, number, &entry.extra)
+}
+
+// Puts the lines of the items behind the text.
+fn push_items(text: &mut Vec<u8>, kinds: &[ItemKind], entries: &[Entry]) -> Result<(), AllocError>
+    requires texts { All HasEntryTexts entries.now }
+    requires count { length kinds.now ≡ length entries.now }
+    ensures { OnOk result (text.new.items ≡ text.old.items ++ item_lines 1 kinds.now entries.now) }
+{
+    for place in 0..entries.len() {
+        push_entry(text, kinds[place], place as u64 + 1, &entries[place])?;
     }
     Ok(())
 }
@@ -97,18 +127,20 @@ fn written_round(round: u64) -> TextBuf
     text
 }
 
-// The text of the block of a round in which these are the answers.
-pub(crate) fn written_answers(
+// The text of the block of a round that says this of items of these kinds.
+pub(crate) fn written_entries(
     alloc: Global,
     round: usize,
-    answers: &[Answer],
+    kinds: &[ItemKind],
+    entries: &[Entry],
 ) -> Result<Vec<u8>, AllocError>
-    requires { All CanBeWritten answers.now }
-    ensures { IfOk result (λ text. text.items ≡ (round_words round ++ codes "\n") ++ item_lines 1 answers.now) }
+    requires texts { All HasEntryTexts entries.now }
+    requires count { length kinds.now ≡ length entries.now }
+    ensures { IfOk result (λ text. text.items ≡ (round_words round ++ codes "\n") ++ item_lines 1 kinds.now entries.now) }
 {
     let mut text = Vec::new(alloc);
     push_line(&mut text, written_round(round as u64).bytes())?;
-    push_items(&mut text, answers)?;
+    push_items(&mut text, kinds, entries)?;
     Ok(text)
 }
 
@@ -122,8 +154,8 @@ pub fn written_block(
     ensures text { IfOk result (λ text. text.items ≡ block_text round kinds.now parts.now) }
     ensures fault { IfErr result (λ why. IsBlockFault why round kinds.now parts.now) }
 {
-    let answers = answers_over(alloc, round, kinds, parts)?;
-    Ok(written_answers(alloc, round, &answers)?)
+    let entries = entries_over(alloc, round, kinds, parts)?;
+    Ok(written_entries(alloc, round, kinds, &entries)?)
 }
 
 // How many parts a combined report is of.

@@ -11,7 +11,7 @@ ghost use Rattle.report_parts.specs.Tags.{IsRefused, TakesTagged, part_at};
 ghost use Rattle.report_parts.specs.Told.{Told};
 ghost use Rattle.report_parts.specs.Written.{end_at, end_text};
 
-use crate::blocks::{answers_over, push_line, written_answers};
+use crate::blocks::{entries_over, push_line, written_entries};
 use crate::ends::{end_behind, end_of_all, may_end, written_end};
 use crate::fault::{BlockFault, CourseFault, EndFault, InputFault};
 use crate::narrowness::are_narrow;
@@ -178,9 +178,9 @@ impl Combination {
         ensures fault { IfErr result (λ why. IsBlockFault why self.now.round self.now.task.kinds self.now.parts) }
     {
         let parts = self.parts.as_slice();
-        let answers = answers_over(alloc, self.round, &self.asked.kinds, parts)?;
-        let block = written_answers(alloc, self.round, &answers)?;
-        let narrow = are_narrow(self.until.width, &answers);
+        let entries = entries_over(alloc, self.round, &self.asked.kinds, parts)?;
+        let block = written_entries(alloc, self.round, &self.asked.kinds, &entries)?;
+        let narrow = are_narrow(self.until.width, &entries);
         let last = is_last(self.until.rounds, self.round);
         Ok(Ahead {
             block,

@@ -1,15 +1,17 @@
 //! What a line says of an answer over all parts.
 
-ghost use Rattle.std.specs.Prelude.{◌≡◌, ◌≢◌, ◌≤◌, Err, IfOk};
-ghost use Rattle.report_parts.specs.Combined.{AreAlike, FitsOver, answer_over, decimals_in, shared_form};
+ghost use Rattle.std.specs.Prelude.{◌≡◌, ◌≢◌, ◌≤◌, Err, IfOk, None, Some};
+ghost use Rattle.report_parts.specs.Combined.{AreAlikeEntries, FitEntries, FitsExtra, FitsOver, HasEntryTexts};
+ghost use Rattle.report_parts.specs.Combined.{answer_over, decimals_in, entry_over, extra_over, shared_form};
 ghost use Rattle.report_text.specs.Answers.{CanBeWritten};
-ghost use Rattle.report_parts.specs.Rounds.{answers_in};
+ghost use Rattle.report_parts.specs.Rounds.{entries_in};
 
-use crate::averages::average_over;
+use crate::averages::{average_over, exact_over};
+use crate::entry::{Entry, answers_of, extras_of, have_extras};
 use crate::fault::CombineFault;
 use crate::forms::are_alike;
 use crate::part::Part;
-use crate::rounds::answers_in;
+use crate::rounds::entries_in;
 use crate::values::combine_values;
 use query_model::ItemKind;
 use report_text::Answer;
@@ -32,24 +34,97 @@ fn answer_over(alloc: Global, kind: ItemKind, answers: &[Answer]) -> Result<Answ
     }
 }
 
-/// The answer of an item over all parts, by what they say in that round.
+// What the lines behind tell over all parts, by the kind of the item.
+fn extra_over(alloc: Global, kind: ItemKind, answers: &[Answer]) -> Result<Answer, CombineFault>
+    requires { decimals_in (shared_form answers.now) ≤ 18 }
+    ensures written { IfOk result CanBeWritten }
+    ensures combined { IfOk result (λ answer. answer ≡ extra_over kind answers.now) }
+    ensures wide { result ≡ Err CombineFault.TooWide → ¬ FitsExtra kind answers.now }
+    ensures alike { result ≢ Err CombineFault.OtherDecimals }
+{
+    match kind {
+        ItemKind::Count | ItemKind::Sum | ItemKind::Min | ItemKind::Max => {
+            combine_values(alloc, kind, answers)
+        }
+        ItemKind::Avg => Ok(exact_over(alloc, answers)?),
+    }
+}
+
+// The answer over all parts and what the lines behind tell, where what each part tells is alike.
+fn both_over(
+    alloc: Global,
+    kind: ItemKind,
+    answers: &[Answer],
+    extras: &[Answer],
+) -> Result<Entry, CombineFault>
+    requires answers { decimals_in (shared_form answers.now) ≤ 18 }
+    requires extras { decimals_in (shared_form extras.now) ≤ 18 }
+    ensures written { IfOk result HasEntryTexts }
+    ensures answer { IfOk result (λ entry. entry.answer ≡ answer_over kind answers.now) }
+    ensures extra { IfOk result (λ entry. entry.extra ≡ Some (extra_over kind extras.now)) }
+    ensures wide { result ≡ Err CombineFault.TooWide → ¬ (FitsOver kind answers.now × FitsExtra kind extras.now) }
+    ensures alike { result ≢ Err CombineFault.OtherDecimals }
+{
+    let answer = answer_over(alloc, kind, answers)?;
+    let extra = extra_over(alloc, kind, extras)?;
+    Ok(Entry {
+        answer,
+        extra: Some(extra),
+    })
+}
+
+// The entry of an answer alone.
+fn alone(alloc: Global, kind: ItemKind, answers: &[Answer]) -> Result<Entry, CombineFault>
+    requires { decimals_in (shared_form answers.now) ≤ 18 }
+    ensures written { IfOk result HasEntryTexts }
+    ensures answer { IfOk result (λ entry. entry ≡ record { answer = answer_over kind answers.now; extra = None }) }
+    ensures wide { result ≡ Err CombineFault.TooWide → ¬ FitsOver kind answers.now }
+    ensures alike { result ≢ Err CombineFault.OtherDecimals }
+{
+    Ok(Entry {
+        answer: answer_over(alloc, kind, answers)?,
+        extra: None,
+    })
+}
+
+// What the entries of all parts say of the item over all.
+fn entry_over(alloc: Global, kind: ItemKind, entries: &[Entry]) -> Result<Entry, CombineFault>
+    ensures written { IfOk result HasEntryTexts }
+    ensures alike { IfOk result (λ entry. AreAlikeEntries entries.now) }
+    ensures combined { IfOk result (λ entry. entry ≡ entry_over kind entries.now) }
+    ensures other { result ≡ Err CombineFault.OtherDecimals → ¬ AreAlikeEntries entries.now }
+    ensures wide { result ≡ Err CombineFault.TooWide → AreAlikeEntries entries.now × ¬ FitEntries kind entries.now }
+{
+    let answers = answers_of(alloc, entries)?;
+    if !are_alike(&answers) {
+        return Err(CombineFault::OtherDecimals);
+    }
+    if !have_extras(entries) {
+        return alone(alloc, kind, &answers);
+    }
+    let extras = extras_of(alloc, entries)?;
+    if !are_alike(&extras) {
+        return Err(CombineFault::OtherDecimals);
+    }
+    both_over(alloc, kind, &answers, &extras)
+}
+
+/// What is said of an item over all parts, by what they say in that round: its answer, and what the line behind tells, where each part has
+/// such a line.
 pub fn combine_item(
     alloc: Global,
     kind: ItemKind,
     round: usize,
     item: usize,
     parts: &[Part],
-) -> Result<Answer, CombineFault>
-    ensures written { IfOk result CanBeWritten }
-    ensures alike { IfOk result (λ answer. AreAlike (answers_in round item parts.now)) }
-    ensures combined { IfOk result (λ answer. answer ≡ answer_over kind (answers_in round item parts.now)) }
-    ensures other { result ≡ Err CombineFault.OtherDecimals → ¬ AreAlike (answers_in round item parts.now) }
+) -> Result<Entry, CombineFault>
+    ensures written { IfOk result HasEntryTexts }
+    ensures alike { IfOk result (λ entry. AreAlikeEntries (entries_in round item parts.now)) }
+    ensures combined { IfOk result (λ entry. entry ≡ entry_over kind (entries_in round item parts.now)) }
+    ensures other { result ≡ Err CombineFault.OtherDecimals → ¬ AreAlikeEntries (entries_in round item parts.now) }
     ensures wide { result ≡ Err CombineFault.TooWide
-        → AreAlike (answers_in round item parts.now) × ¬ FitsOver kind (answers_in round item parts.now) }
+        → AreAlikeEntries (entries_in round item parts.now) × ¬ FitEntries kind (entries_in round item parts.now) }
 {
-    let answers = answers_in(alloc, round, item, parts)?;
-    if !are_alike(&answers) {
-        return Err(CombineFault::OtherDecimals);
-    }
-    answer_over(alloc, kind, &answers)
+    let entries = entries_in(alloc, round, item, parts)?;
+    entry_over(alloc, kind, &entries)
 }

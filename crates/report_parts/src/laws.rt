@@ -1,14 +1,14 @@
 //! What holds of the lines of parts. Each law stands on a function that does nothing.
 
 ghost use Rattle.report_parts.specs.Course.{OrderIsFree, StandsIsCombined, TextIsOne};
-ghost use Rattle.report_parts.specs.Headline.{CombinedAveragesAreCertain, CombinedIsCertain};
+ghost use Rattle.report_parts.specs.Headline.{CombinedAveragesAreCertain, CombinedClipsAreCertain, CombinedExactAveragesAreCertain, CombinedIsCertain};
 ghost use Rattle.report_parts.specs.Laws.{AnswersContain, AnswersNest, AnswersTell, AveragesContain, LinesOnlyAdd, ReportsOnlyGrow, ToldBlocksStay};
 ghost use Rattle.report_parts.specs.Telling.{EndedStays, TellingIsOne};
 ghost use Rattle.report_parts.specs.Written.{WrittenStays};
 
 use shard_bounds::{
     averages_nest, combinations_contain, combinations_nest, combinations_report_averages,
-    combinations_tell, combinations_tell_averages,
+    combinations_tell, combinations_tell_averages, hulls_contain, hulls_nest,
 };
 
 /// A line takes nothing back of what was told before.
@@ -88,6 +88,15 @@ pub fn combined_is_certain()
     combinations_tell();
 }
 
+/// The same of the clipped bounds in the lines behind, which are printed where each part has them.
+pub fn combined_clips_are_certain()
+    ensures { CombinedClipsAreCertain }
+{
+    combinations_contain();
+    combinations_nest();
+    combinations_tell();
+}
+
 /// The same of averages: what is printed contains the average over the rows of all parts, lies within what the block before prints where
 /// those of the parts do, and is the sum and the number of all values where each part says its own.
 pub fn combined_averages_are_certain()
@@ -104,4 +113,13 @@ pub fn averages_contain()
     ensures { AveragesContain }
 {
     combinations_report_averages();
+}
+
+/// The exact ends of averages in the lines behind are printed where each part has them: what is printed contains the average over the rows
+/// of all parts, and lies within what the block before prints.
+pub fn combined_exact_averages_are_certain()
+    ensures { CombinedExactAveragesAreCertain }
+{
+    hulls_contain();
+    hulls_nest();
 }

@@ -3,9 +3,11 @@
 
 mod averages;
 mod blocks;
+mod closing;
 mod combination;
 mod combined;
 mod ends;
+mod entry;
 mod fault;
 mod forms;
 mod laws;
@@ -18,15 +20,17 @@ mod tags;
 mod values;
 
 pub use blocks::{written_block, written_opening};
+pub use closing::Closing;
 pub use combination::{Combination, Until};
 pub use combined::combine_item;
 pub use ends::{end_behind, may_end};
+pub use entry::Entry;
 pub use fault::{BlockFault, CombineFault, CourseFault, EndFault, InputFault, LineFault};
 pub use laws::{
     answers_contain, answers_nest, answers_tell, averages_contain, combined_averages_are_certain,
-    combined_is_certain, combined_text_is_one, ended_reports_stay, lines_only_add,
-    order_of_lines_is_free, reports_only_grow, stands_are_combined, tellings_are_one,
-    told_blocks_stay, written_stays,
+    combined_clips_are_certain, combined_exact_averages_are_certain, combined_is_certain,
+    combined_text_is_one, ended_reports_stay, lines_only_add, order_of_lines_is_free,
+    reports_only_grow, stands_are_combined, tellings_are_one, told_blocks_stay, written_stays,
 };
 pub use narrowness::is_narrow;
 pub use part::{Block, Part, Place};

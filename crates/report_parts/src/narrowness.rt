@@ -5,6 +5,7 @@ ghost use Rattle.std.specs.List.{list_all};
 ghost use Rattle.report_parts.specs.Narrowness.{is_narrow, is_told, near_numbers};
 
 use crate::averages::fraction_of;
+use crate::entry::Entry;
 use crate::near::are_near;
 use query_model::{Bound, Nullity};
 use report_text::Answer;
@@ -41,12 +42,12 @@ pub fn is_narrow(width: u64, answer: &Answer) -> bool
     }
 }
 
-// Whether each answer is narrow.
-pub(crate) fn are_narrow(width: u64, answers: &[Answer]) -> bool
-    ensures { result ≡ list_all (is_narrow width) answers.now }
+// Whether each answer is narrow, whatever the lines behind tell.
+pub(crate) fn are_narrow(width: u64, entries: &[Entry]) -> bool
+    ensures { result ≡ list_all (λ entry. is_narrow width entry.answer) entries.now }
 {
-    for answer in answers {
-        if !is_narrow(width, answer) {
+    for entry in entries {
+        if !is_narrow(width, &entry.answer) {
             return false;
         }
     }

@@ -1,12 +1,12 @@
 //! What the parts say in a round.
 
-ghost use Rattle.std.specs.Prelude.{◌≡◌, ◌<◌, ◌+◌, ◌^◌, IfOk, slice_index_or};
+ghost use Rattle.std.specs.Prelude.{◌≡◌, ◌<◌, ◌+◌, ◌^◌, IfOk};
 ghost use Rattle.std.specs.List.{list_all};
-ghost use Rattle.report_parts.specs.Rounds.{answer_in, answers_in, block_for, has_block, is_ended, is_over, no_answer};
+ghost use Rattle.report_parts.specs.Entries.{entry_at};
+ghost use Rattle.report_parts.specs.Rounds.{block_for, entries_in, entry_in, has_block, is_ended, is_over};
 
+use crate::entry::{Entry, NO_ANSWER};
 use crate::part::{Part, Place};
-use query_model::{Bound, Nullity};
-use report_text::{Answer, Form, ShownBound};
 use std::alloc::{AllocError, Global};
 
 // Whether the report has ended.
@@ -59,45 +59,41 @@ pub fn have_all_ended(round: usize, parts: &[Part]) -> bool
     true
 }
 
-const NO_ANSWER: Answer = Answer::Value(ShownBound {
-    form: Form::Decimals(0),
-    bound: Bound {
-        null: Nullity::Always,
-        lo: 0,
-        hi: 0,
-    },
-});
+const NO_ENTRY: Entry = Entry {
+    answer: NO_ANSWER,
+    extra: None,
+};
 
-// The answer of an item in a block.
-fn answer_at(item: usize, block: &[Answer]) -> Answer
-    ensures { result ≡ slice_index_or block.now item no_answer }
+// What a block says of an item.
+fn entry_at(item: usize, block: &[Entry]) -> Entry
+    ensures { result ≡ entry_at item block.now }
 {
     if item < block.len() {
         block[item]
     } else {
-        NO_ANSWER
+        NO_ENTRY
     }
 }
 
 // What the part says of an item in that round.
-fn answer_in(round: usize, item: usize, part: &Part) -> Answer
-    ensures { result ≡ answer_in round item part.now }
+fn entry_in(round: usize, item: usize, part: &Part) -> Entry
+    ensures { result ≡ entry_in round item part.now }
 {
-    answer_at(item, part.block_for(round))
+    entry_at(item, part.block_for(round))
 }
 
 // What all parts say of an item in that round.
-pub(crate) fn answers_in(
+pub(crate) fn entries_in(
     alloc: Global,
     round: usize,
     item: usize,
     parts: &[Part],
-) -> Result<Vec<Answer>, AllocError>
-    ensures { IfOk result (λ answers. answers.items ≡ answers_in round item parts.now) }
+) -> Result<Vec<Entry>, AllocError>
+    ensures { IfOk result (λ entries. entries.items ≡ entries_in round item parts.now) }
 {
-    let mut answers = Vec::with_capacity(alloc, parts.len())?;
+    let mut entries = Vec::with_capacity(alloc, parts.len())?;
     for part in parts {
-        answers.push(answer_in(round, item, part))?;
+        entries.push(entry_in(round, item, part))?;
     }
-    Ok(answers)
+    Ok(entries)
 }

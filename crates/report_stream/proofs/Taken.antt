@@ -8,18 +8,20 @@ use Rattle.std.specs.declared.cmp.Ordering.TheVariants.{Less, Equal, Greater}
 use Rattle.query_kinds.specs.Kinds.{Asks}
 use Rattle.query_model.specs.declared.query.ItemKind.{ItemKind}
 use Rattle.report_text.specs.Answers.{answer_text}
+use Rattle.report_text.specs.Extras.{IsRowsLine, extra_text}
 use Rattle.report_text.specs.Lines.{end_line}
 use Rattle.report_text.specs.declared.lines.ReportEnd.{ReportEnd}
 use Rattle.report_text.specs.declared.lines.ReportEnd.TheVariants.{Narrow, Reads, Rounds}
-use Rattle.report_text.specs.declared.answers.Answer.{Answer}
 use Rattle.report_parts.proofs.Courses.{passes_on, tag_of_told, tag_stays}
-use Rattle.report_parts.proofs.Grows.{all_keep, same_answers}
+use Rattle.report_parts.proofs.Grows.{all_keep, same_entries}
+use Rattle.report_parts.proofs.Stays.{follows}
 use Rattle.report_parts.proofs.Telling.{grown, telling_one, tells_split}
-use Rattle.report_parts.specs.Combined.{AreAlike, FitsOver}
+use Rattle.report_parts.specs.Combined.{AreAlikeEntries, FitEntries}
 use Rattle.report_parts.specs.Course.{IsLineFault, IsStopped, StopsBy, TakesLine, Task, Tell, wanted_of}
 use Rattle.report_parts.specs.Laws.{AllReach}
 use Rattle.report_parts.specs.Tags.{HasTab, IsRefused, IsTag, against, behind_tag, by_order, part_at, tag_of, told_of, with_part}
-use Rattle.report_parts.specs.Told.{TakesAt, Told, nothing_told}
+use Rattle.report_parts.specs.Told.{GoesOn, TakesAt, TakesBehindAnswer, TakesRest, Told, closed, nothing_told}
+use Rattle.report_parts.specs.declared.entry.Entry.{Entry}
 use Rattle.report_parts.specs.declared.fault.BlockFault.{BlockFault}
 use Rattle.report_parts.specs.declared.fault.BlockFault.TheVariants as b
 use Rattle.report_parts.specs.declared.fault.InputFault.{InputFault}
@@ -44,24 +46,42 @@ no_tab line none = by (nat_lt (position_or_len (λ c. c == 9) line) (length line
 pub asks_some : (query : List ℕ) (kinds : List ItemKind) → Asks query kinds → query ≢ []
 asks_some query kinds asks none = absurd (let e : [] ≡ codes "query " ++ asks.is_line.text = sym none ∙ asks.is_line.spelled in cc)
 
--- no report has an empty line
-no_empty : (place : Place) (query : List ℕ) (kinds : List ItemKind) (told next : Told) → query ≢ [] → TakesAt place query kinds told [] next → ⊥
-no_empty Query query kinds told next some h = some h.is_query
-no_empty Opened query kinds told next some (inl h) = absurd (let e = h.is_line in cc)
-no_empty Opened query kinds told next some (inr h) = absurd (let e = h.is_round.split in cc)
-no_empty Round query kinds told next some (inl h) = absurd (let e = h.is_round.split in cc)
-no_empty Round query kinds told next some (inr h) = by h.end h.is_line
+-- no line of an item is empty
+none_spelled : (number : ℕ) (text : List ℕ) → decimal number ++ (codes " " ++ text) ≡ [] → ⊥
+none_spelled number text e =
+    let long : length (decimal number ++ (codes " " ++ text)) ≡ 0 = ap length e in
+    let parts : length (decimal number ++ (codes " " ++ text)) ≡ length (decimal number) + length (codes " " ++ text) = length-append (decimal number) (codes " " ++ text) in
+    omega (arith, long, parts)
+
+none_rows : (number : ℕ) → IsRowsLine number [] → ⊥
+none_rows number h = none_spelled number h.text (sym h.split)
+
+none_goes_on : (told next : Told) → GoesOn told [] next → ⊥
+none_goes_on told next (inl h) = absurd (let e = h.is_round.split in cc)
+none_goes_on told next (inr h) = by h.end h.is_line
   where
     by : (end : ReportEnd) → end_line end ≡ [] → ⊥
     by Narrow e = absurd cc
     by Rounds e = absurd cc
     by Reads e = absurd cc
-no_empty Items query kinds told next some h =
-    let number = decimal (length told.current + 1) in
-    let rest = codes " " ++ answer_text h.answer in
-    let long : length (number ++ rest) ≡ 0 = ap length h.is_next.is_line in
-    let parts : length (number ++ rest) ≡ length number + length rest = length-append number rest in
-    omega (arith, long, parts)
+
+none_rest : (kinds : List ItemKind) (told next : Told) → TakesRest kinds told [] next → ⊥
+none_rest kinds told next (inl h) = none_rows (length told.current) h.is_line
+none_rest kinds told next (inr h) = none_goes_on (closed told) next h.1.goes_on
+
+none_behind : (kinds : List ItemKind) (told next : Told) → TakesBehindAnswer kinds told [] next → ⊥
+none_behind kinds told next (inl h) = none_spelled (length told.current) (extra_text h.kind h.extra) h.is_next.is_line
+none_behind kinds told next (inr h) = none_rest kinds told next h.1
+
+-- no report has an empty line
+no_empty : (place : Place) (query : List ℕ) (kinds : List ItemKind) (told next : Told) → query ≢ [] → TakesAt place query kinds told [] next → ⊥
+no_empty Query query kinds told next some h = some h.is_query
+no_empty Opened query kinds told next some (inl h) = absurd (let e = h.is_line in cc)
+no_empty Opened query kinds told next some (inr h) = absurd (let e = h.is_round.split in cc)
+no_empty Round query kinds told next some (inl h) = none_goes_on told next h
+no_empty Round query kinds told next some (inr h) = none_rows (length kinds) h.1.is_line
+no_empty Items query kinds told next some (inl h) = none_spelled (length told.current + 1) (answer_text h.answer) h.is_next.is_line
+no_empty Items query kinds told next some (inr h) = none_behind kinds told next h.1
 no_empty (Ended end) query kinds told next some h = absurd h
 
 -- ---- a part more
@@ -75,20 +95,6 @@ abbrev pub AllStarted : List Told → Type 0
 AllStarted [] = Unit {0}
 AllStarted (part ∷ parts) = (part.place ≢ Query) × AllStarted parts
 
-items_next : (last : Bool) (told a b : Told) → a.place ≢ Query → b.place ≢ Query → (if last then a else b).place ≢ Query
-items_next true told a b h k = h
-items_next false told a b h k = k
-
-started : (place : Place) (query : List ℕ) (kinds : List ItemKind) (told : Told) (line : List ℕ) (next : Told) → TakesAt place query kinds told line next → next.place ≢ Query
-started Query query kinds told line next h = λ e. absurd (let f : Opened ≡ Query = sym (ap (λ (t : Told). t.place) h.opened) ∙ e in cc)
-started Opened query kinds told line next (inl h) = λ e. absurd (let f : Round ≡ Query = sym (ap (λ (t : Told). t.place) h.passed) ∙ e in cc)
-started Opened query kinds told line next (inr h) = λ e. absurd (let f : Items ≡ Query = sym (ap (λ (t : Told). t.place) h.begun) ∙ e in cc)
-started Round query kinds told line next (inl h) = λ e. absurd (let f : Items ≡ Query = sym (ap (λ (t : Told). t.place) h.begun) ∙ e in cc)
-started Round query kinds told line next (inr h) = λ e. absurd (let f : Ended h.end ≡ Query = sym (ap (λ (t : Told). t.place) h.ended) ∙ e in cc)
-started Items query kinds told line next h =
-    λ e. items_next (length told.current + 1 == length kinds) told _ _ (λ f. absurd cc) (λ f. absurd cc) (sym (ap (λ (t : Told). t.place) h.told_so) ∙ e)
-started (Ended end) query kinds told line next h = absurd h
-
 put_started : (told : Told) (parts : List Told) → told.place ≢ Query → AllStarted parts → AllStarted (with_part told parts)
 put_started told [] h all = (h, tt)
 put_started told (part ∷ parts) h all =
@@ -100,7 +106,7 @@ tell_started task parts (line ∷ lines) last all h =
     let own = told_of (tag_of line) parts in
     let taken = h.1.taken in
     tell_started task h.0 lines last
-    (subst AllStarted (sym taken.put) (put_started taken.told parts (started own.place task.query task.kinds own (behind_tag line) taken.told taken.taken) all)) h.2
+    (subst AllStarted (sym taken.put) (put_started taken.told parts (follows own.place task.query task.kinds own (behind_tag line) taken.told refl taken.taken).begun all)) h.2
 
 -- where no part has told anything by that tag, it is one part more
 pub new_part : (told : Told) (parts : List Told) → AllStarted parts → told_of told.tag parts ≡ nothing_told told.tag → length (with_part told parts) ≡ suc (length parts)
@@ -127,7 +133,7 @@ not_refused i.NoTag task parts line next some all h memory none = none h.taken.i
 not_refused i.OtherPart task parts line next some all h memory (many, none) =
     let own = told_of (tag_of line) parts in
     let told = h.taken.told in
-    let tag : told.tag ≡ tag_of line = tag_stays own.place task.query task.kinds own (behind_tag line) told h.taken.taken ∙ tag_of_told (tag_of line) parts in
+    let tag : told.tag ≡ tag_of line = tag_stays task.query task.kinds own (behind_tag line) told h.taken.taken ∙ tag_of_told (tag_of line) parts in
     let mine : told_of told.tag parts ≡ nothing_told told.tag = subst (λ (t : List ℕ). told_of t parts ≡ nothing_told t) (sym tag) none in
     let grown = new_part told parts all mine in
     let long : length next ≡ length (with_part told parts) = ap length h.taken.put in
@@ -151,19 +157,19 @@ refuses_line task lines others line parts fault some told memory f =
 blocks_stand : (task : Task) (parts laters : List Told) (body more : List ℕ) (fault : BlockFault) → BlocksFit task laters → AllReach task.query task.kinds parts laters →
     fault ≢ b.NoMemory → StopsBy fault task parts body [] more → ⊥
 blocks_stand task parts laters body more (b.OtherDecimals item) fit reach memory s =
-    let same = same_answers task.query task.kinds s.round item parts laters reach s.has in
+    let same = same_entries task.query task.kinds s.round item parts laters reach s.has in
     fit s.round (body ++ s.more) (b.OtherDecimals item) (passes_on task.query (wanted_of task) parts laters s.round (body ++ s.more) reach s.passed)
     (all_keep task.query task.kinds s.round parts laters reach s.has) memory
-    (λ alike. s.fault (subst AreAlike same alike))
+    (λ alike. s.fault (subst AreAlikeEntries same alike))
 blocks_stand task parts laters body more (b.TooWide item) fit reach memory s =
-    let same = same_answers task.query task.kinds s.round item parts laters reach s.has in
+    let same = same_entries task.query task.kinds s.round item parts laters reach s.has in
     fit s.round (body ++ s.more) (b.TooWide item) (passes_on task.query (wanted_of task) parts laters s.round (body ++ s.more) reach s.passed)
     (all_keep task.query task.kinds s.round parts laters reach s.has) memory
     (record {
       kind = s.fault.kind;
       there = s.fault.there;
-      alike = subst AreAlike (sym same) s.fault.alike;
-      wide = λ fits. s.fault.wide (subst (λ (answers : List Answer). FitsOver s.fault.kind answers) same fits);
+      alike = subst AreAlikeEntries (sym same) s.fault.alike;
+      wide = λ fits. s.fault.wide (subst (λ (entries : List Entry). FitEntries s.fault.kind entries) same fits);
     })
 blocks_stand task parts laters body more b.NoMemory fit reach memory s = memory refl
 
@@ -188,7 +194,7 @@ tell_tagged task parts [] last all h = subst AllTagged (sym h) all
 tell_tagged task parts (line ∷ lines) last all h =
     let own = told_of (tag_of line) parts in
     let taken = h.1.taken in
-    let tag = tag_stays own.place task.query task.kinds own (behind_tag line) taken.told taken.taken ∙ tag_of_told (tag_of line) parts in
+    let tag = tag_stays task.query task.kinds own (behind_tag line) taken.told taken.taken ∙ tag_of_told (tag_of line) parts in
     tell_tagged task h.0 lines last (subst AllTagged (sym taken.put) (put_tagged taken.told parts (subst IsTag (sym tag) taken.is_tag) all)) h.2
 
 tag_there : (parts : List Told) (place : ℕ) → AllTagged parts → place < length parts → IsTag (part_at place parts).tag

@@ -2,8 +2,8 @@
 
 use query_model::{Bound, ItemKind, Nullity};
 use report_parts::{
-    Asked, BlockFault, Combination, CombineFault, EndFault, InputFault, LineFault, Part, Parts,
-    Until, all_have_block, combine_item, end_behind, have_all_ended, is_narrow, may_end,
+    Asked, BlockFault, Combination, CombineFault, EndFault, Entry, InputFault, LineFault, Part,
+    Parts, Until, all_have_block, combine_item, end_behind, have_all_ended, is_narrow, may_end,
     written_block, written_opening,
 };
 use report_text::{Answer, Form, Number, Ratio, ReportEnd, ShownAverage, ShownBound};
@@ -28,8 +28,11 @@ fn value_within(null: Nullity, lo: i128, hi: i128) -> Answer {
     })
 }
 
-fn value(null: Nullity, lo: i128, hi: i128) -> Result<Answer, CombineFault> {
-    Ok(value_within(null, lo, hi))
+fn value(null: Nullity, lo: i128, hi: i128) -> Result<Entry, CombineFault> {
+    Ok(Entry {
+        answer: value_within(null, lo, hi),
+        extra: None,
+    })
 }
 
 /// A part that ends behind its second block, and one that ends behind its first.

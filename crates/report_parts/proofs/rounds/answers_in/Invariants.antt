@@ -1,6 +1,0 @@
-use Rattle.std.proofs.Common.{◌≡◌, map, take}
-use Rattle.report_parts.specs.Rounds.{answer_in}
-use Rattle.report_parts.proofs.rounds.answers_in.Given as goal
-
-abbrev pub invariant-loop-part : goal.invariant-loop-part
-invariant-loop-part l = l.answers.items ≡ map (answer_in l.round l.item) (take l.part-index l.parts)
