@@ -6,7 +6,7 @@ use Rattle.outer_world.specs.Device.{SinkState, SourceState}
 use Rattle.query_model.specs.declared.query.ItemKind.{ItemKind}
 use Rattle.query_model.specs.declared.query.ItemKind.TheVariants.{Avg}
 use Rattle.report_parts.specs.Course.{Task, Tell}
-use Rattle.report_parts.specs.Headline.{AreCertainAverages, AreCertainOf, IsAverageIn, IsCertainIn}
+use Rattle.report_parts.specs.Headline.{AreCertainAverages, AreCertainOf, AreClippedOf, AreExactOf, IsAverageIn, IsCertainIn, IsClippedIn, IsExactIn}
 use Rattle.report_parts.specs.Told.{Told}
 use Rattle.report_parts.specs.declared.combination.Until.{Until}
 use Rattle.source_lines.specs.Lines.{most_bytes}
@@ -39,12 +39,17 @@ CombineAccepts c told text = (bytes : List ℕ) × (told ≡ Some bytes) × AreR
 -- ---- what becomes of a `combine`
 
 -- where the report of each part is certain of an item over the part's own rows, so is each block that is printed over the rows of all parts
--- together: it contains the answer, lies within the block before, and is the answer where each part says its own
+-- together: it contains the answer, lies within the block before, and is the answer where each part says its own. So it is of the clipped
+-- bounds in the lines behind. What a line behind says of an average contains it, and lies within what the block before says
 pub record AreCertainTogether (kinds : List ItemKind) (parts : List Told) : Type 0 where
   pub items : (item : ℕ) (kind : ItemKind) (tables : List (List ℤ)) (round : ℕ) → kind ≢ Avg → slice_get kinds item ≡ Some kind →
       AreCertainOf item kind parts tables → IsCertainIn round item kind kinds parts tables
   pub averages : (item : ℕ) (tables : List (List ℤ)) (round : ℕ) → slice_get kinds item ≡ Some Avg → AreCertainAverages item parts tables →
       IsAverageIn round item kinds parts tables
+  pub clips : (item : ℕ) (kind : ItemKind) (tables : List (List ℤ)) (round : ℕ) → kind ≢ Avg → slice_get kinds item ≡ Some kind →
+      AreClippedOf item kind parts tables → IsClippedIn round item kind kinds parts tables
+  pub exact_averages : (item : ℕ) (tables : List (List ℤ)) (round : ℕ) → slice_get kinds item ≡ Some Avg → AreExactOf item parts tables →
+      IsExactIn round item kinds parts tables
 
 -- the combined report of the lines that were read was written to its end. Each interval in it is certain, where those of the parts are
 pub record CombinesReports (c : Combine) (input input' : SourceState) (out out' : SinkState) : Type 0 where

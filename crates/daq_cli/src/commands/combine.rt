@@ -7,7 +7,10 @@ ghost use Rattle.daq_cli.specs.commands.Combine.{CombineCause, CombinesReports};
 use crate::refusal::{Refusal, refused_reports};
 use command_line::Combine;
 use outer_world::{Sink, Source};
-use report_parts::{Until, combined_averages_are_certain, combined_is_certain};
+use report_parts::{
+    Until, combined_averages_are_certain, combined_clips_are_certain,
+    combined_exact_averages_are_certain, combined_is_certain,
+};
 use report_stream::combine_reports;
 use std::alloc::Global;
 
@@ -26,6 +29,8 @@ pub(crate) fn carry_out<S: Source, K: Sink>(
 {
     combined_is_certain();
     combined_averages_are_certain();
+    combined_clips_are_certain();
+    combined_exact_averages_are_certain();
     let until = Until {
         width: asked.width,
         rounds: asked.rounds,
