@@ -1,8 +1,9 @@
 -- What reports show is what is read back, as statements. A public function with an empty body has each as its contract.
-use Rattle.std.specs.Prelude.{◌≡◌, ◌≢◌, ℕ, ◌<◌, ◌≤◌, ◌^◌, pos, ◌≤ℤ◌, FitsSigned}
+use Rattle.std.specs.Prelude.{◌≡◌, ◌≢◌, ℕ, ◌<◌, ◌≤◌, ◌^◌, ℤ, pos, ◌≤ℤ◌, FitsSigned, List, ◌++◌, codes}
 use Rattle.std.specs.Int.{w128}
 use Rattle.std.specs.declared.option.Option.{Option}
 use Rattle.std.specs.declared.option.Option.TheVariants.{Some, None}
+use Rattle.daq_report.specs.Extras.{clip_line, exact_line, taken_line}
 use Rattle.daq_report.specs.Intervals.{bound_text, column_of}
 use Rattle.daq_report.specs.Intervals as report
 use Rattle.daq_table.specs.declared.head.ColumnHead.{ColumnHead}
@@ -17,10 +18,14 @@ use Rattle.query_model.specs.declared.bounds.Nullity.{Nullity}
 use Rattle.query_model.specs.declared.bounds.Nullity.TheVariants.{Never, Possibly, Always}
 use Rattle.query_model.specs.declared.query.Face.{Face}
 use Rattle.query_model.specs.declared.query.Face.TheVariants.{Number, OfColumn}
+use Rattle.query_model.specs.declared.query.ItemKind.{ItemKind}
+use Rattle.query_model.specs.declared.query.ItemKind.TheVariants.{Avg}
 use Rattle.query_model.specs.declared.query.TypedQuery.{TypedQuery}
 use Rattle.report_text.specs.Averages.{IsShownAverage, average_text, no_ratio}
 use Rattle.report_text.specs.Bounds.{IsShown, shown_text}
+use Rattle.report_text.specs.Extras.{IsRowsLine, extra_line}
 use Rattle.report_text.specs.Forms.{HasTextsIn}
+use Rattle.report_text.specs.declared.answers.Answer.TheVariants.{Average, Value}
 use Rattle.report_text.specs.declared.averages.Ratio.{Ratio}
 use Rattle.report_text.specs.declared.averages.ShownAverage.{ShownAverage}
 use Rattle.report_text.specs.declared.bounds.ShownBound.{ShownBound}
@@ -100,3 +105,31 @@ pub record IsPlainAverage (decimals : ℕ) (bound : AverageBound) : Type 0 where
 
 abbrev pub AveragesCanBeRead : Type 0
 AveragesCanBeRead = (decimals : ℕ) (bound : AverageBound) → IsPlainAverage decimals bound → IsShownAverage (average_of decimals bound)
+
+-- ---- the lines behind that of an item
+
+-- a clipped bound is shown in the line that is read back
+abbrev pub ClipsAreShown : Type 0
+ClipsAreShown =
+    (head : Head) (query : TypedQuery) (face : Face) (form : Form) (bound : Bound) (kind : ItemKind) (number : ℕ) → kind ≢ Avg →
+    form_of_face head query face ≡ Some form →
+    clip_line head query number face (Some bound) ≡ extra_line kind number (Value (shown_of form bound)) ++ codes "\n"
+
+-- so are the exact ends of an average
+abbrev pub ExactAveragesAreShown : Type 0
+ExactAveragesAreShown =
+    (head : Head) (query : TypedQuery) (face : Face) (decimals : ℕ) (bound : AverageBound) (number : ℕ) →
+    form_of_face head query face ≡ Some (Decimals decimals) →
+    exact_line head query number face bound ≡ extra_line Avg number (Average (average_of decimals bound)) ++ codes "\n"
+
+-- a line of the rows that an end takes
+pub record ShowsRows (number : ℕ) (shown : List ℕ) : Type 0 where
+  pub line : List ℕ
+  pub is_line : IsRowsLine number line
+  pub ended : shown ≡ line ++ codes "\n"
+
+abbrev pub RowsAreShown : Type 0
+RowsAreShown =
+    (head : Head) (query : TypedQuery) (face : Face) (number : ℕ) (limit : List ℕ) (taken unknown : ℕ) (cut : Option ℤ) →
+    ShowsRows number (taken_line head query number face (codes " low takes ") limit (record { taken = taken; unknown = unknown; cut = cut }))
+    × ShowsRows number (taken_line head query number face (codes " high takes ") limit (record { taken = taken; unknown = unknown; cut = cut }))

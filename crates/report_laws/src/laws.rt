@@ -1,6 +1,7 @@
 //! What reports show is what is read back.
 
 ghost use Rattle.report_laws.specs.Laws.{AveragesAreShown, AveragesCanBeRead, BoundsAreShown, BoundsCanBeRead};
+ghost use Rattle.report_laws.specs.Laws.{ClipsAreShown, ExactAveragesAreShown, RowsAreShown};
 
 /// Where the ends of an answer are numbers or dates, the text that a report shows of its bound is the one that is read back.
 pub fn bounds_are_shown()
@@ -20,4 +21,19 @@ pub fn bounds_can_be_read()
 /// The same of the bound of an average.
 pub fn averages_can_be_read()
     ensures { AveragesCanBeRead }
+{}
+
+/// The line of a clipped bound behind that of its item is the one that is read back.
+pub fn clips_are_shown()
+    ensures { ClipsAreShown }
+{}
+
+/// So is the line of the exact ends of an average.
+pub fn exact_averages_are_shown()
+    ensures { ExactAveragesAreShown }
+{}
+
+/// The lines behind it are known as those of the rows that its ends take.
+pub fn rows_are_shown()
+    ensures { RowsAreShown }
 {}

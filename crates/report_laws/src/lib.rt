@@ -4,5 +4,8 @@
 mod laws;
 mod readers;
 
-pub use laws::{averages_are_shown, averages_can_be_read, bounds_are_shown, bounds_can_be_read};
+pub use laws::{
+    averages_are_shown, averages_can_be_read, bounds_are_shown, bounds_can_be_read,
+    clips_are_shown, exact_averages_are_shown, rows_are_shown,
+};
 pub use readers::{read_report_average, read_report_bound};
