@@ -71,11 +71,19 @@ module _ (law : Laws) (q : tree.Query) (head : Head) (bits : Planes) (options : 
     lies = λ round h world row is_world section for.
         grouping.holds law run ran.plan (rounds.sure law q head bits options ran) names grouped round (within round h) world (world_is round world is_world) row for.within section for.there for.key;
     narrows = λ round h world row is_world old new for_old for_new.
-        grouping.narrows law run ran.plan (rounds.sure law q head bits options ran) names grouped round (subst (λ n. round < n) (rounds.as_long law q head bits options ran) h) world
-        (world_is round world (world_before reading round world is_world)) (world_is (round + 1) world is_world) row for_old.within old new for_old.there for_new.there for_old.key for_new.key;
+        let before : round < length ran.reads = subst (λ n. round < n) (rounds.as_long law q head bits options ran) h in
+        let old_world = world_is round world (world_before reading round world is_world) in
+        let new_world = world_is (round + 1) world is_world in (
+          grouping.parts_narrow law run ran.plan (rounds.sure law q head bits options ran) names grouped round before world old_world new_world row for_old.within old new for_old.there for_new.there for_old.key for_new.key,
+          grouping.narrows law run ran.plan (rounds.sure law q head bits options ran) names grouped round before world old_world new_world row for_old.within old new for_old.there for_new.there for_old.key for_new.key,
+        );
     exact = λ round h all world row is_world section for.
-        grouping.is_it law run ran.plan (rounds.sure law q head bits options ran) names grouped round (within round h) world (world_is round world is_world) row for.within
-        (rounds.done_is law q head bits options ran round all) section for.there for.key;
+        let done = rounds.done_is law q head bits options ran round all in
+        let is = grouping.is_it law run ran.plan (rounds.sure law q head bits options ran) names grouped round (within round h) world (world_is round world is_world) row for.within done section for.there for.key in (
+          is.0,
+          grouping.parts_alone law run ran.plan (rounds.sure law q head bits options ran) names grouped round (within round h) world (world_is round world is_world) row for.within done section for.there for.key,
+          is.1,
+        );
   }
 
   has_sections : (round : ℕ) → HasSections reading round (sections round) (rounds.block law q head bits options ran round)

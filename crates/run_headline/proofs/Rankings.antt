@@ -58,6 +58,9 @@ module _ (law : Laws) (q : tree.Query) (head : Head) (bits : Planes) (options : 
         (rounds.world_is law q head bits options ran round world is_world);
     narrows = λ round row h row_in.
         ranked.narrows law run ran.plan (rounds.sure law q head bits options ran) key down limit ordered round row (subst (λ n. round < n) (rounds.as_long law q head bits options ran) h) row_in;
+    alone = λ round row h row_in all world is_world.
+        ranked.alone_there law run ran.plan (rounds.sure law q head bits options ran) key down limit ordered round row (within round h) row_in (rounds.done_is law q head bits options ran round all) world
+        (rounds.world_is law q head bits options ran round world is_world);
     exact = λ round row h row_in all. (row_told row row_in).exact round (within round h) (rounds.done_is law q head bits options ran round all);
   }
 

@@ -3,7 +3,8 @@ use Rattle.std.specs.Prelude.{◌≡◌, ℕ, ◌+◌, ◌<◌, ◌≤◌, true,
 use Rattle.std.specs.List.{AllZip, Contains}
 use Rattle.daq_table.specs.Tables.{Cells}
 use Rattle.query_model.specs.Meaning.{is_sql_true}
-use Rattle.sql_headline.specs.Sections.{AreSections, IsKeyOf, Section}
+use Rattle.sql_headline.specs.Intervals.{LiesInside}
+use Rattle.sql_headline.specs.Sections.{AreSections, IsKeyAlone, IsKeyOf, Section}
 use Rattle.sql_headline.specs.Spans.{IsIt, LiesIn, Narrows, answered}
 use Rattle.sql_meaning.specs.Answers.{asked}
 use Rattle.sql_meaning.specs.Conditions.{truth_of_where}
@@ -34,14 +35,14 @@ pub record HoldsGroups (reading : Reading) (sections : ℕ → List Section) : T
   pub lies : (round : ℕ) → round ≤ last_round reading → (world : Cells) (row : ℕ) → IsWorld reading round world →
       (section : Section) → IsFor reading (sections round) world row section →
       AllZip (λ span item. LiesIn span (answered item (rows_in reading world row))) section.spans (asked reading.text.head)
-  -- these lie inside those of the round before
+  -- parts and spans lie inside those of the round before
   pub narrows : (round : ℕ) → round < last_round reading → (world : Cells) (row : ℕ) → IsWorld reading (round + 1) world →
       (old new : Section) → IsFor reading (sections round) world row old → IsFor reading (sections (round + 1)) world row new →
-      AllZip Narrows old.spans new.spans
-  -- with all planes read its keys are present, and its spans are the answers alone
+      AllZip LiesInside old.parts new.parts × AllZip Narrows old.spans new.spans
+  -- with all planes read its keys are present, its parts are the values of the row alone, and its spans the answers alone
   pub exact : (round : ℕ) → round ≤ last_round reading → IsAllRead reading round → (world : Cells) (row : ℕ) →
       IsWorld reading round world → (section : Section) → IsFor reading (sections round) world row section →
-      (section.present ≡ true)
+      (section.present ≡ true) × IsKeyAlone section reading.text (row_at reading.head world row)
       × AllZip (λ span item. IsIt span (answered item (rows_in reading world row))) section.spans (asked reading.text.head)
 
 -- the block has the line of its round, and the sections

@@ -6,7 +6,7 @@ use Rattle.daq_table.specs.Tables.{Cells}
 use Rattle.query_model.specs.Ranking.{StandingKept}
 use Rattle.query_model.specs.declared.bounds.Standing.{Standing}
 use Rattle.query_model.specs.declared.bounds.Standing.TheVariants.{Certain, Excluded, Possible}
-use Rattle.sql_headline.specs.Intervals.{Encloses, Interval, LiesInside, Shows}
+use Rattle.sql_headline.specs.Intervals.{Encloses, Interval, IsAlone, LiesInside, Shows}
 use Rattle.sql_meaning.specs.Orders.{Order, is_among_first}
 use Rattle.sql_meaning.specs.Rows.{row_at}
 use Rattle.sql_text.specs.Tree.{Name}
@@ -69,7 +69,9 @@ pub record HoldsRows (reading : Reading) (key : Name) (down : Bool) (limit : Num
   -- and inside where it lay before
   pub narrows : (round row : ℕ) → round < last_round reading → row < reading.head.rows →
       LiesInside (places round row).key (places (round + 1) row).key
-  -- with all planes read no row is possible and no more
+  -- with all planes read it is that value alone, and no row is possible and no more
+  pub alone : (round row : ℕ) → round ≤ last_round reading → row < reading.head.rows → IsAllRead reading round → (world : Cells) →
+      IsWorld reading round world → IsAlone (places round row).key (row_at reading.head world row key.name)
   pub exact : (round row : ℕ) → round ≤ last_round reading → row < reading.head.rows → IsAllRead reading round →
       (places round row).standing ≢ Possible
 

@@ -17,6 +17,7 @@ use Rattle.daq_table.specs.declared.head.ColumnHead.{ColumnHead}
 use Rattle.daq_table.specs.declared.head.Kind.{Kind}
 use Rattle.daq_table.specs.declared.head.Kind.TheVariants as kinds
 use Rattle.interval_calc.specs.Intervals.{Within}
+use Rattle.query_model.proofs.Exact.{IsSingleRange, one_value}
 use Rattle.query_model.specs.Bounds.{Admits}
 use Rattle.query_model.specs.Knowledge.{Knowledge, is_legal, known_at, range_of}
 use Rattle.query_model.specs.Truths.{IsIn, Range, may_be_null, may_be_number}
@@ -36,8 +37,8 @@ use Rattle.sql_meaning.specs.Values.{Text, Value, compare, unless_null}
 use Rattle.sql_meaning.proofs.Enclosed.{compare_left, compare_right, in_order}
 use Rattle.sql_meaning.proofs.Named.{there}
 use Rattle.sql_meaning.proofs.Readings.{text_is}
-use Rattle.sql_headline.specs.Intervals.{Encloses, Interval}
-use Rattle.sql_headline.proofs.Ends.{enclosed, interval_of}
+use Rattle.sql_headline.specs.Intervals.{Encloses, Interval, IsAlone}
+use Rattle.sql_headline.proofs.Ends.{alone, enclosed, interval_of}
 
 -- ---- nulls
 
@@ -103,6 +104,16 @@ module _ (table : List ColumnHead) (columns : List ℕ) (c : ℕ) where
 
   pub lies : (range : Range) (z : Option ℤ) (v : Option Value) → IsShownAs shows z v → IsIn range z → Encloses (part range) v
   lies range z v is h = enclosed table columns (OfColumn c) (bound_of_range range) z v is (admits range z h)
+
+  -- a range of one value has that value alone
+  pub is_alone : (range : Range) (z : Option ℤ) (v : Option Value) → IsSingleRange range → IsShownAs shows z v → IsIn range z → IsAlone (part range) v
+  is_alone range z v single is h =
+      let same : range.numbers.low ≡ range.numbers.high = single.numbers in
+      alone table columns (OfColumn c) (bound_of_range range) z v is (admits range z h) single.null
+      (λ some. (
+        one_value range z (Some range.numbers.low) single h (number_in range.null some, record { above = omega (arith, ints); below = omega (arith, ints, same) }),
+        one_value range z (Some range.numbers.high) single h (number_in range.null some, record { above = omega (arith, ints, same); below = omega (arith, ints) }),
+      ))
 
   at_most_shown : (x y : ℤ) (u v : Value) → shows x ≡ Some u → shows y ≡ Some v → IsTrue (is_some_and (λ o. not (is_gt o)) (compare u v)) → x ≤ℤ y
   at_most_shown x y u v e f h =

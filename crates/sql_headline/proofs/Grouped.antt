@@ -14,7 +14,9 @@ use Rattle.plane_schedule.specs.declared.policy.Plan.{Plan}
 use Rattle.query_model.proofs.Cells.{illegal_cells_are_empty, legal_cells_have_keys}
 use Rattle.query_model.specs.Answers.{Key, groups_of}
 use Rattle.query_model.specs.Groups.{cell_of, parts_of}
+use Rattle.query_model.specs.Knowledge.{ranges_of}
 use Rattle.query_model.specs.Meaning.{is_sql_true}
+use Rattle.query_model.specs.Projection.{projected}
 use Rattle.query_model.specs.Queries.{Aggregate, Query}
 use Rattle.query_model.specs.declared.bounds.Nullity.TheVariants.{Always}
 use Rattle.query_model.specs.declared.query.Face.TheVariants as faces
@@ -38,18 +40,19 @@ use Rattle.sql_meaning.specs.Rows.{row_at}
 use Rattle.sql_meaning.specs.Values.{unless_null}
 use Rattle.sql_meaning.proofs.Named.{mapped, there}
 use Rattle.sql_meaning.proofs.Shares.{typed_as}
-use Rattle.table_rounds.proofs.Reached.{part_of}
+use Rattle.table_rounds.proofs.Reached.{columns_of_part, part_of}
 use Rattle.table_rounds.specs.Headline.{IsKeyOn}
 use Rattle.sql_headline.specs.Headline.{rows_in}
-use Rattle.sql_headline.specs.Intervals.{Encloses}
+use Rattle.sql_headline.specs.Intervals.{Encloses, IsAlone, LiesInside}
 use Rattle.sql_headline.specs.Lines.{IsCellOf}
 use Rattle.sql_headline.specs.Results.{IsInResult}
-use Rattle.sql_headline.specs.Sections.{AreSections, IsKeyOf, Section, with_names}
+use Rattle.sql_headline.specs.Sections.{AreSections, IsKeyAlone, IsKeyOf, Section, with_names}
 use Rattle.sql_headline.specs.Spans.{IsIt, LiesIn, Narrows, answered}
 use Rattle.sql_headline.specs.Worlds.{IsDone, IsGroupOf, IsWorld, Run, stage_at}
-use Rattle.sql_headline.proofs.Begun.{IsSure, Laws, certain, knowledge, own_cell}
+use Rattle.sql_headline.proofs.Begun.{IsSure, Laws, agrees, certain, knowledge, own_cell}
 use Rattle.sql_headline.proofs.Names.{IsKnown, IsShownIn, all_known, groups_are, names_shown, with_all}
-use Rattle.sql_headline.proofs.GroupParts.{IsPartThere, IsShownThere, all_inside, all_lie}
+use Rattle.sql_headline.proofs.Ranges.{cell_ranges, narrows_at, range, single_at}
+use Rattle.sql_headline.proofs.GroupParts.{IsPartThere, is_alone, IsShownThere, all_inside, all_lie}
 use Rattle.sql_headline.proofs.Items as items
 use Rattle.sql_headline.proofs.Keyed.{have_keys}
 use Rattle.sql_headline.proofs.Resulted.{tells_keys}
@@ -162,6 +165,16 @@ module _ (law : Laws) (run : Run) (plan : Plan) (is : IsSure run plan) (names : 
       (text : List ℕ) × (block_text run.head list extras (stage_at run round) round last ≡ round_line run.head (stage_at run round) round last ++ text) × AreSections (sections_at round) text
   block_is list extras round last =
       sectioned.block_is run.head (stage_at run round) groups (columns_there own known_own) (all_numbered run.query.items numbered) shape_is list extras round last
+
+  known_in : (n : Name) → IsKnown run.head.columns run.query.columns n → number n < length run.query.columns
+  known_in n known = slice_get_within run.query.columns (number n) known.place known.number
+
+  numbers_in : (ns : List Name) → AllByRecursion (IsKnown run.head.columns run.query.columns) ns → AllByRecursion (λ c. c < length run.query.columns) (map number ns)
+  numbers_in [] h = tt
+  numbers_in (n ∷ ns) h = (known_in n h.0, numbers_in ns h.1)
+
+  groups_in_part : AllByRecursion (λ c. c < length (part_of run.query (frame_of run.head)).columns) groups
+  groups_in_part = subst (λ n. AllByRecursion (λ c. c < n) groups) (sym (columns_of_part run.query (frame_of run.head))) (numbers_in own known_own)
 
   -- ---- a row of a world
 
@@ -278,6 +291,38 @@ module _ (law : Laws) (run : Run) (plan : Plan) (is : IsSure run plan) (names : 
           by_word section c k true e = e
           by_word section c k false e = absurd ((tells_keys law run plan is own_key on).exact round c.cell h (own_cell_of section c k) done (c.possible e))
 
+      -- ---- its parts
+
+      own_ranges : ranges_of_cell (parts_in (stage_at run round)) has_cell.cell ≡ map (ranges_of (stage_at run round).frame (stage_at run round).known one) (groups_of run.query.shape)
+      own_ranges =
+          cell_ranges (part_of run.query (frame_of run.head)) (stage_at run round).known (projected run.query world) one has_cell.cell (groups_of run.query.shape)
+          (agrees law run plan is round h world is_world).part one_in (subst (λ cs. AllByRecursion (λ c. c < length (part_of run.query (frame_of run.head)).columns) cs) (sym groups_is) groups_in_part) has_cell.belongs.1
+
+      parts_of_row : (section : Section) (c : IsOfCell run.head (stage_at run round) groups section) → IsKeyOf section run.text (row_at run.head world one) →
+          section.parts ≡ zip2 (sectioned.part_of run.head (stage_at run round)) groups (map (ranges_of (stage_at run round).frame (stage_at run round).known one) groups)
+      parts_of_row section c k =
+          ap (λ (s : Section). s.parts) c.is
+          ∙ ap (λ n. zip2 (sectioned.part_of run.head (stage_at run round)) groups (ranges_of_cell (parts_in (stage_at run round)) n)) (own_cell (stage_at run round) own_key c.cell has_cell (own_cell_of section c k))
+          ∙ ap (zip2 (sectioned.part_of run.head (stage_at run round)) groups) own_ranges
+          ∙ ap (λ cs. zip2 (sectioned.part_of run.head (stage_at run round)) groups (map (ranges_of (stage_at run round).frame (stage_at run round).known one) cs)) groups_is
+
+      alone_parts : IsDone run round → (ns : List Name) → AllByRecursion (IsKnown run.head.columns run.query.columns) ns → AllByRecursion (IsShownIn run.query run.head world one) ns →
+          AllZip (λ part name. IsAlone part (row_at run.head world one name.name)) (zip2 (sectioned.part_of run.head (stage_at run round)) (map number ns) (map (ranges_of (stage_at run round).frame (stage_at run round).known one) (map number ns))) ns
+      alone_parts done [] known shows = tt
+      alone_parts done (n ∷ ns) known shows = (
+        is_alone run.head.columns run.query.columns (number n) (range law run plan is round one (number n)) (numbers_at run.query run.head world one (number n)) (row_at run.head world one n.name)
+            (single_at law run plan is round one (number n) h one_in done) shows.0
+            ((certain law run plan is).values round h one (number n) one_in (known_in n known.0) world (agrees law run plan is round h world is_world)),
+        alone_parts done ns known.1 shows.1,
+      )
+
+      -- with all planes read they are the values of the row alone
+      pub parts_alone : IsDone run round → (section : Section) → Contains (sections_at round) section → IsKeyOf section run.text (row_at run.head world one) → IsKeyAlone section run.text (row_at run.head world one)
+      parts_alone done section has k =
+          subst (λ e. AllZip (λ part name. IsAlone part (row_at run.head world one name.name)) section.parts (with_names [] (grouping e))) (sym grouped)
+          (subst (λ l. AllZip (λ part name. IsAlone part (row_at run.head world one name.name)) l own) (sym (parts_of_row section (of_cell section has) k))
+          (alone_parts done own known_own (shown_names world is_world.has_values one one_in)))
+
     abbrev cells : RowCells
     cells = record { parts = parts_in (stage_at run round); cells = map (cell_of (stage_at run round).known (groups_of run.query.shape)) (rows_of (stage_at run round).frame) }
 
@@ -331,3 +376,23 @@ module _ (law : Laws) (run : Run) (plan : Plan) (is : IsSure run plan) (names : 
       subst (λ s. Narrows s y) x_is
       (subst (λ s. Narrows (span_for run t.0 key round) s) y_is
       ((spanned law run plan is t.0 key (on round h_old world before one one_in) item.element (record { place = place; in_text = item.get; in_query = t.1 })).narrows round h)))))
+
+  narrow_parts : (round one : ℕ) → round < length run.reads → one < run.head.rows → (cs : List ℕ) → AllByRecursion (λ c. c < length run.query.columns) cs →
+      AllZip LiesInside (zip2 (sectioned.part_of run.head (stage_at run round)) cs (map (ranges_of (stage_at run round).frame (stage_at run round).known one) cs))
+      (zip2 (sectioned.part_of run.head (stage_at run (round + 1))) cs (map (ranges_of (stage_at run (round + 1)).frame (stage_at run (round + 1)).known one) cs))
+  narrow_parts round one h one_in [] within = tt
+  narrow_parts round one h one_in (c ∷ cs) within = (narrows_at law run plan is round one c h one_in within.0, narrow_parts round one h one_in cs within.1)
+
+  -- and so do its parts
+  pub parts_narrow : (round : ℕ) → round < length run.reads → (world : Cells) → IsWorld run round world → IsWorld run (round + 1) world → (one : ℕ) → one < run.head.rows →
+      (old new : Section) → Contains (sections_at round) old → Contains (sections_at (round + 1)) new → IsKeyOf old run.text (row_at run.head world one) → IsKeyOf new run.text (row_at run.head world one) →
+      AllZip LiesInside old.parts new.parts
+  parts_narrow round h world before after one one_in old new has_old has_new k_old k_new =
+      let h_old : round ≤ length run.reads = omega (arith, h) in
+      let h_new : round + 1 ≤ length run.reads = omega (arith, h) in
+      let a = of_cell round h_old world before old has_old in
+      let b = of_cell (round + 1) h_new world after new has_new in
+      subst (λ l. AllZip LiesInside l new.parts) (sym (parts_of_row round h_old world before one one_in old a k_old))
+      (subst (λ l. AllZip LiesInside (zip2 (sectioned.part_of run.head (stage_at run round)) groups (map (ranges_of (stage_at run round).frame (stage_at run round).known one) groups)) l)
+      (sym (parts_of_row (round + 1) h_new world after one one_in new b k_new))
+      (narrow_parts round one h one_in groups (numbers_in own known_own)))

@@ -14,6 +14,7 @@ pub mod Names
 pub mod GroupParts
 pub mod Items
 pub mod Grouped
+pub mod Ranges
 pub mod Ranked
 pub mod Once
 pub mod Worlds

@@ -1,21 +1,19 @@
 -- A run of rows in an order: the lines of its blocks, and where the values of the rows lie.
-use Rattle.std.proofs.Common.{◌≡◌, ℕ, ◌+◌, ◌<◌, ◌≤◌, nat_abs, Bool, List, [], ◌∷◌, ◌++◌, length, Option, Some, None, refl, sym, ap, subst, ◌∙◌, arith, if◌then◌else◌}
-use Rattle.std.proofs.lemmas.Int.{ints}
+use Rattle.std.proofs.Common.{◌≡◌, ℕ, ◌+◌, ◌<◌, ◌≤◌, nat_abs, Bool, List, [], ◌∷◌, ◌++◌, length, Option, refl, sym, ap, subst, ◌∙◌, if◌then◌else◌}
 use Rattle.std.proofs.lemmas.Option.{slice_get_within}
 use Rattle.std.specs.List.{AllByRecursion, flat_map, range_with_len}
 use Rattle.std.specs.Prelude.{codes}
 use Rattle.daq_report.specs.Blocks.{block_text, form_text, round_line}
 use Rattle.daq_report.specs.Intervals.{bound_text}
 use Rattle.daq_report.specs.Rankings.{bound_of_range, row_start, row_text, standing_at, top_line}
-use Rattle.daq_table.specs.Tables.{Cells, ends_at, frame_of}
+use Rattle.daq_table.specs.Tables.{Cells}
 use Rattle.plane_schedule.specs.declared.policy.Extras.{Extras}
 use Rattle.plane_schedule.specs.declared.policy.Plan.{Plan}
-use Rattle.query_model.proofs.Blocks.{range_ordered}
-use Rattle.query_model.specs.Knowledge.{known_at, prefix_at, ranges_of}
+use Rattle.query_model.specs.Knowledge.{ranges_of}
 use Rattle.query_model.specs.Queries.{Query}
 use Rattle.query_model.specs.Ranking.{StandingKept}
 use Rattle.query_model.specs.Validity.{IsTop}
-use Rattle.query_model.specs.Truths.{IsNarrower, Range}
+use Rattle.query_model.specs.Truths.{Range}
 use Rattle.query_model.specs.declared.bounds.Standing.{Standing}
 use Rattle.query_model.specs.declared.bounds.Standing.TheVariants.{Certain, Excluded, Possible}
 use Rattle.query_model.specs.declared.query.Face.TheVariants.{OfColumn}
@@ -28,13 +26,13 @@ use Rattle.sql_typing.specs.Names.{names_in, names_in_ending, names_in_filter, n
 use Rattle.sql_typing.specs.Typing.{columns_of, typed_ending}
 use Rattle.sql_typing.proofs.Alls.{all_right}
 use Rattle.sql_meaning.specs.Rows.{row_at}
-use Rattle.table_rounds.proofs.Reached.{columns_of_part, part_of}
-use Rattle.sql_headline.specs.Intervals.{Encloses, Interval, LiesInside, Shows}
-use Rattle.sql_headline.specs.Worlds.{IsWorld, Run, stage_at}
-use Rattle.sql_headline.proofs.Begun.{IsSure, Laws, agrees, certain, knowledge}
-use Rattle.sql_headline.proofs.Ends.{at_most, interval_of}
-use Rattle.sql_headline.proofs.GroupParts.{lies, null_in, null_out, number_in, number_out}
+use Rattle.sql_headline.specs.Intervals.{Encloses, Interval, IsAlone, LiesInside, Shows}
+use Rattle.sql_headline.specs.Worlds.{IsDone, IsWorld, Run, stage_at}
+use Rattle.sql_headline.proofs.Begun.{IsSure, Laws, agrees, certain}
+use Rattle.sql_headline.proofs.Ends.{interval_of}
+use Rattle.sql_headline.proofs.GroupParts.{is_alone, lies}
 use Rattle.sql_headline.proofs.Names.{IsKnown, IsShownIn, all_known, names_shown}
+use Rattle.sql_headline.proofs.Ranges.{narrows_at, single_at}
 use Rattle.sql_headline.proofs.Shown.{shown_interval}
 
 -- ---- lines
@@ -112,18 +110,13 @@ module _ (law : Laws) (run : Run) (plan : Plan) (is : IsSure run plan) (key : Na
       (of_key (IsShownIn run.query run.head world row) (names_shown run.text run.head world row row_in run.query is.typed is_world.has_values))
       ((certain law run plan is).values round h row number row_in inside world (agrees law run plan is round h world is_world))
 
+  -- with all planes read it is that value alone
+  pub alone_there : (round row : ℕ) → round ≤ length run.reads → row < run.head.rows → IsDone run round → (world : Cells) → IsWorld run round world → IsAlone (interval round row) (row_at run.head world row key.name)
+  alone_there round row h row_in done world is_world =
+      is_alone run.head.columns run.query.columns number (range round row) _ (row_at run.head world row key.name)
+      (single_at law run plan is round row number h row_in done)
+      (of_key (IsShownIn run.query run.head world row) (names_shown run.text run.head world row row_in run.query is.typed is_world.has_values))
+      ((certain law run plan is).values round h row number row_in inside world (agrees law run plan is round h world is_world))
+
   pub narrows : (round row : ℕ) → round < length run.reads → row < run.head.rows → LiesInside (interval round row) (interval (round + 1) row)
-  narrows round row h row_in =
-      let narrower : IsNarrower (range (round + 1) row) (range round row) = (certain law run plan is).values_nested round h row number row_in in
-      let after : round + 1 ≤ length run.reads = omega (arith, h) in
-      let in_part : number < length (part_of run.query (frame_of run.head)).columns = subst (λ n. number < n) (sym (columns_of_part run.query (frame_of run.head))) inside in
-      let legal = (knowledge law run plan is (round + 1) after).legal number row in_part row_in in
-      let stage = stage_at run (round + 1) in
-      let low_high = range_ordered (ends_at (part_of run.query (frame_of run.head)) number) (known_at stage.known number).read (prefix_at stage.known number row) legal in
-      let new = range (round + 1) row in
-      record {
-        null = λ some. null_out (range round row).null (narrower.values None (null_in new.null some));
-        full = λ some. number_out (range round row).null (narrower.values (Some new.numbers.low) (number_in new.null some, record { above = omega (arith, ints); below = low_high })).0;
-        low = λ some. at_most run.head.columns run.query.columns (OfColumn number) (range round row).numbers.low new.numbers.low narrower.numbers.low;
-        high = λ some. at_most run.head.columns run.query.columns (OfColumn number) new.numbers.high (range round row).numbers.high narrower.numbers.high;
-      }
+  narrows round row h row_in = narrows_at law run plan is round row number h row_in inside

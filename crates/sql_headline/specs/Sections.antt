@@ -6,7 +6,7 @@ use Rattle.daq_report.specs.Groups.{dotted, listed}
 use Rattle.sql_meaning.specs.Answers.{grouping}
 use Rattle.sql_meaning.specs.Conditions.{Row}
 use Rattle.sql_text.specs.Tree.{Name, Query}
-use Rattle.sql_headline.specs.Intervals.{Encloses, Interval, ShowsBy}
+use Rattle.sql_headline.specs.Intervals.{Encloses, Interval, IsAlone, ShowsBy}
 use Rattle.sql_headline.specs.Lined.{lines_of}
 use Rattle.sql_headline.specs.Spans.{IsShown, Span}
 
@@ -49,3 +49,7 @@ with_names seen (n ∷ ns) = with_names (if list_any (λ m. bytes_eq n.name m.na
 -- the values of the row in the columns of GROUP BY, each column once, lie where the section says
 abbrev pub IsKeyOf : Section → Query → Row → Type 0
 IsKeyOf section q row = AllZip (λ part name. Encloses part (row name.name)) section.parts (with_names [] (grouping q.ending))
+
+-- and are what it says alone
+abbrev pub IsKeyAlone : Section → Query → Row → Type 0
+IsKeyAlone section q row = AllZip (λ part name. IsAlone part (row name.name)) section.parts (with_names [] (grouping q.ending))
