@@ -51,7 +51,7 @@ pub record HasSections (reading : Reading) (round : ℕ) (sections : List Sectio
   pub are : AreSections sections text
   pub is : block ≡ line_of_round reading round ++ text
 
--- so are the blocks of a query with GROUP BY: their sections hold the groups
+-- these are the blocks of a query with GROUP BY: their sections hold the groups
 pub record HoldsSections (reading : Reading) (block : ℕ → List ℕ) : Type 0 where
   pub sections : ℕ → List Section
   pub shown : (round : ℕ) → round ≤ last_round reading → HasSections reading round (sections round) (block round)

@@ -44,7 +44,7 @@ pub record HasLines (reading : Reading) (options : Options) (round : ℕ) (texts
   pub alone : options.clip ≡ false → options.exact ≡ false → besides ≡ []
   pub is : block ≡ line_of_round reading round ++ lines_of 1 texts besides
 
--- so are the blocks of a query without GROUP BY and ORDER BY: the texts of their lines hold the answers
+-- these are the blocks of a query without GROUP BY and ORDER BY: the texts of their lines hold the answers
 pub record HoldsTotals (reading : Reading) (options : Options) (block : ℕ → List ℕ) : Type 0 where
   pub texts : ℕ → List (List ℕ)
   pub lines : (round : ℕ) → round ≤ last_round reading → HasLines reading options round (texts round) (block round)

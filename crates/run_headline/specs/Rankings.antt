@@ -75,7 +75,7 @@ pub record HoldsRows (reading : Reading) (key : Name) (down : Bool) (limit : Num
   pub exact : (round row : ℕ) → round ≤ last_round reading → row < reading.head.rows → IsAllRead reading round →
       (places round row).standing ≢ Possible
 
--- so are the blocks of a query with ORDER BY: their lines hold the first rows
+-- these are the blocks of a query with ORDER BY: their lines hold the first rows
 pub record HoldsRanking (reading : Reading) (list : Bool) (key : Name) (down : Bool) (limit : Num) (block : ℕ → List ℕ) : Type 0 where
   pub places : ℕ → ℕ → Place
   pub shown : (round : ℕ) → round ≤ last_round reading → HasRows reading list limit round (places round) (block round)
