@@ -7,3 +7,6 @@ pub mod Told
 pub mod Own
 pub mod Sessions
 pub mod Commands
+pub mod Added
+pub mod Extras
+pub mod TwoRuns

@@ -6,3 +6,5 @@ pub mod Rankings
 pub mod Told
 pub mod Sessions
 pub mod Headline
+pub mod Added
+pub mod TwoRuns

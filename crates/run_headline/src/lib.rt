@@ -2,5 +2,10 @@
 #![tactic(auto)]
 
 mod laws;
+mod two_runs;
 
 pub use laws::runs_hold_answers;
+pub use two_runs::{
+    equal_planes_give_equal_reports, extras_add_lines, last_rounds_cut_reports, runs_have_rounds,
+    runs_inquire,
+};
