@@ -1,0 +1,125 @@
+//! What is kept of the rows of a cell by their digits.
+
+ghost use Rattle.std.specs.Prelude.{◌≡◌, ◌<◌, List, [], ◌∷◌, ◌++◌, cond, pos};
+ghost use Rattle.query_model.specs.declared.query.ItemKind.TheVariants.{Sum};
+ghost use Rattle.query_model.specs.Bounds.{Pair};
+ghost use Rattle.aggregates.specs.SumsOfCells.{end_if};
+ghost use Rattle.aggregates.specs.Tallies.{tally_of};
+ghost use Rattle.digit_sums.specs.declared.ends.DigitEnds.{DigitEnds};
+ghost use Rattle.digit_sums.specs.Digits.{AreDigits, certain_rows, pair_by, tally_by, top_digits};
+
+use crate::ends::DigitEnds;
+use aggregates::Tally;
+use std::marker::Model;
+
+// The rows of a cell, which all count for certain or may all count: how many they are, how many of them have the digits of top, and of
+// their digits, as numbers, the least, the greatest and the sum.
+#[derive(Drop)]
+pub(crate) struct CellDigits {
+    certain: bool,
+    rows: u32,
+    at_top: u32,
+    least: u32,
+    greatest: u32,
+    sum: u64,
+}
+
+impl Model for CellDigits {
+    ghost use Rattle.digit_sums.specs.Digits.{IsKept, RowDigits};
+
+    ghost Value = { RowDigits };
+
+    ghost view = { λ c. record {
+      certain = c.certain;
+      rows = c.rows;
+      at_top = c.at_top;
+      least = c.least;
+      greatest = c.greatest;
+      sum = c.sum;
+    } };
+
+    ghost invariant = { λ c. IsKept (record {
+      certain = c.certain;
+      rows = c.rows;
+      at_top = c.at_top;
+      least = c.least;
+      greatest = c.greatest;
+      sum = c.sum;
+    }) };
+}
+
+// The end of a cell of so many rows, if it is kept.
+fn end_of(certain: u32, rows: u32, end: i128) -> Option<i128>
+    ensures { result ≡ end_if certain rows end }
+{
+    if certain == 0 && rows > 0 {
+        Some(end)
+    } else {
+        None
+    }
+}
+
+// A sum of the rows that count for certain, which is 0 where none does.
+fn sum_if(certain: bool, sum: i128) -> i128
+    ensures { result ≡ cond certain sum (pos 0) }
+{
+    if certain { sum } else { 0 }
+}
+
+impl CellDigits {
+    // That of no row.
+    pub(crate) fn none(certain: bool) -> CellDigits
+        ensures certain { result.certain ≡ certain }
+        ensures none { (ends : DigitEnds) → tally_by ends result ≡ tally_of Sum [] }
+    {
+        CellDigits {
+            certain,
+            rows: 0,
+            at_top: 0,
+            least: u32::MAX,
+            greatest: 0,
+            sum: 0,
+        }
+    }
+
+    // Adds a row by its digits; those of the greatest number are handed in.
+    pub(crate) fn add(&mut self, digits: u32, top: u32)
+        requires few { self.old.rows < 16777216 }
+        ensures certain { self.new.certain ≡ self.old.certain }
+        ensures added { (ends : DigitEnds) (ps : List Pair) → top ≡ top_digits ends → AreDigits ends digits
+            → tally_by ends self.old ≡ tally_of Sum ps
+            → tally_by ends self.new ≡ tally_of Sum (ps ++ pair_by ends self.old.certain digits ∷ []) }
+    {
+        self.rows += 1;
+        self.at_top += u32::from(digits == top);
+        self.least = self.least.min(digits);
+        self.greatest = self.greatest.max(digits);
+        self.sum += u64::from(digits);
+    }
+
+    // How many rows count for certain.
+    fn certain_rows(&self) -> u32
+        ensures { result ≡ certain_rows self.now }
+    {
+        if self.certain { self.rows } else { 0 }
+    }
+
+    // The tally of a sum of the rows.
+    pub(crate) fn tally(&self, ends: DigitEnds) -> Tally
+        ensures { result ≡ tally_by ends self.now }
+    {
+        let certain = self.certain_rows();
+        let low = ends.lows(self.rows, self.sum);
+        let spans = ends.spans(self.rows, self.at_top);
+        Tally {
+            certain: u64::from(certain),
+            all: u64::from(self.rows),
+            least_low: end_of(certain, self.rows, ends.low(self.least)),
+            greatest_high: end_of(certain, self.rows, ends.high(self.greatest)),
+            least_certain_high: None,
+            greatest_certain_low: None,
+            low_sum: sum_if(self.certain, low),
+            high_sum: low + i128::from(spans),
+        }
+    }
+}

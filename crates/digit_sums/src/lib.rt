@@ -1,0 +1,11 @@
+//! Sums of many cells over a column, to which rows are added by the digits that were read of their numbers: no end of a row is computed.
+#![tactic(auto)]
+
+mod cell;
+mod ends;
+mod numbers;
+mod sums;
+
+pub use ends::DigitEnds;
+pub use numbers::digit_ends;
+pub use sums::DigitSums;
