@@ -179,7 +179,7 @@ abbrev pub AreFrom : ℕ → List Cell → List Cell → Type 0
 AreFrom item olds [] = Unit {0}
 AreFrom item olds (cell ∷ cells) = IsFrom item cell olds × AreFrom item olds cells
 
--- a cell that is certain of an answer has one key, and one of these has it, with a bound within the old one
+-- one of these has all keys of the cell, and a bound within the cell's
 abbrev pub HasAgain : ℕ → Cell → List Cell → Type 0
 HasAgain item old [] = ⊥
 HasAgain item old (cell ∷ cells) =
@@ -189,7 +189,8 @@ abbrev pub AreKept : ItemKind → ℕ → List Cell → List Cell → Type 0
 AreKept kind item [] cells = Unit {0}
 AreKept kind item (old ∷ olds) cells = (IsUncertain kind (bound_at item old) ⊎ HasAgain item old cells) × AreKept kind item olds cells
 
--- a later report of a shard: its cells and bounds lie within those before, and what was certain of an answer is there again
+-- a later report of a shard: its cells and bounds lie within those before, and a cell that was certain of an answer is there again.
+-- So it is with the cells of a table: only one of one key is certain, and no plane parts it
 pub record IsLater (kind : ItemKind) (item : ℕ) (olds cells : List Cell) : Type 0 where
   pub before : AreCells kind item olds
   pub now : AreCells kind item cells
