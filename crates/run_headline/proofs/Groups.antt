@@ -6,6 +6,7 @@ use Rattle.daq_table.specs.Tables.{Cells}
 use Rattle.daq_table.specs.declared.table_head.Head.{Head}
 use Rattle.sql_headline.proofs.Begun.{Laws}
 use Rattle.sql_headline.proofs.Grouped as grouping
+use Rattle.sql_headline.proofs.LeftOpen.{left_open}
 use Rattle.sql_headline.specs.Sections.{Section}
 use Rattle.sql_headline.specs.Worlds as held
 use Rattle.sql_text.specs.Tree as tree
@@ -68,6 +69,19 @@ module _ (law : Laws) (q : tree.Query) (head : Head) (bits : Planes) (options : 
     present = λ round h section has is_present world is_world.
         let found = grouping.present law run ran.plan (rounds.sure law q head bits options ran) names grouped round (within round h) world (world_is round world is_world) section has is_present in
         (found.0, record { within = found.1; counts = found.2 }, record { within = found.1; there = has; key = found.3 });
+    possible = λ round h world row is_world section for word once texts.
+        let two = left_open law run ran.plan (rounds.sure law q head bits options ran) names grouped round (within round h) world (world_is round world is_world) row for.within texts once section for.there for.key word in (
+          (
+            two.0.0,
+            rounds.world_back law q head bits options ran round two.0.0 two.0.1,
+            record { row = two.0.2.row; in_result = record { within = two.0.2.within; counts = two.0.2.counts }; same = two.0.2.same },
+          ),
+          (
+            two.1.0,
+            rounds.world_back law q head bits options ran round two.1.0 two.1.1,
+            λ has. two.1.2 (record { row = has.row; within = has.in_result.within; counts = has.in_result.counts; same = has.same }),
+          ),
+        );
     lies = λ round h world row is_world section for.
         grouping.holds law run ran.plan (rounds.sure law q head bits options ran) names grouped round (within round h) world (world_is round world is_world) row for.within section for.there for.key;
     narrows = λ round h world row is_world old new for_old for_new.

@@ -1,13 +1,14 @@
 -- The report of groups: in each round a block of sections, and what these say of the groups of each world.
-use Rattle.std.specs.Prelude.{◌≡◌, ℕ, ◌+◌, ◌<◌, ◌≤◌, true, IsTrue, List, ◌++◌}
+use Rattle.std.specs.Prelude.{◌≡◌, ℕ, ◌+◌, ◌<◌, ◌≤◌, true, false, IsTrue, List, ◌++◌}
 use Rattle.std.specs.List.{AllZip, Contains}
 use Rattle.daq_table.specs.Tables.{Cells}
 use Rattle.query_model.specs.Meaning.{is_sql_true}
 use Rattle.sql_headline.specs.Intervals.{LiesInside}
-use Rattle.sql_headline.specs.Sections.{AreSections, IsKeyAlone, IsKeyOf, Section}
+use Rattle.sql_headline.specs.Attained.{HasTexts, keys_each_once}
+use Rattle.sql_headline.specs.Sections.{AreSections, IsKeyAlone, IsKeyOf, Section, is_same_key}
 use Rattle.sql_headline.specs.Spans.{IsIt, LiesIn, Narrows, answered}
 use Rattle.sql_meaning.specs.Answers.{asked}
-use Rattle.sql_meaning.specs.Conditions.{truth_of_where}
+use Rattle.sql_meaning.specs.Conditions.{Row, truth_of_where}
 use Rattle.sql_meaning.specs.Rows.{row_at}
 use Rattle.run_headline.specs.Printed.{line_of_round}
 use Rattle.run_headline.specs.Readings.{IsAllRead, IsWorld, Reading, last_round, rows_in}
@@ -23,6 +24,12 @@ pub record IsFor (reading : Reading) (sections : List Section) (world : Cells) (
   pub there : Contains sections section
   pub key : IsKeyOf section reading.text (row_at reading.head world row)
 
+-- a group of the result of a world has the values of a row in the columns of GROUP BY
+pub record HasGroup (reading : Reading) (world : Cells) (values : Row) : Type 0 where
+  pub row : ℕ
+  pub in_result : IsInResult reading world row
+  pub same : IsTrue (is_same_key reading.text (row_at reading.head world row) values)
+
 pub record HoldsGroups (reading : Reading) (sections : ℕ → List Section) : Type 0 where
   -- each group of the result of a world has a section. So a key without a section is in none
   pub each : (round : ℕ) → round ≤ last_round reading → (world : Cells) (row : ℕ) → IsWorld reading round world →
@@ -31,6 +38,13 @@ pub record HoldsGroups (reading : Reading) (sections : ℕ → List Section) : T
   pub present : (round : ℕ) → round ≤ last_round reading → (section : Section) → Contains (sections round) section →
       section.present ≡ true → (world : Cells) → IsWorld reading round world →
       (row : ℕ) × IsInResult reading world row × IsFor reading (sections round) world row section
+  -- where WHERE and GROUP BY name no column twice, and each column of texts has a text, keys that are only possible are in the result of
+  -- one world and missing in that of another
+  pub possible : (round : ℕ) → round ≤ last_round reading → (world : Cells) (row : ℕ) → IsWorld reading round world →
+      (section : Section) → IsFor reading (sections round) world row section → section.present ≡ false →
+      IsTrue (keys_each_once reading.text) → HasTexts reading.head →
+      ((other : Cells) × IsWorld reading round other × HasGroup reading other (row_at reading.head world row))
+      × ((other : Cells) × IsWorld reading round other × ¬ HasGroup reading other (row_at reading.head world row))
   -- of each section that is for a group: the answers over the rows of the group lie in its spans
   pub lies : (round : ℕ) → round ≤ last_round reading → (world : Cells) (row : ℕ) → IsWorld reading round world →
       (section : Section) → IsFor reading (sections round) world row section →

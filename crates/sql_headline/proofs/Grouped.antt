@@ -112,7 +112,7 @@ module _ (law : Laws) (run : Run) (plan : Plan) (is : IsSure run plan) (names : 
   known_names : AllByRecursion (IsKnown run.head.columns run.query.columns) names
   known_names = in_ending (IsKnown run.head.columns run.query.columns) (all_known run.text run.head run.query is.typed)
 
-  known_own : AllByRecursion (IsKnown run.head.columns run.query.columns) own
+  pub known_own : AllByRecursion (IsKnown run.head.columns run.query.columns) own
   known_own = with_all run.head.columns run.query.columns (IsKnown run.head.columns run.query.columns) [] names tt known_names
 
   pub shape_is : run.query.shape ≡ shapes.Grouped groups
@@ -121,7 +121,7 @@ module _ (law : Laws) (run : Run) (plan : Plan) (is : IsSure run plan) (names : 
       ∙ ap (λ cs. shapes.Grouped (group_columns run.head.columns cs names)) (sym (ap (λ (w : Query). w.columns) is.typed.same))
       ∙ ap shapes.Grouped (groups_are run.head.columns run.query.columns names known_names)
 
-  groups_is : groups_of run.query.shape ≡ groups
+  pub groups_is : groups_of run.query.shape ≡ groups
   groups_is = ap groups_of shape_is
 
   -- each group column is one of the table
@@ -185,12 +185,12 @@ module _ (law : Laws) (run : Run) (plan : Plan) (is : IsSure run plan) (names : 
     abbrev row : Row
     row = row_at run.head world one
 
-    shown_names : AllByRecursion (IsShownThere run.head.columns run.query.columns number (numbers_at run.query run.head world one) row) own
+    pub shown_names : AllByRecursion (IsShownThere run.head.columns run.query.columns number (numbers_at run.query run.head world one) row) own
     shown_names =
         with_all run.head.columns run.query.columns (IsShownIn run.query run.head world one) [] names tt
         (in_ending (IsShownIn run.query run.head world one) (names_shown run.text run.head world one one_in run.query is.typed values))
 
-    key_is : key ≡ map (numbers_at run.query run.head world one) groups
+    pub key_is : key ≡ map (numbers_at run.query run.head world one) groups
     key_is = ap (map (numbers_at run.query run.head world one)) groups_is
 
     -- the parts of a cell that has the key in its ranges enclose the values of the row
@@ -221,7 +221,7 @@ module _ (law : Laws) (run : Run) (plan : Plan) (is : IsSure run plan) (names : 
     legal : (section : Section) (c : IsOfCell run.head (stage_at run round) groups section) → IsTrue (is_legal_cell (parts_in (stage_at run round)) c.cell)
     legal section c = filled_is_legal (stage_at run round) c.cell illegal_cells_are_empty cells_tell_keys (knowledge law run plan is round h) c.told
 
-    of_cell : (section : Section) → Contains (sections_at round) section → IsOfCell run.head (stage_at run round) groups section
+    pub of_cell : (section : Section) → Contains (sections_at round) section → IsOfCell run.head (stage_at run round) groups section
     of_cell section has = sectioned.of_cell run.head (stage_at run round) groups section has
 
     module _ (one : ℕ) (one_in : one < run.head.rows) where
@@ -231,7 +231,7 @@ module _ (law : Laws) (run : Run) (plan : Plan) (is : IsSure run plan) (names : 
       group : IsGroupOf run world own_key one
       group = record { row = λ some. one_in; same = refl }
 
-      on : IsKeyOn run.query (frame_of run.head) own_key
+      pub on : IsKeyOn run.query (frame_of run.head) own_key
       on = have_keys law run plan is round world own_key one h is_world group
 
       has_cell : HasCell (stage_at run round) own_key
@@ -252,7 +252,7 @@ module _ (law : Laws) (run : Run) (plan : Plan) (is : IsSure run plan) (names : 
           )
 
       -- a section of the row is that of the key's cell
-      own_cell_of : (section : Section) (c : IsOfCell run.head (stage_at run round) groups section) → IsKeyOf section run.text (row_at run.head world one) → IsCellOf (stage_at run round) own_key c.cell
+      pub own_cell_of : (section : Section) (c : IsOfCell run.head (stage_at run round) groups section) → IsKeyOf section run.text (row_at run.head world one) → IsCellOf (stage_at run round) own_key c.cell
       own_cell_of section c k =
           let inside = from_key world is_world.has_values one one_in round c.cell section.present (legal section c) (subst (λ (s : Section). IsKeyOf s run.text (row_at run.head world one)) c.is k) in
           subst (IsCellOf (stage_at run round) own_key) (sym (has_cell.apart c.cell c.counted c.told inside)) own_is

@@ -19,3 +19,4 @@ pub mod Ranked
 pub mod Once
 pub mod Worlds
 pub mod Tight
+pub mod LeftOpen

@@ -47,7 +47,7 @@ module _ (table : List ColumnHead) (columns : List ℕ) where
   abbrev number : Name → ℕ
   number n = number_of table columns n.name
 
-  both_read : (xs ys : List ℕ) (ns ms : List Name) → xs ≡ map number ns → ys ≡ map number ms → xs ++ ys ≡ map number (ns ++ ms)
+  pub both_read : (xs ys : List ℕ) (ns ms : List Name) → xs ≡ map number ns → ys ≡ map number ms → xs ++ ys ≡ map number (ns ++ ms)
   both_read xs ys ns ms e f = ap (λ l. l ++ ys) e ∙ ap (λ l. map number ns ++ l) f ∙ sym (map-append number ns ms)
 
   expr_reads : (e : tree.Expr) → typed.columns_of (typed_expr table columns e) ≡ map number (names_in_expr e)
@@ -86,7 +86,7 @@ module _ (table : List ColumnHead) (columns : List ℕ) where
   pred_reads (tree.Both a b) = both_read _ _ (names_in_pred a) (names_in_pred b) (pred_reads a) (pred_reads b)
   pred_reads (tree.Either a b) = both_read _ _ (names_in_pred a) (names_in_pred b) (pred_reads a) (pred_reads b)
 
-  filter_reads : (o : Option tree.Pred) → columns_of_pred (typed_filter table columns o) ≡ map number (names_in_filter o)
+  pub filter_reads : (o : Option tree.Pred) → columns_of_pred (typed_filter table columns o) ≡ map number (names_in_filter o)
   filter_reads None = refl
   filter_reads (Some a) = pred_reads a
 
@@ -96,7 +96,7 @@ module _ (table : List ColumnHead) (columns : List ℕ) where
   item_reads (tree.Call kind x) t e = ap (λ (w : Aggregate). typed.columns_of w.arg) (sym (same_Some (typed_call table columns kind x) t e)) ∙ expr_reads x
 
   -- names that differ have numbers that do
-  differ : (ns : List Name) → AllByRecursion (IsKnown table columns) ns → no_repeats (map number ns) ≡ names_differ ns
+  pub differ : (ns : List Name) → AllByRecursion (IsKnown table columns) ns → no_repeats (map number ns) ≡ names_differ ns
   differ [] known = refl
   differ (n ∷ ns) known =
       ap (λ b. not b && no_repeats (map number ns)) (any_alike table columns n ns known.0 known.1)

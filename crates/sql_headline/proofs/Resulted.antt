@@ -21,7 +21,7 @@ use Rattle.sql_headline.proofs.Begun.{IsSure, Laws, agrees, certain, own_cell, s
 use Rattle.table_rounds.proofs.Reached.{part_of}
 use Rattle.query_model.specs.Bounds.{absence_of}
 
-as_long : (frame : Frame) (cs : List ℕ) (key : Key) → IsKey frame cs key → length key ≡ length cs
+pub as_long : (frame : Frame) (cs : List ℕ) (key : Key) → IsKey frame cs key → length key ≡ length cs
 as_long frame [] [] is = refl
 as_long frame [] (k ∷ ks) is = absurd is
 as_long frame (c ∷ cs) [] is = absurd is
@@ -29,7 +29,7 @@ as_long frame (c ∷ cs) (k ∷ ks) is = ap suc (as_long frame cs ks is.1)
 
 module _ (law : Laws) (run : Run) (plan : Plan) (is : IsSure run plan) where
   -- what is told of a cell is told of its key
-  absence_is : (key : Key) → IsKeyOn run.query (frame_of run.head) key → (round cell : ℕ) → round ≤ length run.reads → IsCellOf (stage_at run round) key cell
+  pub absence_is : (key : Key) → IsKeyOn run.query (frame_of run.head) key → (round cell : ℕ) → round ≤ length run.reads → IsCellOf (stage_at run round) key cell
       → absence_in_cell (stage_at run round) cell ≡ absence_of run.query key (stage_at run round).frame (stage_at run round).known
   absence_is key on round cell h own =
       let has = (certain law run plan is).in_cells round h key on in

@@ -9,6 +9,7 @@ use Rattle.daq_table.specs.declared.table_head.Head.{Head}
 use Rattle.sql_meaning.specs.Answers.{grouping}
 use Rattle.sql_text.specs.Tree.{Item, Name, Query}
 use Rattle.sql_typing.specs.Names.{names_in_filter, names_in_item}
+use Rattle.sql_headline.specs.Sections.{with_names}
 
 -- no name stands twice in the list
 abbrev pub names_differ : List Name → Bool
@@ -23,3 +24,7 @@ names_each_once q item = names_differ (names_in_filter q.pred ++ grouping q.endi
 abbrev pub HasTexts : Head → Type 0
 HasTexts head =
     (place : ℕ) (column : ColumnHead) → slice_get head.columns place ≡ Some column → IsTrue (is_text column.kind) → column.names ≢ []
+
+-- WHERE and the columns of GROUP BY, each once, name no column twice
+abbrev pub keys_each_once : Query → Bool
+keys_each_once q = names_differ (names_in_filter q.pred ++ with_names [] (grouping q.ending))

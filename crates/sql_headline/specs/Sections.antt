@@ -1,9 +1,9 @@
 -- The block of a query of groups: sections of lines, each for the keys that it may be of.
 use Rattle.std.specs.Prelude.{◌≡◌, ℕ, Bool, true, false, List, [], ◌∷◌, ◌++◌, codes, if◌then◌else◌}
-use Rattle.std.specs.List.{AllZip, list_any}
+use Rattle.std.specs.List.{AllZip, list_all, list_any}
 use Rattle.std.specs.Str.{bytes_eq}
 use Rattle.daq_report.specs.Groups.{dotted, listed}
-use Rattle.sql_meaning.specs.Answers.{grouping}
+use Rattle.sql_meaning.specs.Answers.{grouping, is_same}
 use Rattle.sql_meaning.specs.Conditions.{Row}
 use Rattle.sql_text.specs.Tree.{Name, Query}
 use Rattle.sql_headline.specs.Intervals.{Encloses, Interval, IsAlone, ShowsBy}
@@ -53,3 +53,7 @@ IsKeyOf section q row = AllZip (λ part name. Encloses part (row name.name)) sec
 -- and are what it says alone
 abbrev pub IsKeyAlone : Section → Query → Row → Type 0
 IsKeyAlone section q row = AllZip (λ part name. IsAlone part (row name.name)) section.parts (with_names [] (grouping q.ending))
+
+-- two rows have the same values there
+abbrev pub is_same_key : Query → Row → Row → Bool
+is_same_key q row other = list_all (λ name. is_same (row name.name) (other name.name)) (with_names [] (grouping q.ending))
