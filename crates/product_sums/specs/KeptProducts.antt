@@ -115,7 +115,8 @@ AreOuter table mask None None = Unit {0}
 AreOuter table mask None (Some outer) = ⊥
 AreOuter table mask (Some third) None = ⊥
 AreOuter table mask (Some third) (Some outer) =
-    (third.column < length table.frame.columns) × IsLinear third.column (term_of outer.term.now) × HasValues table (term_of outer.term.now) mask
+    (third.column < length table.frame.columns) × IsLinear third.column (term_of outer.term.now)
+    × HasValues table (term_of outer.term.now) mask
 
 -- ---- what planes give
 
@@ -207,7 +208,8 @@ no_sums = record { first_read = 0; second_read = 0; first = pos 0; second = pos 
 pub record ArePlaneSums (table : KnownTable) (mask : List Bool) (pair : Pair) (c : ℕ) (sums : List PairSums) : Type 0 where
   pub there : c < length table.frame.columns
   pub size : length sums ≡ planes (ends_at table.frame c)
-  pub read : (j : ℕ) → first_digit (column_at table c) ≤ j → j < (known_at table.known c).read → ArePairSums table (rows_with table mask c j) pair (get_or sums j no_sums)
+  pub read : (j : ℕ) → first_digit (column_at table c) ≤ j → j < (known_at table.known c).read →
+      ArePairSums table (rows_with table mask c j) pair (get_or sums j no_sums)
   pub unread : (j : ℕ) → (known_at table.known c).read ≤ j → j < length sums → get_or sums j no_sums ≡ no_sums
 
 -- ---- what is kept

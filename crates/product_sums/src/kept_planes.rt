@@ -125,8 +125,8 @@ impl Kept {
         self.whole.is_of(mask)
     }
 
-    // The ends of the product of two columns at the mask's rows, each times the number that the third column's digits make, added up. What is
-    // kept of its planes follows, and the rows of the whole do not yet.
+    // The ends of the product of two columns at the mask's rows, each times the number that the third column's digits make, added up. What
+    // is kept of its planes follows, and the rows of the whole do not yet.
     fn sum_numbered<'a>(
         &mut self,
         columns: &LentColumns<'_>,

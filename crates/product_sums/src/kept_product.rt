@@ -9,7 +9,8 @@ ghost use Rattle.query_model.specs.Answers.{total};
 ghost use Rattle.query_model.specs.Queries.{term_of};
 ghost use Rattle.query_model.specs.Truths.{span_of};
 ghost use Rattle.query_model.specs.Validity.{declared_ranges, FitsSum};
-ghost use Rattle.product_sums.specs.KeptProducts.{factor_end, inner_end, AreKeptEnds, AreOuter, AreRooms, CanFollowPair, IsKeptProduct, IsPair};
+ghost use Rattle.product_sums.specs.KeptProducts.{factor_end, inner_end, AreKeptEnds, AreOuter};
+ghost use Rattle.product_sums.specs.KeptProducts.{AreRooms, CanFollowPair, IsKeptProduct, IsPair};
 ghost use Rattle.product_sums.specs.Products.{sum_over, term_end, HasValues, IsProductSum};
 
 use crate::kept_column::{KeptColumns, columns_to_keep, inner_part, outer_ends, part_ends};

@@ -90,7 +90,8 @@ average_of decimals bound = average_by bound.null decimals bound
 abbrev pub AveragesAreShown : Type 0
 AveragesAreShown =
     (head : Head) (query : TypedQuery) (face : Face) (decimals : ℕ) (bound : AverageBound) →
-    form_of_face head query face ≡ Some (Decimals decimals) → report.average_text head query face bound ≡ average_text (average_of decimals bound)
+    form_of_face head query face ≡ Some (Decimals decimals) →
+    report.average_text head query face bound ≡ average_text (average_of decimals bound)
 
 -- a number of 128 bits over a count of 64 bits that is not 0
 pub record IsPlainFraction (ratio : Fraction) : Type 0 where
@@ -131,5 +132,7 @@ pub record ShowsRows (number : ℕ) (shown : List ℕ) : Type 0 where
 abbrev pub RowsAreShown : Type 0
 RowsAreShown =
     (head : Head) (query : TypedQuery) (face : Face) (number : ℕ) (limit : List ℕ) (taken unknown : ℕ) (cut : Option ℤ) →
-    ShowsRows number (taken_line head query number face (codes " low takes ") limit (record { taken = taken; unknown = unknown; cut = cut }))
-    × ShowsRows number (taken_line head query number face (codes " high takes ") limit (record { taken = taken; unknown = unknown; cut = cut }))
+    ShowsRows number
+    (taken_line head query number face (codes " low takes ") limit (record { taken = taken; unknown = unknown; cut = cut }))
+    × ShowsRows number
+    (taken_line head query number face (codes " high takes ") limit (record { taken = taken; unknown = unknown; cut = cut }))

@@ -1,5 +1,5 @@
 -- That a part of which the passed blocks are forgotten goes on as the whole report does, and says the same in each round behind them.
-use Rattle.std.proofs.Common.{◌≡◌, ◌⊎◌, ℕ, zero, suc, ◌+◌, ◌-◌, ◌<◌, ◌≤◌, ◌==◌, min, Bool, true, false, Some, None, slice_get, List, [], ◌∷◌, ◌++◌, length, map, set, remove, get_or, if◌then◌else◌, refl, sym, ap, subst, ◌∙◌, inl, inr, arith, replicate, length-append, take, drop}
+use Rattle.std.proofs.Common.{◌≡◌, ◌⊎◌, ℕ, zero, suc, ◌+◌, ◌-◌, ◌<◌, ◌≤◌, min, Bool, true, false, Some, None, slice_get, List, [], ◌∷◌, ◌++◌, length, map, set, remove, get_or, if◌then◌else◌, refl, sym, ap, subst, ◌∙◌, inl, inr, arith, replicate, length-append, take, drop}
 use Rattle.std.proofs.Math.Seq.{get_or-append_seam, take-append_seam}
 use Rattle.std.proofs.Math.ListN.{get_or-eq_default}
 use Rattle.std.proofs.lemmas.List.{get_or-append_right, get_or-replicate, get_or_append_left, length-replicate}

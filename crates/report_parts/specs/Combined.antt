@@ -109,8 +109,8 @@ answer_over Min answers = value_over Min answers
 answer_over Max answers = value_over Max answers
 answer_over Avg answers = average_over answers
 
--- what the lines behind tell is combined as the answers are, but for averages: of two exact averages that are one the rows are not known, so
--- the whole lies between the least and the greatest of them
+-- what the lines behind tell is combined as the answers are, but for averages: of two exact averages that are one the rows are not
+-- known, so the whole lies between the least and the greatest of them
 abbrev pub exact_over : List Answer → Answer
 exact_over answers = Average (shown_average (decimals_in (shared_form answers)) (hull_of_averages (map average_of answers)))
 

@@ -34,7 +34,11 @@ is_last (Some last) round = last == round
 
 -- a block is narrow where each answer is, whatever the lines behind tell
 abbrev pub wanted_of : Task → Wanted
-wanted_of task = record { kinds = task.kinds; narrow = λ entries. list_all (λ entry. is_narrow task.width entry.answer) entries; last = is_last task.last }
+wanted_of task = record {
+  kinds = task.kinds;
+  narrow = λ entries. list_all (λ entry. is_narrow task.width entry.answer) entries;
+  last = is_last task.last;
+}
 
 -- the query and the number of parts, before the blocks
 abbrev pub opening_text : List ℕ → ℕ → List ℕ

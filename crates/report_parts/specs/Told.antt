@@ -17,8 +17,8 @@ use Rattle.report_parts.specs.declared.closing.Closing.TheVariants.{Unknown, Ite
 use Rattle.report_parts.specs.declared.part.Place.{Place}
 use Rattle.report_parts.specs.declared.part.Place.TheVariants.{Query, Opened, Round, Items, Ended}
 
--- the tag of the part; the whole blocks, each with an entry for each item; the line that is the last of a block; the entries of a block that is
--- not whole yet; and what comes next
+-- the tag of the part; the whole blocks, each with an entry for each item; the line that is the last of a block; the entries of a block
+-- that is not whole yet; and what comes next
 pub record Told : Type 0 where
   pub tag : List ℕ
   pub blocks : List (List Entry)

@@ -1,8 +1,10 @@
 //! A combination of reports: it takes the lines of the input one by one, and writes what they tell.
 
-ghost use Rattle.std.specs.Prelude.{◌≡◌, ◌==◌, ◌<◌, ◌≤◌, ◌+◌, ◌++◌, ◌&&◌, [], None, Some, IfErr, IfOk, List, OnOk, false, is_none, is_some, length, true, ℕ};
+ghost use Rattle.std.specs.Prelude.{◌≡◌, ◌==◌, ◌<◌, ◌≤◌, ◌+◌, ◌++◌, ◌&&◌, [], None, Some};
+ghost use Rattle.std.specs.Prelude.{IfErr, IfOk, List, OnOk, false, is_none, is_some, length, true, ℕ};
 ghost use Rattle.std.specs.List.{list_all};
-ghost use Rattle.report_parts.specs.Course.{GoesOnTo, IsAhead, IsCourseFault, Moves, Rests, Stands, StopsBy, TakesOn, is_last, is_over_before, wanted_of};
+ghost use Rattle.report_parts.specs.Course.{GoesOnTo, IsAhead, IsCourseFault, Moves, Rests, Stands};
+ghost use Rattle.report_parts.specs.Course.{StopsBy, TakesOn, is_last, is_over_before, wanted_of};
 ghost use Rattle.report_parts.specs.Ends.{IsEndFault, end_of_all, first_open};
 ghost use Rattle.report_parts.specs.Passed.{AllTellFrom};
 ghost use Rattle.report_parts.specs.Reports.{IsBlockFault, block_text};

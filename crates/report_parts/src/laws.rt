@@ -1,8 +1,10 @@
 //! What holds of the lines of parts. Each law stands on a function that does nothing.
 
 ghost use Rattle.report_parts.specs.Course.{OrderIsFree, StandsIsCombined, TextIsOne};
-ghost use Rattle.report_parts.specs.Headline.{CombinedAveragesAreCertain, CombinedClipsAreCertain, CombinedExactAveragesAreCertain, CombinedIsCertain};
-ghost use Rattle.report_parts.specs.Laws.{AnswersContain, AnswersNest, AnswersTell, AveragesContain, LinesOnlyAdd, ReportsOnlyGrow, ToldBlocksStay};
+ghost use Rattle.report_parts.specs.Headline.{CombinedAveragesAreCertain, CombinedClipsAreCertain};
+ghost use Rattle.report_parts.specs.Headline.{CombinedExactAveragesAreCertain, CombinedIsCertain};
+ghost use Rattle.report_parts.specs.Laws.{AnswersContain, AnswersNest, AnswersTell, AveragesContain};
+ghost use Rattle.report_parts.specs.Laws.{LinesOnlyAdd, ReportsOnlyGrow, ToldBlocksStay};
 ghost use Rattle.report_parts.specs.Telling.{EndedStays, TellingIsOne};
 ghost use Rattle.report_parts.specs.Written.{WrittenStays};
 

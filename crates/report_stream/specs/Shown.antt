@@ -41,7 +41,8 @@ pub record ComesNext (rest line behind : List ℕ) : Type 0 where
 pub data ShowsFault (wanted : ℕ) (until : Until) (bytes : List ℕ) : StreamFault → Type 0 where
   no_line : IsRest bytes → ShowsFault wanted until bytes (OtherCount 0)
   ends_early : (lines : List (List ℕ)) (rest : List ℕ) (g : GoesRight wanted until bytes lines rest) (place : ℕ) (tag : List ℕ) →
-      IsRest rest → first_open g.combines.parts ≡ Some place → tag ≡ (part_at place g.combines.parts).tag → ShowsFault wanted until bytes (EndsEarly tag)
+      IsRest rest → first_open g.combines.parts ≡ Some place → tag ≡ (part_at place g.combines.parts).tag →
+      ShowsFault wanted until bytes (EndsEarly tag)
   other_count : (lines : List (List ℕ)) (rest : List ℕ) (g : GoesRight wanted until bytes lines rest) (count : ℕ) → IsRest rest →
       first_open g.combines.parts ≡ None → count ≡ length g.combines.parts → ShowsFault wanted until bytes (OtherCount count)
   no_query : (first behind : List ℕ) → ComesNext bytes first behind → IsNoQuery (behind_tag first) →

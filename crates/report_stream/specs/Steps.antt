@@ -62,8 +62,8 @@ pub data Puts (old : Course) (line text put : List ℕ) : Type 0 where
       IsCourseFault (Block fault) old line text put → Puts old line text put
 
 -- why a line with that number is not taken
-pub data StopsTake {K : Type 0} (old : Course) (line text : List ℕ) (number : ℕ) (sink sink' : K) (out out' : SinkState) (result : StreamFault)
-    : Type 0 where
+pub data StopsTake {K : Type 0} (old : Course) (line text : List ℕ) (number : ℕ) (sink sink' : K) (out out' : SinkState)
+    (result : StreamFault) : Type 0 where
   by_input : (fault : InputFault) → result ≡ of_input number fault → IsCourseFault (Input fault) old line text text → sink' ≡ sink →
       StopsTake old line text number sink sink' out out' result
   by_block : (why : LineRefusal) (fault : BlockFault) (put : List ℕ) → result ≡ Line number why → Line number why ≡ of_block number fault →

@@ -21,7 +21,8 @@ use Rattle.report_stream.specs.Faults.{of_block, of_input}
 use Rattle.report_stream.specs.declared.fault.LineRefusal.{LineRefusal}
 use Rattle.report_stream.specs.declared.fault.LineRefusal.TheVariants as r
 use Rattle.report_stream.specs.declared.fault.StreamFault.{StreamFault}
-use Rattle.report_stream.specs.declared.fault.StreamFault.TheVariants.{EndsEarly, Line, NoMemory, OtherCount, ReadFault, TooLong, WriteFault}
+use Rattle.report_stream.specs.declared.fault.StreamFault.TheVariants.{EndsEarly, Line, NoMemory, OtherCount}
+use Rattle.report_stream.specs.declared.fault.StreamFault.TheVariants.{ReadFault, TooLong, WriteFault}
 
 -- ---- the lines of an input
 

@@ -1,5 +1,5 @@
--- The lines behind that of an item, each without its line feed: its answer told once more, as its condition clips it or as an exact average,
--- and the rows that the ends of such an average take.
+-- The lines behind that of an item, each without its line feed: its answer told once more, as its condition clips it or as an exact
+-- average, and the rows that the ends of such an average take.
 use Rattle.std.specs.Prelude.{◌≡◌, ◌⊎◌, ℕ, List, ◌++◌, codes, decimal}
 use Rattle.query_model.specs.declared.query.ItemKind.{ItemKind}
 use Rattle.query_model.specs.declared.query.ItemKind.TheVariants.{Count, Sum, Min, Max, Avg}

@@ -6,7 +6,8 @@ use Rattle.outer_world.specs.Device.{SinkState, SourceState}
 use Rattle.query_model.specs.declared.query.ItemKind.{ItemKind}
 use Rattle.query_model.specs.declared.query.ItemKind.TheVariants.{Avg}
 use Rattle.report_parts.specs.Course.{Task, Tell}
-use Rattle.report_parts.specs.Headline.{AreCertainAverages, AreCertainOf, AreClippedOf, AreExactOf, IsAverageIn, IsCertainIn, IsClippedIn, IsExactIn}
+use Rattle.report_parts.specs.Headline.{AreCertainAverages, AreCertainOf, AreClippedOf, AreExactOf}
+use Rattle.report_parts.specs.Headline.{IsAverageIn, IsCertainIn, IsClippedIn, IsExactIn}
 use Rattle.report_parts.specs.Told.{Told}
 use Rattle.report_parts.specs.declared.combination.Until.{Until}
 use Rattle.source_lines.specs.Lines.{most_bytes}
