@@ -10,6 +10,7 @@ pub mod Interleaved
 pub mod MaskTruths
 pub mod Narrow
 pub mod Declared
+pub mod DigitCells
 pub mod Places
 pub mod PresenceCounts
 pub mod Unmoved

@@ -5,6 +5,7 @@ pub mod Promises
 pub mod Progresses
 pub mod Moves
 pub mod Counts
+pub mod DigitCells
 pub mod Selected
 pub mod SumEnds
 pub mod CountedSums

@@ -139,7 +139,7 @@ fn sum_rows(
 }
 
 // Whether a sum is kept for an item of this kind.
-fn is_summed(kind: ItemKind) -> bool
+pub(crate) fn is_summed(kind: ItemKind) -> bool
     ensures { IsTrue result → IsSumKind kind }
 {
     match kind {

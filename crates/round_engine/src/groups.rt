@@ -82,6 +82,7 @@ fn fill_item(
     } else if cells.count() <= FEW_CELLS && is_by_masks(item, columns) {
         masks.fill_parts(query, item, columns, filter, cells, single, running);
     } else if !masks.fill_counted(query, item, columns, filter, cells, single, running, kept)
+        && !masks.fill_digits(query, item, columns, filter, cells, single, running)
         && !masks.fill_compact(query, item, columns, filter, cells, single, running)
     {
         fill_cells(query, item, columns, filter, block, cells, single, running);

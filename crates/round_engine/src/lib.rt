@@ -12,6 +12,7 @@ mod compact_cells;
 mod counted_cells;
 mod counted_sums;
 mod counts;
+mod digit_cells;
 mod engine;
 mod engine_view;
 mod few_cells;

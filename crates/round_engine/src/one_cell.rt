@@ -14,6 +14,7 @@ ghost use Rattle.round_engine.specs.Stages.{IsOpenItem, IsOpenStage};
 
 use crate::selection::{Selected, Selection, select_all};
 use aggregates::{CellCounts, CellSums, Running, Tally};
+use digit_sums::DigitSums;
 use kleene_filter::Filter;
 use known_column::LentColumns;
 use plane_kernels::Mask;
@@ -30,6 +31,7 @@ pub(crate) struct CellMasks {
     pub(crate) none: Mask,
     pub(crate) counts: CellCounts,
     pub(crate) sums: CellSums,
+    pub(crate) digits: DigitSums,
 }
 
 impl<'a> Selected<'a> {
@@ -85,6 +87,7 @@ impl CellMasks {
             none: Mask::none(alloc, rows)?,
             counts: CellCounts::open(alloc, cells)?,
             sums: CellSums::open(alloc, cells)?,
+            digits: DigitSums::open(alloc, cells)?,
         })
     }
 

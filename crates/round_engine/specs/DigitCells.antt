@@ -1,0 +1,25 @@
+-- Sums of many cells over a bare column, by the digits of its numbers.
+use Rattle.std.specs.Prelude.{◌≡◌, ℕ, ◌<◌, Bool, List, length, take}
+use Rattle.digit_sums.specs.Digits.{AreEndsOf, DigitTallies}
+use Rattle.known_column.specs.Columns.{KnownColumn, rows_of_column}
+use Rattle.known_column.specs.KnownTables.{KnownTable, column_at}
+use Rattle.query_model.specs.Queries.{Aggregate, Column}
+use Rattle.round_engine.specs.CellAnswers.{StandBelow}
+use Rattle.round_engine.specs.Cells.{cells_in}
+use Rattle.round_engine.specs.Stages.{Stage}
+
+-- the item's argument is the column that is known so
+pub record IsOverColumn (item : Aggregate) (columns : KnownTable) (known : KnownColumn) : Type 0 where
+  pub column : ℕ
+  pub arg : item.arg ≡ Column column
+  pub within : column < length columns.frame.columns
+  pub is : known ≡ column_at columns column
+  pub rows : rows_of_column known ≡ columns.frame.rows
+
+-- each cell stands for the item's pairs of its rows below a number, by the column's ends as far as they are known, and it is told of each
+-- whether its rows count for certain
+pub record AreDigitSums
+    (stage : Stage) (item : Aggregate) (known : KnownColumn) (single : List Bool) (rows : ℕ) (sums : DigitTallies) : Type 0 where
+  pub stand : StandBelow stage item rows sums.tallies
+  pub ends : AreEndsOf known sums.ends
+  pub certain : sums.certain ≡ take (cells_in stage) single
