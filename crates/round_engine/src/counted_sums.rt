@@ -29,7 +29,7 @@ use query_model::{Expr, Item, ItemKind, TypedQuery};
 const MOST_COUNTS: u64 = 800;
 
 // Of sums that are kept a round counts a part of that alone.
-const MOST_KEPT_COUNTS: u64 = 1600;
+const MOST_KEPT_COUNTS: u64 = 4096;
 
 // How many counts a block may cost.
 fn most_counts(kept: &Option<KeptProduct>) -> u64 {
