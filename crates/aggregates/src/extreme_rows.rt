@@ -12,9 +12,9 @@ use known_column::Known;
 use plane_kernels::Mask;
 use std::simd::prelude::*;
 
-// Which of the numbers is sought.
+/// Which of some numbers is sought.
 #[derive(Clone, Copy)]
-pub(crate) enum Extreme {
+pub enum Extreme {
     Least,
     Greatest,
 }

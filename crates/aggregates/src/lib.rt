@@ -26,6 +26,7 @@ pub use ends::{
     End, ExtremeSpan, greatest_ends, greatest_high, least_ends, least_low, negative_lows,
     positive_highs, sum_ends, sum_highs, sum_lows,
 };
+pub use extreme_rows::Extreme;
 pub use kept_extreme::KeptExtreme;
 pub use kept_sum::KeptSum;
 pub use others::{OtherRows, sum_others};
