@@ -10,7 +10,7 @@ use Rattle.aggregates.specs.KeptSums.{CanFollow, HasFollowed, IsKept}
 use Rattle.aggregates.specs.Selections.{has_row}
 use Rattle.aggregates.proofs.KeptSums.{still_kept}
 use Rattle.daq_table.specs.Tables.{ends_at}
-use Rattle.known_column.specs.Columns.{KnownColumn, rows_of_column}
+use Rattle.known_column.specs.Columns.{KnownColumn, read_further, rows_of_column}
 use Rattle.known_column.specs.KnownTables.{column_at}
 use Rattle.kleene_filter.specs.Filters.{is_certain, is_possible, truths_under, AreSettled}
 use Rattle.kleene_filter.proofs.Decided.{bit_under, stays}
@@ -18,26 +18,11 @@ use Rattle.query_model.specs.Knowledge.{CanTake, ColumnKnowledge, known_at, long
 use Rattle.query_model.specs.declared.bounds.Truth.{Truth}
 use Rattle.query_model.specs.Meaning.{ReadsBelow}
 use Rattle.query_model.specs.Queries.{Aggregate, Column}
-use Rattle.round_engine.specs.declared.answers.Answers.{Answers}
-use Rattle.round_engine.specs.declared.answers.Answers.TheVariants.{Totals}
-use Rattle.round_engine.specs.declared.totals.Totals as declared
-use Rattle.round_engine.specs.Engines.{AreAnswers, StoodBefore}
-use Rattle.round_engine.specs.KeptSums.{AreKept, HoldSums, IsKeptOf, IsOpenSum, IsSumOf, columns_of}
+use Rattle.round_engine.specs.KeptSums.{IsOpenSum, IsSumOf, columns_of}
 use Rattle.round_engine.specs.Stages.{IsOpenItem, IsOpenStage, Stage, stepped}
-use Rattle.round_engine.proofs.Openings.{agree_push}
-
-pub opened_more : (rows : ℕ) (items : List Aggregate) (i : ℕ) (item : Aggregate) (kept : List (Option KeptSum)) (sum : Option KeptSum) → i < length items → item ≡ get_or items i item → HoldSums rows (take i items) kept →
-    IfSome sum (IsOpenSum rows) → HoldSums rows (take (i + 1) items) (kept ++ sum ∷ [])
-opened_more rows items i item kept sum within there opened room =
-    let more : take (i + 1) items ≡ take i items ++ item ∷ [] = take_more items i item within ∙ ap (λ x. take i items ++ x ∷ []) (sym there) in
-    let count : length (kept ++ sum ∷ []) ≡ length (take i items ++ item ∷ []) = simp length-append (omega (arith, opened.count)) in
-    subst (λ xs. HoldSums rows xs (kept ++ sum ∷ [])) (sym more) (record {
-      count = count;
-      each = agree_push (λ (it : Aggregate) (k : Option KeptSum). IfSome k (IsOpenSum rows)) (take i items) kept item sum opened.count opened.each room;
-    })
 
 -- the columns that items of an open stage read are there
-column_there : (stage : Stage) (i : ℕ) (item : Aggregate) (c : ℕ) → IsOpenStage stage → slice_get stage.query.items i ≡ Some item → item.arg ≡ Column c → c < length stage.frame.columns
+pub column_there : (stage : Stage) (i : ℕ) (item : Aggregate) (c : ℕ) → IsOpenStage stage → slice_get stage.query.items i ≡ Some item → item.arg ≡ Column c → c < length stage.frame.columns
 column_there stage i item c is at arg =
     let items = stage.query.items in
     let within : i < length items = slice_get_within items i item at in
@@ -50,62 +35,56 @@ never_off : (blocks : List Bool) (block : ℕ) → block < length blocks → blo
 never_off blocks block within all off = false≢true (sym off ∙ ap (λ l. get_or l block false) all ∙ get_or-replicate (length blocks) block true false within)
 
 -- of columns of which nothing is read
-pub held_sums : (stage : Stage) (kept : List (Option KeptSum)) → IsOpenStage stage → HoldSums stage.frame.rows stage.query.items kept → AreKept stage kept
-held_sums stage kept is held = record {
-  count = held.count;
-  each = λ i item sum at_item at_sum. told item sum (held.each i item sum at_item at_sum) (λ c arg. is.knowledge.rows c (column_there stage i item c is at_item arg));
+pub held_sum : (stage : Stage) (item : Aggregate) (sum : Option KeptSum) → IfSome sum (IsOpenSum stage.frame.rows) → ((c : ℕ) → item.arg ≡ Column c → rows_of_column (column_at (columns_of stage) c) ≡ stage.frame.rows) →
+    IfSome sum (λ sum. (c : ℕ) → item.arg ≡ Column c → IsSumOf stage c sum)
+held_sum stage item None room rows = tt
+held_sum stage item (Some s) opened rows = λ c arg. record {
+  is = opened.is (column_at (columns_of stage) c) (rows c arg);
+  room = opened.moves.room;
+  tight = opened.moves.tight;
+  settled = λ block j few inside off. absurd (never_off s.blocks block (omega (arith, inside, opened.moves.room)) opened.moves.each off);
 }
-  where
-    told : (item : Aggregate) (sum : Option KeptSum) → IfSome sum (IsOpenSum stage.frame.rows) →
-        ((c : ℕ) → item.arg ≡ Column c → rows_of_column (column_at (columns_of stage) c) ≡ stage.frame.rows) → IsKeptOf stage item sum
-    told item None room rows = tt
-    told item (Some s) opened rows = λ c arg. record {
-      is = opened.is (column_at (columns_of stage) c) (rows c arg);
-      room = opened.moves.room;
-      tight = opened.moves.tight;
-      settled = λ block j few inside off. absurd (never_off s.blocks block (omega (arith, inside, opened.moves.room)) opened.moves.each off);
-    }
+
+-- what is known of a column after a plane of one: of this one a digit more, of another the same
+pub column_longer : (before : Stage) (column c : ℕ) (bits : List Bool) → IsOpenStage before → c < length before.frame.columns → c ≡ column →
+    column_at (columns_of (stepped before column bits)) c ≡ read_further (column_at (columns_of before) c) bits
+column_longer before column c bits is there here =
+    let known = before.known in
+    let none : ColumnKnowledge = record { read = 0; prefixes = [] } in
+    let after : ColumnKnowledge → KnownColumn = λ w. record { ends = ends_at before.frame c; known = w } in
+    ap after (ap (λ k. known_at (taken known k bits) c) (sym here) ∙ get_or-set_same known c (longer_column (known_at known c) bits) none (omega (arith, there, is.knowledge.columns)))
+
+pub column_same : (before : Stage) (column c : ℕ) (bits : List Bool) → c ≢ column → column_at (columns_of (stepped before column bits)) c ≡ column_at (columns_of before) c
+column_same before column c bits other =
+    let known = before.known in
+    let none : ColumnKnowledge = record { read = 0; prefixes = [] } in
+    let after : ColumnKnowledge → KnownColumn = λ w. record { ends = ends_at before.frame c; known = w } in
+    ap after (get_or-set_other known column c (longer_column (known_at known column) bits) none other)
+
+pub column_after : (P : KnownColumn → Type 0) (before : Stage) (column c : ℕ) (bits : List Bool) → IsOpenStage before → c < length before.frame.columns → P (column_at (columns_of before) c) →
+    (c ≡ column → P (read_further (column_at (columns_of before) c) bits)) → P (column_at (columns_of (stepped before column bits)) c)
+column_after P before column c bits is there same further =
+    elim (cases_eq c column) [
+      | inl here ↦ subst P (sym (column_longer before column c bits is there here)) (further here)
+      | inr other ↦ subst P (sym (column_same before column c bits other)) same
+    ]
 
 -- after the next plane of a column
-pub sums_stay : (before : Stage) (column : ℕ) (bits : List Bool) (kept : List (Option KeptSum)) → IsOpenStage before → length bits ≡ before.frame.rows → CanTake before.frame before.known column bits → AreKept before kept →
-    AreKept (stepped before column bits) kept
-sums_stay before column bits kept is long legal are = record {
-  count = are.count;
-  each = λ i item sum at_item at_sum. told item sum (λ c arg. column_there before i item c is at_item arg) (are.each i item sum at_item at_sum);
-}
-  where
-    -- what is known of a column afterwards
-    same : (c : ℕ) (s : KeptSum) → c < length before.frame.columns → IsKept (column_at (columns_of before) c) s → IsKept (column_at (columns_of (stepped before column bits)) c) s
-    same c s there kept =
-        let known = before.known in
-        let none : ColumnKnowledge = record { read = 0; prefixes = [] } in
-        let after : ColumnKnowledge → KnownColumn = λ w. record { ends = ends_at before.frame c; known = w } in
-        elim (cases_eq c column) [
-          | inl here ↦
-              (let is_longer : known_at (taken known column bits) c ≡ longer_column (known_at known c) bits =
-              ap (λ k. known_at (taken known k bits) c) (sym here) ∙ get_or-set_same known c (longer_column (known_at known c) bits) none (omega (arith, there, is.knowledge.columns)) in
-              subst (λ w. IsKept (after w) s) (sym is_longer) (still_kept (column_at (columns_of before) c) bits s (long ∙ sym (is.knowledge.rows c there)) kept))
-          | inr other ↦ subst (λ w. IsKept (after w) s) (sym (get_or-set_other known column c (longer_column (known_at known column) bits) none other)) kept
-        ]
-
-    told : (item : Aggregate) (sum : Option KeptSum) → ((c : ℕ) → item.arg ≡ Column c → c < length before.frame.columns) → IsKeptOf before item sum → IsKeptOf (stepped before column bits) item sum
-    told item None there is = tt
-    told item (Some s) there told_before = λ c arg.
-        let sum = told_before c arg in
-        record {
-          is = same c s (there c arg) sum.is;
-          room = sum.room;
-          tight = sum.tight;
-          settled = λ block j few inside off.
-              let at = sum.settled block j few inside off in
-              let stay = stays before.query.pred (columns_of before) column bits (512 * block + j) (record { few_rows = is.open_query.few_rows; knowledge = is.knowledge }) legal inside (sym at.certain ∙ at.possible) in
-              record { plain = at.plain; certain = at.certain ∙ ap is_certain (sym stay); possible = at.possible ∙ ap is_possible (sym stay) };
-        }
-
-pub sums_stood : (stage : Stage) (column : ℕ) (bits : List Bool) (answers : Answers) (totals : declared.Totals) → StoodBefore stage column bits answers → answers ≡ Totals totals → AreKept stage totals.kept.items
-sums_stood stage column bits answers totals stood form =
-    let are = subst (AreAnswers stood.before) form stood.answered in
-    subst (λ (s : Stage). AreKept s totals.kept.items) (sym stood.read) (sums_stay stood.before column bits totals.kept.items stood.open_stage stood.rows stood.legal are.4)
+pub sum_stays : (before : Stage) (column : ℕ) (bits : List Bool) (item : Aggregate) (sum : Option KeptSum) → IsOpenStage before → length bits ≡ before.frame.rows → CanTake before.frame before.known column bits →
+    ((c : ℕ) → item.arg ≡ Column c → c < length before.frame.columns) → IfSome sum (λ sum. (c : ℕ) → item.arg ≡ Column c → IsSumOf before c sum) →
+    IfSome sum (λ sum. (c : ℕ) → item.arg ≡ Column c → IsSumOf (stepped before column bits) c sum)
+sum_stays before column bits item None is long legal there told = tt
+sum_stays before column bits item (Some s) is long legal there told = λ c arg.
+    let sum = told c arg in
+    record {
+      is = column_after (λ k. IsKept k s) before column c bits is (there c arg) sum.is (λ here. still_kept (column_at (columns_of before) c) bits s (long ∙ sym (is.knowledge.rows c (there c arg))) sum.is);
+      room = sum.room;
+      tight = sum.tight;
+      settled = λ block j few inside off.
+          let at = sum.settled block j few inside off in
+          let stay = stays before.query.pred (columns_of before) column bits (512 * block + j) (record { few_rows = is.open_query.few_rows; knowledge = is.knowledge }) legal inside (sym at.certain ∙ at.possible) in
+          record { plain = at.plain; certain = at.certain ∙ ap is_certain (sym stay); possible = at.possible ∙ ap is_possible (sym stay) };
+    }
 
 -- ---- the rows that move
 

@@ -12,7 +12,8 @@ use Rattle.round_engine.specs.declared.answers.Answers.TheVariants.{Totals, Grou
 use Rattle.round_engine.specs.declared.state.State.{State}
 use Rattle.round_engine.specs.CellAnswers.{AreGroups, AreSomeGroups, HoldGroups}
 use Rattle.round_engine.specs.KeptProducts.{AreKeptProducts}
-use Rattle.round_engine.specs.KeptSums.{AreKept, columns_of}
+use Rattle.round_engine.specs.KeptItems.{AreKept}
+use Rattle.round_engine.specs.KeptSums.{columns_of}
 use Rattle.round_engine.specs.Progresses.{gives_values, role_of}
 use Rattle.round_engine.specs.Rankings.{HoldsOrder, IsRanking}
 use Rattle.round_engine.specs.Selected.{HaveRows}

@@ -1,15 +1,12 @@
 -- Sums that are kept of the items of a query without groups and order.
-use Rattle.std.specs.Prelude.{◌≡◌, ℕ, ◌+◌, ◌*◌, ◌<◌, ◌≤◌, false, List, length, IfSome}
-use Rattle.std.specs.declared.option.Option.{Option}
+use Rattle.std.specs.Prelude.{◌≡◌, ℕ, ◌+◌, ◌*◌, ◌<◌, ◌≤◌, false, length}
 use Rattle.aggregates.specs.declared.kept_sum.KeptSum.{KeptSum}
 use Rattle.aggregates.specs.KeptSums.{IsKept, MovesAnywhere}
 use Rattle.aggregates.specs.Selections.{has_row}
 use Rattle.kleene_filter.specs.Filters.{is_certain, is_possible, truth_at}
 use Rattle.known_column.specs.Columns.{KnownColumn, rows_of_column}
 use Rattle.known_column.specs.KnownTables.{KnownTable, column_at}
-use Rattle.query_model.specs.Queries.{Aggregate, Column}
 use Rattle.round_engine.specs.Stages.{Stage}
-use Rattle.round_engine.specs.Totals.{AreEach}
 
 -- what is known of the stage's columns
 abbrev pub columns_of : Stage → KnownTable
@@ -29,18 +26,7 @@ pub record IsSumOf (stage : Stage) (column : ℕ) (kept : KeptSum) : Type 0 wher
   pub settled : (block j : ℕ) → j < 512 → 512 * block + j < stage.frame.rows → has_row kept.blocks block ≡ false →
       IsSettledAt stage column (512 * block + j) kept
 
--- what is kept of an item's sum, if anything is, is that of its column
-abbrev pub IsKeptOf : Stage → Aggregate → Option KeptSum → Type 0
-IsKeptOf stage item kept = IfSome kept (λ sum. (c : ℕ) → item.arg ≡ Column c → IsSumOf stage c sum)
-
-abbrev pub AreKept : Stage → List (Option KeptSum) → Type 0
-AreKept stage kept = AreEach (λ i item sum. IsKeptOf stage item sum) stage.query.items kept
-
 -- what is kept of no row, of any column of so many
 pub record IsOpenSum (rows : ℕ) (kept : KeptSum) : Type 0 where
   pub is : (column : KnownColumn) → rows_of_column column ≡ rows → IsKept column kept
   pub moves : MovesAnywhere rows kept
-
--- that is kept for each item, if anything is
-abbrev pub HoldSums : ℕ → List Aggregate → List (Option KeptSum) → Type 0
-HoldSums rows items kept = AreEach (λ i item sum. IfSome sum (IsOpenSum rows)) items kept

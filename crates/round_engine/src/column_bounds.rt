@@ -1,18 +1,23 @@
 //! Bounds of a bare column's items, from the rows that give a value, by masks and planes.
 
 ghost use Rattle.std.specs.Prelude.{◌≡◌, ◌<◌, ◌⊎◌, length, count_by, IfSome, IsFalse, IsTrue};
+ghost use Rattle.aggregates.specs.declared.extreme_rows.Extreme.TheVariants.{Greatest, Least};
+ghost use Rattle.aggregates.specs.KeptExtremes.{HoldCandidates};
 ghost use Rattle.aggregates.specs.KeptSums.{CanFollow, HasFollowed, IsKept};
 ghost use Rattle.aggregates.specs.Widening.{CoverOthers};
 ghost use Rattle.known_column.specs.Columns.{KnownColumn, rows_of_column};
 ghost use Rattle.query_model.specs.declared.query.ItemKind.TheVariants.{Count, Max, Min, Sum};
 ghost use Rattle.query_model.specs.Bounds.{average_bound_of, bound_of, fractions_of, nullity_of};
+ghost use Rattle.round_engine.specs.KeptItems.{extreme_of};
 ghost use Rattle.round_engine.specs.Selected.{AreCounts, IsSelection, pairs_in};
 ghost use Rattle.round_engine.specs.Totals.{IsBoundOf};
 
 use crate::item_bound::ItemBound;
+use crate::kept_extremes::{greatest_by_kept, least_by_kept};
+use crate::kept_items::KeptItem;
 use crate::kept_sums::ends_by_kept;
 use crate::selection::{RowCounts, Selected};
-use aggregates::{End, KeptSum, greatest_ends, least_ends, quotient};
+use aggregates::{End, KeptExtreme, KeptSum, quotient};
 use known_column::Known;
 use plane_kernels::Mask;
 use query_model::{AverageBound, Bound, ItemKind, Nullity};
@@ -67,11 +72,13 @@ impl Selected<'_> {
     }
 
     // The bound of the least value.
-    fn least(&self, known: &Known) -> Bound
-        requires { IsSelection known.now self.now }
-        ensures { result ≡ bound_of Min (pairs_in known.now self.now) }
+    fn least(&self, known: &Known, kept: &mut Option<KeptExtreme>) -> Bound
+        requires selection { IsSelection known.now self.now }
+        requires kept { IfSome kept.old (HoldCandidates Least known.now self.now.may self.now.must) }
+        ensures kept { IfSome kept.new (HoldCandidates Least known.now self.now.may self.now.must) }
+        ensures bound { result ≡ bound_of Min (pairs_in known.now self.now) }
     {
-        let ends = least_ends(known, self.may, self.must);
+        let ends = least_by_kept(kept, known, self.may, self.must);
         Bound {
             null: self.nullity(),
             lo: ends.low.unwrap_or(0),
@@ -80,11 +87,13 @@ impl Selected<'_> {
     }
 
     // The bound of the greatest value.
-    fn greatest(&self, known: &Known) -> Bound
-        requires { IsSelection known.now self.now }
-        ensures { result ≡ bound_of Max (pairs_in known.now self.now) }
+    fn greatest(&self, known: &Known, kept: &mut Option<KeptExtreme>) -> Bound
+        requires selection { IsSelection known.now self.now }
+        requires kept { IfSome kept.old (HoldCandidates Greatest known.now self.now.may self.now.must) }
+        ensures kept { IfSome kept.new (HoldCandidates Greatest known.now self.now.may self.now.must) }
+        ensures bound { result ≡ bound_of Max (pairs_in known.now self.now) }
     {
-        let ends = greatest_ends(known, self.may, self.must);
+        let ends = greatest_by_kept(kept, known, self.may, self.must);
         Bound {
             null: self.nullity(),
             lo: self.inner_end(End::Low, known, ends.low),
@@ -147,24 +156,26 @@ impl Selected<'_> {
         kind: ItemKind,
         known: &Known,
         blocks: &Mask,
-        kept: &mut Option<KeptSum>,
+        kept: &mut KeptItem,
         told: Option<RowCounts>,
     ) -> ItemBound
         requires selection { IsSelection known.now self.now }
         requires told { IfSome told (AreCounts self.now) }
         requires blocks { CoverOthers self.now.may self.now.must blocks.now }
-        requires kept { IfSome kept.old (IsKept known.now) }
-        requires moves { IfSome kept.old (CanFollow self.now.must blocks.now) }
-        ensures kept { IfSome kept.new (IsKept known.now) }
-        ensures followed { (kept.new ≡ kept.old) ⊎ IfSome kept.new (HasFollowed self.now.must blocks.now) }
+        requires kept { IfSome kept.old.sum (IsKept known.now) }
+        requires moves { IfSome kept.old.sum (CanFollow self.now.must blocks.now) }
+        requires extreme { IfSome kept.old.extreme (HoldCandidates (extreme_of kind) known.now self.now.may self.now.must) }
+        ensures kept { IfSome kept.new.sum (IsKept known.now) }
+        ensures followed { (kept.new.sum ≡ kept.old.sum) ⊎ IfSome kept.new.sum (HasFollowed self.now.must blocks.now) }
+        ensures extreme { IfSome kept.new.extreme (HoldCandidates (extreme_of kind) known.now self.now.may self.now.must) }
         ensures bound { IsBoundOf kind (pairs_in known.now self.now) result }
     {
         match kind {
             ItemKind::Count => ItemBound::Numbers(self.count(told)),
-            ItemKind::Sum => ItemBound::Numbers(self.sum(known, blocks, kept)),
-            ItemKind::Min => ItemBound::Numbers(self.least(known)),
-            ItemKind::Max => ItemBound::Numbers(self.greatest(known)),
-            ItemKind::Avg => ItemBound::Fractions(self.average(known, blocks, kept, told)),
+            ItemKind::Sum => ItemBound::Numbers(self.sum(known, blocks, &mut kept.sum)),
+            ItemKind::Min => ItemBound::Numbers(self.least(known, &mut kept.extreme)),
+            ItemKind::Max => ItemBound::Numbers(self.greatest(known, &mut kept.extreme)),
+            ItemKind::Avg => ItemBound::Fractions(self.average(known, blocks, &mut kept.sum, told)),
         }
     }
 }

@@ -1,45 +1,14 @@
 //! Sums over bare columns that are kept from one plane to the next.
 
-ghost use Rattle.std.specs.Prelude.{◌≡◌, length, IfOk, IfSome};
+ghost use Rattle.std.specs.Prelude.{◌≡◌, length, IfSome};
 ghost use Rattle.aggregates.specs.KeptSums.{CanFollow, HasFollowed, IsKept};
 ghost use Rattle.aggregates.specs.Selections.{highs_in, lows_in, IsSmallSum, MayHaveValues};
 ghost use Rattle.known_column.specs.Columns.{rows_of_column};
 ghost use Rattle.query_model.specs.Answers.{total};
-ghost use Rattle.round_engine.specs.KeptSums.{HoldSums, IsOpenSum};
 
-use crate::totals::is_column;
 use aggregates::{KeptSum, SumSpan, sum_ends};
 use known_column::Known;
 use plane_kernels::Mask;
-use query_model::{Item, ItemKind};
-use std::alloc::{AllocError, Global};
-
-// Room for the sum of an item over so many rows, where masks tell it, and none for an item that has no sum.
-fn open_kept(alloc: Global, item: &Item, rows: usize) -> Result<Option<KeptSum>, AllocError>
-    ensures { IfOk result (λ kept. IfSome kept (IsOpenSum rows)) }
-{
-    match item.kind {
-        ItemKind::Sum | ItemKind::Avg if is_column(&item.arg) => {
-            Ok(Some(KeptSum::open(alloc, rows)?))
-        }
-        _ => Ok(None),
-    }
-}
-
-// The same for each item.
-pub(crate) fn open_sums(
-    alloc: Global,
-    items: &[Item],
-    rows: usize,
-) -> Result<Vec<Option<KeptSum>>, AllocError>
-    ensures { IfOk result (λ kept. HoldSums rows items.now kept.items) }
-{
-    let mut kept = Vec::with_capacity(alloc, items.len())?;
-    for item in items {
-        kept.push(open_kept(alloc, item, rows)?)?;
-    }
-    Ok(kept)
-}
 
 // Both ends at a mask's rows, added up, from what is kept of them where it is. From then on rows move in these blocks alone.
 pub(crate) fn ends_by_kept(

@@ -21,6 +21,8 @@ mod follower;
 mod group_columns;
 mod groups;
 mod item_bound;
+mod kept_extremes;
+mod kept_items;
 mod kept_products;
 mod kept_sums;
 mod laws;

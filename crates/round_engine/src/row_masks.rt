@@ -5,14 +5,15 @@ ghost use Rattle.query_model.specs.declared.query.Shape.TheVariants.{Plain};
 ghost use Rattle.kleene_filter.specs.Filters.{truths_under};
 ghost use Rattle.query_model.specs.Queries.{Column};
 ghost use Rattle.round_engine.specs.Engines.{stage_of};
+ghost use Rattle.round_engine.specs.KeptItems.{IsExtremeOf};
 ghost use Rattle.round_engine.specs.KeptSums.{IsSumOf};
 ghost use Rattle.round_engine.specs.Selected.{HaveRows};
 ghost use Rattle.round_engine.specs.Stages.{IsOpenItem, IsOpenStage};
 ghost use Rattle.round_engine.specs.Totals.{IsTotal};
 
 use crate::item_bound::ItemBound;
+use crate::kept_items::KeptItem;
 use crate::selection::{Selection, counts_of, select_all};
-use aggregates::KeptSum;
 use kleene_filter::Filter;
 use known_column::LentColumns;
 use plane_kernels::Mask;
@@ -45,7 +46,7 @@ impl RowMasks {
         column: u8,
         columns: &LentColumns<'_>,
         filter: &Filter,
-        kept: &mut Option<KeptSum>,
+        kept: &mut KeptItem,
     ) -> ItemBound
         requires open_stage { IsOpenStage (stage_of query.now columns.now) }
         requires plain { query.now.shape ≡ Plain }
@@ -53,9 +54,11 @@ impl RowMasks {
         requires judged { filter.now.truths ≡ truths_under query.now.pred columns.now }
         requires column { item.now.arg ≡ Column column }
         requires room { HaveRows columns.now.frame.rows self.old }
-        requires kept { IfSome kept.old (IsSumOf (stage_of query.now columns.now) column) }
+        requires kept { IfSome kept.old.sum (IsSumOf (stage_of query.now columns.now) column) }
+        requires extreme { IfSome kept.old.extreme (IsExtremeOf (stage_of query.now columns.now) item.now.kind column) }
         ensures room { HaveRows columns.now.frame.rows self.new }
-        ensures kept { IfSome kept.new (IsSumOf (stage_of query.now columns.now) column) }
+        ensures kept { IfSome kept.new.sum (IsSumOf (stage_of query.now columns.now) column) }
+        ensures extreme { IfSome kept.new.extreme (IsExtremeOf (stage_of query.now columns.now) item.now.kind column) }
         ensures bound { IsTotal (stage_of query.now columns.now) item.now result }
     {
         let known = columns.column(column as usize);

@@ -10,7 +10,7 @@ ghost use Rattle.round_engine.specs.declared.item_bound.ItemBound.TheVariants.{F
 ghost use Rattle.round_engine.specs.CountedSums.{AreTold};
 ghost use Rattle.round_engine.specs.Engines.{stage_of};
 ghost use Rattle.round_engine.specs.KeptProducts.{AreKeptProducts};
-ghost use Rattle.round_engine.specs.KeptSums.{AreKept, HoldSums, IsKeptOf};
+ghost use Rattle.round_engine.specs.KeptItems.{AreKept, HoldItems, IsKeptOf};
 ghost use Rattle.round_engine.specs.Narrowness.{is_narrow};
 ghost use Rattle.round_engine.specs.Moves.{is_marked};
 ghost use Rattle.round_engine.specs.Selected.{HaveRows, is_by_masks, is_column};
@@ -22,9 +22,9 @@ use crate::counted_sums::{is_untold, set_told, told_sums};
 use crate::counts::{bound_of_counts, is_counted};
 use crate::filling::fill_block;
 use crate::item_bound::ItemBound;
-use crate::kept_sums::open_sums;
+use crate::kept_items::{KeptItem, open_items};
 use crate::row_masks::RowMasks;
-use aggregates::{KeptSum, Running, Tally};
+use aggregates::{Running, Tally};
 use kleene_filter::Filter;
 use known_column::{LentColumns, RowBlock};
 use product_sums::KeptProduct;
@@ -32,14 +32,14 @@ use query_model::{AverageBound, Bound, Expr, Item, ItemKind, Nullity, TypedQuery
 use row_values::BlockValues;
 use std::alloc::{AllocError, Global};
 
-// The bound of each item, room to add its rows one by one or to tell it by masks, and what is kept of its sum: that of a bare column, or
-// that of a product.
+// The bound of each item, room to add its rows one by one or to tell it by masks, and what is kept of it: of its sum or its extreme over a
+// bare column, or of the sum of a product.
 #[derive(Drop)]
 pub(crate) struct Totals {
     bounds: Vec<ItemBound>,
     runnings: Vec<Running>,
     masks: RowMasks,
-    kept: Vec<Option<KeptSum>>,
+    kept: Vec<KeptItem>,
     products: Vec<Option<KeptProduct>>,
 }
 
@@ -256,7 +256,7 @@ fn bound_of_item(
     filter: &Filter,
     running: &Running,
     masks: &mut RowMasks,
-    kept: &mut Option<KeptSum>,
+    kept: &mut KeptItem,
 ) -> ItemBound
     requires open_stage { IsOpenStage (stage_of query.now columns.now) }
     requires plain { query.now.shape ≡ Plain }
@@ -285,7 +285,7 @@ fn tell_each(
     marks: &[bool; 16],
     runnings: &[Running],
     masks: &mut RowMasks,
-    kept: &mut [Option<KeptSum>],
+    kept: &mut [KeptItem],
     bounds: &mut [ItemBound],
 )
     requires open_stage { IsOpenStage (stage_of query.now columns.now) }
@@ -326,7 +326,7 @@ impl Totals {
         ensures count { IfOk result (λ totals. length totals.bounds.items ≡ length items.now) }
         ensures room { IfOk result (λ totals. HaveRoom items.now totals.runnings.items) }
         ensures masks { IfOk result (λ totals. HaveRows rows totals.masks) }
-        ensures kept { IfOk result (λ totals. HoldSums rows items.now totals.kept.items) }
+        ensures kept { IfOk result (λ totals. HoldItems rows items.now totals.kept.items) }
         ensures products { IfOk result (λ totals. totals.products ≡ products) }
     {
         let none = Bound {
@@ -340,7 +340,7 @@ impl Totals {
             runnings.push(Running::open(alloc, item.kind, 1)?)?;
         }
         let masks = RowMasks::open(alloc, rows)?;
-        let kept = open_sums(alloc, items, rows)?;
+        let kept = open_items(alloc, items, rows)?;
         Ok(Totals {
             bounds,
             runnings,

@@ -1,6 +1,6 @@
 use Rattle.std.proofs.Common.{◌≢◌, true}
 use Rattle.round_engine.specs.Engines.{stage_of}
-use Rattle.round_engine.specs.KeptSums.{IsKeptOf}
+use Rattle.round_engine.specs.KeptItems.{IsKeptOf}
 use Rattle.round_engine.specs.Moves.{is_marked}
 use Rattle.round_engine.specs.Selected.{HaveRows}
 use Rattle.round_engine.specs.Totals.{IsTotal}

@@ -1,10 +1,10 @@
 use Rattle.std.proofs.Common.{◌≡◌, length, ap, sym, subst, ◌∙◌}
 use Rattle.query_model.specs.Queries.{Query}
 use Rattle.round_engine.specs.Engines.{stage_of}
-use Rattle.round_engine.specs.KeptSums.{HoldSums}
+use Rattle.round_engine.specs.KeptItems.{HoldItems}
 use Rattle.round_engine.specs.Selected.{HaveRows}
 use Rattle.round_engine.specs.Totals.{HaveRoom}
-use Rattle.round_engine.proofs.KeptSums.{held_sums}
+use Rattle.round_engine.proofs.KeptItems.{held_items}
 use Rattle.round_engine.proofs.answers.Answers.open.Goals as goal
 
 pub returns-in_ok-open-in-Plain : goal.returns-in_ok-open-in-Plain
@@ -18,7 +18,7 @@ returns-in_ok-open-in-Plain c =
       opened.count ∙ ap length items,
       subst (λ is. HaveRoom is totals.runnings.items) items opened.room,
       subst (λ n. HaveRows n totals.masks) rows opened.masks,
-      held_sums (stage_of query c.args.columns.now) totals.kept.items c.requires.open_stage
-          (subst (λ n. HoldSums n query.items totals.kept.items) rows (subst (λ is. HoldSums c.rows-rows.result is totals.kept.items) items opened.kept)),
+      held_items (stage_of query c.args.columns.now) totals.kept.items c.requires.open_stage
+          (subst (λ n. HoldItems n query.items totals.kept.items) rows (subst (λ is. HoldItems c.rows-rows.result is totals.kept.items) items opened.kept)),
       rw opened.products c.in_ok-products-in-Plain.ensures,
     )

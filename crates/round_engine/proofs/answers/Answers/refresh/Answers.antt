@@ -1,6 +1,6 @@
 use Rattle.round_engine.specs.Engines.{stage_of}
 use Rattle.round_engine.proofs.KeptProducts.{products_stood}
-use Rattle.round_engine.proofs.KeptSums.{sums_stood}
+use Rattle.round_engine.proofs.KeptItems.{items_stood}
 use Rattle.round_engine.proofs.Openings.{still_told, stood_totals}
 use Rattle.round_engine.proofs.answers.Answers.refresh.Goals as goal
 
@@ -13,7 +13,7 @@ fill-requires-clause-beside c =
 
 pub fill-requires-clause-kept : goal.fill-requires-clause-kept
 fill-requires-clause-kept c =
-    sums_stood (stage_of c.args.query.now c.args.columns.now) c.args.column c.args.plane.now c.args.self.now c.in-Totals.totals c.requires.before c.in-Totals.is
+    items_stood (stage_of c.args.query.now c.args.columns.now) c.args.column c.args.plane.now c.args.self.now c.in-Totals.totals c.requires.before c.in-Totals.is
 
 pub fill-requires-clause-products : goal.fill-requires-clause-products
 fill-requires-clause-products c =

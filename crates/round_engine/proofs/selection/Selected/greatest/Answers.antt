@@ -8,14 +8,14 @@ use Rattle.query_model.specs.Answers.{answer}
 use Rattle.round_engine.proofs.SelectedBounds.{greatest_is, must_part, same_bound}
 use Rattle.round_engine.proofs.selection.Selected.greatest.Goals as goal
 
-pub greatest_ends-ends-requires-clause-some : goal.greatest_ends-ends-requires-clause-some
-greatest_ends-ends-requires-clause-some c = subst (λ s. IsPartOf s.must s.may) (sym c.self.view_is) (must_part c.args.known.now c.args.self.now c.requires)
+pub greatest_by_kept-ends-requires-clause-some : goal.greatest_by_kept-ends-requires-clause-some
+greatest_by_kept-ends-requires-clause-some c = subst (λ s. IsPartOf s.must s.may) (sym c.self.view_is) (must_part c.args.known.now c.args.self.now c.requires.selection)
 
 pub inner_end-requires-clause-certain : goal.inner_end-requires-clause-certain
-inner_end-requires-clause-certain c = c.greatest_ends-ends.ensures.low ∙ ap (λ s. answer Max (lows_in c.args.known.now s.must)) c.self.view_is
+inner_end-requires-clause-certain c = c.greatest_by_kept-ends.ensures.low ∙ ap (λ s. answer Max (lows_in c.args.known.now s.must)) c.self.view_is
 
-pub returns : goal.returns
-returns c =
+pub returns-clause-bound : goal.returns-clause-bound
+returns-clause-bound c =
     let same : to_z w128 (of_z w128 c.unwrap_or.result) ≡ c.unwrap_or.result = omega (arith, ints) in
     let other : to_z w128 (of_z w128 c.inner_end.result) ≡ c.inner_end.result = omega (arith, ints) in
-    same_bound _ _ _ _ _ _ (c.nullity.ensures c.args.known.now c.requires) (other ∙ c.inner_end.ensures) (same ∙ c.unwrap_or.ensures ∙ ap (λ o. unwrap_or o (pos 0)) (c.greatest_ends-ends.ensures.high ∙ ap (λ s. answer Max (highs_in c.args.known.now s.may)) c.self.view_is) ∙ greatest_is c.args.known.now c.args.self.now c.requires)
+    same_bound _ _ _ _ _ _ (c.nullity.ensures c.args.known.now c.requires.selection) (other ∙ c.inner_end.ensures) (same ∙ c.unwrap_or.ensures ∙ ap (λ o. unwrap_or o (pos 0)) (c.greatest_by_kept-ends.ensures.high ∙ ap (λ s. answer Max (highs_in c.args.known.now s.may)) c.self.view_is) ∙ greatest_is c.args.known.now c.args.self.now c.requires.selection)

@@ -1,6 +1,6 @@
 use Rattle.std.proofs.Common.{arith}
-use Rattle.round_engine.proofs.KeptSums.{opened_more}
-use Rattle.round_engine.proofs.kept_sums.open_sums.Goals as goal
+use Rattle.round_engine.proofs.KeptItems.{opened_more}
+use Rattle.round_engine.proofs.kept_items.open_items.Goals as goal
 
 pub loop-item-preserved : goal.loop-item-preserved
 loop-item-preserved c =
