@@ -74,6 +74,7 @@ best_of (c ∷ d ∷ ds) = better_of c (best_of (d ∷ ds))
 abbrev pub cuts_of : List Pair → List Cut
 cuts_of ps = (if some_certain ps then None ∷ [] else []) ++ map (λ p. Some p.high) (filter (λ p. not p.certain) ps)
 
+-- the greatest average that the rows can have: of the uncertain rows those count whose high is at least some cut
 abbrev pub high_end : List Pair → Choice
 high_end ps = best_of (map (choice_of ps) (cuts_of ps))
 
@@ -87,6 +88,7 @@ negated p = record { certain = p.certain; low = negative p.high; high = negative
 abbrev pub negated_choice : Choice → Choice
 negated_choice c = record { cut = option_map negative c.cut; sum = negative c.sum; rows = c.rows; taken = c.taken }
 
+-- the least average that they can have
 abbrev pub low_end : List Pair → Choice
 low_end ps = negated_choice (high_end (map negated ps))
 

@@ -14,7 +14,7 @@ use session_script::ScriptFault;
 use sql_text::SqlFault;
 use sql_typing::TypeFault;
 
-// What is said of a text that is no query.
+// The line for a text that is no query.
 pub(crate) fn written_text_fault(fault: &SqlFault) -> TextBuf
     ensures text { result ≡ text_fault_text fault.now }
     ensures short { length result ≤ 160 }
@@ -28,7 +28,7 @@ pub(crate) fn written_text_fault(fault: &SqlFault) -> TextBuf
     }
 }
 
-// What is said of bytes that are no script.
+// The line for bytes that are no script.
 pub(crate) fn written_script_fault(fault: &ScriptFault) -> TextBuf
     ensures text { result ≡ script_fault_text fault.now }
     ensures short { length result ≤ 500 }
@@ -48,7 +48,7 @@ pub(crate) fn written_script_fault(fault: &ScriptFault) -> TextBuf
     }
 }
 
-// What is said of queries that make no session.
+// The line for queries that make no session.
 pub(crate) fn written_session_fault(fault: &SessionFault) -> TextBuf
     ensures text { result ≡ session_fault_text fault.now }
     ensures short { length result ≤ 500 }
@@ -82,7 +82,7 @@ pub(crate) fn written_at_line(line: usize, alone: &[u8]) -> TextBuf
     text
 }
 
-// What is said of a list of columns to be read.
+// The line for a list of columns to be read.
 pub(crate) fn written_reads_fault(fault: &ReadsFault) -> TextBuf
     ensures text { result ≡ reads_fault_text fault.now }
     ensures short { length result ≤ 500 }
@@ -102,7 +102,7 @@ pub(crate) fn written_reads_fault(fault: &ReadsFault) -> TextBuf
     }
 }
 
-// What is said of a schema.
+// The line for a schema.
 pub(crate) fn written_schema_fault(fault: &SchemaFault) -> TextBuf
     ensures text { result ≡ schema_fault_text fault.now }
     ensures short { length result ≤ 500 }
@@ -128,7 +128,7 @@ pub(crate) fn written_schema_fault(fault: &SchemaFault) -> TextBuf
     }
 }
 
-// What is said of a table.
+// The line for a table.
 pub(crate) fn written_table_fault(fault: &TableFault) -> TextBuf
     ensures text { result ≡ table_fault_text fault.now }
     ensures short { length result ≤ 500 }
@@ -160,7 +160,7 @@ pub(crate) fn written_table_fault(fault: &TableFault) -> TextBuf
     }
 }
 
-// What is said of a query that cannot be typed.
+// The line for a query that cannot be typed.
 pub(crate) fn written_type_fault(fault: &TypeFault) -> TextBuf
     ensures text { result ≡ type_fault_text fault.now }
     ensures short { length result ≤ 160 }
@@ -185,7 +185,7 @@ pub(crate) fn written_type_fault(fault: &TypeFault) -> TextBuf
     }
 }
 
-// What is said of a plane file.
+// The line for a plane file.
 pub(crate) fn written_file_fault(fault: &FileFault) -> TextBuf
     ensures text { result ≡ file_fault_text fault.now }
     ensures short { length result ≤ 500 }

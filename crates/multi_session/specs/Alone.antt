@@ -24,7 +24,8 @@ until_narrow width stage [] = []
 until_narrow width stage (step ∷ steps) =
     if is_narrow width stage then [] else step ∷ until_narrow width (stepped stage step.column step.bits) steps
 
--- the query's own reads among those of the session: those of its columns up to its first narrow round
+-- the query's own reads among those of the session: those of its columns up to its first narrow round. It would read these if it were
+-- asked alone, so what is known of it is said without the other queries
 abbrev pub own_reads : ℕ → Head → List Step → Query → List Step
 own_reads width head steps query = until_narrow width (opened query head) (own_steps query steps)
 

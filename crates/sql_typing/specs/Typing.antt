@@ -167,6 +167,8 @@ spot_of kind names (tree.Day s) = At (date_value s.name)
 abbrev pub no_rank : ℤ
 no_rank = negsuc 0
 
+-- as an end of BETWEEN: a text that is no name stands between two ranks, so the low end is the next rank above it, and the high end the
+-- next below
 abbrev pub low_end : Spot → ℤ
 low_end (At v) = v
 low_end (Before p) = pos p
@@ -175,6 +177,7 @@ abbrev pub high_end : Spot → ℤ
 high_end (At v) = v
 high_end (Before p) = pos p -ℤ pos 1
 
+-- as a member of IN: a text that is no name is that of no row
 abbrev pub member : Spot → ℤ
 member (At v) = v
 member (Before p) = no_rank

@@ -29,7 +29,8 @@ use Rattle.table_rounds.specs.Rounds.{Planes, stage_after, unread_planes}
 abbrev pub own_read : ℕ → ℕ → Stage → List ℕ
 own_read width place stage = option_map_or (λ c. c ∷ []) (awaited width place stage) []
 
--- the query's own reads among the first so many steps: those of its columns up to its first narrow round
+-- the query's own reads among the first so many steps: those of its columns up to its first narrow round. It would read these if it were
+-- asked alone, so its blocks are said without the other queries
 abbrev pub own_reads : ℕ → Frame → Planes → List ℕ → Query → ℕ → List ℕ
 own_reads width frame bits places query zero = []
 own_reads width frame bits places query (suc step) =
