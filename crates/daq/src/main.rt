@@ -1,11 +1,13 @@
 //! The program `daq`: hands the words of the command line, files and streams to `run`, and ends with its status.
 #![tactic(auto)]
 
+mod arguments;
 mod files;
 mod person;
 
 ghost use Rattle.std.specs.Prelude.{◌≡◌};
 
+use crate::arguments::words_of;
 use crate::files::{input_of, made_of, planes_of, side_of};
 use crate::person::tell;
 use command_line::{Command, Words};
@@ -22,16 +24,11 @@ pub type Devices<'a> = World<FileSource<'a>, FileStore<'a>, FileSink<'a>>;
 
 // The words of the command line, without the program's name; none where one of them is no text.
 fn read_words(rt: &HostRuntime, alloc: Global) -> Result<Option<Words>, AllocError> {
-    let mut words = Words::new(alloc);
-    let args = match env::args(rt) {
-        Ok(args) => args,
-        Err(error) if error.kind() == ErrorKind::OutOfMemory => return Err(AllocError),
-        Err(_) => return Ok(None),
-    };
-    for word in args.skip(1) {
-        words.push(word.as_str())?;
+    match env::args(rt) {
+        Ok(args) => Ok(Some(words_of(alloc, args)?)),
+        Err(error) if error.kind() == ErrorKind::OutOfMemory => Err(AllocError),
+        Err(_) => Ok(None),
     }
-    Ok(Some(words))
 }
 
 // Where the line of a refusal goes: at a terminal it is held, until it is known whether a person is to see it.
