@@ -156,15 +156,15 @@ module _ (before : Stage) (column : ℕ) (bits : List Bool) (is : IsOpenStage be
         let within : r < before.frame.rows = omega (arith, row_within (may_give after c) r has, may_rows after c still_open there) in
         let tests = row_has after c still_open there is_possible (column_is.is_possible (column_at (columns_of after) c).ends (column_at (columns_of after) c).known.read) r within has in
         let number = (narrower r within).values (Some (ranges_of before.frame after.known r c).numbers.low)
-            (tests.1, low_within (ranges_of before.frame after.known r c).numbers (ranges_ordered before.frame after.known r still_open.knowledge within c)) in
+        (tests.1, low_within (ranges_of before.frame after.known r c).numbers (ranges_ordered before.frame after.known r still_open.knowledge within c)) in
         has_both before c is there is_possible (column_is.is_possible (column_at (columns_of before) c).ends (column_at (columns_of before) c).known.read) r within
-            (possible_before (truth_at before.query.pred (columns_of after) r) (truth_at before.query.pred (columns_of before) r) (refines r within) tests.0) number.0;
+        (possible_before (truth_at before.query.pred (columns_of after) r) (truth_at before.query.pred (columns_of before) r) (refines r within) tests.0) number.0;
     came = λ r has.
         let within : r < before.frame.rows = omega (arith, row_within (surely_give before c) r has, sure_rows before c is there) in
         let tests = row_has before c is there is_certain (is_sure (column_at (columns_of before) c).ends (column_at (columns_of before) c).known.read) r within has in
         has_both after c still_open there is_certain (is_sure (column_at (columns_of after) c).ends (column_at (columns_of after) c).known.read) r within
-            (certain_stays (truth_at before.query.pred (columns_of after) r) (truth_at before.query.pred (columns_of before) r) (refines r within) tests.0)
-            (sure_stays (ranges_of before.frame after.known r c) (ranges_of before.frame before.known r c) (narrower r within) tests.1);
+        (certain_stays (truth_at before.query.pred (columns_of after) r) (truth_at before.query.pred (columns_of before) r) (refines r within) tests.0)
+        (sure_stays (ranges_of before.frame after.known r c) (ranges_of before.frame before.known r c) (narrower r within) tests.1);
   }
 
   pub extreme_stays : (kind : ItemKind) (kept : KeptExtreme) → length bits ≡ before.frame.rows → IsExtremeOf before kind c kept → IsExtremeOf after kind c kept

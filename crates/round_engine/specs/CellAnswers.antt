@@ -94,7 +94,8 @@ HaveCells items most runnings = AreEach (λ i item running. (running.kind ≡ it
 
 -- ---- the answers
 
--- the rows are parted, the count of rows and each item stand for the pairs of each cell, and what is kept of products is that of these columns
+-- the rows are parted, the count of rows and each item stand for the pairs of each cell, and what is kept of products is that of these
+-- columns
 pub record AreGroups (stage : Stage) (groups : Groups) : Type 0 where
   pub grouped : IsGrouped stage.query.shape
   pub parted : IsParted stage groups.cells groups.single.items
