@@ -14,8 +14,8 @@ from .program import Failed, Run, find_program, query_error
 from .table import Column, Table
 from .values import Value
 
-# What queries of totals alone have not.
-_OTHERS = ("--list", "--clip", "--exact-avg")
+# What queries of totals have not.
+_OTHERS = ("--list",)
 _CHUNK = 65536
 
 Files = Union[str, os.PathLike, Sequence[Union[str, os.PathLike]]]

@@ -5,6 +5,7 @@ import json
 import os
 import time
 import unittest
+from fractions import Fraction
 
 from support import TOP, FakeTest, daq, read
 from test_program import is_running
@@ -123,11 +124,12 @@ class Parts(FakeTest):
             table.sql(SQL)
         self.assert_all_ended()
 
-    def test_options_of_other_forms(self):
+    def test_options(self):
         table = self.play_parts()
-        for option in ("list", "clip", "exact_avg"):
-            with self.subTest(option), self.assertRaises(ValueError):
-                table.sql(SQL, **{option: True})
+        with self.assertRaises(ValueError):
+            table.sql(SQL, list=True)
+        self.assertEqual(table.sql(SQL, clip=True, exact_avg=True).end, "narrow")
+        self.assertEqual(next(self.processes())["words"][-2:], ["--clip", "--exact-avg"])
 
     def test_a_program_that_does_not_start(self):
         table = self.play_parts()
@@ -160,6 +162,13 @@ class CombinedReports(unittest.TestCase):
     def test_a_combined_report(self):
         report, blocks = read(self.COMBINED)
         self.assertEqual((report.parts, report.end, [block.column for block in blocks]), (2, "narrow", [None, None]))
+
+    def test_the_lines_behind(self):
+        report, blocks = read("query SELECT SUM(b), AVG(b) FROM t WHERE b > 4\nparts 2\nround 0\n1 [16, 42]\n1 clip [20, 42]\n"
+                              "2 [16/3, 42/4]\n2 exact [20/3, 41/4]\nend rounds\n")
+        first, second = blocks[0].groups[0].items
+        self.assertEqual((first.clip.low, first.clip.high), (20, 42))
+        self.assertEqual((second.exact.low, second.exact.high, second.low_takes), (Fraction(20, 3), Fraction(41, 4), None))
 
     def test_other_lines_are_refused(self):
         for old, new in (("parts 2", "parts"), ("parts 2", "parts 02"), ("round 1", "round 1 price 1/4"), ("round 1", "parts 2")):
