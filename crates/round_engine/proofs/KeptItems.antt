@@ -1,5 +1,5 @@
 -- What is kept of items: where nothing is read, and after the next plane of a column.
-use Rattle.std.proofs.Common.{◌≡◌, ℕ, ◌+◌, ◌<◌, Bool, true, false, not, ◌&&◌, List, [], ◌∷◌, ◌++◌, length, length-append, get_or, map, slice_get, take, Option, None, Some, refl, sym, ap, subst, ◌∙◌, arith}
+use Rattle.std.proofs.Common.{◌≡◌, ℕ, ◌+◌, ◌<◌, Bool, true, false, not, ◌&&◌, List, [], ◌∷◌, ◌++◌, length, length-append, get_or, map, take, Option, None, Some, refl, sym, ap, subst, ◌∙◌, arith}
 use Rattle.std.specs.Prelude.{IfSome}
 use Rattle.std.specs.Simd.Lanes.{zip2}
 use Rattle.std.proofs.lemmas.Bool.{false≢true, true≢false}
@@ -8,7 +8,7 @@ use Rattle.std.proofs.lemmas.List.FromFn.{length-map-range_with_len}
 use Rattle.std.proofs.lemmas.Option.{IfSome_then}
 use Rattle.std.proofs.lemmas.Simd.{get_or-zip2, length-zip2}
 use Rattle.aggregates.specs.declared.kept_extreme.KeptExtreme.{KeptExtreme}
-use Rattle.aggregates.specs.KeptExtremes.{HoldAll, HoldCandidates}
+use Rattle.aggregates.specs.KeptExtremes.{HoldCandidates}
 use Rattle.aggregates.specs.Selections.{has_row}
 use Rattle.aggregates.proofs.BlockWords.{row_within}
 use Rattle.aggregates.proofs.KeptExtremes.{hold_later, order_stays, HaveMoved, StayInOrder}
@@ -24,7 +24,7 @@ use Rattle.query_model.specs.declared.bounds.Truth.TheVariants.{False, Unknown, 
 use Rattle.query_model.specs.declared.query.ItemKind.{ItemKind}
 use Rattle.query_model.specs.Knowledge.{CanTake, ranges_of}
 use Rattle.query_model.specs.Queries.{Aggregate, Column}
-use Rattle.query_model.specs.Truths.{IsNarrower, Range, may_be_null, may_be_number}
+use Rattle.query_model.specs.Truths.{IsNarrower, Range, may_be_null}
 use Rattle.query_model.proofs.Nesting.{ranges_narrower, taken_is_knowledge, truth_refines, Refines}
 use Rattle.query_model.proofs.Numbers.{low_within}
 use Rattle.query_model.proofs.Queries.{ranges_ordered}
@@ -218,9 +218,9 @@ items_stood stage column bits answers totals stood form =
 -- ---- the masks of a column's rows
 
 -- masks of truths and of what is known of the column are those of the stage
-pub gives_are : (stage : Stage) (c : ℕ) (known : KnownColumn) (truths : List Truth) (may must : List Bool) → known ≡ column_at (columns_of stage) c → truths ≡ truths_under stage.query.pred (columns_of stage) →
-    may ≡ zip2 (λ a b. a && b) (map is_possible truths) (rows_where column_is.is_possible known) → must ≡ zip2 (λ a b. a && b) (map is_certain truths) (rows_where is_sure known) → (may ≡ may_give stage c) × (must ≡ surely_give stage c)
-gives_are stage c known truths may must is judged may_is must_is = (
+pub gives_are : (stage : Stage) (c : ℕ) (known : KnownColumn) (held : List Truth) (may must : List Bool) → known ≡ column_at (columns_of stage) c → held ≡ truths_under stage.query.pred (columns_of stage) →
+    may ≡ zip2 (λ a b. a && b) (map is_possible held) (rows_where column_is.is_possible known) → must ≡ zip2 (λ a b. a && b) (map is_certain held) (rows_where is_sure known) → (may ≡ may_give stage c) × (must ≡ surely_give stage c)
+gives_are stage c known held may must is judged may_is must_is = (
   may_is ∙ ap (λ ts. zip2 (λ a b. a && b) (map is_possible ts) (rows_where column_is.is_possible known)) judged
       ∙ ap (zip2 (λ a b. a && b) (map is_possible (truths_under stage.query.pred (columns_of stage)))) (ap (rows_where column_is.is_possible) is),
   must_is ∙ ap (λ ts. zip2 (λ a b. a && b) (map is_certain ts) (rows_where is_sure known)) judged

@@ -1,5 +1,5 @@
 -- What is kept of the items of a query without groups and order: of sums, and of extremes over bare columns.
-use Rattle.std.specs.Prelude.{◌≡◌, ℕ, Bool, ◌&&◌, List, length, map, IfSome}
+use Rattle.std.specs.Prelude.{◌≡◌, ℕ, Bool, ◌&&◌, List, map, IfSome}
 use Rattle.std.specs.Simd.Lanes.{zip2}
 use Rattle.aggregates.specs.declared.extreme_rows.Extreme.{Extreme}
 use Rattle.aggregates.specs.declared.extreme_rows.Extreme.TheVariants.{Least, Greatest}
