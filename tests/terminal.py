@@ -47,7 +47,7 @@ TOLD = [
     ("session FILE SCRIPT", "query refused: line 2: unknown column at 11",
      "SELECT SUM(cost) FROM t\n             ^\n  no column is named \"cost\"; the columns are price, qty, city"),
     ("combine 2 REPORTS", "report refused: line 3: no line of a report at this place",
-     "a 1 'Oslo'\n  the report has no such line there: ask each part once, by its own tag, without --clip and --exact-avg; MIN and MAX take no texts"),
+     "a 1 'Oslo'\n  the report has no such line there: ask each part once, by a tag of its own; MIN and MAX take no texts"),
     ("combine 2 CUT", "report refused: part a ends early",
      "the process of that part failed or was cut off: look at its own message, and run it again"),
     ("combine 0 CUT", "usage: word 2", "\"0\" is no number of parts, from 1 to 65536\n  daq combine PARTS REPORTS [--width NUMBER] [--rounds NUMBER]"),

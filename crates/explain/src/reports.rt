@@ -29,7 +29,7 @@ fn line_sentence(why: &str) -> &'static str {
     } else if why.starts_with("longer than ") {
         "a line has at most 65536 bytes: this is no line of a report"
     } else {
-        "the report has no such line there: ask each part once, by its own tag, without --clip and --exact-avg; MIN and MAX take no texts"
+        "the report has no such line there: ask each part once, by a tag of its own; MIN and MAX take no texts"
     }
 }
 
