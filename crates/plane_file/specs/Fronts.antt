@@ -78,8 +78,7 @@ StopCause old new end (LimitPassed at) = ⊥
 StopCause old new end (WrongSize found wanted) = ⊥
 StopCause old new end NoMemory = ⊥
 
--- why the front of a file is not read on: a buffer of so many bytes from that place on was not filled. The places of those that came were
--- handed over, which are some of them, from the first
+-- why the front of a file is read no further: of so many bytes from that place on not all came. Those that did are the first of them
 pub record StopsAt (old new : StoreState) (at count : ℕ) (fault : FileFault) : Type 0 where
   pub cause : StopCause old new (at + count) fault
   pub got : ℕ

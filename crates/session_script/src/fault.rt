@@ -6,7 +6,7 @@ ghost use Rattle.session_script.specs.declared.fault.ScriptFault.TheVariants.{No
 use std::alloc::{AllocError, AllocFailed};
 use thiserror::Error;
 
-/// Why bytes are no script, or that memory ran out. Of several faults that which is named first here is answered.
+/// Why bytes are no script, or that memory ran out. Of several faults the one that stands first here is told.
 #[derive(Debug, PartialEq, Eq, Drop, Error)]
 pub enum ScriptFault {
     /// It has more bytes than so many.
