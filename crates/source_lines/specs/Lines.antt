@@ -69,11 +69,12 @@ pub record Stands (old new : LinesState) (source source' : SourceState) : Type 0
   pub line : has_line new.pending ≡ true
   pub short : line_length new.pending ≤ most_line
 
--- the source was read to its end, and what stands there is no whole line
+-- the source was read to its end, and what stands there is no whole line, nor longer than one may be
 pub record Ends (old new : LinesState) (source source' : SourceState) : Type 0 where
   pub reads : ReadsOn old new source source'
   pub ended : IsAtEnd source'.left
   pub no_line : has_line new.pending ≡ false
+  pub short : line_length new.pending ≤ most_line
 
 -- ---- where it stops
 
