@@ -470,7 +470,8 @@ cannot_too query kinds round whole told line h cannot next taken =
 line_refused_too : (why : LineFault) (query : List ℕ) (kinds : List ItemKind) (round : ℕ) (whole told : Told) (line : List ℕ) → TellsFrom round whole told →
     IsLineRefused why query kinds told line → IsLineRefused why query kinds whole line
 line_refused_too OtherQuery query kinds round whole told line h refused = (sym h.place ∙ refused.0, cannot_too query kinds round whole told line h refused.1)
-line_refused_too OtherLine query kinds round whole told line h refused = cannot_too query kinds round whole told line h refused
+line_refused_too OtherLine query kinds round whole told line h refused =
+    (λ e. refused.0 (h.place ∙ e), cannot_too query kinds round whole told line h refused.1)
 line_refused_too NoMemory query kinds round whole told line h refused = tt
 
 pub refused_too : (why : InputFault) (query : List ℕ) (kinds : List ItemKind) (most round : ℕ) (wholes parts : List Told) (line : List ℕ) →
@@ -479,13 +480,18 @@ refused_too NoTab query kinds most round wholes parts line h refused = refused
 refused_too NoTag query kinds most round wholes parts line h refused = refused
 refused_too OtherPart query kinds most round wholes parts line h refused =
     let count = same_count round wholes parts h in (
-      omega (arith, count, refused.0),
-      nothing_is round (tag_of line) (told_of (tag_of line) wholes)
-          (subst (λ (t : Told). TellsFrom round (told_of (tag_of line) wholes) t) refused.1 (told_of_too round (tag_of line) wholes parts h)),
+      refused.0,
+      (
+        omega (arith, count, refused.1.0),
+        nothing_is round (tag_of line) (told_of (tag_of line) wholes)
+            (subst (λ (t : Told). TellsFrom round (told_of (tag_of line) wholes) t) refused.1.1 (told_of_too round (tag_of line) wholes parts h)),
+      ),
     )
-refused_too (Line why) query kinds most round wholes parts line h refused =
-    line_refused_too why query kinds round (told_of (tag_of line) wholes) (told_of (tag_of line) parts) (behind_tag line)
-    (told_of_too round (tag_of line) wholes parts h) refused
+refused_too (Line why) query kinds most round wholes parts line h refused = (
+  refused.0,
+  line_refused_too why query kinds round (told_of (tag_of line) wholes) (told_of (tag_of line) parts) (behind_tag line)
+      (told_of_too round (tag_of line) wholes parts h) refused.1,
+)
 
 -- a block that is not written
 pub block_fault_too : (why : BlockFault) (round : ℕ) (kinds : List ItemKind) (wholes parts : List Told) → AllTellFrom round wholes parts →

@@ -1,5 +1,5 @@
 -- The lines of the input, each of a part by its tag, and what they tell of all parts.
-use Rattle.std.specs.Prelude.{◌≡◌, ℕ, ◌<◌, ◌≤◌, ◌==◌, List, [], ◌∷◌, length, map, position, slice_index_or, set}
+use Rattle.std.specs.Prelude.{◌≡◌, ◌≢◌, ℕ, ◌<◌, ◌≤◌, ◌==◌, List, [], ◌∷◌, length, map, position, slice_index_or, set}
 use Rattle.std.specs.declared.option.Option.TheVariants.{Some}
 use Rattle.std.specs.Cmp.Lexicographic.{slice_cmp}
 use Rattle.std.specs.List.{after_first, before_first, insert}
@@ -28,6 +28,9 @@ behind_tag line = after_first (λ c. c == 9) line
 
 abbrev pub IsTag : List ℕ → Type 0
 IsTag tag = (0 < length tag) × (length tag ≤ 255)
+
+abbrev pub IsTagged : List ℕ → Type 0
+IsTagged line = HasTab line × IsTag (tag_of line)
 
 -- ---- the parts, in the order of their tags
 
@@ -86,15 +89,19 @@ CannotTake query kinds told line = (next : Told) → Takes query kinds told line
 
 abbrev pub IsLineRefused : LineFault → List ℕ → List ItemKind → Told → List ℕ → Type 0
 IsLineRefused OtherQuery query kinds told line = (told.place ≡ Query) × CannotTake query kinds told line
-IsLineRefused OtherLine query kinds told line = CannotTake query kinds told line
+IsLineRefused OtherLine query kinds told line = (told.place ≢ Query) × CannotTake query kinds told line
 IsLineRefused NoMemory query kinds told line = Unit {0}
 
--- so many parts are wanted at most
+-- so many parts are wanted at most, and this is one more
+abbrev pub IsOneMore : ℕ → List Told → List ℕ → Type 0
+IsOneMore most parts tag = (most ≤ length parts) × (told_of tag parts ≡ nothing_told tag)
+
 abbrev pub IsRefused : InputFault → List ℕ → List ItemKind → ℕ → List Told → List ℕ → Type 0
 IsRefused NoTab query kinds most parts line = ¬ HasTab line
-IsRefused NoTag query kinds most parts line = ¬ IsTag (tag_of line)
-IsRefused OtherPart query kinds most parts line = (most ≤ length parts) × (told_of (tag_of line) parts ≡ nothing_told (tag_of line))
-IsRefused (Line why) query kinds most parts line = IsLineRefused why query kinds (told_of (tag_of line) parts) (behind_tag line)
+IsRefused NoTag query kinds most parts line = HasTab line × ¬ IsTag (tag_of line)
+IsRefused OtherPart query kinds most parts line = IsTagged line × IsOneMore most parts (tag_of line)
+IsRefused (Line why) query kinds most parts line =
+    IsTagged line × IsLineRefused why query kinds (told_of (tag_of line) parts) (behind_tag line)
 
 -- what is refused changes nothing
 abbrev pub IsKept : {X : Type 0} → LineFault → X → X → Type 0

@@ -560,7 +560,7 @@ impl Part {
         ensures query { result ≡ Err LineFault.OtherQuery
             → (self.old.place ≡ Query) × Refuses (Takes query.now kinds.now self.old line.now) self.old self.new }
         ensures other { result ≡ Err LineFault.OtherLine
-            → Refuses (Takes query.now kinds.now self.old line.now) self.old self.new }
+            → (self.old.place ≢ Query) × Refuses (Takes query.now kinds.now self.old line.now) self.old self.new }
     {
         let taken = match self.place {
             Place::Query => return self.take_opening(query, line),

@@ -2,7 +2,7 @@
 
 ghost use Rattle.std.specs.Prelude.{◌≡◌, ◌==◌, IfErr, IfOk, IfSome, List, None, OnOk, position, ℕ};
 ghost use Rattle.query_model.specs.declared.query.ItemKind.{ItemKind};
-ghost use Rattle.report_parts.specs.Tags.{HasTab, IsRefused, IsTag, behind_tag, tag_of};
+ghost use Rattle.report_parts.specs.Tags.{HasTab, IsRefused, IsTagged, behind_tag, tag_of};
 ghost use Rattle.report_parts.specs.Told.{Told};
 
 use crate::fault::InputFault;
@@ -27,6 +27,7 @@ pub(crate) struct Tagged<'a> {
 // What stands before the first tab, and what behind it.
 fn around_tab(line: &[u8]) -> Option<Tagged<'_>>
     ensures none { result ≡ None → ¬ HasTab line.now }
+    ensures some { IfSome result (λ tagged. HasTab line.now) }
     ensures tag { IfSome result (λ tagged. tagged.tag.now ≡ tag_of line.now) }
     ensures behind { IfSome result (λ tagged. tagged.line.now ≡ behind_tag line.now) }
 {
@@ -41,7 +42,7 @@ fn around_tab(line: &[u8]) -> Option<Tagged<'_>>
 pub(crate) fn read_tag(line: &[u8]) -> Result<Tagged<'_>, InputFault>
     ensures tag { IfOk result (λ tagged. tagged.tag.now ≡ tag_of line.now) }
     ensures behind { IfOk result (λ tagged. tagged.line.now ≡ behind_tag line.now) }
-    ensures is_tag { OnOk result (IsTag (tag_of line.now)) }
+    ensures is_tagged { OnOk result (IsTagged line.now) }
     ensures refused { IfErr result (λ why. (query : List ℕ) (kinds : List ItemKind) (most : ℕ) (parts : List Told)
         → IsRefused why query kinds most parts line.now) }
 {
@@ -60,7 +61,7 @@ pub(crate) fn read_tag(line: &[u8]) -> Result<Tagged<'_>, InputFault>
 /// What stands behind the tag and the tab of a line: a line of the report of a part.
 pub fn untagged(line: &[u8]) -> Result<&[u8], InputFault>
     ensures behind { IfOk result (λ rest. rest.now ≡ behind_tag line.now) }
-    ensures is_tag { OnOk result (IsTag (tag_of line.now)) }
+    ensures is_tagged { OnOk result (IsTagged line.now) }
     ensures refused { IfErr result (λ why. (query : List ℕ) (kinds : List ItemKind) (most : ℕ) (parts : List Told)
         → IsRefused why query kinds most parts line.now) }
 {
