@@ -72,6 +72,7 @@ ends_here count until input source now out sink old new lines h ends later w = r
   read = as_read input now new lines (has_read_on input source now old new lines h ends.reads later);
   ended = ends.ended;
   no_line = ends.no_line;
+  short = ends.short;
   written = w;
 }
 

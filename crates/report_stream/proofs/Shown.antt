@@ -18,10 +18,12 @@ use Rattle.report_parts.specs.declared.part.Place.{Place}
 use Rattle.report_parts.specs.declared.part.Place.TheVariants.{Opened, Query}
 use Rattle.source_lines.specs.Lines.{has_line, line_length, most_bytes, most_line}
 use Rattle.report_stream.proofs.LineTexts.{all_before, front_line, last_line, line_more, no_earlier, not_long, not_rest, plain, same_line, which_goes_on}
-use Rattle.report_stream.proofs.Taken.{asks_some, not_refused, refuses_block, refuses_line, tell_started}
+use Rattle.report_stream.proofs.Taken.{asks_some, no_tab as no_tab_behind, not_refused, refuses_block, refuses_line, tell_started}
 use Rattle.report_stream.proofs.Tasks.{IsOpen, Told, either, first_not_refused, some_lines, task_of_more, told_by, written_open}
 use Rattle.report_stream.specs.Faults.{of_block, of_input}
-use Rattle.report_stream.specs.Shown.{ComesNext, FaultsAreTold, GoesRight, IsRest, IsTold, ShowsFault, ends_early, more_parts, no_line, no_query, no_totals, other_count, other_line}
+use Rattle.report_stream.specs.Shown.{ComesNext, FaultsAreTold, GoesRight, GoesTooFar, IsNext, IsRest, IsTold, ShowsFault}
+use Rattle.report_stream.specs.Shown.{ends_early, first_too_long, first_without_tab, first_without_tag, more_parts, no_line, no_query, no_tab, no_tag, no_totals}
+use Rattle.report_stream.specs.Shown.{other_count, other_line, other_query, too_long}
 use Rattle.report_stream.specs.Streams.{AreLines, Combined, Ends, IsFirstRefused, IsFull, IsLine, IsTask, ReadsLines, RefusesBlock, RefusesFirst, RefusesLength, RefusesLine, StreamCause, first_line, lines_text}
 use Rattle.report_stream.specs.declared.fault.LineRefusal.{LineRefusal}
 use Rattle.report_stream.specs.declared.fault.LineRefusal.TheVariants as r
@@ -33,6 +35,12 @@ use Rattle.report_stream.specs.declared.fault.StreamFault.TheVariants.{EndsEarly
 nothing_longer : (own : List (List ℕ)) (line : List ℕ) (others : List (List ℕ)) → [] ≡ own ++ line ∷ others → ⊥
 nothing_longer [] line others e = absurd cc
 nothing_longer (first ∷ own) line others e = absurd cc
+
+-- the bytes at the end of an input are a rest
+rest_of : (read rest : List ℕ) → read ≡ rest → has_line read ≡ false → line_length read ≤ most_line → IsRest rest
+rest_of read rest e none short =
+    let all = all_before read none in
+    subst IsRest e (record { no_line = none; short = let few : length read ≤ most_line = omega (arith, all, short) in few })
 
 -- ---- a run over an input that tells all
 
@@ -160,9 +168,10 @@ module _ (kinds : KindsAreOne) (count : ℕ) (until : Until) (bytes : List ℕ) 
       stuck : Stuck
       line : (line behind : List ℕ) (number : ℕ) (why : LineRefusal) (f : InputFault) → rest ≡ line ++ 10 ∷ behind → IsLine line → number ≡ length own + 1 →
           Line number why ≡ of_input number f → IsRefused f g.task.query g.task.kinds g.task.count g.combines.parts line → Line number why ≡ fault
-      long : (read behind : List ℕ) → read ++ behind ≡ rest → most_line < line_length read → ⊥
-      early : (place : ℕ) (tag : List ℕ) → has_line rest ≡ false → first_open g.combines.parts ≡ Some place → tag ≡ (part_at place g.combines.parts).tag → EndsEarly tag ≡ fault
-      other : (number : ℕ) → has_line rest ≡ false → first_open g.combines.parts ≡ None → number ≡ length g.combines.parts → OtherCount number ≡ fault
+      long : (read behind : List ℕ) (number : ℕ) (why : LineRefusal) → read ++ behind ≡ rest → most_line < line_length read → number ≡ length own + 1 →
+          why ≡ r.TooLong → Line number why ≡ fault
+      early : (place : ℕ) (tag : List ℕ) → IsRest rest → first_open g.combines.parts ≡ Some place → tag ≡ (part_at place g.combines.parts).tag → EndsEarly tag ≡ fault
+      other : (number : ℕ) → IsRest rest → first_open g.combines.parts ≡ None → number ≡ length g.combines.parts → OtherCount number ≡ fault
 
     module _ (fault : StreamFault) (here : Here fault) where
       undone : Combined count until input input' out out' → ⊥
@@ -245,7 +254,7 @@ module _ (kinds : KindsAreOne) (count : ℕ) (until : Until) (bytes : List ℕ) 
               (subst (λ (t : Task). IsStopped t (h.lines ++ h.line ∷ []) h.body [] h.more h.fault) same h.stopped)
           by (inr b) = not_told here.stuck (h.lines ++ h.line ∷ []) y (one_more h.lines h.line y is b) h.task h.stopped.parts h.is_task h.stopped.told
 
-      stops_length : (number : ℕ) (why : LineRefusal) → RefusesLength count until input input' out out' number why → ⊥
+      stops_length : (number : ℕ) (why : LineRefusal) → RefusesLength count until input input' out out' number why → Line number why ≡ fault
       stops_length number why h = by (where_is h.lines x h.read.are_lines (split_by h.lines h.rest h.read))
         where
           behind : List ℕ
@@ -254,13 +263,13 @@ module _ (kinds : KindsAreOne) (count : ℕ) (until : Until) (bytes : List ℕ) 
           x : List ℕ
           x = h.rest ++ behind
 
-          by : Where h.lines x → ⊥
-          by (inl b) = not_long h.rest behind b.next (lines_text b.others ++ rest) b.rest_is b.is_line h.long
-          by (inr (inl (e, f))) = here.long h.rest behind f h.long
-          by (inr (inr b)) = not_open here.stuck h.lines x b (written_open kinds count until out out' h.lines h.written)
+          by : Where h.lines x → Line number why ≡ fault
+          by (inl b) = absurd (not_long h.rest behind b.next (lines_text b.others ++ rest) b.rest_is b.is_line h.long)
+          by (inr (inl (e, f))) = here.long h.rest behind number why f h.long (h.counted ∙ ap (λ (ls : List (List ℕ)). length ls + 1) e) h.is
+          by (inr (inr b)) = absurd (not_open here.stuck h.lines x b (written_open kinds count until out out' h.lines h.written))
 
       -- the input ends there
-      ends_there : (lines : List (List ℕ)) → Ends count until input input' out out' lines → (lines ≡ own) × (has_line rest ≡ false)
+      ends_there : (lines : List (List ℕ)) → Ends count until input input' out out' lines → (lines ≡ own) × IsRest rest
       ends_there lines h = by (where_is lines x h.read.are_lines (split_by lines h.rest h.read))
         where
           x : List ℕ
@@ -269,9 +278,9 @@ module _ (kinds : KindsAreOne) (count : ℕ) (until : Until) (bytes : List ℕ) 
           same : x ≡ h.rest
           same = all_read lines h.rest h.read h.ended
 
-          by : Where lines x → (lines ≡ own) × (has_line rest ≡ false)
+          by : Where lines x → (lines ≡ own) × IsRest rest
           by (inl b) = absurd (not_rest h.rest b.next (lines_text b.others ++ rest) (sym same ∙ b.rest_is) b.is_line h.no_line)
-          by (inr (inl (e, f))) = (e, ap has_line (sym f ∙ same) ∙ h.no_line)
+          by (inr (inl (e, f))) = (e, rest_of h.rest rest (sym (sym f ∙ same)) h.no_line h.short)
           by (inr (inr b)) = absurd (not_open here.stuck lines x b (written_open kinds count until out out' lines h.written))
 
       own_parts : (lines : List (List ℕ)) (task : Task) (parts : List PartTold) → lines ≡ own → IsTask count until (first_line lines) task → Tell task [] lines parts → parts ≡ g.combines.parts
@@ -285,7 +294,7 @@ module _ (kinds : KindsAreOne) (count : ℕ) (until : Until) (bytes : List ℕ) 
       stopped (Line number why) (inl h) = absurd (stops_first number why h)
       stopped (Line number why) (inr (inl h)) = inl (stops_line number why h)
       stopped (Line number why) (inr (inr (inl h))) = absurd (stops_block number why h)
-      stopped (Line number why) (inr (inr (inr h))) = absurd (stops_length number why h)
+      stopped (Line number why) (inr (inr (inr h))) = inl (stops_length number why h)
       stopped (EndsEarly tag) h =
           let there = ends_there h.ends.lines h.ends.ends in
           let same = own_parts h.ends.lines h.ends.task h.parts there.0 h.ends.is_task h.ends.told in
@@ -303,6 +312,18 @@ module _ (kinds : KindsAreOne) (count : ℕ) (until : Until) (bytes : List ℕ) 
       is_told : IsTold count until input input' out out' fault
       is_told = record { undone = undone; stopped = stopped }
 
+-- a part of which nothing was told takes the line of the query
+opens : (told : PartTold) (query line : List ℕ) (asked : List ItemKind) → told.place ≡ Query → line ≡ query → Takes query asked told line (at_place told Opened)
+opens told query line asked there same =
+    subst (λ (p : Place). TakesAt p query asked told line (at_place told Opened)) (sym there) (record { is_query = sym same; opened = refl })
+
+-- where more bytes than a line may have come before a line feed stands no line, and no rest
+no_line_there : (rest line behind : List ℕ) → GoesTooFar rest → rest ≡ line ++ 10 ∷ behind → IsLine line → ⊥
+no_line_there rest line behind far e is = not_long rest [] line behind (append-nil rest ∙ e) is far
+
+no_rest : (rest : List ℕ) → GoesTooFar rest → IsRest rest → ⊥
+no_rest rest far is = let all = all_before rest is.no_line in let short = is.short in omega (arith, far, all, short)
+
 -- ---- what is shown
 
 module _ (kinds : KindsAreOne) (count : ℕ) (until : Until) (bytes : List ℕ) (few : length bytes ≤ most_bytes)
@@ -315,18 +336,18 @@ module _ (kinds : KindsAreOne) (count : ℕ) (until : Until) (bytes : List ℕ) 
   rest_here own rest g fault is early other = record {
     stuck = λ line behind next e line_is takes. not_rest rest line behind e line_is is.no_line;
     line = λ line behind number why f e line_is counted same refused. absurd (not_rest rest line behind e line_is is.no_line);
-    long = λ read behind e many.
+    long = λ read behind number why e many counted said.
         let before = no_earlier read behind in
         let same = ap line_length e in
         let all = all_before rest is.no_line in
         let short = is.short in
-        omega (arith, many, before, same, all, short);
+        absurd (omega (arith, many, before, same, all, short));
     early = λ place tag none open_there tagged. early place tag open_there tagged;
     other = λ number none ended counted. other number ended counted;
   }
 
   -- a line that is not taken comes next
-  line_here : (own : List (List ℕ)) (rest line behind : List ℕ) (g : GoesRight count until bytes own rest) (fault : StreamFault) → ComesNext rest line behind →
+  line_here : (own : List (List ℕ)) (rest line behind : List ℕ) (g : GoesRight count until bytes own rest) (fault : StreamFault) → IsNext rest line behind →
       ((next : List PartTold) → TakesLine g.task g.combines.parts line next → ⊥) →
       ((number : ℕ) (why : LineRefusal) (f : InputFault) → number ≡ length own + 1 → Line number why ≡ of_input number f →
       IsRefused f g.task.query g.task.kinds g.task.count g.combines.parts line → Line number why ≡ fault) →
@@ -336,9 +357,9 @@ module _ (kinds : KindsAreOne) (count : ℕ) (until : Until) (bytes : List ℕ) 
     line = λ other after number why f e is counted said refuted.
         refused number why f counted said
         (subst (λ (v : List ℕ). IsRefused f g.task.query g.task.kinds g.task.count g.combines.parts v) (sym (same line other behind after comes.is_line is (sym comes.split ∙ e))) refuted);
-    long = λ read after e many. not_long read after line behind (e ∙ comes.split) comes.is_line many;
-    early = λ place tag refuted open_there tagged. absurd (not_rest rest line behind comes.split comes.is_line refuted);
-    other = λ number refuted ended counted. absurd (not_rest rest line behind comes.split comes.is_line refuted);
+    long = λ read after number why e many counted said. absurd (not_long read after line behind (e ∙ comes.split) comes.is_line many);
+    early = λ place tag refuted open_there tagged. absurd (not_rest rest line behind comes.split comes.is_line refuted.no_line);
+    other = λ number refuted ended counted. absurd (not_rest rest line behind comes.split comes.is_line refuted.no_line);
   }
     where
       same : (a b x y : List ℕ) → IsLine a → IsLine b → a ++ 10 ∷ x ≡ b ++ 10 ∷ y → a ≡ b
@@ -380,14 +401,14 @@ module _ (kinds : KindsAreOne) (count : ℕ) (until : Until) (bytes : List ℕ) 
       number ≡ length own + 1 → IsTold count until input input' out out' (Line number r.OtherLine)
   line_told own rest line behind g number comes begun cannot counted =
       is_told kinds count until bytes few input input' out out' left own rest g (Line number r.OtherLine)
-      (line_here own rest line behind g (Line number r.OtherLine) comes (λ next takes. cannot takes.taken.told takes.taken.taken) only)
+      (line_here own rest line behind g (Line number r.OtherLine) comes.next (λ next takes. cannot takes.taken.told takes.taken.taken) only)
     where
       only : (n : ℕ) (why : LineRefusal) (f : InputFault) → n ≡ length own + 1 → Line n why ≡ of_input n f → IsRefused f g.task.query g.task.kinds g.task.count g.combines.parts line →
           Line n why ≡ Line number r.OtherLine
-      only n why i.NoTab e said refuted = absurd (refuted comes.has_tab)
-      only n why i.NoTag e said refuted = absurd (refuted comes.is_tag)
-      only n why i.OtherPart e said refuted = absurd (begun (ap (λ (t : PartTold). t.place) refuted.1))
-      only n why (i.Line l.OtherQuery) e said refuted = absurd (begun refuted.0)
+      only n why i.NoTab e said refuted = absurd (refuted comes.tagged.0)
+      only n why i.NoTag e said refuted = absurd (refuted.1 comes.tagged.1)
+      only n why i.OtherPart e said refuted = absurd (begun (ap (λ (t : PartTold). t.place) refuted.1.1))
+      only n why (i.Line l.OtherQuery) e said refuted = absurd (begun refuted.1.0)
       only n why (i.Line l.OtherLine) e said refuted = line_number n number why r.OtherLine (e ∙ sym counted) (why_is n why r.OtherLine said)
       only n why (i.Line l.NoMemory) e said refuted = absurd (let f : Line n why ≡ NoMemory = said in cc)
 
@@ -397,28 +418,102 @@ module _ (kinds : KindsAreOne) (count : ℕ) (until : Until) (bytes : List ℕ) 
       IsTold count until input input' out out' (Line number r.MoreParts)
   more_told own rest line behind g number comes new many query counted =
       is_told kinds count until bytes few input input' out out' left own rest g (Line number r.MoreParts)
-      (line_here own rest line behind g (Line number r.MoreParts) comes full only)
+      (line_here own rest line behind g (Line number r.MoreParts) comes.next full only)
     where
       full : (next : List PartTold) → TakesLine g.task g.combines.parts line next → ⊥
       full next takes = not_refused i.OtherPart g.task g.combines.parts line next (asks_some g.task.query g.task.kinds g.is_task.asks) (tell_started g.task [] own g.combines.parts tt g.combines.told) takes
-          (λ e. absurd cc) (subst (λ (n : ℕ). n ≤ length g.combines.parts) (sym g.is_task.count) many, new)
+          (λ e. absurd cc) (comes.tagged, (subst (λ (n : ℕ). n ≤ length g.combines.parts) (sym g.is_task.count) many, new))
 
       mine : PartTold
       mine = told_of (tag_of line) g.combines.parts
 
       can : Takes g.task.query g.task.kinds mine (behind_tag line) (at_place mine Opened)
-      can =
-          let there : mine.place ≡ Query = ap (λ (t : PartTold). t.place) new in
-          subst (λ (p : Place). TakesAt p g.task.query g.task.kinds mine (behind_tag line) (at_place mine Opened)) (sym there) (record { is_query = sym query; opened = refl })
+      can = opens mine g.task.query (behind_tag line) g.task.kinds (ap (λ (t : PartTold). t.place) new) query
 
       only : (n : ℕ) (why : LineRefusal) (f : InputFault) → n ≡ length own + 1 → Line n why ≡ of_input n f → IsRefused f g.task.query g.task.kinds g.task.count g.combines.parts line →
           Line n why ≡ Line number r.MoreParts
-      only n why i.NoTab e said refuted = absurd (refuted comes.has_tab)
-      only n why i.NoTag e said refuted = absurd (refuted comes.is_tag)
+      only n why i.NoTab e said refuted = absurd (refuted comes.tagged.0)
+      only n why i.NoTag e said refuted = absurd (refuted.1 comes.tagged.1)
       only n why i.OtherPart e said refuted = line_number n number why r.MoreParts (e ∙ sym counted) (why_is n why r.MoreParts said)
-      only n why (i.Line l.OtherQuery) e said refuted = absurd (refuted.1 (at_place mine Opened) can)
-      only n why (i.Line l.OtherLine) e said refuted = absurd (refuted (at_place mine Opened) can)
+      only n why (i.Line l.OtherQuery) e said refuted = absurd (refuted.1.1 (at_place mine Opened) can)
+      only n why (i.Line l.OtherLine) e said refuted = absurd (refuted.1.1 (at_place mine Opened) can)
       only n why (i.Line l.NoMemory) e said refuted = absurd (let f : Line n why ≡ NoMemory = said in cc)
+
+  -- what refuses a line that comes next
+  abbrev Refuting : (line : List ℕ) (own : List (List ℕ)) (rest : List ℕ) → GoesRight count until bytes own rest → InputFault → Type 0
+  Refuting line own rest g f = IsRefused f g.task.query g.task.kinds g.task.count g.combines.parts line
+
+  started : (own : List (List ℕ)) (rest : List ℕ) (g : GoesRight count until bytes own rest) (f : InputFault) (line : List ℕ) (next : List PartTold) → f ≢ i.Line l.NoMemory →
+      Refuting line own rest g f → TakesLine g.task g.combines.parts line next → ⊥
+  started own rest g f line next memory refused takes =
+      not_refused f g.task g.combines.parts line next (asks_some g.task.query g.task.kinds g.is_task.asks) (tell_started g.task [] own g.combines.parts tt g.combines.told) takes memory refused
+
+  -- no tab stands in the line
+  tab_told : (own : List (List ℕ)) (rest line behind : List ℕ) (g : GoesRight count until bytes own rest) (number : ℕ) → IsNext rest line behind → ¬ HasTab line →
+      number ≡ length own + 1 → IsTold count until input input' out out' (Line number r.NoTab)
+  tab_told own rest line behind g number comes none counted =
+      is_told kinds count until bytes few input input' out out' left own rest g (Line number r.NoTab)
+      (line_here own rest line behind g (Line number r.NoTab) comes (λ next takes. started own rest g i.NoTab line next (λ e. absurd cc) none takes) only)
+    where
+      only : (n : ℕ) (why : LineRefusal) (f : InputFault) → n ≡ length own + 1 → Line n why ≡ of_input n f → Refuting line own rest g f → Line n why ≡ Line number r.NoTab
+      only n why i.NoTab e said refuted = line_number n number why r.NoTab (e ∙ sym counted) (why_is n why r.NoTab said)
+      only n why i.NoTag e said refuted = absurd (none refuted.0)
+      only n why i.OtherPart e said refuted = absurd (none refuted.0.0)
+      only n why (i.Line l.OtherQuery) e said refuted = absurd (none refuted.0.0)
+      only n why (i.Line l.OtherLine) e said refuted = absurd (none refuted.0.0)
+      only n why (i.Line l.NoMemory) e said refuted = absurd (none refuted.0.0)
+
+  -- what stands before the tab is no tag
+  tag_told : (own : List (List ℕ)) (rest line behind : List ℕ) (g : GoesRight count until bytes own rest) (number : ℕ) → IsNext rest line behind → HasTab line →
+      ¬ IsTag (tag_of line) → number ≡ length own + 1 → IsTold count until input input' out out' (Line number r.NoTag)
+  tag_told own rest line behind g number comes tab none counted =
+      is_told kinds count until bytes few input input' out out' left own rest g (Line number r.NoTag)
+      (line_here own rest line behind g (Line number r.NoTag) comes (λ next takes. started own rest g i.NoTag line next (λ e. absurd cc) (tab, none) takes) only)
+    where
+      only : (n : ℕ) (why : LineRefusal) (f : InputFault) → n ≡ length own + 1 → Line n why ≡ of_input n f → Refuting line own rest g f → Line n why ≡ Line number r.NoTag
+      only n why i.NoTab e said refuted = absurd (refuted tab)
+      only n why i.NoTag e said refuted = line_number n number why r.NoTag (e ∙ sym counted) (why_is n why r.NoTag said)
+      only n why i.OtherPart e said refuted = absurd (none refuted.0.1)
+      only n why (i.Line l.OtherQuery) e said refuted = absurd (none refuted.0.1)
+      only n why (i.Line l.OtherLine) e said refuted = absurd (none refuted.0.1)
+      only n why (i.Line l.NoMemory) e said refuted = absurd (none refuted.0.1)
+
+  -- a part for which there is room tells another query
+  query_told : (own : List (List ℕ)) (rest line behind : List ℕ) (g : GoesRight count until bytes own rest) (number : ℕ) → ComesNext rest line behind →
+      told_of (tag_of line) g.combines.parts ≡ nothing_told (tag_of line) → length g.combines.parts < count → behind_tag line ≢ g.task.query → number ≡ length own + 1 →
+      IsTold count until input input' out out' (Line number r.OtherQuery)
+  query_told own rest line behind g number comes new room another counted =
+      is_told kinds count until bytes few input input' out out' left own rest g (Line number r.OtherQuery)
+      (line_here own rest line behind g (Line number r.OtherQuery) comes.next (λ next takes. cannot takes.taken.told takes.taken.taken) only)
+    where
+      mine : PartTold
+      mine = told_of (tag_of line) g.combines.parts
+
+      there : mine.place ≡ Query
+      there = ap (λ (t : PartTold). t.place) new
+
+      cannot : (next : PartTold) → Takes g.task.query g.task.kinds mine (behind_tag line) next → ⊥
+      cannot next takes = another (sym (subst (λ (p : Place). TakesAt p g.task.query g.task.kinds mine (behind_tag line) next) there takes).is_query)
+
+      only : (n : ℕ) (why : LineRefusal) (f : InputFault) → n ≡ length own + 1 → Line n why ≡ of_input n f → Refuting line own rest g f → Line n why ≡ Line number r.OtherQuery
+      only n why i.NoTab e said refuted = absurd (refuted comes.tagged.0)
+      only n why i.NoTag e said refuted = absurd (refuted.1 comes.tagged.1)
+      only n why i.OtherPart e said refuted = absurd (let many = refuted.1.0 in let same = g.is_task.count in omega (arith, many, room, same))
+      only n why (i.Line l.OtherQuery) e said refuted = line_number n number why r.OtherQuery (e ∙ sym counted) (why_is n why r.OtherQuery said)
+      only n why (i.Line l.OtherLine) e said refuted = absurd (refuted.1.0 there)
+      only n why (i.Line l.NoMemory) e said refuted = absurd (let f : Line n why ≡ NoMemory = said in cc)
+
+  -- more bytes than a line may have come before a line feed
+  length_told : (own : List (List ℕ)) (rest : List ℕ) (g : GoesRight count until bytes own rest) (number : ℕ) → GoesTooFar rest → number ≡ length own + 1 →
+      IsTold count until input input' out out' (Line number r.TooLong)
+  length_told own rest g number far counted =
+      is_told kinds count until bytes few input input' out out' left own rest g (Line number r.TooLong) (record {
+        stuck = λ line behind next e line_is takes. no_line_there rest line behind far e line_is;
+        line = λ line behind n why f e line_is at said refuted. absurd (no_line_there rest line behind far e line_is);
+        long = λ read behind n why e many at said. line_number n number why r.TooLong (at ∙ sym counted) said;
+        early = λ place tag refuted open_there tagged. absurd (no_rest rest far refuted);
+        other = λ n refuted ended at. absurd (no_rest rest far refuted);
+      })
 
   -- ---- where no line was taken
 
@@ -469,9 +564,45 @@ module _ (kinds : KindsAreOne) (count : ℕ) (until : Until) (bytes : List ℕ) 
     none_told : IsTold count until input input' out out' (OtherCount 0)
     none_told = record { undone = λ d. none_asked (d.lines ++ d.last ∷ []) d.rest d.task d.read d.is_task; stopped = none_stopped }
 
+  -- ---- where the first line is too long
+
+  module _ (far : GoesTooFar bytes) where
+    none_whole : (lines : List (List ℕ)) (x : List ℕ) → AreLines lines → bytes ≡ lines_text lines ++ x → lines ≡ []
+    none_whole [] x are e = refl
+    none_whole (line ∷ lines) x are e = absurd (no_line_there bytes line (lines_text lines ++ x) far (e ∙ front_line line (lines_text lines) x) are.0)
+
+    far_read : (lines : List (List ℕ)) (rest : List ℕ) → ReadsLines input input' lines rest → lines ≡ []
+    far_read lines rest read = none_whole lines (rest ++ (here_read lines rest read).behind) read.are_lines (here_split lines rest read)
+
+    far_asked : (lines : List (List ℕ)) (rest : List ℕ) (task : Task) → ReadsLines input input' lines rest → IsTask count until (first_line lines) task → ⊥
+    far_asked lines rest task read asked = some_lines count until lines task asked (far_read lines rest read)
+
+    far_ends : Ends count until input input' out out' [] → ⊥
+    far_ends h =
+        let same : h.rest ≡ bytes = sym (all_read kinds count until bytes few input input' out out' left [] h.rest h.read h.ended) ∙ sym (here_split [] h.rest h.read) in
+        no_rest bytes far (rest_of h.rest bytes same h.no_line h.short)
+
+    far_stopped : (why : StreamFault) → StreamCause count until input input' out out' why →
+        (why ≡ Line 1 r.TooLong) ⊎ (why ≡ NoMemory) ⊎ Rose input.faults input'.faults ⊎ ((why ≡ WriteFault) × Rose out.faults out'.faults)
+    far_stopped (Line number why) (inl h) = absurd (some_more [] h.first (far_read (h.first ∷ []) h.rest h.read))
+    far_stopped (Line number why) (inr (inl h)) = absurd (some_more h.lines h.line (far_read (h.lines ++ h.line ∷ []) h.rest h.read))
+    far_stopped (Line number why) (inr (inr (inl h))) = absurd (some_more h.lines h.line (far_read (h.lines ++ h.line ∷ []) h.rest h.read))
+    far_stopped (Line number why) (inr (inr (inr h))) =
+        inl (line_number number 1 why r.TooLong (h.counted ∙ ap (λ (ls : List (List ℕ)). length ls + 1) (far_read h.lines h.rest h.read)) h.is)
+    far_stopped (EndsEarly tag) h = absurd (far_asked h.ends.lines h.ends.ends.rest h.ends.task h.ends.ends.read h.ends.is_task)
+    far_stopped (OtherCount number) (inl (none, h)) = absurd (far_ends h)
+    far_stopped (OtherCount number) (inr h) = absurd (far_asked h.ends.lines h.ends.ends.rest h.ends.task h.ends.ends.read h.ends.is_task)
+    far_stopped TooLong h = absurd (not_full kinds count until bytes few input input' out out' left h)
+    far_stopped ReadFault h = inr (inr (inl h.rose))
+    far_stopped WriteFault h = inr (inr (inr (refl, h.written.cause.failed)))
+    far_stopped NoMemory h = inr (inl refl)
+
+    far_told : IsTold count until input input' out out' (Line 1 r.TooLong)
+    far_told = record { undone = λ d. far_asked (d.lines ++ d.last ∷ []) d.rest d.task d.read d.is_task; stopped = far_stopped }
+
   -- ---- where the first line asks nothing
 
-  module _ (first behind : List ℕ) (comes : ComesNext bytes first behind) (asks_none : (items : List ItemKind) → Asks (behind_tag first) items → ⊥)
+  module _ (first behind : List ℕ) (comes : IsNext bytes first behind) (asks_none : (task : Task) → IsTask count until first task → ⊥)
       (fault : StreamFault) (only : (why : LineRefusal) → IsFirstRefused why first → Line 1 why ≡ fault) where
     first_is : (lines : List (List ℕ)) (x : List ℕ) → lines ≢ [] → AreLines lines → bytes ≡ lines_text lines ++ x → first_line lines ≡ first
     first_is [] x there are e = absurd (there refl)
@@ -482,7 +613,7 @@ module _ (kinds : KindsAreOne) (count : ℕ) (until : Until) (bytes : List ℕ) 
     no_task : (lines : List (List ℕ)) (rest : List ℕ) (task : Task) → ReadsLines input input' lines rest → IsTask count until (first_line lines) task → ⊥
     no_task lines rest task read asked =
         let same = first_is lines (rest ++ (here_read lines rest read).behind) (some_lines count until lines task asked) read.are_lines (here_split lines rest read) in
-        asks_none task.kinds (subst (λ (q : List ℕ). Asks q task.kinds) (asked.query ∙ ap behind_tag same) asked.asks)
+        asks_none task (subst (λ (line : List ℕ). IsTask count until line task) same asked)
 
     none_taken : (lines : List (List ℕ)) (rest : List ℕ) → ReadsLines input input' lines rest → IsOpen kinds count until lines → lines ≡ []
     none_taken lines rest read (inl none) = none
@@ -521,7 +652,7 @@ module _ (kinds : KindsAreOne) (count : ℕ) (until : Until) (bytes : List ℕ) 
 
   query_only : (first : List ℕ) → HasTab first → IsTag (tag_of first) → IsNoQuery (behind_tag first) → (why : LineRefusal) → IsFirstRefused why first → Line 1 why ≡ Line 1 r.NoQuery
   query_only first tab tag none r.NoTab h = absurd (h tab)
-  query_only first tab tag none r.NoTag h = absurd (h tag)
+  query_only first tab tag none r.NoTag h = absurd (h.1 tag)
   query_only first tab tag none r.NoQuery h = refl
   query_only first tab tag none r.NoTotals h = absurd (none h.1.query h.1.is_line)
   query_only first tab tag none r.MoreParts h = absurd h
@@ -533,7 +664,7 @@ module _ (kinds : KindsAreOne) (count : ℕ) (until : Until) (bytes : List ℕ) 
 
   totals_only : (first : List ℕ) → HasTab first → IsTag (tag_of first) → AsksOther (behind_tag first) → (why : LineRefusal) → IsFirstRefused why first → Line 1 why ≡ Line 1 r.NoTotals
   totals_only first tab tag other r.NoTab h = absurd (h tab)
-  totals_only first tab tag other r.NoTag h = absurd (h tag)
+  totals_only first tab tag other r.NoTag h = absurd (h.1 tag)
   totals_only first tab tag other r.NoQuery h = absurd (h.1 other.query other.is_line)
   totals_only first tab tag other r.NoTotals h = refl
   totals_only first tab tag other r.MoreParts h = absurd h
@@ -543,15 +674,54 @@ module _ (kinds : KindsAreOne) (count : ℕ) (until : Until) (bytes : List ℕ) 
   totals_only first tab tag other (r.TooWide item) h = absurd h
   totals_only first tab tag other r.TooLong h = absurd h
 
+  tab_only : (first : List ℕ) → ¬ HasTab first → (why : LineRefusal) → IsFirstRefused why first → Line 1 why ≡ Line 1 r.NoTab
+  tab_only first none r.NoTab h = refl
+  tab_only first none r.NoTag h = absurd (none h.0)
+  tab_only first none r.NoQuery h = absurd (none h.0.0)
+  tab_only first none r.NoTotals h = absurd (none h.0.0)
+  tab_only first none r.MoreParts h = absurd h
+  tab_only first none r.OtherQuery h = absurd h
+  tab_only first none r.OtherLine h = absurd h
+  tab_only first none (r.OtherDecimals item) h = absurd h
+  tab_only first none (r.TooWide item) h = absurd h
+  tab_only first none r.TooLong h = absurd h
+
+  tag_only : (first : List ℕ) → HasTab first → ¬ IsTag (tag_of first) → (why : LineRefusal) → IsFirstRefused why first → Line 1 why ≡ Line 1 r.NoTag
+  tag_only first tab none r.NoTab h = absurd (h tab)
+  tag_only first tab none r.NoTag h = refl
+  tag_only first tab none r.NoQuery h = absurd (none h.0.1)
+  tag_only first tab none r.NoTotals h = absurd (none h.0.1)
+  tag_only first tab none r.MoreParts h = absurd h
+  tag_only first tab none r.OtherQuery h = absurd h
+  tag_only first tab none r.OtherLine h = absurd h
+  tag_only first tab none (r.OtherDecimals item) h = absurd h
+  tag_only first tab none (r.TooWide item) h = absurd h
+  tag_only first tab none r.TooLong h = absurd h
+
   -- what is shown is told
   pub shown_told : (fault : StreamFault) → ShowsFault count until bytes fault → IsTold count until input input' out out' fault
   shown_told fault (no_line is) = none_told is
   shown_told fault (ends_early lines rest g place tag is at named) = early_told lines rest g place tag is at named
   shown_told fault (other_count lines rest g number is none counted) = other_told lines rest g number is none counted
   shown_told fault (no_query first behind comes none) =
-      first_told first behind comes (λ items asks. kinds.not_none (behind_tag first) items asks none) (Line 1 r.NoQuery) (query_only first comes.has_tab comes.is_tag none)
+      first_told first behind comes.next
+      (λ task is. kinds.not_none (behind_tag first) task.kinds (subst (λ (q : List ℕ). Asks q task.kinds) is.query is.asks) none)
+      (Line 1 r.NoQuery) (query_only first comes.tagged.0 comes.tagged.1 none)
   shown_told fault (no_totals first behind comes other) =
-      first_told first behind comes (λ items asks. kinds.not_other (behind_tag first) items asks other) (Line 1 r.NoTotals) (totals_only first comes.has_tab comes.is_tag other)
+      first_told first behind comes.next
+      (λ task is. kinds.not_other (behind_tag first) task.kinds (subst (λ (q : List ℕ). Asks q task.kinds) is.query is.asks) other)
+      (Line 1 r.NoTotals) (totals_only first comes.tagged.0 comes.tagged.1 other)
+  shown_told fault (first_without_tab first behind comes none) =
+      first_told first behind comes
+      (λ task is. asks_some task.query task.kinds is.asks (is.query ∙ no_tab_behind first none)) (Line 1 r.NoTab) (tab_only first none)
+  shown_told fault (first_without_tag first behind comes tab none) =
+      first_told first behind comes (λ task is. none is.is_tag) (Line 1 r.NoTag) (tag_only first tab none)
+  shown_told fault (first_too_long far) = far_told far
+  shown_told fault (no_tab lines rest line behind g number comes none counted) = tab_told lines rest line behind g number comes none counted
+  shown_told fault (no_tag lines rest line behind g number comes tab none counted) = tag_told lines rest line behind g number comes tab none counted
+  shown_told fault (too_long lines rest g number far counted) = length_told lines rest g number far counted
+  shown_told fault (other_query lines rest line behind g number comes new room another counted) =
+      query_told lines rest line behind g number comes new room another counted
   shown_told fault (more_parts lines rest line behind g number comes new many query counted) = more_told lines rest line behind g number comes new many query counted
   shown_told fault (other_line lines rest line behind g number comes begun cannot counted) = line_told lines rest line behind g number comes begun cannot counted
 

@@ -4,7 +4,7 @@ use Rattle.query_kinds.specs.Kinds.{AsksOther, IsKindsFault, IsNoQuery}
 use Rattle.query_kinds.specs.declared.fault.KindsFault.{KindsFault}
 use Rattle.query_kinds.specs.declared.fault.KindsFault.TheVariants as k
 use Rattle.query_model.specs.declared.query.ItemKind.{ItemKind}
-use Rattle.report_parts.specs.Tags.{CannotTake, IsRefused, IsTag, behind_tag, tag_of}
+use Rattle.report_parts.specs.Tags.{CannotTake, IsRefused, IsTagged, behind_tag, tag_of}
 use Rattle.report_parts.specs.Told.{Told, at_place, nothing_told}
 use Rattle.report_parts.specs.declared.fault.InputFault.{InputFault}
 use Rattle.report_parts.specs.declared.fault.InputFault.TheVariants as i
@@ -22,12 +22,12 @@ pub first_refused : (first : List ℕ) (why : InputFault) →
     IsFirstFault first (of_input 1 why)
 first_refused first i.NoTab h = (refl, h [] [] 0 [])
 first_refused first i.NoTag h = (refl, h [] [] 0 [])
-first_refused first i.OtherPart h = let few = (h [] [] 1 []).0 in absurd (omega (arith, few))
-first_refused first (i.Line l.OtherQuery) h = absurd (opens first (h (behind_tag first) [] 0 []).1)
-first_refused first (i.Line l.OtherLine) h = absurd (opens first (h (behind_tag first) [] 0 []))
+first_refused first i.OtherPart h = let few = (h [] [] 1 []).1.0 in absurd (omega (arith, few))
+first_refused first (i.Line l.OtherQuery) h = absurd (opens first (h (behind_tag first) [] 0 []).1.1)
+first_refused first (i.Line l.OtherLine) h = absurd (opens first (h (behind_tag first) [] 0 []).1.1)
 first_refused first (i.Line l.NoMemory) h = tt
 
-pub kinds_refused : (first line : List ℕ) (why : KindsFault) → IsTag (tag_of first) → line ≡ behind_tag first → IsKindsFault line why →
+pub kinds_refused : (first line : List ℕ) (why : KindsFault) → IsTagged first → line ≡ behind_tag first → IsKindsFault line why →
     IsFirstFault first (of_kinds why)
 kinds_refused first line k.NoQuery is e h = (refl, (is, subst IsNoQuery e h))
 kinds_refused first line k.NoTotals is e h = (refl, (is, subst AsksOther e h))

@@ -129,8 +129,8 @@ not_refused i.NoTab task parts line next some all h memory none =
     let taken : TakesAt own.place task.query task.kinds own [] h.taken.told =
     subst (λ (v : List ℕ). TakesAt own.place task.query task.kinds own v h.taken.told) (no_tab line none) h.taken.taken in
     no_empty own.place task.query task.kinds own h.taken.told some taken
-not_refused i.NoTag task parts line next some all h memory none = none h.taken.is_tag
-not_refused i.OtherPart task parts line next some all h memory (many, none) =
+not_refused i.NoTag task parts line next some all h memory (tab, none) = none h.taken.is_tag
+not_refused i.OtherPart task parts line next some all h memory (tagged, (many, none)) =
     let own = told_of (tag_of line) parts in
     let told = h.taken.told in
     let tag : told.tag ≡ tag_of line = tag_stays task.query task.kinds own (behind_tag line) told h.taken.taken ∙ tag_of_told (tag_of line) parts in
@@ -139,8 +139,8 @@ not_refused i.OtherPart task parts line next some all h memory (many, none) =
     let long : length next ≡ length (with_part told parts) = ap length h.taken.put in
     let few = h.few in
     omega (arith, grown, long, few, many)
-not_refused (i.Line l.OtherQuery) task parts line next some all h memory (place, cannot) = cannot h.taken.told h.taken.taken
-not_refused (i.Line l.OtherLine) task parts line next some all h memory cannot = cannot h.taken.told h.taken.taken
+not_refused (i.Line l.OtherQuery) task parts line next some all h memory (tagged, (place, cannot)) = cannot h.taken.told h.taken.taken
+not_refused (i.Line l.OtherLine) task parts line next some all h memory (tagged, (begun, cannot)) = cannot h.taken.told h.taken.taken
 not_refused (i.Line l.NoMemory) task parts line next some all h memory any = memory refl
 
 -- ---- behind lines that tell something

@@ -75,9 +75,9 @@ module _ (kinds : KindsAreOne) (count : ℕ) (until : Until) where
   -- a line that asks is not refused as the first
   pub first_not_refused : (why : LineRefusal) (first : List ℕ) (task : Task) → IsTask count until first task → IsFirstRefused why first → ⊥
   first_not_refused r.NoTab first task is none = asks_some task.query task.kinds is.asks (is.query ∙ no_tab first none)
-  first_not_refused r.NoTag first task is none = none is.is_tag
-  first_not_refused r.NoQuery first task is (tag, none) = kinds.not_none (behind_tag first) task.kinds (subst (λ (q : List ℕ). Asks q task.kinds) is.query is.asks) none
-  first_not_refused r.NoTotals first task is (tag, other) = kinds.not_other (behind_tag first) task.kinds (subst (λ (q : List ℕ). Asks q task.kinds) is.query is.asks) other
+  first_not_refused r.NoTag first task is (tab, none) = none is.is_tag
+  first_not_refused r.NoQuery first task is (tagged, none) = kinds.not_none (behind_tag first) task.kinds (subst (λ (q : List ℕ). Asks q task.kinds) is.query is.asks) none
+  first_not_refused r.NoTotals first task is (tagged, other) = kinds.not_other (behind_tag first) task.kinds (subst (λ (q : List ℕ). Asks q task.kinds) is.query is.asks) other
   first_not_refused r.MoreParts first task is h = absurd h
   first_not_refused r.OtherQuery first task is h = absurd h
   first_not_refused r.OtherLine first task is h = absurd h

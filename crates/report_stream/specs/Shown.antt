@@ -1,15 +1,15 @@
 -- What bytes of an input show: why they are refused, where the lines before are right.
-use Rattle.std.specs.Prelude.{◌≡◌, ◌≢◌, ◌⊎◌, ℕ, ◌+◌, ◌≤◌, false, List, ◌∷◌, ◌++◌, length}
+use Rattle.std.specs.Prelude.{◌≡◌, ◌≢◌, ◌⊎◌, ℕ, ◌+◌, ◌<◌, ◌≤◌, false, List, ◌∷◌, ◌++◌, length}
 use Rattle.std.specs.declared.option.Option.TheVariants.{Some, None}
 use Rattle.outer_world.specs.Device.{Rose, SinkState, SourceState}
 use Rattle.query_kinds.specs.Kinds.{AsksOther, IsNoQuery}
 use Rattle.report_parts.specs.Course.{Combines, Task}
 use Rattle.report_parts.specs.Ends.{first_open}
-use Rattle.report_parts.specs.Tags.{CannotTake, HasTab, IsTag, behind_tag, part_at, tag_of, told_of}
+use Rattle.report_parts.specs.Tags.{CannotTake, HasTab, IsTag, IsTagged, behind_tag, part_at, tag_of, told_of}
 use Rattle.report_parts.specs.Told.{nothing_told}
 use Rattle.report_parts.specs.declared.combination.Until.{Until}
 use Rattle.report_parts.specs.declared.part.Place.TheVariants.{Query}
-use Rattle.source_lines.specs.Lines.{has_line, most_bytes, most_line}
+use Rattle.source_lines.specs.Lines.{has_line, line_length, most_bytes, most_line}
 use Rattle.report_stream.specs.Accepted.{BlocksFit}
 use Rattle.report_stream.specs.Streams.{AreLines, Combined, IsLine, IsTask, StreamCause, first_line, lines_text}
 use Rattle.report_stream.specs.declared.fault.LineRefusal.TheVariants as r
@@ -31,12 +31,19 @@ pub record IsRest (rest : List ℕ) : Type 0 where
   pub no_line : has_line rest ≡ false
   pub short : length rest ≤ most_line
 
--- this line comes next, with a tag and a tab
-pub record ComesNext (rest line behind : List ℕ) : Type 0 where
+-- this line comes next
+pub record IsNext (rest line behind : List ℕ) : Type 0 where
   pub split : rest ≡ line ++ 10 ∷ behind
   pub is_line : IsLine line
-  pub has_tab : HasTab line
-  pub is_tag : IsTag (tag_of line)
+
+-- it has a tag and a tab
+pub record ComesNext (rest line behind : List ℕ) : Type 0 where
+  pub next : IsNext rest line behind
+  pub tagged : IsTagged line
+
+-- more bytes than a line may have come before a line feed, or the end
+abbrev pub GoesTooFar : List ℕ → Type 0
+GoesTooFar rest = most_line < line_length rest
 
 pub data ShowsFault (wanted : ℕ) (until : Until) (bytes : List ℕ) : StreamFault → Type 0 where
   no_line : IsRest bytes → ShowsFault wanted until bytes (OtherCount 0)
@@ -45,10 +52,26 @@ pub data ShowsFault (wanted : ℕ) (until : Until) (bytes : List ℕ) : StreamFa
       ShowsFault wanted until bytes (EndsEarly tag)
   other_count : (lines : List (List ℕ)) (rest : List ℕ) (g : GoesRight wanted until bytes lines rest) (count : ℕ) → IsRest rest →
       first_open g.combines.parts ≡ None → count ≡ length g.combines.parts → ShowsFault wanted until bytes (OtherCount count)
+  first_without_tab : (first behind : List ℕ) → IsNext bytes first behind → ¬ HasTab first → ShowsFault wanted until bytes (Line 1 r.NoTab)
+  first_without_tag : (first behind : List ℕ) → IsNext bytes first behind → HasTab first → ¬ IsTag (tag_of first) →
+      ShowsFault wanted until bytes (Line 1 r.NoTag)
+  first_too_long : GoesTooFar bytes → ShowsFault wanted until bytes (Line 1 r.TooLong)
   no_query : (first behind : List ℕ) → ComesNext bytes first behind → IsNoQuery (behind_tag first) →
       ShowsFault wanted until bytes (Line 1 r.NoQuery)
   no_totals : (first behind : List ℕ) → ComesNext bytes first behind → AsksOther (behind_tag first) →
       ShowsFault wanted until bytes (Line 1 r.NoTotals)
+  no_tab : (lines : List (List ℕ)) (rest line behind : List ℕ) (g : GoesRight wanted until bytes lines rest) (number : ℕ) →
+      IsNext rest line behind → ¬ HasTab line → number ≡ length lines + 1 → ShowsFault wanted until bytes (Line number r.NoTab)
+  no_tag : (lines : List (List ℕ)) (rest line behind : List ℕ) (g : GoesRight wanted until bytes lines rest) (number : ℕ) →
+      IsNext rest line behind → HasTab line → ¬ IsTag (tag_of line) → number ≡ length lines + 1 →
+      ShowsFault wanted until bytes (Line number r.NoTag)
+  too_long : (lines : List (List ℕ)) (rest : List ℕ) (g : GoesRight wanted until bytes lines rest) (number : ℕ) → GoesTooFar rest →
+      number ≡ length lines + 1 → ShowsFault wanted until bytes (Line number r.TooLong)
+  -- a part for which there is room tells another query
+  other_query : (lines : List (List ℕ)) (rest line behind : List ℕ) (g : GoesRight wanted until bytes lines rest) (number : ℕ) →
+      ComesNext rest line behind → told_of (tag_of line) g.combines.parts ≡ nothing_told (tag_of line) →
+      length g.combines.parts < wanted → behind_tag line ≢ g.task.query → number ≡ length lines + 1 →
+      ShowsFault wanted until bytes (Line number r.OtherQuery)
   -- one part more tells the same query
   more_parts : (lines : List (List ℕ)) (rest line behind : List ℕ) (g : GoesRight wanted until bytes lines rest) (number : ℕ) →
       ComesNext rest line behind → told_of (tag_of line) g.combines.parts ≡ nothing_told (tag_of line) →

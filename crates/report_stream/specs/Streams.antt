@@ -10,7 +10,7 @@ use Rattle.query_kinds.specs.Kinds.{Asks, AsksOther, IsNoQuery}
 use Rattle.report_text.specs.declared.lines.ReportEnd.{ReportEnd}
 use Rattle.report_parts.specs.Course.{Combines, IsLineFault, IsStopped, Task, Tell, opening_text}
 use Rattle.report_parts.specs.Ends.{IsEndFault, first_open}
-use Rattle.report_parts.specs.Tags.{AreInOrder, HasTab, IsTag, behind_tag, part_at, tag_of}
+use Rattle.report_parts.specs.Tags.{AreInOrder, HasTab, IsTag, IsTagged, behind_tag, part_at, tag_of}
 use Rattle.report_parts.specs.Told.{Told}
 use Rattle.report_parts.specs.declared.combination.Until.{Until}
 use Rattle.report_parts.specs.declared.fault.BlockFault.{BlockFault}
@@ -109,9 +109,9 @@ pub record Combined (count : ℕ) (until : Until) (input input' : SourceState) (
 -- why the first is refused by itself
 abbrev pub IsFirstRefused : LineRefusal → List ℕ → Type 0
 IsFirstRefused r.NoTab first = ¬ HasTab first
-IsFirstRefused r.NoTag first = ¬ IsTag (tag_of first)
-IsFirstRefused r.NoQuery first = IsTag (tag_of first) × IsNoQuery (behind_tag first)
-IsFirstRefused r.NoTotals first = IsTag (tag_of first) × AsksOther (behind_tag first)
+IsFirstRefused r.NoTag first = HasTab first × ¬ IsTag (tag_of first)
+IsFirstRefused r.NoQuery first = IsTagged first × IsNoQuery (behind_tag first)
+IsFirstRefused r.NoTotals first = IsTagged first × AsksOther (behind_tag first)
 IsFirstRefused other first = ⊥
 
 -- the first line is refused, and nothing is written
@@ -169,12 +169,13 @@ pub record RefusesLength (count : ℕ) (until : Until) (input input' : SourceSta
 
 -- ---- why the input may not end
 
--- it ends behind these lines; a rest without its line feed is no line
+-- it ends behind these lines; a rest without its line feed is no line, and not longer than one may be
 pub record Ends (count : ℕ) (until : Until) (input input' : SourceState) (out out' : SinkState) (lines : List (List ℕ)) : Type 0 where
   pub rest : List ℕ
   pub read : ReadsLines input input' lines rest
   pub ended : IsAtEnd input'.left
   pub no_line : has_line rest ≡ false
+  pub short : line_length rest ≤ most_line
   pub written : HasWritten count until out out' lines
 
 -- what the parts have told there, in the order of their tags
