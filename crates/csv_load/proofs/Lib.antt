@@ -11,6 +11,7 @@ pub mod NullFacts
 pub mod TableFacts
 pub mod LoadFacts
 pub mod LineFacts
+pub mod StopFacts
 pub mod NumberFacts
 pub mod RaisedFacts
 pub mod PlainFacts

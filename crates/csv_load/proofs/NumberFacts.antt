@@ -19,6 +19,7 @@ use Rattle.std.specs.declared.cmp.Ordering.TheVariants.{Less, Equal, Greater}
 use Rattle.indexmap.specs.IndexSet.{insert_key as add}
 use Rattle.daq_table.proofs.Dictionaries.{all_come, insert_viewed, known_stays, sorted_after}
 use Rattle.daq_table.specs.Dictionaries.{distinct}
+use Rattle.csv_load.specs.Columns.{IsShortText}
 use Rattle.csv_load.specs.Numbered.{AreNumbered, HasNumber, texts_at}
 use Rattle.csv_load.proofs.RowFacts.{distinct_more}
 
@@ -90,15 +91,16 @@ numbered_known kept numbers n text a e = record {
   same = sym (known_stays (distinct kept) text (sorted_after kept [] empty_sorted) (there_in_order kept n text e)) ∙ ap (λ (ns : List (List ℕ)). insert_key (slice_cmp nat_cmp) ns text) a.same
       ∙ distinct_more (texts_at kept numbers) text ∙ ap distinct (sym (texts_more kept numbers n text e));
   differ = a.differ;
+  short = a.short;
 }
 
 new_texts : (kept : List (List ℕ)) (numbers : List ℕ) (n : ℕ) (text : List ℕ) → AreNumbered kept numbers → slice_get (kept ++ text ∷ []) n ≡ Some text
     → texts_at (kept ++ text ∷ []) (numbers ++ n ∷ []) ≡ texts_at kept numbers ++ text ∷ []
 new_texts kept numbers n text a e = texts_more (kept ++ text ∷ []) numbers n text e ∙ ap (λ (ts : List (List ℕ)). ts ++ text ∷ []) (texts_stay kept text numbers a.within)
 
-numbered_new : (kept : List (List ℕ)) (numbers : List ℕ) (n : ℕ) (text : List ℕ) → AreNumbered kept numbers → list_any (bytes_eq text) kept ≡ false → slice_get (kept ++ text ∷ []) n ≡ Some text
+numbered_new : (kept : List (List ℕ)) (numbers : List ℕ) (n : ℕ) (text : List ℕ) → AreNumbered kept numbers → IsShortText text → list_any (bytes_eq text) kept ≡ false → slice_get (kept ++ text ∷ []) n ≡ Some text
     → AreNumbered (kept ++ text ∷ []) (numbers ++ n ∷ [])
-numbered_new kept numbers n text a h e =
+numbered_new kept numbers n text a s h e =
     let count = length-append kept (text ∷ []) in
     let more = longer (distinct kept) text (absent_all kept [] text h refl) in
     let order = ap length (distinct_more kept text) in
@@ -106,21 +108,22 @@ numbered_new kept numbers n text a h e =
       within = All-push (λ (m : ℕ). m < length (kept ++ text ∷ [])) numbers n (λ k d lt. omega (arith, a.within k d lt, count)) (slice_get_within (kept ++ text ∷ []) n text e);
       same = sym (distinct_more kept text) ∙ ap (λ (ns : List (List ℕ)). insert_key (slice_cmp nat_cmp) ns text) a.same ∙ distinct_more (texts_at kept numbers) text ∙ ap distinct (sym (new_texts kept numbers n text a e));
       differ = omega (arith, count, more, order, a.differ);
+      short = All-push IsShortText kept text a.short s;
     }
 
 -- the numbers, with one more, tell the texts with one more
 abbrev TellsMore : List (List ℕ) → List (List ℕ) → List ℕ → ℕ → List ℕ → Type 0
 TellsMore old new numbers n text = AreNumbered new (numbers ++ n ∷ []) × (texts_at new (numbers ++ n ∷ []) ≡ texts_at old numbers ++ text ∷ [])
 
-more_by : (old new : List (List ℕ)) (numbers : List ℕ) (n : ℕ) (text : List ℕ) (known : Bool) → list_any (bytes_eq text) old ≡ known → AreNumbered old numbers → new ≡ (if known then old else old ++ text ∷ []) → slice_get new n ≡ Some text
+more_by : (old new : List (List ℕ)) (numbers : List ℕ) (n : ℕ) (text : List ℕ) (known : Bool) → list_any (bytes_eq text) old ≡ known → AreNumbered old numbers → IsShortText text → new ≡ (if known then old else old ++ text ∷ []) → slice_get new n ≡ Some text
     → TellsMore old new numbers n text
-more_by old new numbers n text true e a k there =
+more_by old new numbers n text true e a s k there =
     subst (λ (ks : List (List ℕ)). slice_get ks n ≡ Some text → TellsMore old ks numbers n text) (sym k) (λ h. (numbered_known old numbers n text a h, texts_more old numbers n text h)) there
-more_by old new numbers n text false e a k there =
-    subst (λ (ks : List (List ℕ)). slice_get ks n ≡ Some text → TellsMore old ks numbers n text) (sym k) (λ h. (numbered_new old numbers n text a e h, new_texts old numbers n text a h)) there
+more_by old new numbers n text false e a s k there =
+    subst (λ (ks : List (List ℕ)). slice_get ks n ≡ Some text → TellsMore old ks numbers n text) (sym k) (λ h. (numbered_new old numbers n text a s e h, new_texts old numbers n text a h)) there
 
 pub numbered_more : (old new : List (List ℕ)) (numbers : List ℕ) (n : ℕ) (text : List ℕ) → AreNumbered old numbers → HasNumber old new text n → TellsMore old new numbers n text
-numbered_more old new numbers n text a h = more_by old new numbers n text (list_any (bytes_eq text) old) refl a h.kept h.there
+numbered_more old new numbers n text a h = more_by old new numbers n text (list_any (bytes_eq text) old) refl a h.short h.kept h.there
 
 -- ---- keys as the texts that they are seen as
 
@@ -141,24 +144,27 @@ added_viewed view keys key =
 there_viewed : {K : Type 0} (view : K → List ℕ) (keys : List K) (n : ℕ) (k : K) (text : List ℕ) → slice_get keys n ≡ Some k → bytes_eq text (view k) ≡ true → slice_get (map view keys) n ≡ Some text
 there_viewed view keys n k text e same = slice_get-map view keys n ∙ ap (option_map view) e ∙ ap Some (sym ((bytes_eq-Decides text (view k)).0 same))
 
-found_at : {K : Type 0} (view : K → List ℕ) (keys : List K) (n : ℕ) (d : K) (text : List ℕ) → position (λ k. bytes_eq text (view k)) keys ≡ Some n → HasNumber (map view keys) (map view keys) text n
-found_at {K} view keys n d text e =
+found_at : {K : Type 0} (view : K → List ℕ) (keys : List K) (n : ℕ) (d : K) (text : List ℕ) → All IsShortText (map view keys) → position (λ k. bytes_eq text (view k)) keys ≡ Some n → HasNumber (map view keys) (map view keys) text n
+found_at {K} view keys n d text all e =
     let p = λ (k : K). bytes_eq text (view k) in
     let at = position-Some p keys n d e in
     let here = slice_get-get_or keys n d at.0 in
     let some = list_any-from_Any p keys (n, get_or keys n d, at.0, get_or_from_slice_get keys n (get_or keys n d) (get_or keys n d) here, at.1) in
+    let there = there_viewed view keys n (get_or keys n d) text here at.1 in
     record {
+      short = subst IsShortText (get_or_from_slice_get (map view keys) n text [] there) (all n [] (slice_get_within (map view keys) n text there));
       kept = ap (λ b. if b then map view keys else map view keys ++ text ∷ []) (sym some ∙ any_viewed view keys text);
-      there = there_viewed view keys n (get_or keys n d) text here at.1;
+      there = there;
     }
 
-pub number_found : {K : Type 0} (view : K → List ℕ) (keys : List K) (n : ℕ) (text : List ℕ) → position (λ k. bytes_eq text (view k)) keys ≡ Some n → HasNumber (map view keys) (map view keys) text n
-number_found view [] n text e = absurd cc
-number_found view (k ∷ keys) n text e = found_at view (k ∷ keys) n k text e
+pub number_found : {K : Type 0} (view : K → List ℕ) (keys : List K) (n : ℕ) (text : List ℕ) → All IsShortText (map view keys) → position (λ k. bytes_eq text (view k)) keys ≡ Some n → HasNumber (map view keys) (map view keys) text n
+number_found view [] n text all e = absurd cc
+number_found view (k ∷ keys) n text all e = found_at view (k ∷ keys) n k text all e
 
-pub number_given : {K : Type 0} (view : K → List ℕ) (keys new : List K) (n : ℕ) (key k : K) (text : List ℕ) → new ≡ add (λ x y. bytes_eq (view x) (view y)) keys key → slice_get new n ≡ Some k → bytes_eq (view key) (view k) ≡ true → view key ≡ text
+pub number_given : {K : Type 0} (view : K → List ℕ) (keys new : List K) (n : ℕ) (key k : K) (text : List ℕ) → IsShortText text → new ≡ add (λ x y. bytes_eq (view x) (view y)) keys key → slice_get new n ≡ Some k → bytes_eq (view key) (view k) ≡ true → view key ≡ text
     → HasNumber (map view keys) (map view new) text n
-number_given view keys new n key k text e there same v = record {
+number_given view keys new n key k text s e there same v = record {
+  short = s;
   kept = ap (map view) e ∙ added_viewed view keys key ∙ ap (add bytes_eq (map view keys)) v;
   there = there_viewed view new n k (view key) there same ∙ ap Some v;
 }

@@ -1,5 +1,5 @@
 -- Lines of a text whose fields have no quote inside.
-use Rattle.std.specs.Prelude.{◌≡◌, ◌≢◌, ◌⊎◌, ℕ, ◌≤◌, ◌<◌, ⊤, List, [], length, drop, slice_index_or, Option, Some, None}
+use Rattle.std.specs.Prelude.{◌≡◌, ◌≢◌, ◌==◌, ◌||◌, ◌⊎◌, Bool, ℕ, ◌≤◌, ◌<◌, ⊤, List, [], length, drop, slice_index_or, Option, Some, None}
 use Rattle.csv.specs.Machine.{Read, next_record}
 use Rattle.csv.specs.Reading.{default_config}
 use Rattle.csv.specs.declared.parser.State.{State}
@@ -15,6 +15,10 @@ IsBreak byte = (byte ≡ 10) ⊎ (byte ≡ 13)
 -- a byte at which a field ends: a comma, or one at which a line ends
 abbrev pub StopsField : ℕ → Type 0
 StopsField byte = (byte ≡ 44) ⊎ IsBreak byte
+
+-- whether a byte may end a field, or begin one in quotes: a comma, LF, a quote or CR
+abbrev pub may_stop : ℕ → Bool
+may_stop byte = (byte == 44) || (byte == 10) || (byte == 34) || (byte == 13)
 
 -- a byte that neither ends a field nor begins one in quotes
 pub record JoinsField (byte : ℕ) : Type 0 where

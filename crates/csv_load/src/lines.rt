@@ -1,11 +1,13 @@
 //! Lines of a text whose records are cut at commas: no field has a quote inside.
 
 ghost use Rattle.std.specs.Prelude.{◌≡◌, ◌≢◌, ◌-◌, ◌<◌, ◌≤◌};
-ghost use Rattle.std.specs.Prelude.{length, take, drop, slice_index_or, All, IfOk, IfSome, IsFalse, IsTrue};
-ghost use Rattle.csv_load.specs.Lines.{IsBreak, JoinsField, JoinsQuoted, ReadsField, ReadsLine, StopsField, record_at};
+ghost use Rattle.std.specs.Prelude.{length, map, take, drop, slice_index_or, All, IfOk, IfSome, IsFalse, IsTrue};
+ghost use Rattle.std.specs.Simd.Lanes.{mask_l};
+ghost use Rattle.csv_load.specs.Lines.{IsBreak, JoinsField, JoinsQuoted, ReadsField, ReadsLine, StopsField, may_stop, record_at};
 ghost use Rattle.csv_load.specs.Records.{held};
 
 use std::alloc::AllocError;
+use std::simd::prelude::*;
 
 /// What stands at a place of a text between records.
 pub(crate) enum Line {
@@ -40,6 +42,17 @@ fn may_stop(byte: u8) -> bool
     byte <= b',' && (byte == b',' || byte == b'\n' || byte == b'"' || byte == b'\r')
 }
 
+// Which of 16 bytes may stop a field, as bits.
+fn stops(bytes: u8x16) -> u64
+    ensures { result ≡ mask_l (map may_stop bytes) }
+{
+    let comma = bytes.simd_eq(u8x16::splat(b','));
+    let feed = bytes.simd_eq(u8x16::splat(b'\n'));
+    let quote = bytes.simd_eq(u8x16::splat(b'"'));
+    let back = bytes.simd_eq(u8x16::splat(b'\r'));
+    (comma | feed | quote | back).to_bitmask()
+}
+
 // Where the line breaks end that stand at that place.
 fn line_start(text: &[u8], from: usize) -> usize
     requires { from ≤ length text.now }
@@ -64,9 +77,17 @@ fn field_end(text: &[u8], from: usize) -> usize
     ensures within { result ≤ length text.now }
     ensures field { All JoinsField (take (result - from) (drop from text.now)) }
 {
-    for at in from..text.len() {
-        if may_stop(text[at]) {
-            return at;
+    let mut at = from;
+    while text.len() - at >= 16 {
+        let found = stops(u8x16::from_slice(&text[at..]));
+        if found != 0 {
+            return at + found.trailing_zeros() as usize;
+        }
+        at += 16;
+    }
+    for end in at..text.len() {
+        if may_stop(text[end]) {
+            return end;
         }
     }
     text.len()

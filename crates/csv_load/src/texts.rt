@@ -1,12 +1,13 @@
 //! A list of texts of which each is kept once.
 
-ghost use Rattle.std.specs.Prelude.{◌≡◌, ◌<◌, ◌++◌, ◌∷◌, [], All, length};
-ghost use Rattle.std.specs.Prelude.{map, pos, slice_index_or, vec_items, IfOk, OnOk, OnErr};
+ghost use Rattle.std.specs.Prelude.{◌≡◌, ◌↔◌, ◌<◌, ◌++◌, ◌∷◌, [], All, length};
+ghost use Rattle.std.specs.Prelude.{map, pos, slice_index_or, vec_items, IfOk, IsTrue, OnErr};
 ghost use Rattle.std.specs.Cmp.Lexicographic.{slice_cmp};
 ghost use Rattle.std.specs.List.Sorted.{IsStrictlySortedBy};
 ghost use Rattle.std.specs.Ordering.{nat_cmp};
 ghost use Rattle.daq_table.specs.Dictionaries.{distinct, rank_of};
-ghost use Rattle.csv_load.specs.Numbered.{HasNumber};
+ghost use Rattle.csv_load.specs.Columns.{IsShortText};
+ghost use Rattle.csv_load.specs.Numbered.{Numbers};
 ghost use Rattle.daq_table.specs.Raised.{lowered};
 
 use crate::ranks::{ranks_of, sorted_names};
@@ -15,9 +16,10 @@ use indexmap::IndexSet;
 use std::alloc::{AllocError, Global};
 use std::collections::BTreeSet;
 use std::marker::Model;
+use std::str::from_utf8;
 
-/// A list of texts. Those that differ are kept in the order in which they came, and of each text of the list its number
-/// among them.
+/// A list of texts of UTF-8 and at most 255 bytes. Those that differ are kept in the order in which they came, and of each
+/// text of the list its number among them.
 #[derive(Drop)]
 pub(crate) struct Texts {
     kept: IndexSet<Vec<u8>>,
@@ -35,16 +37,32 @@ impl Model for Texts {
     ghost invariant = { λ t. AreNumbered (map vec_items t.kept.keys) t.numbers.items };
 }
 
-// The number of the text among those that are kept, which it joins where it is new.
-fn number_of(alloc: Global, kept: &mut IndexSet<Vec<u8>>, text: &[u8]) -> Result<usize, AllocError>
-    ensures ok { IfOk result (HasNumber (map vec_items kept.old.keys) (map vec_items kept.new.keys) text.now) }
+// Whether the bytes are a text of a dictionary.
+fn is_short_text(bytes: &[u8]) -> bool
+    ensures { IsTrue result ↔ IsShortText bytes.now }
+{
+    bytes.len() <= 255 && from_utf8(bytes).is_ok()
+}
+
+// The number of the text among those that are kept, which it joins where it is new. None where it is no text of a
+// dictionary: those that are kept are.
+fn number_of(
+    alloc: Global,
+    kept: &mut IndexSet<Vec<u8>>,
+    text: &[u8],
+) -> Result<Option<usize>, AllocError>
+    requires { All IsShortText (map vec_items kept.old.keys) }
+    ensures ok { IfOk result (λ number. Numbers (map vec_items kept.old.keys) (map vec_items kept.new.keys) text.now number) }
     ensures err { OnErr result (kept.new.keys ≡ kept.old.keys) }
 {
     if let Some(number) = kept.get_index_of(text) {
-        return Ok(number);
+        return Ok(Some(number));
+    }
+    if !is_short_text(text) {
+        return Ok(None);
     }
     let (number, _) = kept.insert_full(Vec::from_slice(alloc, text)?)?;
-    Ok(number)
+    Ok(Some(number))
 }
 
 // Puts in the place of each number what stands there in the list.
@@ -68,14 +86,17 @@ impl Texts {
         }
     }
 
-    /// Adds a text.
-    pub(crate) fn push(&mut self, alloc: Global, text: &[u8]) -> Result<(), AllocError>
-        ensures { OnOk result (self.new ≡ self.old ++ text.now ∷ []) }
+    /// Adds the bytes, if they are a text of UTF-8 and at most 255 bytes, and answers whether they are.
+    pub(crate) fn push(&mut self, alloc: Global, text: &[u8]) -> Result<bool, AllocError>
+        ensures short { IfOk result (λ added. IsTrue added ↔ IsShortText text.now) }
+        ensures added { IfOk result (λ added. IsTrue added → self.new ≡ self.old ++ text.now ∷ []) }
     {
         self.numbers.reserve(1)?;
-        let number = number_of(alloc, &mut self.kept, text)?;
+        let Some(number) = number_of(alloc, &mut self.kept, text)? else {
+            return Ok(false);
+        };
         self.numbers.push_reserved(number as u64);
-        Ok(())
+        Ok(true)
     }
 
     /// How many of the texts differ.

@@ -1,24 +1,22 @@
 //! The values of a column while its CSV is read: its cells that are not null.
 
-ghost use Rattle.std.specs.Prelude.{◌≡◌, ◌↔◌, if◌then◌else◌};
-ghost use Rattle.std.specs.Prelude.{IfOk, IfSome, OnOk, IfErr, IsTrue, [], true, false};
+ghost use Rattle.std.specs.Prelude.{◌≡◌, if◌then◌else◌};
+ghost use Rattle.std.specs.Prelude.{IfOk, IfSome, OnOk, IfErr, [], true, false};
 ghost use Rattle.std.specs.Option.{SomeIff};
 ghost use Rattle.daq_table.specs.CellTexts.{IsCellText, cell_number};
 ghost use Rattle.daq_table.specs.declared.head.Kind.TheVariants.{Text};
 ghost use Rattle.daq_table.specs.ColumnFacts.{is_text};
-ghost use Rattle.csv_load.specs.Columns.{IsShortText};
 ghost use Rattle.csv_load.specs.States.{HasValues, IsComplete, RefusesValue, TakesValue, kept_of, kept_with};
 
 use crate::fault::TableFault;
 use crate::place::Place;
-use crate::plain_cells::{plain_dec, plain_int};
+use crate::plain_cells::{plain_date, plain_dec, plain_int};
 use crate::texts::Texts;
 use daq_table::{
     ColumnHead, Kind, Name, become_distances, cell_value, greatest_number, least_number, raise,
 };
 use std::alloc::{AllocError, Global};
 use std::marker::Model;
-use std::str::from_utf8;
 
 /// The values that were read of a column, numbers raised. Texts wait for their ranks until the whole dictionary is known.
 #[derive(Drop)]
@@ -52,7 +50,7 @@ fn plain_value(kind: &Kind, text: &[u8]) -> Option<i64>
     match kind {
         Kind::Int => plain_int(text),
         Kind::Dec(scale) => plain_dec(*scale, text),
-        Kind::Date => None,
+        Kind::Date => plain_date(text),
         Kind::Text => None,
     }
 }
@@ -89,13 +87,6 @@ fn values_of(kind: Kind, numbers: Vec<u64>, ranks: Vec<u64>) -> Vec<u64>
         Kind::Date => numbers,
         Kind::Text => ranks,
     }
-}
-
-// Whether the bytes are a text of a dictionary.
-fn is_short_text(bytes: &[u8]) -> bool
-    ensures { IsTrue result ↔ IsShortText bytes.now }
-{
-    bytes.len() <= 255 && from_utf8(bytes).is_ok()
 }
 
 impl Values {
@@ -162,13 +153,13 @@ impl Values {
         ensures taken { OnOk result (self.new ≡ kept_with self.old text.now) }
         ensures err { IfErr result (RefusesValue limit place.entry place.column self.old text.now) }
     {
-        if !is_short_text(text) {
+        let added = self.texts.push(alloc, text)?;
+        if !added {
             return Err(TableFault::BadCell {
                 entry: place.entry,
                 column: place.column,
             });
         }
-        self.texts.push(alloc, text)?;
         if self.texts.count() as u64 > limit {
             return Err(TableFault::TooManyNames {
                 column: place.column,

@@ -1,6 +1,16 @@
-use Rattle.std.proofs.Common.{◌-◌, All, take, drop}
-use Rattle.csv_load.specs.Lines.{JoinsField}
+use Rattle.std.proofs.Common.{◌-◌, ◌≤◌, length}
+use Rattle.csv_load.proofs.StopFacts.{JoinBetween}
 use Rattle.csv_load.proofs.lines.field_end.Given as goal
 
 abbrev pub invariant-loop-at : goal.invariant-loop-at
-invariant-loop-at l = All JoinsField (take (l.at - l.from) (drop l.from l.text))
+invariant-loop-at l = record {
+  from : l.from ≤ l.at;
+  within : l.at ≤ length l.text;
+  field : JoinBetween l.text l.from l.at;
+}
+
+abbrev pub decreases-loop-at : goal.decreases-loop-at
+decreases-loop-at l = length l.text - l.at
+
+abbrev pub invariant-loop-end : goal.invariant-loop-end
+invariant-loop-end l = JoinBetween l.text l.from l.end
