@@ -9,4 +9,5 @@ pub mod SideTruths
 pub mod BetweenTruths
 pub mod MemberTruths
 pub mod Parting
+pub mod AddedRows
 pub mod Tracking

@@ -7,3 +7,4 @@ pub mod Members
 pub mod Kept
 pub mod Masks
 pub mod Moved
+pub mod Unions

@@ -1,6 +1,6 @@
 //! Comparisons of a column with one number or with two, which follow the column plane by plane.
 
-ghost use Rattle.std.specs.Prelude.{◌≡◌, ◌<◌, ◌*◌, ◌+◌, length, IfOk, IfSome};
+ghost use Rattle.std.specs.Prelude.{◌≡◌, ◌<◌, ◌*◌, ◌+◌, length, IfOk, IfSome, IsTrue};
 ghost use Rattle.plane_kernels.specs.Rows.{block_rows};
 ghost use Rattle.query_model.specs.Meaning.{between, compares};
 ghost use Rattle.query_model.specs.Truths.{truths_over};
@@ -8,12 +8,13 @@ ghost use Rattle.known_column.specs.Columns.{range_at};
 ghost use Rattle.known_column.specs.KnownTables.{column_at, IsKnownTable};
 ghost use Rattle.kleene_filter.specs.Blocks.{AreTruthsInTable, HoldsAtBest};
 ghost use Rattle.kleene_filter.specs.Masks.{IsCompared, IsRanged, KeepsTest, Was};
+ghost use Rattle.kleene_filter.specs.Unions.{AddsRows, MayFail};
 
 use crate::block_truths::{BlockTruths, and};
 use crate::lanes::chosen;
 use crate::parted::Sides;
 use known_column::LentColumns;
-use plane_kernels::Plane;
+use plane_kernels::{Mask, Plane};
 use query_model::Comparison;
 use std::alloc::{AllocError, Global};
 
@@ -81,6 +82,29 @@ impl Compared {
     {
         let column = columns.column(self.column);
         self.sides.truths(self.op, self.value, column, block)
+    }
+
+    // Whether it only adds rows beside OR.
+    pub(crate) fn only_adds(&self, columns: &LentColumns<'_>) -> bool
+        requires { self.now.column < length columns.now.frame.columns }
+        ensures { IsTrue result → MayFail (column_at columns.now self.now.column) self.now.op self.now.sides }
+    {
+        let column = columns.column(self.column);
+        self.sides.only_adds(self.op, column)
+    }
+
+    // Adds the rows at which the comparison may hold.
+    pub(crate) fn add_rows(&self, columns: &LentColumns<'_>, rows: &mut Mask)
+        requires within { self.now.column < length columns.now.frame.columns }
+        requires adds { MayFail (column_at columns.now self.now.column) self.now.op self.now.sides }
+        requires compared { IsCompared self.now columns.now }
+        requires known { IsKnownTable columns.now }
+        requires rows { length rows.old ≡ columns.now.frame.rows }
+        ensures { AddsRows columns.now.frame.rows (λ row. truths_over (range_at (column_at columns.now self.now.column) row)
+            (λ x. compares self.now.op x self.now.value)) rows.old rows.new }
+    {
+        let column = columns.column(self.column);
+        self.sides.add_rows(self.op, self.value, column, rows);
     }
 
     // The rows of a block at which the comparison may hold, where it may fail in any case and is nowhere null.

@@ -12,6 +12,7 @@ ghost use Rattle.kleene_filter.specs.Filters.{AreRightWhereSame, AreSettled, Are
 ghost use Rattle.kleene_filter.specs.Kept.{kept_by_all};
 ghost use Rattle.kleene_filter.specs.Moved.{AreMoved};
 ghost use Rattle.kleene_filter.specs.Masks.{atoms_of, AddsMasks, AreMasksOf, WereMasksOf};
+ghost use Rattle.kleene_filter.specs.Unions.{IsUnion};
 
 use crate::block_truths::must_hold;
 use crate::judging::{Place, pred_truths};
@@ -19,6 +20,7 @@ use crate::lanes::renew_block;
 use crate::masks::{AtomMasks, is_untouched};
 use crate::reads::pred_reads;
 use crate::truth_masks::{BlockRows, KeptTruths, MovedRows, TruthMasks, even_mask, recounted};
+use crate::unions::{add_rows, union_end};
 use known_column::{LentColumns, RowBlock, blocks_have_their_rows};
 use plane_kernels::{Mask, Plane};
 use query_model::Pred;
@@ -246,7 +248,7 @@ fn decide_block(
 
 // Sets each row's bits by what is known of the condition there, block by block. Before, bits that are the same are right: a block that
 // is decided is passed over.
-fn judge_all(
+fn judge_blocks(
     pred: &Pred,
     masks: &[AtomMasks],
     columns: &LentColumns<'_>,
@@ -267,6 +269,74 @@ fn judge_all(
 {
     for block in 0..truths.undecided.rows() {
         decide_block(pred, masks, columns, block, rows, truths);
+    }
+}
+
+// Whether the rows of the condition are to be found mask by mask: its atoms stand under OR alone and may fail at every row, no row is
+// certain, and so many blocks are not decided that whole passes are cheaper than blocks. How many affects speed alone.
+fn is_union(
+    pred: &Pred,
+    masks: &[AtomMasks],
+    columns: &LentColumns<'_>,
+    truths: &KeptTruths,
+) -> bool
+    requires columns { PredReadsBelow (length columns.now.frame.columns) (condition_of pred.now) }
+    requires masks { AreMasksOf masks.now 0 (atoms_of (condition_of pred.now)) columns.now }
+    ensures union { IsTrue result → IsUnion (condition_of pred.now) masks.now 0 columns.now }
+    ensures certain { IsTrue result → truths.now.certain ≡ 0 }
+{
+    let many = truths.undecided.rows() as u64 / 16;
+    if truths.certain > 0 || truths.undecided.count() < many {
+        return false;
+    }
+    union_end(pred, masks, 0, columns).is_some()
+}
+
+// Sets each row's bits mask by mask, where the atoms stand under OR alone and may fail at every row: then none is certain, and those are
+// possible at which an atom may hold.
+fn judge_union(pred: &Pred, masks: &[AtomMasks], columns: &LentColumns<'_>, truths: &mut KeptTruths)
+    requires columns { PredReadsBelow (length columns.now.frame.columns) (condition_of pred.now) }
+    requires masks { AreMasksOf masks.now 0 (atoms_of (condition_of pred.now)) columns.now }
+    requires union { IsUnion (condition_of pred.now) masks.now 0 columns.now }
+    requires none { truths.old.certain ≡ 0 }
+    requires must { length truths.old.masks.must ≡ columns.now.frame.rows }
+    requires may { length truths.old.masks.may ≡ columns.now.frame.rows }
+    requires kept { AreKept truths.old }
+    requires same { AreRightWhereSame (condition_of pred.now) columns.now 0 truths.old.masks.must truths.old.masks.may }
+    ensures must { truths.new.masks.must ≡ map is_certain (truths_under (condition_of pred.now) columns.now) }
+    ensures may { truths.new.masks.may ≡ map is_possible (truths_under (condition_of pred.now) columns.now) }
+    ensures kept { AreKept truths.new }
+{
+    let _rows = columns.rows();
+    truths.masks.may.copy_from(&truths.masks.must);
+    add_rows(pred, masks, 0, columns, &mut truths.masks.may);
+    truths.renew_possible();
+}
+
+// Sets each row's bits by what is known of the condition there. Before, bits that are the same are right.
+fn judge_all(
+    pred: &Pred,
+    masks: &[AtomMasks],
+    columns: &LentColumns<'_>,
+    rows: &mut RowBlock,
+    truths: &mut KeptTruths,
+)
+    requires columns { PredReadsBelow (length columns.now.frame.columns) (condition_of pred.now) }
+    requires masks { AreMasksOf masks.now 0 (atoms_of (condition_of pred.now)) columns.now }
+    requires rows { rows.old.frame.columns ≡ columns.now.frame.columns }
+    requires must { length truths.old.masks.must ≡ columns.now.frame.rows }
+    requires may { length truths.old.masks.may ≡ columns.now.frame.rows }
+    requires kept { AreKept truths.old }
+    requires same { AreRightWhereSame (condition_of pred.now) columns.now 0 truths.old.masks.must truths.old.masks.may }
+    ensures rows { rows.new.frame.columns ≡ columns.now.frame.columns }
+    ensures must { truths.new.masks.must ≡ map is_certain (truths_under (condition_of pred.now) columns.now) }
+    ensures may { truths.new.masks.may ≡ map is_possible (truths_under (condition_of pred.now) columns.now) }
+    ensures kept { AreKept truths.new }
+{
+    if is_union(pred, masks, columns, truths) {
+        judge_union(pred, masks, columns, truths);
+    } else {
+        judge_blocks(pred, masks, columns, rows, truths);
     }
 }
 

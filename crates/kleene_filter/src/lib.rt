@@ -15,6 +15,7 @@ mod ranges;
 mod reads;
 mod truth_masks;
 mod truths;
+mod unions;
 mod words;
 
 pub use filter::Filter;

@@ -1,6 +1,6 @@
 //! Rows of a column parted by how their prefixes compare with the prefix of a number.
 
-ghost use Rattle.std.specs.Prelude.{◌≡◌, ◌<◌, ◌*◌, ◌+◌, ◌-◌, ℕ, false, length, slice_index_or, IfOk, IfSome};
+ghost use Rattle.std.specs.Prelude.{◌≡◌, ◌<◌, ◌*◌, ◌+◌, ◌-◌, ℕ, length, IfOk, IfSome, IsTrue};
 ghost use Rattle.daq_table.specs.Tables.{code, planes};
 ghost use Rattle.plane_kernels.specs.Rows.{block_rows, digit_at, kept_rows};
 ghost use Rattle.query_model.specs.declared.bounds.Truth.TheVariants.{Unknown};
@@ -9,7 +9,8 @@ ghost use Rattle.query_model.specs.Truths.{truths_over};
 ghost use Rattle.known_column.specs.Columns.{range_at, rows_of_column, rows_where};
 ghost use Rattle.known_column.specs.RowBlocks.{IsKnownColumn};
 ghost use Rattle.kleene_filter.specs.Parted.{cell_with, fails_at, greater_holds, holds_at, is_level, less_holds, others_hold, passed_rows};
-ghost use Rattle.kleene_filter.specs.Parted.{AreBlockSides, Had, HasRow, HasSides, IsBetweenEnds, IsParted, IsTruthAt};
+ghost use Rattle.kleene_filter.specs.Parted.{AreBlockSides, Had, HasRow, HasSides, IsAtEqual, IsBetweenEnds, IsParted, IsTruthAt};
+ghost use Rattle.kleene_filter.specs.Unions.{AddsRows, MayFail};
 ghost use Rattle.kleene_filter.specs.Blocks.{bit_in, AreTruthsInColumn, HoldsAtBest};
 
 use crate::block_truths::BlockTruths;
@@ -159,18 +160,6 @@ impl Parted {
         keep_level(&mut self.passed, &mut self.equal, plane, bit, pass);
         self.at_equal = truth_at_equal(op, value, &self.equal, column);
     }
-
-    // The rows of a block with the number's own prefix, where nothing is known of the comparison there.
-    fn unknown_in(&self, block: usize) -> Option<[u64; 8]>
-        requires { 512 * block < length self.now.equal }
-        ensures { IfSome result (λ rows. (self.now.at_equal ≡ Unknown) × ((row : ℕ) → row < 512 → 512 * block + row < length self.now.equal
-            → bit_in row rows ≡ slice_index_or self.now.equal (512 * block + row) false)) }
-    {
-        match self.at_equal {
-            Truth::Unknown => Some(read_block(self.equal.mask(), block)),
-            Truth::False | Truth::True => None,
-        }
-    }
 }
 
 impl Sides {
@@ -246,6 +235,41 @@ impl Sides {
         number_truths(column, block, &sides.may_hold(), &sides.may_fail())
     }
 
+    // Whether nothing is known of the comparison at the rows with the number's own prefix.
+    fn is_open(&self) -> bool
+        ensures { IsTrue result → IsAtEqual self.now Unknown }
+    {
+        match self {
+            Sides::Parted(parted) => parted.at_equal == Truth::Unknown,
+            Sides::AllLess | Sides::AllGreater => true,
+        }
+    }
+
+    // Whether the comparison may fail at every row, and holds at best at those with the number's own prefix.
+    pub(crate) fn only_adds(&self, op: Comparison, column: &Known) -> bool
+        ensures { IsTrue result → MayFail column.now op self.now }
+    {
+        if column.nullable() || less_compares(op) || greater_compares(op) {
+            return false;
+        }
+        self.is_open()
+    }
+
+    // Adds the rows at which such a comparison may hold.
+    pub(crate) fn add_rows(&self, op: Comparison, value: i128, column: &Known, rows: &mut Mask)
+        requires adds { MayFail column.now op self.now }
+        requires sides { HasSides column.now op value self.now }
+        requires known { IsKnownColumn column.now }
+        requires rows { length rows.old ≡ rows_of_column column.now }
+        ensures { AddsRows (rows_of_column column.now)
+            (λ row. truths_over (range_at column.now row) (λ x. compares op x value)) rows.old rows.new }
+    {
+        match self {
+            Sides::Parted(parted) => rows.or_into(parted.equal.mask()),
+            Sides::AllLess | Sides::AllGreater => {}
+        }
+    }
+
     // The rows of a block at which the comparison may hold, where it may fail in any case and is nowhere null: those with the number's own
     // prefix, where no other numbers compare so.
     pub(crate) fn at_best(
@@ -261,11 +285,11 @@ impl Sides {
         ensures { IfSome result (HoldsAtBest (block_rows (rows_of_column column.now) block)
             (λ r. truths_over (range_at column.now (512 * block + r)) (λ x. compares op x value))) }
     {
-        if column.nullable() || less_compares(op) || greater_compares(op) {
+        if !self.only_adds(op, column) {
             return None;
         }
         match self {
-            Sides::Parted(parted) => parted.unknown_in(block),
+            Sides::Parted(parted) => Some(read_block(parted.equal.mask(), block)),
             Sides::AllLess | Sides::AllGreater => Some([0; 8]),
         }
     }

@@ -1,9 +1,9 @@
 //! The rows at which a condition holds for certain, and those at which it may, with the blocks of 512 that are not decided.
 
-ghost use Rattle.std.specs.Prelude.{◌≡◌, ◌≤◌, ◌<◌, ◌+◌, ◌*◌, length, replicate, sum_by, IfOk, IsTrue};
+ghost use Rattle.std.specs.Prelude.{◌≡◌, ◌≤◌, ◌<◌, ◌+◌, ◌*◌, length, replicate, count_by, sum_by, IfOk, IsTrue};
 ghost use Rattle.std.specs.Int.Count.{ones};
 ghost use Rattle.kleene_filter.specs.Blocks.{AreRowsIn};
-ghost use Rattle.kleene_filter.specs.Filters.{AreKept};
+ghost use Rattle.kleene_filter.specs.Filters.{AreKept, AreSettled};
 
 use crate::lanes::are_same;
 use plane_kernels::{Mask, count_ones};
@@ -64,6 +64,30 @@ pub(crate) fn recounted(count: u64, old: &[u64; 8], new: &[u64; 8]) -> u64
     count + count_ones(new) - count_ones(old)
 }
 
+// Marks a block as decided where both masks have the same rows of it.
+fn settle_block(masks: &TruthMasks, undecided: &mut Mask, block: usize)
+    requires rows { length masks.now.may ≡ length masks.now.must }
+    requires settled { AreSettled masks.now.must masks.now.may undecided.old }
+    requires block { block < length undecided.old }
+    ensures settled { AreSettled masks.now.must masks.now.may undecided.new }
+    ensures count { length undecided.new ≡ length undecided.old }
+{
+    if undecided.get(block) && masks.rows_in(block).are_decided() {
+        undecided.set(block, false);
+    }
+}
+
+// The same for each block.
+fn settle_blocks(masks: &TruthMasks, undecided: &mut Mask)
+    requires rows { length masks.now.may ≡ length masks.now.must }
+    requires settled { AreSettled masks.now.must masks.now.may undecided.old }
+    ensures { AreSettled masks.now.must masks.now.may undecided.new }
+{
+    for block in 0..undecided.rows() {
+        settle_block(masks, undecided, block);
+    }
+}
+
 impl TruthMasks {
     // The rows of a block of 512 that each mask has.
     pub(crate) fn rows_in(&self, block: usize) -> BlockRows
@@ -109,5 +133,16 @@ impl KeptTruths {
             certain,
             possible,
         })
+    }
+    // Counts the rows that are possible and marks the blocks that are decided, after the rows that are possible were made others.
+    pub(crate) fn renew_possible(&mut self)
+        requires rows { length self.old.masks.may ≡ length self.old.masks.must }
+        requires settled { AreSettled self.old.masks.must self.old.masks.may self.old.undecided }
+        requires certain { self.old.certain ≡ count_by (λ b. b) self.old.masks.must }
+        ensures masks { self.new.masks ≡ self.old.masks }
+        ensures kept { AreKept self.new }
+    {
+        self.possible = self.masks.may.count();
+        settle_blocks(&self.masks, &mut self.undecided);
     }
 }

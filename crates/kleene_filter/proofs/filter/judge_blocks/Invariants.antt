@@ -1,7 +1,7 @@
 use Rattle.std.proofs.Common.{◌≡◌, ◌*◌, length}
 use Rattle.query_model.specs.Queries.{condition_of}
 use Rattle.kleene_filter.specs.Filters.{is_certain, is_possible, AreJudged, AreKept, AreRightWhereSame}
-use Rattle.kleene_filter.proofs.filter.judge_all.Given as goal
+use Rattle.kleene_filter.proofs.filter.judge_blocks.Given as goal
 
 abbrev pub invariant-loop-block : goal.invariant-loop-block
 invariant-loop-block l = record {

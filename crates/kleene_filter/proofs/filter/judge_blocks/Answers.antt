@@ -5,7 +5,7 @@ use Rattle.daq_table.specs.Tables.{rows_of}
 use Rattle.query_model.specs.Queries.{condition_of}
 use Rattle.kleene_filter.proofs.Judged.{judged_on, none_judged}
 use Rattle.kleene_filter.specs.Filters.{is_certain, is_possible, truth_at, AreJudged}
-use Rattle.kleene_filter.proofs.filter.judge_all.Goals as goal
+use Rattle.kleene_filter.proofs.filter.judge_blocks.Goals as goal
 
 pub loop-block-init : goal.loop-block-init
 loop-block-init c =
