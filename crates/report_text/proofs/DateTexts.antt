@@ -1,5 +1,5 @@
 -- That the text of a date is read back as its day number, and is no text of a number.
-use Rattle.std.proofs.Common.{lit<, ◌≡◌, ℕ, zero, suc, ◌-◌, ◌^◌, ◌/◌, ◌%◌, ◌<◌, ◌≤◌, ◌==◌, false, drop, take, List, [], ◌∷◌, ◌++◌, length, codes, decimal, ℤ, pos, refl, sym, ap, subst, ◌∙◌, arith}
+use Rattle.std.proofs.Common.{lit<, ◌≡◌, Bool, ℕ, zero, suc, ◌-◌, ◌^◌, ◌/◌, ◌%◌, ◌<◌, ◌≤◌, ◌==◌, false, drop, take, List, [], ◌∷◌, ◌++◌, length, codes, decimal, ℤ, pos, refl, sym, ap, subst, ◌∙◌, arith}
 use Rattle.std.proofs.Math.Nat.{mod-eq-sub-div-mul, pow-le-pow_right}
 use Rattle.std.proofs.lemmas.Fmt.{decimal_is_IsNumeral_wide, length-decimal-le_wide}
 use Rattle.std.proofs.lemmas.List.{drop_at, length-append, take_all}
@@ -163,22 +163,27 @@ date_reads text day h e = subst (λ (t : List ℕ). Reads t day) e (date_reads_b
 pub date_one : (a b : ℤ) → IsDay a → IsDay b → text_of_date a ≡ text_of_date b → a ≡ b
 date_one a b h k e = sym (date_reads (text_of_date b) a h e).1 ∙ (date_reads (text_of_date b) b k refl).1
 
+-- a test that fails at a dash and at digits fails at all its bytes
+pub date_fails : (test : ℕ → Bool) → test 45 ≡ false → ((c : ℕ) → digit_value c < 10 → test c ≡ false) → (day : ℤ) → IsDay day → Fails test (text_of_date day)
+date_fails test dash digit day h =
+    let t = text_of_day day h in
+    subst (Fails test) (sym t.is) (laid_fails t.year t.month t.days t.laid_so)
+  where
+    laid_fails : (year month days : List ℕ) → IsLaidDate year month days → Fails test (laid year month days)
+    laid_fails year month days l =
+        fails-append test (year ++ codes "-" ++ month ++ codes "-") days
+        (fails-append test (year ++ codes "-" ++ month) (codes "-")
+        (fails-append test (year ++ codes "-") month
+        (fails-append test year (codes "-") (digits_fail test digit year l.years) (dash, tt))
+        (digits_fail test digit month l.months)) (dash, tt))
+        (digits_fail test digit days l.days)
+
+date_some : (day : ℤ) → IsDay day → 0 < length (text_of_date day)
+date_some day h = let t = text_of_day day h in rw t.is (simp length-append (omega arith))
+
 -- it is an end of an interval
 pub date_is_end : (day : ℤ) → IsDay day → IsEnd (text_of_date day)
-date_is_end day h =
-    let t = text_of_day day h in
-    subst IsEnd (sym t.is) (laid_is_end t.year t.month t.days t.laid_so)
-  where
-    laid_is_end : (year month days : List ℕ) → IsLaidDate year month days → IsEnd (laid year month days)
-    laid_is_end year month days l = record {
-      plain = fails-append is_other (year ++ codes "-" ++ month ++ codes "-") days
-          (fails-append is_other (year ++ codes "-" ++ month) (codes "-")
-          (fails-append is_other (year ++ codes "-") month
-          (fails-append is_other year (codes "-") (digits_fail is_other others_fail year l.years) (refl, tt))
-          (digits_fail is_other others_fail month l.months)) (refl, tt))
-          (digits_fail is_other others_fail days l.days);
-      some = simp length-append (omega arith);
-    }
+date_is_end day h = record { plain = date_fails is_other refl others_fail.digit day h; some = date_some day h }
 
 -- digits before a dash are no whole digits of a number
 no_whole : (a b c d e f g h : ℕ) → IsLaidDate (a ∷ b ∷ c ∷ d ∷ []) (e ∷ f ∷ []) (g ∷ h ∷ []) →

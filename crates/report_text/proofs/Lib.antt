@@ -3,7 +3,11 @@ pub mod DateTexts
 pub mod DigitTexts
 pub mod EndPlaces
 pub mod EndTexts
+pub mod KeyTexts
 pub mod NumberTexts
 pub mod OneAnswer
+pub mod OneGroup
+pub mod Outside
+pub mod ReadKeys
 pub mod RoundLines
 pub mod ShownTexts

@@ -22,17 +22,17 @@ use Rattle.report_text.specs.declared.averages.Ratio.{Ratio}
 use Rattle.report_text.specs.declared.numbers.Number.{Number}
 
 -- the text of a magnitude
-abbrev plain : ℕ → ℕ → List ℕ
+abbrev pub plain : ℕ → ℕ → List ℕ
 plain zero n = decimal n
 plain (suc scale) n = decimal (n / 10 ^ suc scale) ++ (codes "." ++ digits_text (suc scale) (n % 10 ^ suc scale))
 
 -- the digits behind its point
-abbrev places : ℕ → ℕ → List ℕ
+abbrev pub places : ℕ → ℕ → List ℕ
 places zero n = []
 places (suc scale) n = digits_text (suc scale) (n % 10 ^ suc scale)
 
 -- a number's text is its sign and that of its magnitude
-scaled-plain : (scale : ℕ) (z : ℤ) → scaled_text scale z ≡ sign_text z ++ plain scale (unsigned_abs z)
+pub scaled-plain : (scale : ℕ) (z : ℤ) → scaled_text scale z ≡ sign_text z ++ plain scale (unsigned_abs z)
 scaled-plain zero (pos n) = refl
 scaled-plain zero (negsuc n) = refl
 scaled-plain (suc scale) z =
@@ -73,11 +73,11 @@ rest_below k n =
 small_rest : (k n : ℕ) → k ≤ 18 → n % 10 ^ k < 10 ^ 64
 small_rest k n h = let ten : 0 < 10 = lit< tt in let few : 10 ^ k ≤ 10 ^ 18 = pow-le-pow_right ten h in omega (arith, rest_below k n)
 
-places_digits : (scale n : ℕ) → scale ≤ 18 → AllDigits 10 (places scale n)
+pub places_digits : (scale n : ℕ) → scale ≤ 18 → AllDigits 10 (places scale n)
 places_digits zero n h = tt
 places_digits (suc scale) n h = padded_digits (suc scale) (n % 10 ^ suc scale) (small_rest (suc scale) n h)
 
-places_length : (scale n : ℕ) → scale ≤ 18 → length (places scale n) ≡ scale
+pub places_length : (scale n : ℕ) → scale ≤ 18 → length (places scale n) ≡ scale
 places_length zero n h = refl
 places_length (suc scale) n h = padded_length (suc scale) (n % 10 ^ suc scale) (omega arith) (rest_below (suc scale) n) (small_rest (suc scale) n h)
 
@@ -127,7 +127,7 @@ pub record Reads (text : List ℕ) (number : Number) : Type 0 where
   pub is_text : IsNumberText text
   pub is : number_of_text text ≡ number
 
-abs_small : (z : ℤ) → FitsSigned w128 z → unsigned_abs z < 2 ^ 128
+pub abs_small : (z : ℤ) → FitsSigned w128 z → unsigned_abs z < 2 ^ 128
 abs_small z h = omega (arith, ints)
 
 reads_parts : (text : List ℕ) (scale : ℕ) (z : ℤ) → scale ≤ 18 → FitsSigned w128 z → unsigned_part text ≡ plain scale (unsigned_abs z) → starts_with_minus text ≡ is_below z → Reads text (record { decimals = scale; units = z })
@@ -179,17 +179,17 @@ pub record FailsAtNumbers (test : ℕ → Bool) : Type 0 where
   pub point : test 46 ≡ false
   pub digit : (c : ℕ) → digit_value c < 10 → test c ≡ false
 
-pub digits_fail : (test : ℕ → Bool) → FailsAtNumbers test → (ds : List ℕ) → AllDigits 10 ds → Fails test ds
-digits_fail test t [] h = tt
-digits_fail test t (c ∷ cs) h = (t.digit c h.0, digits_fail test t cs h.1)
+pub digits_fail : (test : ℕ → Bool) → ((c : ℕ) → digit_value c < 10 → test c ≡ false) → (ds : List ℕ) → AllDigits 10 ds → Fails test ds
+digits_fail test digit [] h = tt
+digits_fail test digit (c ∷ cs) h = (digit c h.0, digits_fail test digit cs h.1)
 
 plain_fails : (test : ℕ → Bool) → FailsAtNumbers test → (scale n : ℕ) → scale ≤ 18 → n < 2 ^ 128 → Fails test (plain scale n)
-plain_fails test t zero n few h = digits_fail test t (decimal n) (decimal_is_IsNumeral_wide n (omega arith)).0.1
+plain_fails test t zero n few h = digits_fail test t.digit (decimal n) (decimal_is_IsNumeral_wide n (omega arith)).0.1
 plain_fails test t (suc scale) n few h =
     let m = n / 10 ^ suc scale in
     let whole = decimal_is_IsNumeral_wide m (omega (arith, div-le_self n (10 ^ suc scale))) in
-    fails-append test (decimal m) (codes "." ++ places (suc scale) n) (digits_fail test t (decimal m) whole.0.1)
-    (t.point, digits_fail test t (places (suc scale) n) (places_digits (suc scale) n few))
+    fails-append test (decimal m) (codes "." ++ places (suc scale) n) (digits_fail test t.digit (decimal m) whole.0.1)
+    (t.point, digits_fail test t.digit (places (suc scale) n) (places_digits (suc scale) n few))
 
 sign_fails : (test : ℕ → Bool) → FailsAtNumbers test → (z : ℤ) → Fails test (sign_text z)
 sign_fails test t (pos n) = tt
@@ -201,7 +201,7 @@ number_fails test t number h =
     rw (scaled-plain number.decimals z)
     (fails-append test (sign_text z) (plain number.decimals (unsigned_abs z)) (sign_fails test t z) (plain_fails test t number.decimals (unsigned_abs z) h.few (abs_small z h.fits)))
 
-plain_some : (scale n : ℕ) → n < 2 ^ 128 → 0 < length (plain scale n)
+pub plain_some : (scale n : ℕ) → n < 2 ^ 128 → 0 < length (plain scale n)
 plain_some zero n h = (decimal_is_IsNumeral_wide n (omega arith)).0.0
 plain_some (suc scale) n h =
     let m = n / 10 ^ suc scale in
@@ -231,7 +231,7 @@ count_digits n h = (decimal_is_IsNumeral_wide n (omega arith)).0.1
 pub ratio_is_end : (ratio : Ratio) → CanBeDivided ratio → IsEnd (ratio_text ratio)
 ratio_is_end ratio h = record {
   plain = fails-append is_other (number_text ratio.sum) (47 ∷ decimal ratio.rows) (number_fails is_other others_fail ratio.sum h.sum)
-      (refl, digits_fail is_other others_fail (decimal ratio.rows) (count_digits ratio.rows h.few));
+      (refl, digits_fail is_other others_fail.digit (decimal ratio.rows) (count_digits ratio.rows h.few));
   some = simp length-append (omega (arith, number_some ratio.sum h.sum));
 }
 

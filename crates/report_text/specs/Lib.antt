@@ -3,7 +3,12 @@ pub mod Averages
 pub mod Bounds
 pub mod Extras
 pub mod Forms
+pub mod Groups
+pub mod Keys
 pub mod Layouts
 pub mod Lines
 pub mod Numbers
+pub mod Parted
+pub mod Quotes
+pub mod Reading
 pub mod Words

@@ -1,6 +1,7 @@
 //! What holds of the lines of reports. Each law stands on a function that does nothing.
 
 ghost use Rattle.report_text.specs.Extras.{ExtrasSayOne};
+ghost use Rattle.report_text.specs.Groups.{GroupsSayOne};
 ghost use Rattle.report_text.specs.Lines.{LinesSayOne};
 
 /// The line of an item says one answer of its kind.
@@ -11,4 +12,9 @@ pub fn lines_say_one()
 /// So does the line behind it.
 pub fn extras_say_one()
     ensures { ExtrasSayOne }
+{}
+
+/// And the line of a group.
+pub fn groups_say_one()
+    ensures { GroupsSayOne }
 {}

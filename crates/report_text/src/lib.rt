@@ -10,17 +10,22 @@ mod dates;
 mod digits;
 mod extras;
 mod forms;
+mod groups;
+mod keys;
 mod laws;
 mod layouts;
 mod lines;
 mod numbers;
+mod quotes;
 
 pub use answers::{Answer, read_answer, written_answer};
 pub use averages::{Ratio, ShownAverage, read_average, written_average};
 pub use bounds::{ShownBound, read_bound, written_bound};
 pub use extras::{is_rows_line, read_extra, written_extra};
 pub use forms::{Form, has_texts};
-pub use laws::{extras_say_one, lines_say_one};
+pub use groups::{GroupLine, ShownKeys, read_group, written_group};
+pub use keys::{ShownEnds, ShownSpan, TextEnds, ValueEnds};
+pub use laws::{extras_say_one, groups_say_one, lines_say_one};
 pub use lines::{
     ReportEnd, is_round_line, read_end, read_item, read_parts, text_of_item, written_item,
 };

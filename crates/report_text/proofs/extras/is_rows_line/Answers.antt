@@ -1,4 +1,4 @@
-use Rattle.std.proofs.Common.{List, ◌++◌, ℕ, codes, decimal, sym, subst, ◌∙◌}
+use Rattle.std.proofs.Common.{◌++◌, codes, decimal, sym, subst, ◌∙◌}
 use Rattle.std.proofs.lemmas.List.{append_cancel_left}
 use Rattle.report_text.specs.Extras.{IsRowsText}
 use Rattle.report_text.proofs.extras.is_rows_line.Goals as goal

@@ -1,0 +1,13 @@
+use Rattle.std.proofs.lemmas.Result.{IfOk-weaker}
+use Rattle.report_text.proofs.ReadKeys.{from_texts, from_values}
+use Rattle.report_text.proofs.keys.read_ends.Goals as goal
+
+pub returns-in-Some-clause-read : goal.returns-in-Some-clause-read
+returns-in-Some-clause-read c =
+    IfOk-weaker c.read_texts.result _ _
+    (λ read texts. from_texts c.args.text.now c.around_dots.result.0.now c.around_dots.result.1.now c.around_dots.ensures read c.in-Some.field-0.now c.in-Some.ensures texts)
+    c.read_texts.ensures.read
+
+pub returns-in-None-clause-read : goal.returns-in-None-clause-read
+returns-in-None-clause-read c =
+    from_values c.args.text.now c.around_dots.result.0.now c.around_dots.result.1.now c.around_dots.ensures c.read_values.result c.in-None.ensures c.read_values.ensures.read

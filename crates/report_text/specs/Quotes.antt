@@ -1,0 +1,29 @@
+-- Texts in quotes, and the words of a text that stand outside of them.
+use Rattle.std.specs.Prelude.{◌≡◌, ℕ, suc, ◌==◌, ◌&&◌, not, Bool, true, false, List, [], ◌∷◌, ◌++◌, if◌then◌else◌}
+use Rattle.std.specs.List.{starts_with}
+
+-- a quote begins what is quoted, or ends it
+abbrev pub turned : ℕ → Bool → Bool
+turned c quoted = if c == 39 then not quoted else quoted
+
+-- the word begins the text, which does not stand in quotes
+abbrev pub begins_outside : List ℕ → Bool → List ℕ → Bool
+begins_outside word quoted text = not quoted && starts_with ◌==◌ text word
+
+-- the place of the first such word outside of quotes, or the length where there is none
+abbrev pub place_outside : List ℕ → Bool → List ℕ → ℕ
+place_outside word quoted [] = 0
+place_outside word quoted (c ∷ cs) =
+    if begins_outside word quoted (c ∷ cs) then 0 else suc (place_outside word (turned c quoted) cs)
+
+-- no such word begins outside of quotes before the text ends, whatever stands behind it, and each quote of the text is ended
+abbrev pub LacksOutside : List ℕ → Bool → List ℕ → Type 0
+LacksOutside word quoted [] = quoted ≡ false
+LacksOutside word quoted (c ∷ cs) =
+    ((rest : List ℕ) → begins_outside word quoted (c ∷ (cs ++ rest)) ≡ false) × LacksOutside word (turned c quoted) cs
+
+-- the text without each second quote
+abbrev pub undoubled : Bool → List ℕ → List ℕ
+undoubled second [] = []
+undoubled second (c ∷ cs) =
+    if c == 39 then (if second then undoubled false cs else 39 ∷ undoubled true cs) else c ∷ undoubled second cs
