@@ -13,6 +13,7 @@ pub mod ProductParts
 pub mod Thirds
 pub mod StaysKept
 pub mod MaskSums
+pub mod SomeRows
 pub mod EvenMasks
 pub mod MovedSums
 pub mod Hulls

@@ -16,7 +16,7 @@ use Rattle.product_sums.specs.Products.{sum_over}
 use Rattle.product_sums.proofs.Distributing.{swapped}
 use Rattle.product_sums.proofs.KeptProducts.{kept_first, kept_next, kept_started}
 use Rattle.product_sums.proofs.Residues.{wrapped}
-use Rattle.product_sums.proofs.RowSums.{over_none, over_ones, over_same}
+use Rattle.product_sums.proofs.RowSums.{over_none, over_same}
 
 pub alone : (z : ℤ) → z *ℤ pos 1 ≡ z
 alone z = omega (arith, ints)
@@ -119,12 +119,11 @@ module _ (table : KnownTable) (mask : List Bool) (pair : Pair) where
     -- a plane more of the first column
     pub first_next : (j : ℕ) → first_plane (ends_at table.frame pair.first) reads ≤ j → j < reads →
         sum_over mask (λ r. pos (first_number table pair.first (j + 1) r))
-        ≡ (sum_over mask (λ r. pos (first_number table pair.first j r)) *ℤ pos 2) +ℤ pos (count_by (λ b. b) (zip2 (λ a b. a && b) mask (ones_of (column_at table pair.first) j)))
+        ≡ (sum_over mask (λ r. pos (first_number table pair.first j r)) *ℤ pos 2) +ℤ sum_over (zip2 (λ a b. a && b) mask (ones_of (column_at table pair.first) j)) (λ r. pos 1)
     first_next j from below =
         let ones = zip2 (λ a b. a && b) mask (ones_of (column_at table pair.first) j) in
         sym (once table mask pair.first (reads - (j + 1))) ∙ kept_next table known mask long pair.first is.first (λ r. pos 1) j from below
         ∙ ap (λ z. (z *ℤ pos 2) +ℤ sum_over ones (λ r. pos 1)) (once table mask pair.first (reads - j))
-        ∙ ap (λ z. (sum_over mask (λ r. pos (first_number table pair.first j r)) *ℤ pos 2) +ℤ z) (over_ones ones)
 
     pub both_next : (j more : ℕ) → first_plane (ends_at table.frame pair.first) reads ≤ j → j < reads →
         sum_over mask (λ r. pos (first_number table pair.first (j + 1) r) *ℤ pos (first_number table pair.second more r))

@@ -201,5 +201,5 @@ module _ (table : KnownTable) (known : IsKnownTable table) (d : ℕ) (bits : Lis
       low = kept_stays kept.columns ends.low is.columns_are.pair_is are.low;
       high = kept_stays kept.columns ends.high is.columns_are.pair_is are.high;
     }) kept.cells.items is.cells_are;
-    rooms_are = record { ones = is.rooms_are.ones; rows = is.rooms_are.rows; part = is.rooms_are.part };
+    room_is = is.room_is;
   }

@@ -14,12 +14,11 @@ use Rattle.query_model.specs.Knowledge.{known_at}
 use Rattle.query_model.specs.Queries.{Term, Column, Literal, Add, Sub, Mul, term_of}
 use Rattle.product_sums.specs.declared.factors.Factor.{Factor}
 use Rattle.product_sums.specs.declared.factors.PartEnds.{PartEnds}
-use Rattle.product_sums.specs.declared.kept_pair.Clipped.{Clipped}
+use Rattle.product_sums.specs.declared.pair_ends.Clipped.{Clipped}
 use Rattle.product_sums.specs.declared.kept_column.KeptColumns.{KeptColumns}
 use Rattle.product_sums.specs.declared.kept_column.Third.{Third}
 use Rattle.product_sums.specs.declared.kept_pair.KeptPair.{KeptPair}
 use Rattle.product_sums.specs.declared.kept_planes.Kept.{Kept}
-use Rattle.product_sums.specs.declared.kept_planes.Rooms.{Rooms}
 use Rattle.product_sums.specs.declared.kept_product.KeptEnds.{KeptEnds}
 use Rattle.product_sums.specs.declared.kept_product.KeptProduct.{KeptProduct}
 use Rattle.product_sums.specs.declared.linear_sums.ColumnSums.{ColumnSums}
@@ -230,12 +229,6 @@ pub record AreKeptEnds (table : KnownTable) (columns : KeptColumns) (kept : Kept
   pub low : IsKept table columns kept.low
   pub high : IsKept table columns kept.high
 
--- masks of a table's rows
-pub record AreRooms (table : KnownTable) (rooms : Rooms) : Type 0 where
-  pub ones : length rooms.ones ≡ table.frame.rows
-  pub rows : length rooms.rows ≡ table.frame.rows
-  pub part : length rooms.part.mask ≡ table.frame.rows
-
 -- the columns are those of an expression
 pub record AreColumnsOf (table : KnownTable) (term : Term) (columns : KeptColumns) : Type 0 where
   pub pair_is : IsPair table columns.pair
@@ -247,4 +240,4 @@ pub record AreColumnsOf (table : KnownTable) (term : Term) (columns : KeptColumn
 pub record IsKeptProduct (table : KnownTable) (term : Term) (kept : KeptProduct) : Type 0 where
   pub columns_are : AreColumnsOf table term kept.columns
   pub cells_are : All (AreKeptEnds table kept.columns) kept.cells.items
-  pub rooms_are : AreRooms table kept.rooms
+  pub room_is : length kept.room ≡ table.frame.rows

@@ -2,3 +2,4 @@ pub mod ColumnEnds
 pub mod Fetched
 pub mod KeptProducts
 pub mod Products
+pub mod SomeRows

@@ -1,7 +1,7 @@
 //! Ends of a product of two columns, or of such a product and a part that is linear in a third, added up over a mask's rows and followed
 //! from one plane to the next. Of the third column the sums over the rows of each of its planes are kept.
 
-ghost use Rattle.std.specs.Prelude.{◌≡◌, ◌<◌, ◌&&◌, ◌*ℤ◌, None, length, replicate, IfOk, IfSome};
+ghost use Rattle.std.specs.Prelude.{◌≡◌, ◌<◌, ◌&&◌, ◌*ℤ◌, None, length, replicate, IfOk, IfSome, IsTrue};
 ghost use Rattle.std.specs.Int.{int_wrap, w128};
 ghost use Rattle.std.specs.Simd.Lanes.{zip2};
 ghost use Rattle.aggregates.specs.declared.ends.End.TheVariants.{High};
@@ -9,16 +9,20 @@ ghost use Rattle.daq_table.specs.Tables.{ends_at, planes};
 ghost use Rattle.known_column.specs.Columns.{is_at_top, rows_where};
 ghost use Rattle.known_column.specs.KnownTables.{column_at};
 ghost use Rattle.product_sums.specs.ColumnEnds.{weight_of_top};
-ghost use Rattle.product_sums.specs.KeptProducts.{factor_end, inner_end, no_sums, whole_number, AreOuter, ArePlaneSums, AreRooms};
+ghost use Rattle.product_sums.specs.KeptProducts.{factor_end, inner_end, no_sums, whole_number, AreOuter, ArePlaneSums};
 ghost use Rattle.product_sums.specs.KeptProducts.{CanFollowPair, IsKept, IsKeptPair, IsPair};
 ghost use Rattle.product_sums.specs.Products.{sum_over};
 
 use crate::column_ends::weight_of_top;
+use crate::even_masks::has_all_rows;
 use crate::factors::{Factor, PartEnds};
 use crate::kept_column::{KeptColumns, Third};
-use crate::kept_pair::{KeptPair, have_same_rows};
+use crate::kept_pair::{KeptPair, follow_sums};
 use crate::linear_sums::{ColumnSums, sum_linear};
+use crate::pair_ends::PairRows;
 use crate::pair_sums::{Pair, PairSums, doubled};
+use crate::some_rows::PartRows;
+use crate::tally::CountedRows;
 use crate::wrapping::times;
 use aggregates::{End, number_planes};
 use known_column::LentColumns;
@@ -44,29 +48,6 @@ pub(crate) struct ProductEnds<'a> {
 struct WholeRows<'a> {
     mask: &'a Mask,
     sum: i128,
-}
-
-// Masks that are written anew at each use: one for rows with the bit of a plane of the two columns, and one for rows with that of the third
-// column. And what is kept over the latter, while it is followed.
-#[derive(Drop)]
-pub(crate) struct Rooms {
-    pub(crate) ones: Mask,
-    pub(crate) rows: Mask,
-    pub(crate) part: KeptPair,
-}
-
-impl Rooms {
-    // Room for so many rows.
-    pub(crate) fn open(alloc: Global, columns: &LentColumns<'_>) -> Result<Rooms, AllocError>
-        ensures { IfOk result (AreRooms columns.now) }
-    {
-        let rows = columns.rows();
-        Ok(Rooms {
-            ones: Mask::none(alloc, rows)?,
-            rows: Mask::none(alloc, rows)?,
-            part: KeptPair::open(alloc, rows)?,
-        })
-    }
 }
 
 // How many planes the third column has, if there is one.
@@ -125,6 +106,13 @@ impl Kept {
         self.whole.is_of(mask)
     }
 
+    // In how many blocks of 512 its rows differ from those of the nearer of two masks. It affects speed alone.
+    pub(crate) fn moved_blocks(&self, rows: CountedRows<'_>) -> usize {
+        self.whole
+            .moved_blocks(rows.must)
+            .min(self.whole.moved_blocks(rows.may))
+    }
+
     // The ends of the product of two columns at the mask's rows, each times the number that the third column's digits make, added up. What
     // is kept of its planes follows, and the rows of the whole do not yet.
     fn sum_numbered<'a>(
@@ -133,17 +121,16 @@ impl Kept {
         inner: PairEnds<'a>,
         third: u8,
         mask: &Mask,
-        rooms: &mut Rooms,
+        stay: bool,
     ) -> i128
         requires pair { IsPair columns.now inner.pair }
         requires whole { length self.old.whole.mask ≡ columns.now.frame.rows }
         requires planes { ArePlaneSums columns.now self.old.whole.mask inner.pair third self.old.planes.items }
         requires follow { CanFollowPair columns.now mask.now inner.pair inner.parts }
-        requires rooms { AreRooms columns.now rooms.old }
+        requires stay { IsTrue stay → self.old.whole.mask ≡ mask.now }
         ensures whole { self.new.whole ≡ self.old.whole }
         ensures top { self.new.top ≡ self.old.top }
         ensures planes { ArePlaneSums columns.now mask.now inner.entry.pair third self.new.planes.items }
-        ensures rooms { AreRooms columns.now rooms.new }
         ensures sum { result ≡ int_wrap w128 (sum_over mask.now
             (λ r. whole_number columns.now third r *ℤ inner_end columns.now inner.entry.pair.first inner.entry.parts r)) }
     {
@@ -154,42 +141,40 @@ impl Kept {
         for j in from..to {
             let plane = known.plane(j);
             let at = usize::from(j);
-            rooms.part.start(&self.whole, self.planes[at], plane);
-            rooms.rows.copy_from(mask);
-            rooms.rows.keep(plane, true);
-            let more = rooms.part.sum(
-                columns,
-                inner.pair,
-                inner.parts,
-                &rooms.rows,
-                &mut rooms.ones,
-            );
-            self.planes[at] = rooms.part.given();
-            sum = doubled(sum, more);
+            let kept = PartRows::with(&self.whole.mask, plane);
+            let rows = PartRows::with(mask, plane);
+            let sums = follow_sums(columns, inner.pair, self.planes[at], &kept, &rows, stay);
+            self.planes[at] = sums;
+            let here = PairRows {
+                rows: &rows,
+                pair: inner.pair,
+                sums,
+            };
+            sum = doubled(sum, here.sum(columns, inner.parts));
         }
         sum
     }
 
-    // What the rows at the prefix of the third column's top give less at its high end. `whole` is what all rows give: while all of them are
-    // at that prefix, none is counted.
+    // What the rows at the prefix of the third column's top give less at its high end. `whole` is what all rows give: while the whole
+    // table is at that prefix, none is counted.
     fn sum_top<'a>(
         &mut self,
         columns: &LentColumns<'_>,
         inner: PairEnds<'a>,
         third: u8,
         rows: WholeRows<'_>,
-        rooms: &mut Rooms,
+        room: &mut Mask,
     ) -> i128
         requires pair { IsPair columns.now inner.pair }
         requires third { third < length columns.now.frame.columns }
         requires top { IsKeptPair columns.now inner.pair self.old.top }
         requires follow { CanFollowPair columns.now rows.mask.now inner.pair inner.parts }
         requires whole { rows.sum ≡ int_wrap w128 (sum_over rows.mask.now (inner_end columns.now inner.pair.first inner.parts)) }
-        requires rooms { AreRooms columns.now rooms.old }
+        requires room { length room.old ≡ columns.now.frame.rows }
         ensures whole { self.new.whole ≡ self.old.whole }
         ensures planes { self.new.planes ≡ self.old.planes }
         ensures top { IsKeptPair columns.now inner.entry.pair self.new.top }
-        ensures rooms { AreRooms columns.now rooms.new }
+        ensures room { length room.new ≡ columns.now.frame.rows }
         ensures sum { result ≡ int_wrap w128 (weight_of_top High (column_at columns.now third)
             *ℤ sum_over (zip2 (λ a b. a && b) rows.entry.mask.now (rows_where is_at_top (column_at columns.now third)))
             (inner_end columns.now inner.entry.pair.first inner.entry.parts)) }
@@ -199,18 +184,13 @@ impl Kept {
         if weight == 0 {
             return 0;
         }
-        rooms.rows.copy_from(rows.mask);
-        rooms.rows.and_into(known.at_top());
-        if have_same_rows(&rooms.rows, rows.mask) {
+        if has_all_rows(known.at_top()) {
             return times(weight, rows.sum);
         }
-        let sum = self.top.sum(
-            columns,
-            inner.pair,
-            inner.parts,
-            &rooms.rows,
-            &mut rooms.ones,
-        );
+        room.copy_from(rows.mask);
+        room.and_into(known.at_top());
+        let stay = self.top.is_of(room);
+        let sum = self.top.sum(columns, inner.pair, inner.parts, room, stay);
         times(weight, sum)
     }
 
@@ -221,43 +201,40 @@ impl Kept {
         chosen: KeptColumns,
         ends: ProductEnds<'a>,
         mask: &Mask,
-        rooms: &mut Rooms,
+        room: &mut Mask,
     ) -> i128
         requires pair { IsPair columns.now chosen.pair }
         requires kept { IsKept columns.now chosen self.old }
         requires follow { CanFollowPair columns.now mask.now chosen.pair ends.parts }
         requires outer { AreOuter columns.now mask.now chosen.third ends.outer }
-        requires rooms { AreRooms columns.now rooms.old }
+        requires room { length room.old ≡ columns.now.frame.rows }
         ensures kept { IsKept columns.now chosen self.new }
-        ensures rooms { AreRooms columns.now rooms.new }
+        ensures room { length room.new ≡ columns.now.frame.rows }
         ensures inner { chosen.third ≡ None → result
             ≡ int_wrap w128 (sum_over mask.now (inner_end columns.now chosen.pair.first ends.entry.parts)) }
         ensures product { IfSome ends.entry.outer (λ outer. result ≡ int_wrap w128 (sum_over mask.now
             (λ r. factor_end columns.now outer r *ℤ inner_end columns.now chosen.pair.first ends.entry.parts r))) }
     {
         let _rows = columns.rows();
+        let stay = self.whole.is_of(mask);
         let inner = PairEnds {
             pair: chosen.pair,
             parts: ends.parts,
         };
         let Some(third) = chosen.third else {
-            return self
-                .whole
-                .sum(columns, chosen.pair, ends.parts, mask, &mut rooms.ones);
+            return self.whole.sum(columns, chosen.pair, ends.parts, mask, stay);
         };
         let Some(outer) = ends.outer else {
             return 0;
         };
-        let numbers = self.sum_numbered(columns, inner, third.column, mask, rooms);
-        let all = self
-            .whole
-            .sum(columns, chosen.pair, ends.parts, mask, &mut rooms.ones);
+        let numbers = self.sum_numbered(columns, inner, third.column, mask, stay);
+        let all = self.whole.sum(columns, chosen.pair, ends.parts, mask, stay);
         let clipped = self.sum_top(
             columns,
             inner,
             third.column,
             WholeRows { mask, sum: all },
-            rooms,
+            room,
         );
         let sums = ColumnSums {
             all,

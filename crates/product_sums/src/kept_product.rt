@@ -10,12 +10,14 @@ ghost use Rattle.query_model.specs.Queries.{term_of};
 ghost use Rattle.query_model.specs.Truths.{span_of};
 ghost use Rattle.query_model.specs.Validity.{declared_ranges, FitsSum};
 ghost use Rattle.product_sums.specs.KeptProducts.{factor_end, inner_end, AreKeptEnds, AreOuter};
-ghost use Rattle.product_sums.specs.KeptProducts.{AreRooms, CanFollowPair, IsKeptProduct, IsPair};
+ghost use Rattle.product_sums.specs.KeptProducts.{CanFollowPair, IsKeptProduct, IsPair};
 ghost use Rattle.product_sums.specs.Products.{sum_over, term_end, HasValues, IsProductSum};
 
 use crate::kept_column::{KeptColumns, columns_to_keep, inner_part, outer_ends, part_ends};
-use crate::kept_planes::{Kept, ProductEnds, Rooms};
+use crate::kept_planes::{Kept, ProductEnds};
+use crate::moves::count_moved_blocks;
 use crate::sums::sum_ends;
+use crate::tally::CountedRows;
 use aggregates::End;
 use known_column::LentColumns;
 use plane_kernels::Mask;
@@ -54,29 +56,42 @@ impl KeptEnds {
         chosen: KeptColumns,
         ends: ProductEnds<'a>,
         mask: &Mask,
-        rooms: &mut Rooms,
+        room: &mut Mask,
     ) -> i128
         requires pair { IsPair columns.now chosen.pair }
         requires kept { AreKeptEnds columns.now chosen self.old }
         requires follow { CanFollowPair columns.now mask.now chosen.pair ends.parts }
         requires outer { AreOuter columns.now mask.now chosen.third ends.outer }
-        requires rooms { AreRooms columns.now rooms.old }
+        requires room { length room.old ≡ columns.now.frame.rows }
         ensures kept { AreKeptEnds columns.now chosen self.new }
-        ensures rooms { AreRooms columns.now rooms.new }
+        ensures room { length room.new ≡ columns.now.frame.rows }
         ensures inner { chosen.third ≡ None → result
             ≡ int_wrap w128 (sum_over mask.now (inner_end columns.now chosen.pair.first ends.entry.parts)) }
         ensures product { IfSome ends.entry.outer (λ outer. result ≡ int_wrap w128 (sum_over mask.now
             (λ r. factor_end columns.now outer r *ℤ inner_end columns.now chosen.pair.first ends.entry.parts r))) }
     {
         match ends.parts.column {
-            End::Low => self.low.sum(columns, chosen, ends, mask, rooms),
+            End::Low => self.low.sum(columns, chosen, ends, mask, room),
             End::High => {
                 if self.low.is_of(mask) {
-                    self.low.sum(columns, chosen, ends, mask, rooms)
+                    self.low.sum(columns, chosen, ends, mask, room)
                 } else {
-                    self.high.sum(columns, chosen, ends, mask, rooms)
+                    self.high.sum(columns, chosen, ends, mask, room)
                 }
             }
+        }
+    }
+}
+
+impl KeptEnds {
+    // In how many blocks of 512 these rows differ from those that are kept: of either end from the nearer of both masks. Where both masks
+    // are the same, one of the two serves both.
+    fn moved_blocks(&self, rows: CountedRows<'_>) -> usize {
+        let low = self.low.moved_blocks(rows);
+        if count_moved_blocks(rows.must, rows.may) == 0 {
+            low
+        } else {
+            low.saturating_add(self.high.moved_blocks(rows))
         }
     }
 }
@@ -105,7 +120,7 @@ fn open_cells(
 pub struct KeptProduct {
     columns: KeptColumns,
     cells: Vec<KeptEnds>,
-    rooms: Rooms,
+    room: Mask,
 }
 
 impl KeptProduct {
@@ -124,8 +139,16 @@ impl KeptProduct {
             Some(chosen) => Ok(Some(KeptProduct {
                 columns: chosen,
                 cells: open_cells(alloc, columns, chosen, cells)?,
-                rooms: Rooms::open(alloc, columns)?,
+                room: Mask::none(alloc, columns.rows())?,
             })),
+        }
+    }
+
+    // In how many blocks of 512 the rows of a cell differ from those that are kept of it. It affects speed alone.
+    pub(crate) fn moved_blocks(&self, rows: CountedRows<'_>, cell: usize) -> usize {
+        match self.cells.get(cell) {
+            Some(kept) => kept.moved_blocks(rows),
+            None => rows.may.rows().div_ceil(512),
         }
     }
 
@@ -155,7 +178,7 @@ impl KeptProduct {
             None => {
                 let parts = part_ends(expr, chosen.pair.first, end, columns);
                 let ends = ProductEnds { parts, outer: None };
-                self.cells[cell].sum(columns, chosen, ends, mask, &mut self.rooms)
+                self.cells[cell].sum(columns, chosen, ends, mask, &mut self.room)
             }
             Some(third) => {
                 let (at_inner, outer) = outer_ends(expr, third, end, columns);
@@ -165,7 +188,7 @@ impl KeptProduct {
                     parts,
                     outer: Some(outer),
                 };
-                self.cells[cell].sum(columns, chosen, ends, mask, &mut self.rooms)
+                self.cells[cell].sum(columns, chosen, ends, mask, &mut self.room)
             }
         }
     }

@@ -3,6 +3,7 @@
 
 mod block_sums;
 mod column_ends;
+mod even_masks;
 mod extremes;
 mod factors;
 mod fetched;
@@ -14,9 +15,12 @@ mod kept_planes;
 mod kept_product;
 mod linear_sums;
 mod moved_sums;
+mod moves;
+mod pair_ends;
 mod pair_sums;
 mod rows;
 mod signs;
+mod some_rows;
 mod sums;
 mod tally;
 mod top_sums;
@@ -24,4 +28,4 @@ mod wrapping;
 
 pub use kept_product::KeptProduct;
 pub use signs::{count_of_counts, is_product_sum, keeps_sign};
-pub use tally::{CountedRows, kept_tally};
+pub use tally::{CellOf, CountedRows, kept_tally};

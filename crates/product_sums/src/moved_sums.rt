@@ -14,10 +14,10 @@ use crate::fetched_sums::sum_fetched_digits;
 use crate::first_numbers::sum_first_digits;
 use crate::pair_sums::{Pair, PairSums};
 use crate::rows::Rows;
+use crate::some_rows::PartRows;
 use crate::wrapping::{plus, times};
 use aggregates::number_planes;
 use known_column::LentColumns;
-use plane_kernels::Mask;
 
 // The numbers of a column at rows of a block, added up: in words that are fetched, where they are.
 fn sum_numbers(
@@ -115,14 +115,14 @@ fn has_digits(columns: &LentColumns<'_>, column: u8) -> bool
     from < to
 }
 
-// The sums over the rows of another mask, where these are all planes' over one. Blocks without a row that moved are passed over;
+// The sums over other rows, where these are all planes' over some. Blocks without a row that moved are passed over;
 // while no plane tells a digit all sums stay 0, whatever moved.
 pub(crate) fn move_sums(
     columns: &LentColumns<'_>,
     pair: Pair,
     sums: PairSums,
-    old: &Mask,
-    new: &Mask,
+    old: &PartRows<'_>,
+    new: &PartRows<'_>,
 ) -> PairSums
     requires pair { IsPair columns.now pair }
     requires sums { AreReadOn columns.now old.now pair sums }
@@ -136,8 +136,8 @@ pub(crate) fn move_sums(
     let mut room = PlaneRoom::new();
     let mut sums = sums;
     for block in 0..new.rows().div_ceil(512) {
-        let before = Rows::of_mask(old, block);
-        let after = Rows::of_mask(new, block);
+        let before = old.block(block);
+        let after = new.block(block);
         let came = sums_in_block(columns, pair, block, &after.and_not(&before), &mut room);
         let left = sums_in_block(columns, pair, block, &before.and_not(&after), &mut room);
         sums = sums.moved(came, left);

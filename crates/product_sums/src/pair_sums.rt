@@ -1,4 +1,4 @@
-//! What the planes of two columns give over a mask's rows: the numbers that they make, and their products, added up. A plane more of either
+//! What the planes of two columns give over some rows: the numbers that they make, and their products, added up. A plane more of either
 //! column doubles what it had, and adds what the other column has over the rows with its bit.
 
 ghost use Rattle.std.specs.Prelude.{◌≡◌, ◌≤◌, ◌<◌, ◌+◌, length, ℤ, pos, ◌*ℤ◌, ◌+ℤ◌, ◌-ℤ◌};
@@ -9,10 +9,10 @@ ghost use Rattle.product_sums.specs.Fetched.{first_digit};
 ghost use Rattle.product_sums.specs.KeptProducts.{no_sums, turned_pair, turned_sums, ArePairSums, AreReadOn, IsPair};
 
 use crate::first_numbers::sum_first;
+use crate::some_rows::{PartRows, SomeRows};
 use crate::wrapping::{minus, plus, times};
 use aggregates::number_planes;
 use known_column::LentColumns;
-use plane_kernels::Mask;
 
 // Two columns, or one twice.
 #[derive(Clone, Copy)]
@@ -111,32 +111,27 @@ fn read_plane(
     columns: &LentColumns<'_>,
     pair: Pair,
     sums: PairSums,
-    mask: &Mask,
-    room: &mut Mask,
+    rows: &PartRows<'_>,
 ) -> PairSums
     requires pair { IsPair columns.now pair }
-    requires sums { ArePairSums columns.now mask.now pair sums }
+    requires sums { ArePairSums columns.now rows.now pair sums }
     requires digit { first_digit (column_at columns.now pair.first) ≤ sums.first_read }
     requires unread { sums.first_read < (known_at columns.now.known pair.first).read }
-    requires room { length room.old ≡ columns.now.frame.rows }
-    ensures room { length room.new ≡ columns.now.frame.rows }
-    ensures sums { ArePairSums columns.now mask.now pair result }
+    ensures sums { ArePairSums columns.now rows.now pair result }
     ensures first { result.first_read ≡ sums.first_read + 1 }
     ensures second { result.second_read ≡ sums.second_read }
 {
     let _rows = columns.rows();
     let known = columns.column(usize::from(pair.first));
     let _planes = number_planes(known);
-    room.copy_from(mask);
-    room.keep(known.plane(sums.first_read), true);
-    let ones = i128::from(room.count());
-    let others = sum_first(columns, pair.second, sums.second_read, room);
+    let ones = SomeRows::with(rows, known.plane(sums.first_read));
+    let more = sum_first(columns, pair.second, sums.second_read, &ones);
     PairSums {
         first_read: sums.first_read + 1,
         second_read: sums.second_read,
-        first: doubled(sums.first, ones),
+        first: doubled(sums.first, more.rows),
         second: sums.second,
-        both: doubled(sums.both, others),
+        both: doubled(sums.both, more.numbers),
     }
 }
 
@@ -145,14 +140,11 @@ fn read_first(
     columns: &LentColumns<'_>,
     pair: Pair,
     sums: PairSums,
-    mask: &Mask,
-    room: &mut Mask,
+    rows: &PartRows<'_>,
 ) -> PairSums
     requires pair { IsPair columns.now pair }
-    requires sums { ArePairSums columns.now mask.now pair sums }
-    requires room { length room.old ≡ columns.now.frame.rows }
-    ensures room { length room.new ≡ columns.now.frame.rows }
-    ensures sums { ArePairSums columns.now mask.now pair result }
+    requires sums { ArePairSums columns.now rows.now pair sums }
+    ensures sums { ArePairSums columns.now rows.now pair result }
     ensures first { result.first_read ≡ (known_at columns.now.known pair.first).read }
     ensures second { result.second_read ≡ sums.second_read }
 {
@@ -167,7 +159,7 @@ fn read_first(
         both: sums.both,
     };
     for _j in begin..to {
-        sums = read_plane(columns, pair, sums, mask, room);
+        sums = read_plane(columns, pair, sums, rows);
     }
     sums
 }
@@ -177,16 +169,13 @@ pub(crate) fn read_on(
     columns: &LentColumns<'_>,
     pair: Pair,
     sums: PairSums,
-    mask: &Mask,
-    room: &mut Mask,
+    rows: &PartRows<'_>,
 ) -> PairSums
     requires pair { IsPair columns.now pair }
-    requires sums { ArePairSums columns.now mask.now pair sums }
-    requires room { length room.old ≡ columns.now.frame.rows }
-    ensures room { length room.new ≡ columns.now.frame.rows }
-    ensures sums { AreReadOn columns.now mask.now pair result }
+    requires sums { ArePairSums columns.now rows.now pair sums }
+    ensures { AreReadOn columns.now rows.now pair result }
 {
-    let first = read_first(columns, pair, sums, mask, room);
-    let second = read_first(columns, pair.turned(), first.turned(), mask, room);
+    let first = read_first(columns, pair, sums, rows);
+    let second = read_first(columns, pair.turned(), first.turned(), rows);
     second.turned()
 }

@@ -16,6 +16,7 @@ ghost use Rattle.product_sums.specs.Products.{keeps_sign, pairs_of, term_end, Ha
 
 use crate::extremes::outer_ends;
 use crate::kept_product::KeptProduct;
+use crate::moves::is_soon_followed;
 use crate::signs::is_never_negative;
 use crate::sums::sum_ends;
 use aggregates::{End, ExtremeSpan, SumSpan, Tally};
@@ -28,6 +29,13 @@ use query_model::{Expr, ItemKind};
 pub struct CountedRows<'a> {
     pub may: &'a Mask,
     pub must: &'a Mask,
+}
+
+/// The number of a cell, and how many cells there are.
+#[derive(Clone, Copy)]
+pub struct CellOf {
+    pub cell: u32,
+    pub cells: u32,
 }
 
 // The ends of no row.
@@ -129,14 +137,15 @@ fn outer_sums<'a>(
 
 /// What a sum or an average of an expression that keeps its sign keeps of such rows. There is none where no row surely counts and the
 /// outermost ends are not quickly found. Where sums of the expression are kept for the cell, they are followed to these rows: planes that
-/// were read already are not counted again for rows that stay.
+/// were read already are not counted again for rows that stay. There is none either where so many rows moved that all are faster added one
+/// by one; then what is kept stays as it was.
 pub fn kept_tally<'a>(
     kind: ItemKind,
     arg: &Expr,
     columns: &LentColumns<'_>,
     rows: CountedRows<'a>,
     kept: &mut Option<KeptProduct>,
-    cell: usize,
+    place: CellOf,
 ) -> Option<Tally>
     requires kind { IsSumKind kind }
     requires sums { IsProductSum columns.now.frame (term_of arg.now) }
@@ -151,9 +160,12 @@ pub fn kept_tally<'a>(
         tally ≡ tally_of kind (pairs_of columns.now (term_of arg.now) rows.entry.may.now rows.entry.must.now)) }
 {
     let _rows = columns.rows();
+    if !is_soon_followed(arg, columns, rows, kept, place) {
+        return None;
+    }
     let certain = rows.must.count();
     let ends = ends_if_none(certain, arg, columns, rows.may)?;
-    let sums = outer_sums(arg, columns, rows, kept, cell);
+    let sums = outer_sums(arg, columns, rows, kept, place.cell as usize);
     Some(Tally {
         certain,
         all: rows.may.count(),

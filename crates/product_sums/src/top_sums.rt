@@ -11,41 +11,38 @@ ghost use Rattle.product_sums.specs.KeptProducts.{factor_end, CanFollow};
 ghost use Rattle.product_sums.specs.Products.{sum_over};
 
 use crate::column_ends::weight_of_top;
+use crate::even_masks::has_all_rows;
 use crate::factors::PartEnds;
-use crate::kept_pair::have_same_rows;
+use crate::some_rows::{PartRows, SomeRows};
 use crate::sums::sum_wrapped;
 use crate::wrapping::times;
 use known_column::LentColumns;
-use plane_kernels::Mask;
 
 // What the rows at the prefix of the column's top give less, where the high end is clipped by top. `whole` is what the other part gives
-// over all rows of the mask: while all of them are at that prefix, none is counted.
+// over all of the rows: while the whole table is at that prefix, none is counted.
 pub(crate) fn sum_clipped<'a>(
     columns: &LentColumns<'_>,
-    mask: &Mask,
+    rows: &PartRows<'_>,
     column: u8,
     parts: PartEnds<'a>,
     whole: i128,
-    room: &mut Mask,
 ) -> i128
-    requires follow { CanFollow columns.now mask.now column (term_of parts.other.term.now) }
-    requires whole { whole ≡ int_wrap w128 (sum_over mask.now (factor_end columns.now parts.other)) }
-    requires room { length room.old ≡ columns.now.frame.rows }
-    ensures room { length room.new ≡ columns.now.frame.rows }
-    ensures sum { result ≡ int_wrap w128 (weight_of_top parts.entry.column (column_at columns.now column)
-        *ℤ sum_over (zip2 (λ a b. a && b) mask.now (rows_where is_at_top (column_at columns.now column)))
+    requires follow { CanFollow columns.now rows.now column (term_of parts.other.term.now) }
+    requires whole { whole ≡ int_wrap w128 (sum_over rows.now (factor_end columns.now parts.other)) }
+    ensures { result ≡ int_wrap w128 (weight_of_top parts.entry.column (column_at columns.now column)
+        *ℤ sum_over (zip2 (λ a b. a && b) rows.now (rows_where is_at_top (column_at columns.now column)))
         (factor_end columns.now parts.entry.other)) }
 {
+    let _rows = columns.rows();
     let known = columns.column(usize::from(column));
     let weight = weight_of_top(parts.column, known);
     if weight == 0 {
         return 0;
     }
-    room.copy_from(mask);
-    room.and_into(known.at_top());
-    if have_same_rows(room, mask) {
+    if has_all_rows(known.at_top()) {
         return times(weight, whole);
     }
     let other = parts.other;
-    times(weight, sum_wrapped(other.end, other.term, columns, room))
+    let tops = SomeRows::within(rows, known.at_top());
+    times(weight, sum_wrapped(other.end, other.term, columns, &tops))
 }

@@ -5,4 +5,7 @@ use Rattle.product_sums.specs.Products.{sum_over}
 use Rattle.product_sums.proofs.first_numbers.sum_first.Given as goal
 
 abbrev pub invariant-loop-block : goal.invariant-loop-block
-invariant-loop-block l = l.sum ≡ int_wrap w128 (sum_over (take (512 * l.block) l.mask) (λ r. pos (first_number l.columns l.column l.read r)))
+invariant-loop-block l = record {
+  count : l.count ≡ int_wrap w128 (sum_over (take (512 * l.block) l.rows) (λ r. pos 1));
+  numbers : l.numbers ≡ int_wrap w128 (sum_over (take (512 * l.block) l.rows) (λ r. pos (first_number l.columns l.column l.read r)));
+}

@@ -15,7 +15,7 @@ sums_in_block-came-requires-clause-rows c =
     let table = c.args.columns.now in
     let block = c.loop-block.block in
     let within : 512 * block < table.frame.rows = omega (arith, c.rows.ensures, c.requires.rows, c.loop-block-test.true, c.div_ceil-block-end.ensures) in
-    let is = c.and_not.ensures ∙ ap (λ l. beside l c.of_mask-before.result) c.of_mask-after.ensures ∙ ap (beside (block_of block c.args.new.now)) c.of_mask-before.ensures in
+    let is = c.and_not.ensures ∙ ap (λ l. beside l c.block-before.result) c.block-after.ensures ∙ ap (beside (block_of block c.args.new.now)) c.block-before.ensures in
     subst (λ r. CanMultiply table block r []) (sym is) (can_move table c.rows-rows.ensures.known c.args.new.now c.args.old.now block c.requires.rows c.requires.sums.sums_are.rows within)
 
 pub sums_in_block-left-requires-clause-rows : goal.sums_in_block-left-requires-clause-rows
@@ -23,20 +23,20 @@ sums_in_block-left-requires-clause-rows c =
     let table = c.args.columns.now in
     let block = c.loop-block.block in
     let within : 512 * block < table.frame.rows = omega (arith, c.rows.ensures, c.requires.rows, c.loop-block-test.true, c.div_ceil-block-end.ensures) in
-    let is = c.and_not-in-loop-block.ensures ∙ ap (λ l. beside l c.of_mask-after.result) c.of_mask-before.ensures ∙ ap (beside (block_of block c.args.old.now)) c.of_mask-after.ensures in
+    let is = c.and_not-in-loop-block.ensures ∙ ap (λ l. beside l c.block-after.result) c.block-before.ensures ∙ ap (beside (block_of block c.args.old.now)) c.block-after.ensures in
     subst (λ r. CanMultiply table block r []) (sym is) (can_move table c.rows-rows.ensures.known c.args.old.now c.args.new.now block c.requires.sums.sums_are.rows c.requires.rows within)
 
 pub and_not-requires : goal.and_not-requires
 and_not-requires c =
     let rows = c.args.columns.now.frame.rows in
-    ap length c.of_mask-before.ensures ∙ long_block c.args.old.now c.loop-block.block rows c.requires.sums.sums_are.rows
-    ∙ sym (ap length c.of_mask-after.ensures ∙ long_block c.args.new.now c.loop-block.block rows c.requires.rows)
+    ap length c.block-before.ensures ∙ long_block c.args.old.now c.loop-block.block rows c.requires.sums.sums_are.rows
+    ∙ sym (ap length c.block-after.ensures ∙ long_block c.args.new.now c.loop-block.block rows c.requires.rows)
 
 pub and_not-requires-in-loop-block : goal.and_not-requires-in-loop-block
 and_not-requires-in-loop-block c =
     let rows = c.args.columns.now.frame.rows in
-    ap length c.of_mask-after.ensures ∙ long_block c.args.new.now c.loop-block.block rows c.requires.rows
-    ∙ sym (ap length c.of_mask-before.ensures ∙ long_block c.args.old.now c.loop-block.block rows c.requires.sums.sums_are.rows)
+    ap length c.block-after.ensures ∙ long_block c.args.new.now c.loop-block.block rows c.requires.rows
+    ∙ sym (ap length c.block-before.ensures ∙ long_block c.args.old.now c.loop-block.block rows c.requires.sums.sums_are.rows)
 
 pub loop-block-preserved : goal.loop-block-preserved
 loop-block-preserved c =
@@ -49,8 +49,8 @@ loop-block-preserved c =
     let g : ℕ → ℤ = whole_number table pair.second in
     let same : length new ≡ length old = c.requires.rows ∙ sym c.requires.sums.sums_are.rows in
     let within : 512 * block ≤ length old = omega (arith, c.rows.ensures, same, c.loop-block-test.true, c.div_ceil-block-end.ensures) in
-    let rows_came = c.and_not.ensures ∙ ap (λ l. beside l c.of_mask-before.result) c.of_mask-after.ensures ∙ ap (beside (block_of block new)) c.of_mask-before.ensures in
-    let rows_left = c.and_not-in-loop-block.ensures ∙ ap (λ l. beside l c.of_mask-after.result) c.of_mask-before.ensures ∙ ap (beside (block_of block old)) c.of_mask-after.ensures in
+    let rows_came = c.and_not.ensures ∙ ap (λ l. beside l c.block-before.result) c.block-after.ensures ∙ ap (beside (block_of block new)) c.block-before.ensures in
+    let rows_left = c.and_not-in-loop-block.ensures ∙ ap (λ l. beside l c.block-after.result) c.block-before.ensures ∙ ap (beside (block_of block old)) c.block-after.ensures in
     let came : AreBlockSums table block (beside (block_of block new) (block_of block old)) pair c.sums_in_block-came.result = subst (λ r. AreBlockSums table block r pair c.sums_in_block-came.result) rows_came c.sums_in_block-came.ensures in
     let left : AreBlockSums table block (beside (block_of block old) (block_of block new)) pair c.sums_in_block-left.result = subst (λ r. AreBlockSums table block r pair c.sums_in_block-left.result) rows_left c.sums_in_block-left.ensures in
     let are = c.loop-block.invariant in

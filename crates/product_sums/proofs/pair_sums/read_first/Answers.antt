@@ -18,8 +18,7 @@ loop-j-init c =
     let to : c.number_planes-from.result.1 ≡ (known_at table.known first).read = c.number_planes-from.ensures.to ∙ ap (λ (k : KnownColumn). k.known.read) is in
     let sums = c.requires.sums in
     record {
-      room = c.requires.room;
-      sums = started_are table c.args.mask.now c.args.pair c.rows-rows.ensures.known c.requires.pair sums.rows c.args.sums _ sums (omega (arith, from, c.max-begin.ensures)) (omega (arith, from, to, c.max-begin.ensures, sums.first_read)) refl (omega (arith, ints)) (omega (arith, ints)) (omega (arith, ints));
+      sums = started_are table c.args.rows.now c.args.pair c.rows-rows.ensures.known c.requires.pair sums.rows c.args.sums _ sums (omega (arith, from, c.max-begin.ensures)) (omega (arith, from, to, c.max-begin.ensures, sums.first_read)) refl (omega (arith, ints)) (omega (arith, ints)) (omega (arith, ints));
       first = refl;
       second = refl;
     }

@@ -12,14 +12,14 @@ read_first-second-requires-clause-pair c = subst (IsPair c.args.columns.now) (sy
 pub read_first-second-requires-clause-sums : goal.read_first-second-requires-clause-sums
 read_first-second-requires-clause-sums c =
     let table = c.args.columns.now in
-    let mask = c.args.mask.now in
+    let mask = c.args.rows.now in
     subst (λ p. ArePairSums table mask p c.turned-2.result) (sym c.turned.ensures)
     (subst (ArePairSums table mask (turned_pair c.args.pair)) (sym c.turned-2.ensures) (turned_are table mask c.args.pair c.read_first-first.result c.read_first-first.ensures.sums))
 
-pub returns-clause-sums : goal.returns-clause-sums
-returns-clause-sums c =
+pub returns : goal.returns
+returns c =
     let table = c.args.columns.now in
-    let mask = c.args.mask.now in
+    let mask = c.args.rows.now in
     let pair = c.args.pair in
     let back = turned_pair pair in
     let sums = subst (λ p. ArePairSums table mask p c.read_first-second.result) c.turned.ensures c.read_first-second.ensures.sums in

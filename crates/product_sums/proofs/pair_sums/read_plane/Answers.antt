@@ -1,7 +1,7 @@
-use Rattle.std.proofs.Common.{◌≡◌, ◌&&◌, pos, FitsSigned, count_by, length, to_z, of_z, ap, sym, ◌∙◌, arith}
+use Rattle.std.proofs.Common.{◌≡◌, ◌&&◌, pos, length, to_z, of_z, ap, sym, ◌∙◌, arith}
 use Rattle.std.specs.Int.{w128}
 use Rattle.std.specs.Simd.Lanes.{zip2}
-use Rattle.std.proofs.lemmas.Int.{ints, int_wrap_fits}
+use Rattle.std.proofs.lemmas.Int.{ints}
 use Rattle.std.proofs.lemmas.Simd.{length-zip2}
 use Rattle.known_column.specs.Columns.{KnownColumn}
 use Rattle.known_column.specs.KnownTables.{column_at}
@@ -13,45 +13,40 @@ use Rattle.product_sums.proofs.PairSums.{both_next, first_next}
 use Rattle.product_sums.proofs.Residues.{wrapped}
 use Rattle.product_sums.proofs.pair_sums.read_plane.Goals as goal
 
-pub sum_first-others-requires-clause-rows : goal.sum_first-others-requires-clause-rows
-sum_first-others-requires-clause-rows c =
+pub with-ones-requires : goal.with-ones-requires
+with-ones-requires c =
     let table = c.args.columns.now in
     let j = c.args.sums.first_read in
     let is : c.column-known.result.now ≡ column_at table c.args.pair.first = c.column-known.ensures.column ∙ ap (column_at table) c.from.ensures in
     let ones : c.plane.result.now ≡ ones_of (column_at table c.args.pair.first) j = c.plane.ensures ∙ ap (λ (k : KnownColumn). ones_of k j) is in
-    let long : length c.plane.result.now ≡ table.frame.rows = ap length ones ∙ length-ones table c.rows-rows.ensures.known c.args.pair.first c.requires.pair.first j in
-    ap length (c.keep.ensures ∙ ap (λ m. zip2 (λ a b. a && b) m c.plane.result.now) c.copy_from.ensures) ∙ length-zip2 (λ a b. a && b) c.args.mask.now c.plane.result.now (c.requires.sums.rows ∙ sym long) ∙ c.requires.sums.rows
+    ap length ones ∙ length-ones table c.rows-rows.ensures.known c.args.pair.first c.requires.pair.first j ∙ sym c.requires.sums.rows
 
-pub returns-clause-room : goal.returns-clause-room
-returns-clause-room c =
+pub sum_first-more-requires-clause-rows : goal.sum_first-more-requires-clause-rows
+sum_first-more-requires-clause-rows c =
     let table = c.args.columns.now in
     let j = c.args.sums.first_read in
     let is : c.column-known.result.now ≡ column_at table c.args.pair.first = c.column-known.ensures.column ∙ ap (column_at table) c.from.ensures in
     let ones : c.plane.result.now ≡ ones_of (column_at table c.args.pair.first) j = c.plane.ensures ∙ ap (λ (k : KnownColumn). ones_of k j) is in
     let long : length c.plane.result.now ≡ table.frame.rows = ap length ones ∙ length-ones table c.rows-rows.ensures.known c.args.pair.first c.requires.pair.first j in
-    ap length (c.keep.ensures ∙ ap (λ m. zip2 (λ a b. a && b) m c.plane.result.now) c.copy_from.ensures) ∙ length-zip2 (λ a b. a && b) c.args.mask.now c.plane.result.now (c.requires.sums.rows ∙ sym long) ∙ c.requires.sums.rows
+    ap length c.with-ones.ensures ∙ length-zip2 (λ a b. a && b) c.args.rows.now c.plane.result.now (c.requires.sums.rows ∙ sym long) ∙ c.requires.sums.rows
 
 pub returns-clause-sums : goal.returns-clause-sums
 returns-clause-sums c =
     let table = c.args.columns.now in
     let sums = c.args.sums in
-    let mask = c.args.mask.now in
+    let mask = c.args.rows.now in
     let j = sums.first_read in
     let known = c.rows-rows.ensures.known in
     let is : c.column-known.result.now ≡ column_at table c.args.pair.first = c.column-known.ensures.column ∙ ap (column_at table) c.from.ensures in
     let ones : c.plane.result.now ≡ ones_of (column_at table c.args.pair.first) j = c.plane.ensures ∙ ap (λ (k : KnownColumn). ones_of k j) is in
-    let room = c.keep.ensures ∙ ap (λ m. zip2 (λ a b. a && b) m c.plane.result.now) c.copy_from.ensures ∙ ap (zip2 (λ a b. a && b) mask) ones in
-    let some = zip2 (λ a b. a && b) mask (ones_of (column_at table c.args.pair.first) j) in
-    let small : FitsSigned w128 (pos c.count.result) = record { sfits = omega (arith, c.count.type_inv) } in
-    let counted : c.from-ones.result ≡ wrapped (pos (count_by (λ b. b) some)) = c.from-ones.ensures ∙ sym (int_wrap_fits w128 (pos c.count.result) small) ∙ ap (λ n. wrapped (pos n)) (c.count.ensures ∙ ap (count_by (λ b. b)) room) in
-    let ones_again : to_z w128 (of_z w128 c.from-ones.result) ≡ c.from-ones.result = omega (arith, ints) in
-    let others_again : to_z w128 (of_z w128 c.sum_first-others.result) ≡ c.sum_first-others.result = omega (arith, ints) in
-    let others = c.sum_first-others.ensures ∙ ap (λ m. wrapped (sum_over m (λ r. pos (first_number table c.args.pair.second sums.second_read r)))) room in
+    let some = c.with-ones.ensures ∙ ap (zip2 (λ a b. a && b) mask) ones in
+    let counted = c.sum_first-more.ensures.rows ∙ ap (λ m. wrapped (sum_over m (λ r. pos 1))) some in
+    let others = c.sum_first-more.ensures.numbers ∙ ap (λ m. wrapped (sum_over m (λ r. pos (first_number table c.args.pair.second sums.second_read r)))) some in
     record {
       rows = c.requires.sums.rows;
       first_read = omega (arith, c.requires.unread);
       second_read = c.requires.sums.second_read;
-      first = omega (arith, ints) ∙ c.doubled.ensures _ _ (omega (arith, ints) ∙ c.requires.sums.first) (ones_again ∙ counted) ∙ ap wrapped (sym (first_next table mask c.args.pair known c.requires.pair c.requires.sums.rows j c.requires.digit c.requires.unread));
+      first = omega (arith, ints) ∙ c.doubled.ensures _ _ (omega (arith, ints) ∙ c.requires.sums.first) (omega (arith, ints) ∙ counted) ∙ ap wrapped (sym (first_next table mask c.args.pair known c.requires.pair c.requires.sums.rows j c.requires.digit c.requires.unread));
       second = omega (arith, ints) ∙ c.requires.sums.second;
-      both = omega (arith, ints) ∙ c.doubled-2.ensures _ _ (omega (arith, ints) ∙ c.requires.sums.both) (others_again ∙ others) ∙ ap wrapped (sym (both_next table mask c.args.pair known c.requires.pair c.requires.sums.rows j sums.second_read c.requires.digit c.requires.unread));
+      both = omega (arith, ints) ∙ c.doubled-2.ensures _ _ (omega (arith, ints) ∙ c.requires.sums.both) (omega (arith, ints) ∙ others) ∙ ap wrapped (sym (both_next table mask c.args.pair known c.requires.pair c.requires.sums.rows j sums.second_read c.requires.digit c.requires.unread));
     }

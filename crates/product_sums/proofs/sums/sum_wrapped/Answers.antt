@@ -11,13 +11,13 @@ pub loop-block-preserved : goal.loop-block-preserved
 loop-block-preserved c =
     let whole : to_z w128 (of_z w128 c.plus-sum.result) ≡ c.plus-sum.result = omega (arith, ints) in
     let f : ℕ → ℤ = λ r. term_end c.args.columns.now c.args.end (term_of c.args.arg.now) r in
-    let within : 512 * c.loop-block.block ≤ length c.args.mask.now = omega (arith, c.rows.ensures, c.loop-block-test.true, c.div_ceil-block-end.ensures) in
+    let within : 512 * c.loop-block.block ≤ length c.args.rows.now = omega (arith, c.rows.ensures, c.loop-block-test.true, c.div_ceil-block-end.ensures) in
     whole
     ∙ plus_onto c.plus-sum.result (to_z w128 c.loop-block.sum-bits) c.sum_block.result _ _ c.plus-sum.ensures (omega (arith, ints)) c.loop-block.invariant c.sum_block.ensures
-    ∙ ap (int_wrap w128) (sym (next_block c.args.mask.now f c.loop-block.block within))
+    ∙ ap (int_wrap w128) (sym (next_block c.args.rows.now f c.loop-block.block within))
 
 pub returns : goal.returns
 returns c =
     let f : ℕ → ℤ = λ r. term_end c.args.columns.now c.args.end (term_of c.args.arg.now) r in
-    let past : length c.args.mask.now ≤ 512 * c.loop-block.block = omega (arith, c.rows.ensures, c.loop-block-test.false, c.div_ceil-block-end.ensures) in
-    c.loop-block.invariant ∙ ap (int_wrap w128) (whole_mask c.args.mask.now f c.loop-block.block past)
+    let past : length c.args.rows.now ≤ 512 * c.loop-block.block = omega (arith, c.rows.ensures, c.loop-block-test.false, c.div_ceil-block-end.ensures) in
+    c.loop-block.invariant ∙ ap (int_wrap w128) (whole_mask c.args.rows.now f c.loop-block.block past)

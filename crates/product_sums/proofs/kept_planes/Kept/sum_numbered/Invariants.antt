@@ -5,12 +5,11 @@ use Rattle.daq_table.specs.Tables.{ends_at, planes}
 use Rattle.known_column.specs.KnownTables.{column_at}
 use Rattle.query_model.specs.Knowledge.{known_at}
 use Rattle.product_sums.specs.Fetched.{first_digit}
-use Rattle.product_sums.specs.KeptProducts.{ArePairSums, AreRooms, first_sum, inner_end, no_sums, rows_with}
+use Rattle.product_sums.specs.KeptProducts.{ArePairSums, first_sum, inner_end, no_sums, rows_with}
 use Rattle.product_sums.proofs.kept_planes.Kept.sum_numbered.Given as goal
 
 abbrev pub invariant-loop-j : goal.invariant-loop-j
 invariant-loop-j l = record {
-  rooms : AreRooms l.columns l.rooms;
   whole : l.self.whole ≡ l.fn.self.whole;
   top : l.self.top ≡ l.fn.self.top;
   size : length l.self.planes.items ≡ planes (ends_at l.columns.frame l.third);

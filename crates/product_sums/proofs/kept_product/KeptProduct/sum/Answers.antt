@@ -47,7 +47,7 @@ pub returns-in-None-clause-kept : goal.returns-in-None-clause-kept
 returns-in-None-clause-kept c = record {
   columns_are = c.requires.kept.columns_are;
   cells_are = All-set (AreKeptEnds c.args.columns.now c.args.self.now.columns) c.args.self.now.cells.items c.args.cell c.sum.new.self c.sum.ensures.kept c.requires.kept.cells_are;
-  rooms_are = c.sum.ensures.rooms;
+  room_is = c.sum.ensures.room;
 }
 
 -- ---- three columns
@@ -83,7 +83,7 @@ pub returns-in-Some-clause-kept : goal.returns-in-Some-clause-kept
 returns-in-Some-clause-kept c = record {
   columns_are = c.requires.kept.columns_are;
   cells_are = All-set (AreKeptEnds c.args.columns.now c.args.self.now.columns) c.args.self.now.cells.items c.args.cell c.sum-in-Some.new.self c.sum-in-Some.ensures.kept c.requires.kept.cells_are;
-  rooms_are = c.sum-in-Some.ensures.rooms;
+  room_is = c.sum-in-Some.ensures.room;
 }
 
 pub returns-in-Some-clause-sum : goal.returns-in-Some-clause-sum

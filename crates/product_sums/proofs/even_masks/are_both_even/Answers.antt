@@ -1,5 +1,5 @@
 use Rattle.product_sums.proofs.EvenMasks.{all_same, none_same}
-use Rattle.product_sums.proofs.kept_pair.are_both_even.Goals as goal
+use Rattle.product_sums.proofs.even_masks.are_both_even.Goals as goal
 
 pub returns-then-has_no_row : goal.returns-then-has_no_row
 returns-then-has_no_row c = λ none. none_same c.args.mask.now c.args.other.now c.requires (c.has_no_row.ensures c.if-has_no_row.true) (c.has_no_row-then-has_no_row.ensures none)

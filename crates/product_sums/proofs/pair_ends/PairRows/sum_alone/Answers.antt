@@ -7,13 +7,13 @@ use Rattle.product_sums.specs.Products.{sum_over}
 use Rattle.product_sums.proofs.PairSums.{alone}
 use Rattle.product_sums.proofs.Residues.{wrapped}
 use Rattle.product_sums.proofs.RowSums.{over_ones, over_same}
-use Rattle.product_sums.proofs.kept_pair.KeptPair.sum_alone.Goals as goal
+use Rattle.product_sums.proofs.pair_ends.PairRows.sum_alone.Goals as goal
 
 pub returns : goal.returns
 returns c =
     let table = c.args.columns.now in
-    let mask = c.args.self.now.mask in
-    let second = c.args.pair.second in
+    let mask = c.args.self.now.rows.now in
+    let second = c.args.self.now.pair.second in
     let reads : ℕ = (known_at table.known second).read in
     let sums = c.requires.sums in
     let whole : to_z w128 (of_z w128 c.sum_linear.result) ≡ c.sum_linear.result = omega (arith, ints) in

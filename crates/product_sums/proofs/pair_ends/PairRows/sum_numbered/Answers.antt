@@ -7,13 +7,13 @@ use Rattle.product_sums.specs.Products.{sum_over}
 use Rattle.product_sums.proofs.Distributing.{swapped}
 use Rattle.product_sums.proofs.Residues.{wrapped}
 use Rattle.product_sums.proofs.RowSums.{over_same}
-use Rattle.product_sums.proofs.kept_pair.KeptPair.sum_numbered.Goals as goal
+use Rattle.product_sums.proofs.pair_ends.PairRows.sum_numbered.Goals as goal
 
 pub returns : goal.returns
 returns c =
     let table = c.args.columns.now in
-    let mask = c.args.self.now.mask in
-    let pair = c.args.pair in
+    let mask = c.args.self.now.rows.now in
+    let pair = c.args.self.now.pair in
     let first : ℕ → ℕ → ℤ = λ n r. pos (first_number table pair.first n r) in
     let second : ℕ → ℕ → ℤ = λ n r. pos (first_number table pair.second n r) in
     let reads : ℕ = (known_at table.known pair.first).read in

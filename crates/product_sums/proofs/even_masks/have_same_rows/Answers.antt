@@ -2,7 +2,7 @@ use Rattle.std.proofs.Common.{◌≡◌, ◌+◌, ◌*◌, length, take, ap, sym
 use Rattle.plane_kernels.specs.Rows.{block_rows, rows_of}
 use Rattle.aggregates.specs.Selections.{block_of}
 use Rattle.aggregates.proofs.KeptSums.{rows_stayed}
-use Rattle.product_sums.proofs.kept_pair.have_same_rows.Goals as goal
+use Rattle.product_sums.proofs.even_masks.have_same_rows.Goals as goal
 
 pub loop-block-preserved : goal.loop-block-preserved
 loop-block-preserved c =
