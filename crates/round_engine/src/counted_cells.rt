@@ -21,7 +21,7 @@ use aggregates::{Running, Tally};
 use kleene_filter::Filter;
 use known_column::LentColumns;
 use plane_kernels::Mask;
-use product_sums::{CountedRows, KeptProduct, kept_tally};
+use product_sums::{CellOf, CountedRows, KeptProduct, kept_tally};
 use query_model::{Item, TypedQuery};
 use row_groups::{Cells, cells_tell_keys};
 
@@ -54,7 +54,7 @@ impl CellMasks {
         item: &Item,
         columns: &LentColumns<'_>,
         filter: &Filter,
-        cell: u32,
+        place: CellOf,
         certain: bool,
         kept: &mut Option<KeptProduct>,
     ) -> Option<Tally>
@@ -62,13 +62,13 @@ impl CellMasks {
         requires open_item { IsOpenItem columns.now.frame item.now }
         requires judged { filter.now.truths ≡ truths_under query.now.pred columns.now }
         requires by_counts { IsByCounts columns.now.frame item.now }
-        requires part { IsPart (stage_of query.now columns.now) cell certain self.old.within }
+        requires part { IsPart (stage_of query.now columns.now) place.cell certain self.old.within }
         requires masks { HoldMasks columns.now.frame.rows self.old }
         requires kept { IfSome kept.old (IsKeptProduct columns.now item.now.arg) }
         ensures masks { HoldMasks columns.now.frame.rows self.new }
         ensures kept { IfSome kept.new (IsKeptProduct columns.now item.now.arg) }
         ensures tally { IfSome result (λ tally.
-            tally ≡ tally_of item.now.kind (pairs_in_cell query.now item.now cell columns.now.frame columns.now.known)) }
+            tally ≡ tally_of item.now.kind (pairs_in_cell query.now item.now place.cell columns.now.frame columns.now.known)) }
     {
         self.selection
             .select_passing_within(&self.within, filter, certain, &self.none);
@@ -77,7 +77,7 @@ impl CellMasks {
             may: &self.selection.may,
             must: &self.selection.must,
         };
-        kept_tally(item.kind, &item.arg, columns, rows, kept, cell as usize)
+        kept_tally(item.kind, &item.arg, columns, rows, kept, place)
     }
 
     // Makes each cell stand for its rows, where there are few cells and counts tell each.
@@ -116,7 +116,8 @@ impl CellMasks {
         for cell in 0..total {
             cells.select(cell, &mut self.within);
             let certain = single[cell as usize];
-            match self.counted_part(query, item, columns, filter, cell, certain, kept) {
+            let place = CellOf { cell, cells: total };
+            match self.counted_part(query, item, columns, filter, place, certain, kept) {
                 Some(tally) => running.set(cell, tally),
                 None => return false,
             }

@@ -21,21 +21,27 @@ use aggregates::{Running, Tally};
 use kleene_filter::Filter;
 use known_column::LentColumns;
 use product_sums::{
-    CountedRows, KeptProduct, count_of_counts, is_product_sum, keeps_sign, kept_tally,
+    CellOf, CountedRows, KeptProduct, count_of_counts, is_product_sum, keeps_sign, kept_tally,
 };
 use query_model::{Expr, Item, ItemKind, TypedQuery};
 
 // So many counts of rows a block of 512 cost about what its rows cost one by one. It affects speed alone.
 const MOST_COUNTS: u64 = 800;
 
-// Of sums that are kept a round counts a part of that alone.
-const MOST_KEPT_COUNTS: u64 = 4096;
-
-// How many counts a block may cost.
-fn most_counts(kept: &Option<KeptProduct>) -> u64 {
+// Whether few counts of a block tell the item in so many cells. Of sums that are kept a round makes a part of them alone, and each cell
+// says whether that is soon done.
+fn takes_few_counts(
+    item: &Item,
+    columns: &LentColumns<'_>,
+    cells: u32,
+    kept: &Option<KeptProduct>,
+) -> bool {
     match kept {
-        Some(_) => MOST_KEPT_COUNTS,
-        None => MOST_COUNTS,
+        Some(_) => true,
+        None => {
+            let counts = count_of_counts(&item.arg, columns);
+            counts.saturating_mul(u64::from(cells)) <= MOST_COUNTS
+        }
     }
 }
 
@@ -51,8 +57,7 @@ pub(crate) fn is_by_counts(
 {
     match item.kind {
         ItemKind::Sum | ItemKind::Avg => {
-            count_of_counts(&item.arg, columns).saturating_mul(u64::from(cells))
-                <= most_counts(kept)
+            takes_few_counts(item, columns, cells, kept)
                 && is_product_sum(&item.arg, columns)
                 && keeps_sign(&item.arg, columns)
         }
@@ -124,7 +129,8 @@ impl Selection {
             may: &self.may,
             must: &self.must,
         };
-        kept_tally(item.kind, &item.arg, columns, rows, kept, 0)
+        let place = CellOf { cell: 0, cells: 1 };
+        kept_tally(item.kind, &item.arg, columns, rows, kept, place)
     }
 }
 
