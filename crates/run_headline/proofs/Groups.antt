@@ -1,21 +1,30 @@
 -- A report of groups holds the groups.
 use Rattle.std.proofs.Common.{◌≡◌, ℕ, zero, suc, ◌+◌, ◌<◌, ◌≤◌, ◌==◌, cond, List, [], ◌∷◌, ◌++◌, length, take, ap, subst, ◌∙◌, arith, count_by}
 use Rattle.std.proofs.lemmas.List.Sums.{sum_by-cons}
+use Rattle.std.specs.List.{AllZip}
 use Rattle.command_line.specs.Commands.{Options}
 use Rattle.daq_table.specs.Tables.{Cells}
 use Rattle.daq_table.specs.declared.table_head.Head.{Head}
 use Rattle.sql_headline.proofs.Begun.{Laws}
 use Rattle.sql_headline.proofs.Grouped as grouping
 use Rattle.sql_headline.proofs.LeftOpen.{left_open}
+use Rattle.sql_headline.proofs.Tight.{IsSpanReached}
 use Rattle.sql_headline.specs.Sections.{Section}
+use Rattle.sql_headline.specs.Spans.{Span}
 use Rattle.sql_headline.specs.Worlds as held
+use Rattle.sql_meaning.specs.Answers.{asked}
+use Rattle.sql_meaning.specs.Attained.{AttainsEnds}
+use Rattle.sql_meaning.specs.Conditions.{Row}
+use Rattle.sql_meaning.specs.Rows.{row_at}
 use Rattle.sql_text.specs.Tree as tree
-use Rattle.sql_text.specs.Tree.{Name}
+use Rattle.sql_text.specs.Tree.{Item, Name}
 use Rattle.table_rounds.specs.Rounds.{Planes, column_read}
+use Rattle.run_headline.specs.Answers.{IsTightSpan}
 use Rattle.run_headline.specs.Groups.{HasSections, HoldsGroups, HoldsSections}
 use Rattle.run_headline.specs.Readings.{IsWorld, Reading, count_read}
 use Rattle.run_headline.proofs.Ran as rounds
 use Rattle.run_headline.proofs.Ran.{IsRan}
+use Rattle.run_headline.proofs.Tight.{tight}
 
 -- ---- worlds of the round before
 
@@ -61,6 +70,13 @@ module _ (law : Laws) (q : tree.Query) (head : Head) (bits : Planes) (options : 
   world_is : (round : ℕ) (world : Cells) → IsWorld reading round world → held.IsWorld run round world
   world_is round world is = rounds.world_is law q head bits options ran round world is
 
+  each_tight : (round : ℕ) (one : Row) (spans : List Span) (items : List Item) → AllZip (λ span item. AttainsEnds head q item → IsSpanReached run round item one span) spans items
+      → AllZip (λ span item. AttainsEnds head q item → IsTightSpan reading round item one span) spans items
+  each_tight round one [] [] h = tt
+  each_tight round one [] (item ∷ items) h = absurd h
+  each_tight round one (span ∷ spans) [] h = absurd h
+  each_tight round one (span ∷ spans) (item ∷ items) h = ((λ attains. tight law q head bits options ran round item one span (h.0 attains)), each_tight round one spans items h.1)
+
   holds : HoldsGroups reading sections
   holds = record {
     each = λ round h world row is_world counts.
@@ -84,6 +100,9 @@ module _ (law : Laws) (q : tree.Query) (head : Head) (bits : Planes) (options : 
         );
     lies = λ round h world row is_world section for.
         grouping.holds law run ran.plan (rounds.sure law q head bits options ran) names grouped round (within round h) world (world_is round world is_world) row for.within section for.there for.key;
+    tight = λ round h world row is_world section for texts.
+        each_tight round (row_at head world row) section.spans (asked q.head)
+        (grouping.tight law run ran.plan (rounds.sure law q head bits options ran) names grouped round (within round h) world (world_is round world is_world) row for.within texts section for.there for.key);
     narrows = λ round h world row is_world old new for_old for_new.
         let before : round < length ran.reads = subst (λ n. round < n) (rounds.as_long law q head bits options ran) h in
         let old_world = world_is round world (world_before reading round world is_world) in

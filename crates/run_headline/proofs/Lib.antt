@@ -1,5 +1,6 @@
 pub mod Counts
 pub mod Ran
+pub mod Tight
 pub mod Totals
 pub mod Groups
 pub mod Rankings

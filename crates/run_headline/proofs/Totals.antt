@@ -1,35 +1,33 @@
 -- A report of totals holds the answers.
-use Rattle.std.proofs.Common.{◌≡◌, ◌≢◌, ℕ, ◌<◌, ◌≤◌, Bool, true, false, List, [], ◌++◌, length, map, Option, Some, None, IsTrue, refl, sym, ap, subst, ◌∙◌, slice_get}
+use Rattle.std.proofs.Common.{◌≡◌, ℕ, ◌<◌, ◌≤◌, ◌&&◌, Bool, true, false, List, [], ◌++◌, filter, length, map, Option, Some, IsTrue, refl, sym, ap, subst, ◌∙◌, slice_get}
 use Rattle.std.proofs.lemmas.Bool.{true≢false}
 use Rattle.command_line.specs.Commands.{Options}
 use Rattle.daq_report.specs.Blocks.{block_text}
-use Rattle.daq_report.specs.Extras.{is_average}
 use Rattle.daq_table.specs.Tables.{Cells, frame_of}
 use Rattle.daq_table.specs.declared.table_head.Head.{Head}
 use Rattle.plane_schedule.specs.Plans.{no_extras}
 use Rattle.plane_schedule.specs.declared.policy.Extras.{Extras}
 use Rattle.query_model.specs.Answers.{groups_of}
-use Rattle.query_model.proofs.Queries.{read_once_items_attain_ends}
 use Rattle.query_model.specs.Groups.{IsKey}
 use Rattle.query_model.specs.Projection.{projected_frame}
 use Rattle.query_model.specs.Queries.{Aggregate, Query}
-use Rattle.query_model.specs.Validity.{declared_ranges}
-use Rattle.query_model.specs.declared.query.ItemKind.{ItemKind}
-use Rattle.query_model.specs.declared.query.ItemKind.TheVariants as kinds
 use Rattle.query_model.specs.declared.query.Shape.{Shape}
 use Rattle.query_model.specs.declared.query.Shape.TheVariants.{Plain}
 use Rattle.sql_headline.proofs.Begun.{Laws}
 use Rattle.sql_headline.proofs.Items as items
 use Rattle.sql_headline.proofs.Lined.{blocks_have}
-use Rattle.sql_headline.proofs.Once.{reads_once}
-use Rattle.sql_headline.proofs.Spanned.{span_by, span_for, spanned}
-use Rattle.sql_headline.proofs.Tight.{high_reached, low_reached, may_be_null}
-use Rattle.sql_headline.specs.Attained.{HasTexts, names_each_once}
-use Rattle.sql_headline.specs.Headline.{rows_in}
+use Rattle.sql_headline.proofs.Spanned.{span_for, spanned}
+use Rattle.sql_headline.proofs.Tight.{IsReached, IsSpanReached, reached}
+use Rattle.sql_headline.proofs.Worlds.{has_values}
+use Rattle.sql_meaning.specs.Attained.{AttainsEnds, HasTexts}
 use Rattle.sql_headline.specs.Lined.{AreLines, lines_of}
 use Rattle.sql_headline.specs.Worlds as held
 use Rattle.sql_headline.specs.Worlds.{stage_at}
-use Rattle.sql_meaning.specs.Answers.{answer, asked, grouping, is_same}
+use Rattle.query_model.specs.Meaning.{is_sql_true}
+use Rattle.sql_headline.specs.Spans.{Span, shares, values}
+use Rattle.sql_meaning.specs.Answers.{answer, are_one_group, asked, group_of, grouping, is_same}
+use Rattle.sql_meaning.specs.Conditions.{Row, truth_of_where}
+use Rattle.sql_meaning.specs.Rows.{row_at, rows_at}
 use Rattle.sql_meaning.specs.Values.{Value}
 use Rattle.sql_meaning.specs.Laws.{IsAsked, numbers_at}
 use Rattle.sql_text.specs.Tree as tree
@@ -37,10 +35,11 @@ use Rattle.sql_text.specs.Tree.{Item}
 use Rattle.sql_typing.specs.Typing.{columns_of, typed_ending, typed_head, typed_items}
 use Rattle.table_rounds.specs.Headline.{IsKeyOn}
 use Rattle.table_rounds.specs.Rounds.{Planes, column_read}
-use Rattle.run_headline.specs.Answers.{Holds, IsTightSpan, Occurs}
+use Rattle.run_headline.specs.Answers.{Holds, IsTightSpan}
 use Rattle.run_headline.specs.Printed.{HasLines, HoldsTotals}
 use Rattle.run_headline.proofs.Ran as rounds
 use Rattle.run_headline.proofs.Ran.{IsRan}
+use Rattle.run_headline.proofs.Tight.{tight}
 
 abbrev extras_with : Bool → Bool → Extras
 extras_with clip exact = record { clip = clip; exact = exact }
@@ -85,22 +84,30 @@ module _ (law : Laws) (q : tree.Query) (head : Head) (bits : Planes) (options : 
   whole : typed_items head.columns (columns_of head.columns q) q.ending q.head ≡ typed_head head.columns (columns_of head.columns q) q.head
   whole = ap (λ e. typed_items head.columns (columns_of head.columns q) e q.head) plain
 
-  reached : (round : ℕ) (item : Item) (v : Option Value) → (world : Cells) × held.IsWorld run round world × IsTrue (is_same v (answer item (rows_in run world 0))) → Occurs (rounds.reading law q head bits options ran) round item v
-  reached round item v at = record { world = at.0; is_world = rounds.world_back law q head bits options ran round at.0 at.1; is = at.2 }
+  -- one row names all rows, as another does
+  one_group : (one other : Row) (rows : List Row) → group_of q one rows ≡ group_of q other rows
+  one_group one other rows =
+      ap (λ e. filter (λ row. is_sql_true (truth_of_where q.pred row) && are_one_group e row one) rows) plain
+      ∙ sym (ap (λ e. filter (λ row. is_sql_true (truth_of_where q.pred row) && are_one_group e row other) rows) plain)
 
-  no_average : (kind : ItemKind) → is_average kind ≡ false → kind ≢ kinds.Avg
-  no_average kind e same = true≢false (sym (ap is_average same) ∙ e)
+  reached_for : (round : ℕ) (item : Item) (one other : Row) (v : Option Value) → IsReached run round item one v → IsReached run round item other v
+  reached_for round item one other v at = record { world = at.world; is_world = at.is_world; is = subst (λ rows. IsTrue (is_same v (answer item rows))) (one_group one other (rows_at head at.world)) at.is }
 
-  span_tight : (item : Item) (t : Aggregate) → IsAsked q ran.query item t → IsTrue (names_each_once q item) → HasTexts head → (round : ℕ) → round ≤ length ran.reads →
-      (average : Bool) → is_average t.kind ≡ average → IsTightSpan (rounds.reading law q head bits options ran) round item (span_by average run t [] (stage_at run round))
-  span_tight item t asked once texts round h true e = tt
-  span_tight item t asked once texts round h false e =
-      let attains = (read_once_items_attain_ends ran.query t).once (declared_ranges (stage_at run round).frame) (reads_once q head ran.query ran.typed plain shape_is item t asked once) in
-      record {
-        low = λ some. reached round item _ (low_reached law run ran.plan (rounds.sure law q head bits options ran) item t asked (no_average t.kind e) on (λ world. group_is world 0) texts round h attains some);
-        high = λ some. reached round item _ (high_reached law run ran.plan (rounds.sure law q head bits options ran) item t asked (no_average t.kind e) on (λ world. group_is world 0) texts round h attains some);
-        null = λ some. reached round item None (may_be_null law run ran.plan (rounds.sure law q head bits options ran) item t asked (no_average t.kind e) on (λ world. group_is world 0) texts round h attains some);
-      }
+  span_for_row : (round : ℕ) (item : Item) (one other : Row) (span : Span) → IsSpanReached run round item one span → IsSpanReached run round item other span
+  span_for_row round item one other (shares averages) ends = tt
+  span_for_row round item one other (values interval) ends = record {
+    low = λ some. reached_for round item one other interval.low (ends.low some);
+    high = λ some. reached_for round item one other interval.high (ends.high some);
+    null = λ possible. reached_for round item one other _ (ends.null possible);
+  }
+
+  span_tight : (item : Item) (t : Aggregate) → IsAsked q ran.query item t → AttainsEnds head q item → HasTexts head → (round : ℕ) → round ≤ length ran.reads → (one : Row) →
+      IsTightSpan (rounds.reading law q head bits options ran) round item one (span_for run t [] round)
+  span_tight item t asked attains texts round h one =
+      let sure = rounds.sure law q head bits options ran in
+      let own = has_values head run.cells texts (sure.certain.itself round h).table in
+      tight law q head bits options ran round item one (span_for run t [] round)
+      (span_for_row round item (row_at head run.cells 0) one (span_for run t [] round) (reached law run ran.plan sure item t asked [] on run.cells own 0 (group_is run.cells 0) texts round h attains))
 
   holds : (place : ℕ) (item : Item) → slice_get (asked q.head) place ≡ Some item → Holds (rounds.reading law q head bits options ran) item (λ round. slice_get (texts round) place)
   holds place item found =
@@ -115,7 +122,7 @@ module _ (law : Laws) (q : tree.Query) (head : Head) (bits : Planes) (options : 
         narrows = λ round h. own.narrows round (subst (λ n. round < n) (rounds.as_long law q head bits options ran) h);
         exact = λ round h all world one is_world.
             own.is_it round (within round h) (rounds.done_is law q head bits options ran round all) world one (rounds.world_is law q head bits options ran round world is_world) (group_is world one);
-        tight = λ round h once texts. span_tight item t.0 t.1 once texts round (within round h) (is_average t.0.kind) refl;
+        tight = λ round h attains texts one. span_tight item t.0 t.1 attains texts round (within round h) one;
       }
 
   pub told : HoldsTotals (rounds.reading law q head bits options ran) options (rounds.block law q head bits options ran)

@@ -4,32 +4,35 @@ use Rattle.std.specs.declared.option.Option.{Option}
 use Rattle.std.specs.declared.option.Option.TheVariants.{Some, None}
 use Rattle.daq_table.specs.Tables.{Cells}
 use Rattle.query_model.specs.declared.bounds.Nullity.TheVariants.{Always, Possibly}
-use Rattle.sql_headline.specs.Attained.{HasTexts, names_each_once}
 use Rattle.sql_headline.specs.Intervals.{Interval}
 use Rattle.sql_headline.specs.Spans.{IsIt, IsShown, LiesIn, Narrows, Span, answered, shares, values}
-use Rattle.sql_meaning.specs.Answers.{answer, is_same}
+use Rattle.sql_meaning.specs.Answers.{answer, group_of, is_same}
+use Rattle.sql_meaning.specs.Attained.{AttainsEnds, HasTexts}
+use Rattle.sql_meaning.specs.Conditions.{Row}
+use Rattle.sql_meaning.specs.Rows.{rows_at}
 use Rattle.sql_meaning.specs.Values.{Value}
 use Rattle.sql_text.specs.Tree.{Item}
 use Rattle.run_headline.specs.Readings.{IsAllRead, IsWorld, Reading, last_round, rows_in}
 
 -- ---- how far out the ends are
 
--- in some world of the round this is the answer: the value, or null
-pub record Occurs (reading : Reading) (round : ℕ) (item : Item) (v : Option Value) : Type 0 where
+-- in some world of the round this is the answer over the rows that have the values of a row in the columns of GROUP BY: the value, or null.
+-- Without GROUP BY these are all rows, whichever row is named
+pub record Occurs (reading : Reading) (round : ℕ) (item : Item) (one : Row) (v : Option Value) : Type 0 where
   pub world : Cells
   pub is_world : IsWorld reading round world
-  pub is : IsTrue (is_same v (answer item (rows_in reading world 0)))
+  pub is : IsTrue (is_same v (answer item (group_of reading.text one (rows_at reading.head world))))
 
 -- each end is the answer in some world, and where the answer may be null it is so in one
-pub record IsTight (reading : Reading) (round : ℕ) (item : Item) (interval : Interval) : Type 0 where
-  pub low : interval.null ≢ Always → Occurs reading round item interval.low
-  pub high : interval.null ≢ Always → Occurs reading round item interval.high
-  pub null : interval.null ≡ Possibly → Occurs reading round item None
+pub record IsTight (reading : Reading) (round : ℕ) (item : Item) (one : Row) (interval : Interval) : Type 0 where
+  pub low : interval.null ≢ Always → Occurs reading round item one interval.low
+  pub high : interval.null ≢ Always → Occurs reading round item one interval.high
+  pub null : interval.null ≡ Possibly → Occurs reading round item one None
 
 -- of an average this is not said
-abbrev pub IsTightSpan : Reading → ℕ → Item → Span → Type 0
-IsTightSpan reading round item (values interval) = IsTight reading round item interval
-IsTightSpan reading round item (shares averages) = ⊤
+abbrev pub IsTightSpan : Reading → ℕ → Item → Row → Span → Type 0
+IsTightSpan reading round item one (values interval) = IsTight reading round item one interval
+IsTightSpan reading round item one (shares averages) = ⊤
 
 -- ---- what a report says of an item
 
@@ -46,6 +49,6 @@ pub record Holds (reading : Reading) (item : Item) (texts : ℕ → Option (List
   -- with all planes read it is the answer alone
   pub exact : (round : ℕ) → round ≤ last_round reading → IsAllRead reading round → (world : Cells) (one : ℕ) →
       IsWorld reading round world → IsIt (spans round) (answered item (rows_in reading world one))
-  -- where the query names no column twice, and each column of texts has one, no end is farther out than it must be
-  pub tight : (round : ℕ) → round ≤ last_round reading → IsTrue (names_each_once reading.text item) → HasTexts reading.head →
-      IsTightSpan reading round item (spans round)
+  -- where the query attains the ends, and each column of texts has a text, no end is farther out than it must be
+  pub tight : (round : ℕ) → round ≤ last_round reading → AttainsEnds reading.head reading.text item → HasTexts reading.head →
+      (one : Row) → IsTightSpan reading round item one (spans round)

@@ -4,12 +4,13 @@ use Rattle.std.specs.List.{AllZip, Contains}
 use Rattle.daq_table.specs.Tables.{Cells}
 use Rattle.query_model.specs.Meaning.{is_sql_true}
 use Rattle.sql_headline.specs.Intervals.{LiesInside}
-use Rattle.sql_headline.specs.Attained.{HasTexts, keys_each_once}
 use Rattle.sql_headline.specs.Sections.{AreSections, IsKeyAlone, IsKeyOf, Section, is_same_key}
 use Rattle.sql_headline.specs.Spans.{IsIt, LiesIn, Narrows, answered}
 use Rattle.sql_meaning.specs.Answers.{asked}
+use Rattle.sql_meaning.specs.Attained.{AttainsEnds, AttainsKeys, HasTexts}
 use Rattle.sql_meaning.specs.Conditions.{Row, truth_of_where}
 use Rattle.sql_meaning.specs.Rows.{row_at}
+use Rattle.run_headline.specs.Answers.{IsTightSpan}
 use Rattle.run_headline.specs.Printed.{line_of_round}
 use Rattle.run_headline.specs.Readings.{IsAllRead, IsWorld, Reading, last_round, rows_in}
 
@@ -38,17 +39,23 @@ pub record HoldsGroups (reading : Reading) (sections : ℕ → List Section) : T
   pub present : (round : ℕ) → round ≤ last_round reading → (section : Section) → Contains (sections round) section →
       section.present ≡ true → (world : Cells) → IsWorld reading round world →
       (row : ℕ) × IsInResult reading world row × IsFor reading (sections round) world row section
-  -- where WHERE and GROUP BY name no column twice, and each column of texts has a text, keys that are only possible are in the result of
-  -- one world and missing in that of another
+  -- where WHERE and GROUP BY name no column twice, but for ranges that meet, and each column of texts has a text, keys that are only
+  -- possible are in the result of one world and missing in that of another
   pub possible : (round : ℕ) → round ≤ last_round reading → (world : Cells) (row : ℕ) → IsWorld reading round world →
       (section : Section) → IsFor reading (sections round) world row section → section.present ≡ false →
-      IsTrue (keys_each_once reading.text) → HasTexts reading.head →
+      AttainsKeys reading.head reading.text → HasTexts reading.head →
       ((other : Cells) × IsWorld reading round other × HasGroup reading other (row_at reading.head world row))
       × ((other : Cells) × IsWorld reading round other × ¬ HasGroup reading other (row_at reading.head world row))
   -- of each section that is for a group: the answers over the rows of the group lie in its spans
   pub lies : (round : ℕ) → round ≤ last_round reading → (world : Cells) (row : ℕ) → IsWorld reading round world →
       (section : Section) → IsFor reading (sections round) world row section →
       AllZip (λ span item. LiesIn span (answered item (rows_in reading world row))) section.spans (asked reading.text.head)
+  -- where the query attains the ends of an item, and each column of texts has a text, no end of these is farther out than it must be: it
+  -- is the answer over the rows of the group in some world. There may be no such row, so that COUNT is 0
+  pub tight : (round : ℕ) → round ≤ last_round reading → (world : Cells) (row : ℕ) → IsWorld reading round world →
+      (section : Section) → IsFor reading (sections round) world row section → HasTexts reading.head →
+      AllZip (λ span item. AttainsEnds reading.head reading.text item → IsTightSpan reading round item (row_at reading.head world row) span)
+      section.spans (asked reading.text.head)
   -- parts and spans lie inside those of the round before
   pub narrows : (round : ℕ) → round < last_round reading → (world : Cells) (row : ℕ) → IsWorld reading (round + 1) world →
       (old new : Section) → IsFor reading (sections round) world row old → IsFor reading (sections (round + 1)) world row new →

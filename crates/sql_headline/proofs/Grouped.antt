@@ -46,11 +46,12 @@ use Rattle.sql_headline.specs.Headline.{rows_in}
 use Rattle.sql_headline.specs.Intervals.{Encloses, IsAlone, LiesInside}
 use Rattle.sql_headline.specs.Lines.{IsCellOf}
 use Rattle.sql_headline.specs.Results.{IsInResult}
-use Rattle.sql_headline.specs.Sections.{AreSections, IsKeyAlone, IsKeyOf, Section, with_names}
+use Rattle.sql_headline.specs.Sections.{AreSections, IsKeyAlone, IsKeyOf, Section}
+use Rattle.sql_meaning.specs.Attained.{AttainsEnds, HasTexts, with_names}
 use Rattle.sql_headline.specs.Spans.{IsIt, LiesIn, Narrows, answered}
 use Rattle.sql_headline.specs.Worlds.{IsDone, IsGroupOf, IsWorld, Run, stage_at}
 use Rattle.sql_headline.proofs.Begun.{IsSure, Laws, agrees, certain, knowledge, own_cell}
-use Rattle.sql_headline.proofs.Names.{IsKnown, IsShownIn, all_known, groups_are, names_shown, with_all}
+use Rattle.sql_meaning.proofs.Names.{IsKnown, IsShownIn, all_known, groups_are, names_shown, with_all}
 use Rattle.sql_headline.proofs.Ranges.{cell_ranges, narrows_at, range, single_at}
 use Rattle.sql_headline.proofs.GroupParts.{IsPartThere, is_alone, IsShownThere, all_inside, all_lie}
 use Rattle.sql_headline.proofs.Items as items
@@ -59,6 +60,7 @@ use Rattle.sql_headline.proofs.Resulted.{tells_keys}
 use Rattle.sql_headline.proofs.Sectioned as sectioned
 use Rattle.sql_headline.proofs.Sectioned.{IsOfCell, section_with, sections, span_of}
 use Rattle.sql_headline.proofs.Spanned.{in_cell, span_for, spanned}
+use Rattle.sql_headline.proofs.Tight.{IsSpanReached, reached}
 
 -- ---- lists
 
@@ -271,6 +273,19 @@ module _ (law : Laws) (run : Run) (plan : Plan) (is : IsSure run plan) (names : 
           let t = mapped_at (span_of run.head (stage_at run round) c.cell) run.query.items place span e in
           subst (λ s. LiesIn s (answered item (rows_in run world one))) (span_is section c k t.0 ∙ t.2)
           ((spanned law run plan is t.0 own_key on item (record { place = place; in_text = f; in_query = t.1 })).lies round h world one is_world group)))
+
+      -- where an item attains its ends, so do they over the rows of the group in some world
+      pub tight : HasTexts run.head → (section : Section) → Contains (sections_at round) section → IsKeyOf section run.text (row_at run.head world one) →
+          AllZip (λ span item. AttainsEnds run.head run.text item → IsSpanReached run round item (row_at run.head world one) span) section.spans (asked run.text.head)
+      tight texts section has k =
+          let c = of_cell section has in
+          subst (λ (s : Section). AllZip (λ span item. AttainsEnds run.head run.text item → IsSpanReached run round item (row_at run.head world one) span) s.spans (asked run.text.head)) (sym c.is)
+          (by_places (λ span item. AttainsEnds run.head run.text item → IsSpanReached run round item (row_at run.head world one) span) (map (span_of run.head (stage_at run round) c.cell) run.query.items) (asked run.text.head)
+          (length-map run.query.items (span_of run.head (stage_at run round) c.cell) ∙ as_many)
+          (λ place span item e f attains.
+          let t = mapped_at (span_of run.head (stage_at run round) c.cell) run.query.items place span e in
+          subst (IsSpanReached run round item (row_at run.head world one)) (span_is section c k t.0 ∙ t.2)
+          (reached law run plan is item t.0 (record { place = place; in_text = f; in_query = t.1 }) own_key on world is_world.has_values one group texts round h attains)))
 
       -- with all planes read it is there for certain, and its spans are the answers
       pub is_it : IsDone run round → (section : Section) → Contains (sections_at round) section → IsKeyOf section run.text (row_at run.head world one) →

@@ -1,5 +1,5 @@
 -- Keys that are only possible are in the result of one world and missing in that of another.
-use Rattle.std.proofs.Common.{◌≡◌, ℕ, ◌<◌, ◌≤◌, true, false, ℤ, ◌<ℤ◌, List, [], ◌∷◌, ◌++◌, length, map, drop, get_or, Option, Some, None, inl, IsTrue, refl, sym, ap, subst, ◌∙◌}
+use Rattle.std.proofs.Common.{◌≡◌, ℕ, ◌<◌, ◌≤◌, true, false, ℤ, ◌<ℤ◌, List, [], ◌∷◌, length, map, drop, get_or, Option, Some, None, IsTrue, refl, sym, ap, subst, ◌∙◌}
 use Rattle.std.proofs.lemmas.Bool.{true≢false}
 use Rattle.std.specs.Cmp.{int_ranks}
 use Rattle.std.specs.List.{AllByRecursion, Contains, list_all}
@@ -8,17 +8,12 @@ use Rattle.std.specs.declared.cmp.Ordering.TheVariants.{Equal}
 use Rattle.daq_table.specs.Tables.{Cells, frame_of}
 use Rattle.plane_schedule.specs.declared.policy.Plan.{Plan}
 use Rattle.query_model.specs.Answers.{Key, groups_of}
-use Rattle.query_model.specs.Attaining.{AttainsTruths}
-use Rattle.query_model.specs.Meaning.{columns_of_pred, is_sql_true}
-use Rattle.query_model.specs.Queries.{Query}
-use Rattle.query_model.specs.Validity.{no_repeats}
+use Rattle.query_model.specs.Meaning.{is_sql_true}
 use Rattle.query_model.specs.Worlds.{AgreesWith, IsInResultOn}
 use Rattle.query_model.specs.declared.query.Face.TheVariants.{OfColumn}
 use Rattle.sql_text.specs.Tree as tree
 use Rattle.sql_text.specs.Tree.{Name}
-use Rattle.sql_typing.specs.Names.{names_in_ending, names_in_filter, names_in_head, number_of}
-use Rattle.sql_typing.specs.Typing.{columns_of}
-use Rattle.sql_typing.proofs.Alls.{all_join, all_left, all_right}
+use Rattle.sql_typing.specs.Names.{number_of}
 use Rattle.sql_typing.proofs.Comparisons.{and_left, and_right, both}
 use Rattle.sql_meaning.specs.Answers.{grouping, is_same}
 use Rattle.sql_meaning.specs.Conditions.{Row, truth_of_where}
@@ -28,13 +23,12 @@ use Rattle.sql_meaning.specs.Values.{Value, compare}
 use Rattle.sql_meaning.proofs.Enclosed.{compare_left, compare_right, equal_is, in_order}
 use Rattle.sql_meaning.proofs.Resulted.{results_mean}
 use Rattle.table_rounds.proofs.Reached.{part_of}
-use Rattle.sql_headline.specs.Attained.{HasTexts, keys_each_once, names_differ}
-use Rattle.sql_headline.specs.Sections.{IsKeyOf, Section, is_same_key, with_names}
+use Rattle.sql_meaning.specs.Attained.{AttainsKeys, HasTexts, with_names}
+use Rattle.sql_headline.specs.Sections.{IsKeyOf, Section, is_same_key}
 use Rattle.sql_headline.specs.Worlds.{IsWorld, Run, stage_at}
 use Rattle.sql_headline.proofs.Begun.{IsSure, Laws, certain}
-use Rattle.sql_headline.proofs.Grouped.{groups_is, key_is, known_own, of_cell, on, own, own_cell_of, sections_at, shown_names}
-use Rattle.sql_headline.proofs.Names.{IsKnown, all_known}
-use Rattle.sql_headline.proofs.Once.{both_read, differ, filter_reads}
+use Rattle.sql_headline.proofs.Grouped.{key_is, of_cell, on, own, own_cell_of, sections_at, shown_names}
+use Rattle.sql_meaning.proofs.Attained.{attains_truths}
 use Rattle.sql_headline.proofs.Resulted.{absence_is, as_long}
 use Rattle.sql_headline.proofs.Worlds.{has_planes, has_values}
 
@@ -105,19 +99,6 @@ module _ (law : Laws) (run : Run) (plan : Plan) (is : IsSure run plan) (names : 
     pub counts : IsTrue (is_sql_true (truth_of_where run.text.pred (row_at run.head world row)))
     pub same : IsTrue (is_same_key run.text (row_at run.head world row) values)
 
-  attains : IsTrue (keys_each_once run.text) → AttainsTruths run.query.pred (groups_of run.query.shape)
-  attains once =
-      let filter_names = names_in_filter run.text.pred in
-      let filter_is : columns_of_pred run.query.pred ≡ map number_in filter_names =
-      subst (λ (w : Query). columns_of_pred w.pred ≡ map (λ (n : Name). number_of run.head.columns w.columns n.name) filter_names) (sym is.typed.same) (filter_reads run.head.columns (columns_of run.head.columns run.text) run.text.pred) in
-      let known : AllByRecursion (IsKnown run.head.columns run.query.columns) filter_names =
-      all_right (IsKnown run.head.columns run.query.columns) (names_in_head run.text.head) filter_names
-      (all_left (IsKnown run.head.columns run.query.columns) (names_in_head run.text.head ++ filter_names) (names_in_ending run.text.ending) (all_known run.text run.head run.query is.typed)) in
-      let names_once : IsTrue (names_differ (filter_names ++ own law run plan is names grouped)) = subst (λ e. IsTrue (names_differ (filter_names ++ with_names [] (grouping e)))) grouped once in
-      inl (ap no_repeats (both_read run.head.columns run.query.columns (columns_of_pred run.query.pred) (groups_of run.query.shape) filter_names (own law run plan is names grouped) filter_is (groups_is law run plan is names grouped))
-      ∙ differ run.head.columns run.query.columns (filter_names ++ own law run plan is names grouped) (all_join (IsKnown run.head.columns run.query.columns) filter_names (own law run plan is names grouped) known (known_own law run plan is names grouped))
-      ∙ names_once)
-
   module _ (round : ℕ) (h : round ≤ length run.reads) (world : Cells) (is_world : IsWorld run round world) (one : ℕ) (one_in : one < run.head.rows) (texts : HasTexts run.head) where
     abbrev key : Key
     key = key_at run.query run.head world one
@@ -141,14 +122,14 @@ module _ (law : Laws) (run : Run) (plan : Plan) (is : IsSure run plan) (names : 
         (shown_names law run plan is names grouped other is_other.has_values row row_in) (shown_names law run plan is names grouped world is_world.has_values one one_in)
         (sym (key_is law run plan is names grouped other is_other.has_values row row_in) ∙ sym e ∙ key_is law run plan is names grouped world is_world.has_values one one_in))
 
-    pub left_open : IsTrue (keys_each_once run.text) → (section : Section) → Contains (sections_at law run plan is names grouped round) section → IsKeyOf section run.text (row_at run.head world one) → section.present ≡ false →
+    pub left_open : AttainsKeys run.head run.text → (section : Section) → Contains (sections_at law run plan is names grouped round) section → IsKeyOf section run.text (row_at run.head world one) → section.present ≡ false →
         ((other : Cells) × IsWorld run round other × HasKey other (row_at run.head world one)) × ((other : Cells) × IsWorld run round other × ¬ HasKey other (row_at run.head world one))
-    left_open once section has k possible =
+    left_open attains section has k possible =
         let c = of_cell law run plan is names grouped round h world is_world section has in
         let on_key = on law run plan is names grouped round h world is_world one one_in in
         let cell = own_cell_of law run plan is names grouped round h world is_world one one_in section c k in
         let told = (certain law run plan is).results round h key on_key in
-        let opened = told.told.possible (attains once) (sym (absence_is law run plan is key on_key round c.cell h cell) ∙ c.possible possible) in
+        let opened = told.told.possible (attains_truths run.text run.head run.query is.typed attains) (sym (absence_is law run plan is key on_key round c.cell h cell) ∙ c.possible possible) in
         (in_one opened.so, in_no opened.not_so)
       where
         in_one : (cells : Cells) × AgreesWith run.query (frame_of run.head) (stage_at run round).known cells × IsInResultOn run.query key (frame_of run.head) cells → (other : Cells) × IsWorld run round other × HasKey other (row_at run.head world one)

@@ -10,13 +10,11 @@ pub mod Cut
 pub mod Lined
 pub mod Sectioned
 pub mod Spanned
-pub mod Names
 pub mod GroupParts
 pub mod Items
 pub mod Grouped
 pub mod Ranges
 pub mod Ranked
-pub mod Once
 pub mod Worlds
 pub mod Tight
 pub mod LeftOpen

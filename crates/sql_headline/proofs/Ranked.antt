@@ -31,7 +31,7 @@ use Rattle.sql_headline.specs.Worlds.{IsDone, IsWorld, Run, stage_at}
 use Rattle.sql_headline.proofs.Begun.{IsSure, Laws, agrees, certain}
 use Rattle.sql_headline.proofs.Ends.{interval_of}
 use Rattle.sql_headline.proofs.GroupParts.{is_alone, lies}
-use Rattle.sql_headline.proofs.Names.{IsKnown, IsShownIn, all_known, names_shown}
+use Rattle.sql_meaning.proofs.Names.{IsKnown, IsShownIn, all_known, names_shown}
 use Rattle.sql_headline.proofs.Ranges.{narrows_at, single_at}
 use Rattle.sql_headline.proofs.Shown.{shown_interval}
 

@@ -15,7 +15,7 @@ use Rattle.sql_meaning.specs.Laws.{HasValues}
 use Rattle.sql_meaning.proofs.Filled.{tables_have}
 use Rattle.table_rounds.proofs.Reached.{columns_of_part, ends_there, part_of, read_there}
 use Rattle.table_rounds.specs.Rounds.{HasPlanes, counts_after}
-use Rattle.sql_headline.specs.Attained.{HasTexts}
+use Rattle.sql_meaning.specs.Attained.{HasTexts}
 use Rattle.sql_headline.specs.Worlds.{Run, stage_at}
 use Rattle.sql_headline.proofs.Begun.{IsSure, Laws, certain, knowledge, named}
 

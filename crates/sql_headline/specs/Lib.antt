@@ -8,4 +8,3 @@ pub mod Results
 pub mod Lined
 pub mod Spans
 pub mod Sections
-pub mod Attained

@@ -1,11 +1,11 @@
 -- The block of a query of groups: sections of lines, each for the keys that it may be of.
-use Rattle.std.specs.Prelude.{◌≡◌, ℕ, Bool, true, false, List, [], ◌∷◌, ◌++◌, codes, if◌then◌else◌}
-use Rattle.std.specs.List.{AllZip, list_all, list_any}
-use Rattle.std.specs.Str.{bytes_eq}
+use Rattle.std.specs.Prelude.{◌≡◌, ℕ, Bool, true, false, List, [], ◌∷◌, ◌++◌, codes}
+use Rattle.std.specs.List.{AllZip, list_all}
 use Rattle.daq_report.specs.Groups.{dotted, listed}
 use Rattle.sql_meaning.specs.Answers.{grouping, is_same}
+use Rattle.sql_meaning.specs.Attained.{with_names}
 use Rattle.sql_meaning.specs.Conditions.{Row}
-use Rattle.sql_text.specs.Tree.{Name, Query}
+use Rattle.sql_text.specs.Tree.{Query}
 use Rattle.sql_headline.specs.Intervals.{Encloses, Interval, IsAlone, ShowsBy}
 use Rattle.sql_headline.specs.Lined.{lines_of}
 use Rattle.sql_headline.specs.Spans.{IsShown, Span}
@@ -40,11 +40,6 @@ AreSections [] text = text ≡ []
 AreSections (section ∷ sections) text = (first rest : List ℕ) × (text ≡ first ++ rest) × IsSection section first × AreSections sections rest
 
 -- ---- its keys
-
--- some columns, and behind them others that are not yet there
-abbrev pub with_names : List Name → List Name → List Name
-with_names seen [] = seen
-with_names seen (n ∷ ns) = with_names (if list_any (λ m. bytes_eq n.name m.name) seen then seen else seen ++ n ∷ []) ns
 
 -- the values of the row in the columns of GROUP BY, each column once, lie where the section says
 abbrev pub IsKeyOf : Section → Query → Row → Type 0

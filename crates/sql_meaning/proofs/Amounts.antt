@@ -77,7 +77,7 @@ module _ (s t m : ℕ) (f : ℤ → ℤ → ℤ) (g : Decimal → Decimal → De
 
 -- ---- expressions
 
-number_of_kind : (kind : Kind) (names : List (List ℕ)) (z : ℤ) → is_number kind ≡ true → value_in kind names z ≡ Some (Number (record { digits = z; behind = scale_of_kind kind }))
+pub number_of_kind : (kind : Kind) (names : List (List ℕ)) (z : ℤ) → is_number kind ≡ true → value_in kind names z ≡ Some (Number (record { digits = z; behind = scale_of_kind kind }))
 number_of_kind kinds.Int names z h = refl
 number_of_kind (kinds.Dec s) names z h = refl
 number_of_kind kinds.Date names z h = absurd cc

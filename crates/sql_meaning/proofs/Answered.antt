@@ -17,6 +17,7 @@ use Rattle.sql_text.specs.declared.tree.CallKind.TheVariants as calls
 use Rattle.sql_text.specs.Tree as tree
 use Rattle.sql_text.specs.Tree.{Expr, Item, Plain, CountAll, Call}
 use Rattle.sql_typing.specs.Faults.{argument_fault, expr_fault, first_fault}
+use Rattle.sql_typing.specs.Refusals.{IsTyped}
 use Rattle.sql_typing.specs.Names.{names_in_expr}
 use Rattle.sql_typing.specs.Typing.{bare_column, counted, face_of, scale_of, typed_call, typed_expr, value_face, whole_column}
 use Rattle.sql_typing.specs.Typing as typing
@@ -47,7 +48,8 @@ loosely R (Some z) v h = (h.0, h.1, tt)
 same_count : (m n : ℕ) → m ≡ n → IsTrue (is_same (Some (whole m)) (Some (whole n)))
 same_count m n e = rw e (same_itself (whole n))
 
-module _ (q : tree.Query) (head : Head) (cells : Cells) (one : ℕ) (good : first_fault head.columns q ≡ None) (values : HasValues head cells) (one_in : grouping q.ending ≢ [] → one < head.rows) where
+-- over the rows of a table, for the group of a row of a table, which may be another one
+module _ (q : tree.Query) (head : Head) (cells base : Cells) (one : ℕ) (good : first_fault head.columns q ≡ None) (values : HasValues head cells) (of_base : HasValues head base) (one_in : grouping q.ending ≢ [] → one < head.rows) where
   abbrev table : List ColumnHead
   table = head.columns
 
@@ -61,20 +63,20 @@ module _ (q : tree.Query) (head : Head) (cells : Cells) (one : ℕ) (good : firs
   numbers r = numbers_at query head cells r
 
   abbrev rows : List meaning.Row
-  rows = group_of q (row_at head cells one) (rows_at head cells)
+  rows = group_of q (row_at head base one) (rows_at head cells)
 
   abbrev numbers_of : Aggregate → List ℤ
-  numbers_of t = typed.values_of query t (key_at query head cells one) (projected_frame query (frame_of head)) (projected query cells)
+  numbers_of t = typed.values_of query t (key_at query head base one) (projected_frame query (frame_of head)) (projected query cells)
 
   rows_alike : (R : ℤ → Value → Type 0) (g : meaning.Row → Option Value) (t : Aggregate) → ((r : ℕ) → r < head.rows → Related R (val t.arg (numbers r)) (g (row_at head cells r)))
       → AreRelated R (numbers_of t) (filter_map g rows)
   rows_alike R g t each =
-      let keep : meaning.Row → Bool = λ row. is_sql_true (truth_of_where q.pred row) && are_one_group q.ending row (row_at head cells one) in
-      lists_alike R (λ r. passes query (key_at query head cells one) (numbers r)) (λ r. val t.arg (numbers r)) keep g (row_at head cells) (rows_of (frame_of head))
-      (range_all (λ r. (passes query (key_at query head cells one) (numbers r) ≡ keep (row_at head cells r)) × Related R (val t.arg (numbers r)) (g (row_at head cells r))) 0 head.rows
-      (λ r lt. (let r_in : r < head.rows = omega (arith, lt) in (passes_is q head cells r one good values r_in one_in, each r r_in))))
+      let keep : meaning.Row → Bool = λ row. is_sql_true (truth_of_where q.pred row) && are_one_group q.ending row (row_at head base one) in
+      lists_alike R (λ r. passes query (key_at query head base one) (numbers r)) (λ r. val t.arg (numbers r)) keep g (row_at head cells) (rows_of (frame_of head))
+      (range_all (λ r. (passes query (key_at query head base one) (numbers r) ≡ keep (row_at head cells r)) × Related R (val t.arg (numbers r)) (g (row_at head cells r))) 0 head.rows
+      (λ r lt. (let r_in : r < head.rows = omega (arith, lt) in (passes_is q head cells base r one good values of_base r_in one_in, each r r_in))))
 
-  star_answered : IsShownAs (shown table columns counted.face) (answer_on query counted (key_at query head cells one) (frame_of head) cells) (answer CountAll rows)
+  star_answered : IsShownAs (shown table columns counted.face) (answer_on query counted (key_at query head base one) (frame_of head) cells) (answer CountAll rows)
   star_answered =
       let related = rows_alike (λ z u. Unit {0}) (λ row. Some (whole 0)) counted (λ r r_in. (whole 0, refl, tt)) in
       (whole (length rows), refl, same_count (length (numbers_of counted)) (length rows) (as_many (λ z u. Unit {0}) (numbers_of counted) (filter_map (λ row. Some (whole 0)) rows) related ∙ all_given (whole 0) rows))
@@ -87,7 +89,7 @@ module _ (q : tree.Query) (head : Head) (cells : Cells) (one : ℕ) (good : firs
       (unless_empty (numbers_of t) (typed.total (numbers_of t))) (total (filter_map (value e) rows)) (total_is (scale_of table e) (numbers_of t) (filter_map (value e) rows) related)
 
   call_answered : (kind : CallKind) (e : Expr) → argument_fault table (whole_column kind e) e ≡ None → AllByRecursion (IsRead q head cells) (names_in_expr e)
-      → IsShownAs (shown table columns (face_of table columns kind e)) (answer_on query (typed_call table columns kind e) (key_at query head cells one) (frame_of head) cells) (answer (Call kind e) rows)
+      → IsShownAs (shown table columns (face_of table columns kind e)) (answer_on query (typed_call table columns kind e) (key_at query head base one) (frame_of head) cells) (answer (Call kind e) rows)
   call_answered calls.Sum e fine named = sum_answered e fine named (typed_call table columns calls.Sum e) refl
   call_answered calls.Avg e fine named = sum_answered e fine named (typed_call table columns calls.Avg e) refl
   call_answered calls.Min e fine named =
@@ -111,14 +113,14 @@ module _ (q : tree.Query) (head : Head) (cells : Cells) (one : ℕ) (good : firs
       (whole (length (filter_map (value e) rows)), refl, same_count (length (numbers_of t)) (length (filter_map (value e) rows)) (as_many (λ z u. Unit {0}) (numbers_of t) (filter_map (value e) rows) related))
 
   pub item_answered : (item : Item) (t : Aggregate) → IsAsked q query item t
-      → IsShownAs (shown table columns t.face) (answer_on query t (key_at query head cells one) (frame_of head) cells) (answer item rows)
+      → IsShownAs (shown table columns t.face) (answer_on query t (key_at query head base one) (frame_of head) cells) (answer item rows)
   item_answered (Plain n) t asked = absurd (none-some t (item_is q head cells (Plain n) t good values asked).typed)
   item_answered CountAll t asked =
-      subst (λ (a : Aggregate). IsShownAs (shown table columns a.face) (answer_on query a (key_at query head cells one) (frame_of head) cells) (answer CountAll rows))
+      subst (λ (a : Aggregate). IsShownAs (shown table columns a.face) (answer_on query a (key_at query head base one) (frame_of head) cells) (answer CountAll rows))
       (same_Some counted t (item_is q head cells CountAll t good values asked).typed) star_answered
   item_answered (Call kind e) t asked =
       let is = item_is q head cells (Call kind e) t good values asked in
-      subst (λ (a : Aggregate). IsShownAs (shown table columns a.face) (answer_on query a (key_at query head cells one) (frame_of head) cells) (answer (Call kind e) rows))
+      subst (λ (a : Aggregate). IsShownAs (shown table columns a.face) (answer_on query a (key_at query head base one) (frame_of head) cells) (answer (Call kind e) rows))
       (same_Some (typed_call table columns kind e) t is.typed) (call_answered kind e is.fine is.named)
 
   average_by : (values : List Value) (zs : List ℤ) (shows : ℤ → Option Value) → length zs ≡ length values → IsShownAs shows (unless_empty zs (typed.total zs)) (total values) → IsAverage shows (typed.average zs) values
@@ -127,12 +129,12 @@ module _ (q : tree.Query) (head : Head) (cells : Cells) (one : ℕ) (good : firs
   average_by values (z ∷ zs) shows n h = (rw h.1 h.2, n)
 
   pub average_answered : (e : Expr) (t : Aggregate) → IsAsked q query (Call calls.Avg e) t
-      → IsAverage (shown table columns t.face) (average_on query t (key_at query head cells one) (frame_of head) cells) (filter_map (value e) rows)
+      → IsAverage (shown table columns t.face) (average_on query t (key_at query head base one) (frame_of head) cells) (filter_map (value e) rows)
   average_answered e t asked =
       let is = item_is q head cells (Call calls.Avg e) t good values asked in
       let own = typed_call table columns calls.Avg e in
       let related = rows_alike (IsNumber (scale_of table e)) (value e) own (amount_at q head cells e is.fine is.named) in
-      subst (λ (a : Aggregate). IsAverage (shown table columns a.face) (average_on query a (key_at query head cells one) (frame_of head) cells) (filter_map (value e) rows))
+      subst (λ (a : Aggregate). IsAverage (shown table columns a.face) (average_on query a (key_at query head base one) (frame_of head) cells) (filter_map (value e) rows))
       (same_Some own t is.typed)
       (average_by (filter_map (value e) rows) (numbers_of own) (shown table columns (faces.Number (scale_of table e))) (as_many (IsNumber (scale_of table e)) (numbers_of own) (filter_map (value e) rows) related)
       (sum_answered e is.fine is.named own refl))
@@ -141,10 +143,16 @@ pub averages_mean : AveragesMeanTheirTrees
 averages_mean q head meant cells one e t is values asked one_in =
     subst (λ (w : Query). IsAsked q w (Call calls.Avg e) t
     → IsAverage (shown head.columns w.columns t.face) (average_on w t (key_at w head cells one) (frame_of head) cells) (filter_map (value e) (group_of q (row_at head cells one) (rows_at head cells))))
-    (sym is.same) (λ found. average_answered q head cells one is.faultless values one_in e t found) asked
+    (sym is.same) (λ found. average_answered q head cells cells one is.faultless values values one_in e t found) asked
+
+-- also for the group of a row of another table
+pub answers_mean_across : (q : tree.Query) (head : Head) (meant : Query) (cells base : Cells) (one : ℕ) (item : Item) (t : Aggregate) → IsTyped q head meant → HasValues head cells → HasValues head base
+    → IsAsked q meant item t → (grouping q.ending ≢ [] → one < head.rows)
+    → IsShownAs (shown head.columns meant.columns t.face) (answer_on meant t (key_at meant head base one) (frame_of head) cells) (answer item (group_of q (row_at head base one) (rows_at head cells)))
+answers_mean_across q head meant cells base one item t is values of_base asked one_in =
+    subst (λ (w : Query). IsAsked q w item t
+    → IsShownAs (shown head.columns w.columns t.face) (answer_on w t (key_at w head base one) (frame_of head) cells) (answer item (group_of q (row_at head base one) (rows_at head cells))))
+    (sym is.same) (λ found. item_answered q head cells base one is.faultless values of_base one_in item t found) asked
 
 pub answers_mean : AnswersMeanTheirTrees
-answers_mean q head meant cells one item t is values asked one_in =
-    subst (λ (w : Query). IsAsked q w item t
-    → IsShownAs (shown head.columns w.columns t.face) (answer_on w t (key_at w head cells one) (frame_of head) cells) (answer item (group_of q (row_at head cells one) (rows_at head cells))))
-    (sym is.same) (λ found. item_answered q head cells one is.faultless values one_in item t found) asked
+answers_mean q head meant cells one item t is values asked one_in = answers_mean_across q head meant cells cells one item t is values values asked one_in

@@ -5,6 +5,7 @@ use Rattle.std.specs.List.{AllByRecursion, filter_map}
 use Rattle.daq_table.specs.ColumnFacts.{is_ascending}
 use Rattle.daq_table.specs.Tables.{Cells}
 use Rattle.daq_table.specs.declared.head.ColumnHead.{ColumnHead}
+use Rattle.daq_table.specs.declared.head.Kind.{Kind}
 use Rattle.daq_table.specs.declared.table_head.Head.{Head}
 use Rattle.query_model.specs.declared.query.Face.TheVariants as faces
 use Rattle.query_model.specs.Meaning as typed
@@ -110,21 +111,31 @@ module _ (q : tree.Query) (head : Head) (cells : Cells) where
   amount_argument : (e : Expr) → expr_fault table e ≡ None → AllByRecursion (IsRead q head cells) (names_in_expr e) → IsArgument (shown table columns (faces.Number (scale_of table e))) e
   amount_argument e fine named = record { stands = IsNumber (scale_of table e); reads = numbers_read (scale_of table e); related = amount_at e fine named }
 
-  pub column_argument : (n : Name) → IsRead q head cells n → IsArgument (shown table columns (faces.OfColumn (number_of table columns n.name))) (tree.Column n)
-  column_argument n is =
+  -- what the numbers of a column stand for
+  abbrev pub StandsIn : Name → ℤ → Value → Type 0
+  StandsIn n = λ z u. value_in (kind_of table n.name) (dictionary_of table n.name) z ≡ Some u
+
+  pub name_related : (n : Name) → IsRead q head cells n → (r : ℕ) → r < head.rows → Related (StandsIn n) (numbers r (number_of table columns n.name)) (row_at head cells r n.name)
+  name_related n is r r_in =
+      let at = is.at_row r r_in in
+      let number = numbers r (number_of table columns n.name) in
+      let own : Related (λ z u. value_in at.column.kind at.column.names z ≡ Some u) number (row_at head cells r n.name) = column_related at.column number (row_at head cells r n.name) at.value at.stands in
+      subst (λ (k : Kind). Related (λ z u. value_in k (dictionary_of table n.name) z ≡ Some u) number (row_at head cells r n.name)) (sym at.kind)
+      (subst (λ names. Related (λ z u. value_in at.column.kind names z ≡ Some u) number (row_at head cells r n.name)) (sym at.names) own)
+
+  pub name_reads : (n : Name) → IsRead q head cells n → IsReading (shown table columns (faces.OfColumn (number_of table columns n.name))) (StandsIn n)
+  name_reads n is =
       let reads = columns_read (kind_of table n.name) (dictionary_of table n.name) (ascends is.column) in
-      record {
-        stands = λ z u. value_in (kind_of table n.name) (dictionary_of table n.name) z ≡ Some u;
-        reads = record { is_shown = λ z u h. subst (λ o. IsTrue (is_same o (Some u))) (sym (shown_column z is.column)) (reads.is_shown z u h); in_order = reads.in_order };
-        related = λ r r_in. (let at = is.at_row r r_in in
-            rw (at.kind, at.names) (column_related at.column (numbers r (number_of table columns n.name)) (row_at head cells r n.name) at.value at.stands));
-      }
+      record { is_shown = λ z u h. subst (λ o. IsTrue (is_same o (Some u))) (sym (shown_column z is.column)) (reads.is_shown z u h); in_order = reads.in_order }
     where
       ascends : IsColumn table columns n → IsTrue (is_ascending (dictionary_of table n.name))
       ascends c = rw c.names c.column.is_column.ascending
 
       shown_column : (z : ℤ) → IsColumn table columns n → shown table columns (faces.OfColumn (number_of table columns n.name)) z ≡ value_in (kind_of table n.name) (dictionary_of table n.name) z
       shown_column z c = rw (c.at, c.kind, c.names) refl
+
+  pub column_argument : (n : Name) → IsRead q head cells n → IsArgument (shown table columns (faces.OfColumn (number_of table columns n.name))) (tree.Column n)
+  column_argument n is = record { stands = StandsIn n; reads = name_reads n is; related = name_related n is }
 
   -- COUNT, MIN and MAX take a column of any kind
   pub any_argument : (e : Expr) (b : Option Name) → bare_column e ≡ b → argument_fault table b e ≡ None → AllByRecursion (IsRead q head cells) (names_in_expr e)

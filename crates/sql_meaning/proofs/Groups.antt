@@ -19,7 +19,7 @@ use Rattle.sql_meaning.specs.Conditions.{truth_of_where}
 use Rattle.sql_meaning.specs.Answers.{are_one_group, grouping, is_same}
 use Rattle.sql_meaning.specs.Rows.{row_at, shown}
 use Rattle.sql_meaning.specs.Laws.{HasValues, key_at, numbers_at}
-use Rattle.sql_meaning.proofs.Asked.{column_argument}
+use Rattle.sql_meaning.proofs.Asked.{StandsIn, name_reads, name_related}
 use Rattle.sql_meaning.proofs.Named.{IsRead, all_read}
 use Rattle.sql_meaning.proofs.Readings.{same_is}
 use Rattle.sql_meaning.proofs.Truths.{where_is}
@@ -68,38 +68,42 @@ pub key_of : (w one : typed.Row) (cs : List ℕ) → in_group cs (map one cs) w 
 key_of w one [] = refl
 key_of w one (c ∷ cs) = ap (λ b. same_value (w c) (one c) && b) (key_of w one cs)
 
-module _ (q : tree.Query) (head : Head) (cells : Cells) where
+-- the rows of a table, for the group of a row of a table, which may be another one
+module _ (q : tree.Query) (head : Head) (cells base : Cells) where
   abbrev numbers : ℕ → typed.Row
   numbers r = numbers_at (typing.typed head.columns q) head cells r
 
-  name_same : (r one : ℕ) → r < head.rows → one < head.rows → (n : Name) → IsRead q head cells n
-      → same_value (numbers r (number_of head.columns (columns_of head.columns q) n.name)) (numbers one (number_of head.columns (columns_of head.columns q) n.name)) ≡ is_same (row_at head cells r n.name) (row_at head cells one n.name)
-  name_same r one r_in one_in n is =
-      let a = column_argument q head cells n is in
-      same_is (shown head.columns (columns_of head.columns q) (faces.OfColumn (number_of head.columns (columns_of head.columns q) n.name))) a.stands a.reads
-      (numbers r (number_of head.columns (columns_of head.columns q) n.name)) (numbers one (number_of head.columns (columns_of head.columns q) n.name))
-      (row_at head cells r n.name) (row_at head cells one n.name) (a.related r r_in) (a.related one one_in)
+  abbrev group_numbers : ℕ → typed.Row
+  group_numbers one = numbers_at (typing.typed head.columns q) head base one
 
-  names_same : (r one : ℕ) → r < head.rows → one < head.rows → (ns : List Name) → AllByRecursion (IsRead q head cells) ns
-      → list_all (λ c. same_value (numbers r c) (numbers one c)) (map (λ n. number_of head.columns (columns_of head.columns q) n.name) ns) ≡ list_all (λ n. is_same (row_at head cells r n.name) (row_at head cells one n.name)) ns
-  names_same r one r_in one_in [] h = refl
-  names_same r one r_in one_in (n ∷ ns) h = rw (name_same r one r_in one_in n h.0, names_same r one r_in one_in ns h.1) refl
+  name_same : (r one : ℕ) → r < head.rows → one < head.rows → (n : Name) → IsRead q head cells n → IsRead q head base n
+      → same_value (numbers r (number_of head.columns (columns_of head.columns q) n.name)) (group_numbers one (number_of head.columns (columns_of head.columns q) n.name)) ≡ is_same (row_at head cells r n.name) (row_at head base one n.name)
+  name_same r one r_in one_in n is of_base =
+      same_is (shown head.columns (columns_of head.columns q) (faces.OfColumn (number_of head.columns (columns_of head.columns q) n.name))) (StandsIn q head cells n) (name_reads q head cells n is)
+      (numbers r (number_of head.columns (columns_of head.columns q) n.name)) (group_numbers one (number_of head.columns (columns_of head.columns q) n.name))
+      (row_at head cells r n.name) (row_at head base one n.name) (name_related q head cells n is r r_in) (name_related q head base n of_base one one_in)
 
-  group_by : (r one : ℕ) → r < head.rows → (ending : tree.Ending) → (grouping ending ≢ [] → one < head.rows) → AllByRecursion (IsRead q head cells) (names_in_ending ending)
-      → in_group (groups_of (typed_ending head.columns (columns_of head.columns q) ending)) (map (numbers one) (groups_of (typed_ending head.columns (columns_of head.columns q) ending))) (numbers r)
-      ≡ are_one_group ending (row_at head cells r) (row_at head cells one)
-  group_by r one r_in tree.Nothing one_in h = refl
-  group_by r one r_in (tree.Ordered key down limit) one_in h = refl
-  group_by r one r_in (tree.Grouped []) one_in h = refl
-  group_by r one r_in (tree.Grouped (n ∷ ns)) one_in h =
-      key_of (numbers r) (numbers one) (group_columns head.columns (columns_of head.columns q) (n ∷ ns))
-      ∙ distinct_all (λ c. same_value (numbers r c) (numbers one c)) [] (map (λ n. number_of head.columns (columns_of head.columns q) n.name) (n ∷ ns))
-      ∙ names_same r one r_in (one_in (λ e. absurd cc)) (n ∷ ns) h
+  names_same : (r one : ℕ) → r < head.rows → one < head.rows → (ns : List Name) → AllByRecursion (IsRead q head cells) ns → AllByRecursion (IsRead q head base) ns
+      → list_all (λ c. same_value (numbers r c) (group_numbers one c)) (map (λ n. number_of head.columns (columns_of head.columns q) n.name) ns) ≡ list_all (λ n. is_same (row_at head cells r n.name) (row_at head base one n.name)) ns
+  names_same r one r_in one_in [] h k = refl
+  names_same r one r_in one_in (n ∷ ns) h k = rw (name_same r one r_in one_in n h.0 k.0, names_same r one r_in one_in ns h.1 k.1) refl
+
+  group_by : (r one : ℕ) → r < head.rows → (ending : tree.Ending) → (grouping ending ≢ [] → one < head.rows) → AllByRecursion (IsRead q head cells) (names_in_ending ending) → AllByRecursion (IsRead q head base) (names_in_ending ending)
+      → in_group (groups_of (typed_ending head.columns (columns_of head.columns q) ending)) (map (group_numbers one) (groups_of (typed_ending head.columns (columns_of head.columns q) ending))) (numbers r)
+      ≡ are_one_group ending (row_at head cells r) (row_at head base one)
+  group_by r one r_in tree.Nothing one_in h k = refl
+  group_by r one r_in (tree.Ordered key down limit) one_in h k = refl
+  group_by r one r_in (tree.Grouped []) one_in h k = refl
+  group_by r one r_in (tree.Grouped (n ∷ ns)) one_in h k =
+      key_of (numbers r) (group_numbers one) (group_columns head.columns (columns_of head.columns q) (n ∷ ns))
+      ∙ distinct_all (λ c. same_value (numbers r c) (group_numbers one c)) [] (map (λ n. number_of head.columns (columns_of head.columns q) n.name) (n ∷ ns))
+      ∙ names_same r one r_in (one_in (λ e. absurd cc)) (n ∷ ns) h k
 
   -- the row counts for the group as it is typed where it counts as it is written
-  pub passes_is : (r one : ℕ) → first_fault head.columns q ≡ None → HasValues head cells → r < head.rows → (grouping q.ending ≢ [] → one < head.rows)
-      → passes (typing.typed head.columns q) (key_at (typing.typed head.columns q) head cells one) (numbers r)
-      ≡ (is_sql_true (truth_of_where q.pred (row_at head cells r)) && are_one_group q.ending (row_at head cells r) (row_at head cells one))
-  passes_is r one good values r_in one_in =
+  pub passes_is : (r one : ℕ) → first_fault head.columns q ≡ None → HasValues head cells → HasValues head base → r < head.rows → (grouping q.ending ≢ [] → one < head.rows)
+      → passes (typing.typed head.columns q) (key_at (typing.typed head.columns q) head base one) (numbers r)
+      ≡ (is_sql_true (truth_of_where q.pred (row_at head cells r)) && are_one_group q.ending (row_at head cells r) (row_at head base one))
+  passes_is r one good values of_base r_in one_in =
       let ending = all_right (IsRead q head cells) (names_in_head q.head ++ names_in_filter q.pred) (names_in_ending q.ending) (all_read q head cells good values) in
-      rw (where_is q head cells r good values r_in, group_by r one r_in q.ending one_in ending) refl
+      let ending_of_base = all_right (IsRead q head base) (names_in_head q.head ++ names_in_filter q.pred) (names_in_ending q.ending) (all_read q head base good of_base) in
+      rw (where_is q head cells r good values r_in, group_by r one r_in q.ending one_in ending ending_of_base) refl

@@ -18,3 +18,8 @@ pub mod Order
 pub mod Spelled
 pub mod Enclosed
 pub mod Shares
+pub mod Names
+pub mod Once
+pub mod OneWay
+pub mod Attained
+pub mod NamedOnce

@@ -45,11 +45,11 @@ found_below false k n h = tt
 position_within : {A : Type 0} (test : A → Bool) (xs : List A) → IfSome (position test xs) (λ i. i < length xs)
 position_within test xs = found_below (nat_lt (position_or_len test xs) (length xs)) (position_or_len test xs) (length xs) refl
 
-record IsFound (c : ℕ) (cs : List ℕ) : Type 0 where
-  within : position_or_len (λ i. i == c) cs < length cs
-  there : get_or cs (position_or_len (λ i. i == c) cs) 0 ≡ c
+pub record IsFound (c : ℕ) (cs : List ℕ) : Type 0 where
+  pub within : position_or_len (λ i. i == c) cs < length cs
+  pub there : get_or cs (position_or_len (λ i. i == c) cs) 0 ≡ c
 
-found : (c : ℕ) (cs : List ℕ) → IsAmong c cs → IsFound c cs
+pub found : (c : ℕ) (cs : List ℕ) → IsAmong c cs → IsFound c cs
 found c [] h = elim h [ ]
 found c (x ∷ cs) h = elim (cases_eq x c) [
   | inl e ↦ record { within = rw (number_same x c e) (omega arith); there = rw (number_same x c e) e }
@@ -63,7 +63,7 @@ found c (x ∷ cs) h = elim (cases_eq x c) [
   later x c cs other (inl e) = absurd (other e)
   later x c cs other (inr h) = h
 
-number_is : (c : ℕ) (cs : List ℕ) → IsFound c cs → number_at cs (Some c) ≡ position_or_len (λ i. i == c) cs
+pub number_is : (c : ℕ) (cs : List ℕ) → IsFound c cs → number_at cs (Some c) ≡ position_or_len (λ i. i == c) cs
 number_is c cs h = rw (is_below (position_or_len (λ i. i == c) cs) (length cs) h.within) refl
 
 pub record IsThere {A : Type 0} (xs : List A) (c : ℕ) : Type 0 where

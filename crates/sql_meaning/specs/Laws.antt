@@ -1,5 +1,5 @@
 -- The laws, as statements. A public function with an empty body has each as its contract.
-use Rattle.std.specs.Prelude.{◌≡◌, ◌≢◌, ℕ, ◌<◌, ℤ, Bool, false, List, [], length, map, slice_get, IsTrue}
+use Rattle.std.specs.Prelude.{◌≡◌, ◌≢◌, ℕ, ◌<◌, ℤ, Bool, false, List, [], ◌++◌, length, map, slice_get, IsTrue}
 use Rattle.std.specs.declared.option.Option.{Option}
 use Rattle.std.specs.declared.option.Option.TheVariants.{Some, None}
 use Rattle.std.specs.Cmp.{IsTotalOrder}
@@ -12,6 +12,7 @@ use Rattle.daq_table.specs.declared.head.ColumnHead.{ColumnHead}
 use Rattle.daq_table.specs.declared.table_head.Head.{Head}
 use Rattle.query_model.specs.Answers.{Key, groups_of}
 use Rattle.interval_calc.specs.Intervals.{Fraction}
+use Rattle.query_model.specs.Attaining as attaining
 use Rattle.query_model.specs.Bounds.{Admits, AdmitsAverage, AverageBound}
 use Rattle.query_model.specs.declared.bounds.Bound.{Bound}
 use Rattle.query_model.specs.declared.bounds.Nullity.TheVariants.{Always, Never}
@@ -20,16 +21,19 @@ use Rattle.query_model.specs.Meaning.{is_sql_true}
 use Rattle.query_model.specs.Projection.{projected, projected_frame}
 use Rattle.query_model.specs.Queries.{Aggregate, Query}
 use Rattle.query_model.specs.declared.query.Face.TheVariants.{OfColumn}
+use Rattle.query_model.specs.Validity.{declared_ranges}
 use Rattle.query_model.specs.Worlds.{IsInResultOn, answer_on, average_on, belongs_on}
 use Rattle.sql_text.specs.declared.tree.CallKind.{CallKind}
 use Rattle.sql_text.specs.declared.tree.CallKind.TheVariants.{Avg, Count}
 use Rattle.sql_text.specs.declared.tree.Num.{Num}
 use Rattle.sql_text.specs.Tree as tree
+use Rattle.sql_typing.specs.Names.{names_in_filter, names_in_item}
 use Rattle.sql_typing.specs.Refusals.{IsTyped}
 use Rattle.sql_meaning.specs.Conditions.{truth_of_where}
 use Rattle.sql_meaning.specs.Values.{Value, compare_decimals}
 use Rattle.sql_meaning.specs.Expressions.{value}
 use Rattle.sql_meaning.specs.Answers.{Share, answer, asked, average, group_of, grouping, is_after, is_same, is_share_at_most, total}
+use Rattle.sql_meaning.specs.Attained.{AttainsEnds, AttainsKeys, names_differ, with_names}
 use Rattle.sql_meaning.specs.Orders.{is_among_first}
 use Rattle.sql_meaning.specs.Rows.{row_at, rows_at, shown, text_of, value_at, value_of}
 
@@ -181,3 +185,21 @@ abbrev pub ResultsMeanTheirTrees : Type 0
 ResultsMeanTheirTrees =
     (q : tree.Query) (head : Head) (query : Query) (cells : Cells) → IsTyped q head query → HasValues head cells →
     HasGroups q head query cells
+
+-- what is typed attains its ends, and its truths, where what is written does
+pub record AttainsAsWritten (q : tree.Query) (head : Head) (query : Query) : Type 0 where
+  pub ends : (item : tree.Item) (typed : Aggregate) → IsAsked q query item typed → AttainsEnds head q item →
+      attaining.AttainsEnds query typed (declared_ranges (projected_frame query (frame_of head)))
+  pub keys : AttainsKeys head q → attaining.AttainsTruths query.pred (groups_of query.shape)
+
+abbrev pub AttainedEndsMeanTheirTrees : Type 0
+AttainedEndsMeanTheirTrees = (q : tree.Query) (head : Head) (query : Query) → IsTyped q head query → AttainsAsWritten q head query
+
+-- what WHERE, GROUP BY and an item name attains its ends where they name no column twice, and keys where the first two do not
+pub record AttainsNamedOnce (head : Head) (q : tree.Query) : Type 0 where
+  pub keys : IsTrue (names_differ (names_in_filter q.pred ++ with_names [] (grouping q.ending))) → AttainsKeys head q
+  pub ends : (item : tree.Item) →
+      IsTrue (names_differ (names_in_filter q.pred ++ with_names [] (grouping q.ending) ++ names_in_item item)) → AttainsEnds head q item
+
+abbrev pub NamedOnceAttain : Type 0
+NamedOnceAttain = (head : Head) (q : tree.Query) → AttainsNamedOnce head q

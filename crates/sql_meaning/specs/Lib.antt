@@ -4,4 +4,5 @@ pub mod Expressions
 pub mod Answers
 pub mod Orders
 pub mod Rows
+pub mod Attained
 pub mod Laws

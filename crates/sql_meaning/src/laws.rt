@@ -1,6 +1,7 @@
 //! The laws that typed queries mean what their trees mean. Each stands on a function that does nothing.
 
 ghost use Rattle.sql_meaning.specs.Laws.{AnswersMeanTheirTrees, ArgumentsMeanTheirTrees, AveragesMeanTheirTrees, ConditionsMeanTheirTrees};
+ghost use Rattle.sql_meaning.specs.Laws.{AttainedEndsMeanTheirTrees, NamedOnceAttain};
 ghost use Rattle.sql_meaning.specs.Laws.{DecimalsAreOrdered, IntervalsMeanTheirTrees, IntervalsOfAveragesMeanTheirTrees};
 ghost use Rattle.sql_meaning.specs.Laws.{KeysMeanTheirTrees, OrdersMeanTheirTrees};
 ghost use Rattle.sql_meaning.specs.Laws.{ResultsMeanTheirTrees, TablesHaveValues, TextsAreOfValues};
@@ -63,4 +64,14 @@ pub fn intervals_mean_their_trees()
 /// And so does one that admits the average of a typed item.
 pub fn intervals_of_averages_mean_their_trees()
     ensures { IntervalsOfAveragesMeanTheirTrees }
+{}
+
+/// Where a query as it is written attains the ends of an item, or whether keys are in the result, what is typed does.
+pub fn attained_ends_mean_their_trees()
+    ensures { AttainedEndsMeanTheirTrees }
+{}
+
+/// What names no column twice attains its ends.
+pub fn named_once_attain()
+    ensures { NamedOnceAttain }
 {}

@@ -1,5 +1,5 @@
 -- What names no column twice is typed as what reads none twice.
-use Rattle.std.proofs.Common.{◌≡◌, ℕ, zero, suc, ◌-◌, ◌^◌, not, ◌&&◌, Bool, true, false, List, [], ◌∷◌, ◌++◌, map, Option, Some, None, IsTrue, refl, sym, ap, subst, ◌∙◌}
+use Rattle.std.proofs.Common.{◌≡◌, ℕ, zero, suc, ◌-◌, ◌^◌, not, ◌&&◌, Bool, true, false, List, [], ◌∷◌, ◌++◌, map, Option, Some, None, refl, sym, ap, subst, ◌∙◌}
 use Rattle.std.proofs.lemmas.List.{append-nil, map-append}
 use Rattle.std.proofs.lemmas.Option.{none-some, same_Some}
 use Rattle.std.specs.List.{AllByRecursion, list_any}
@@ -7,28 +7,26 @@ use Rattle.std.specs.Str.{bytes_eq}
 use Rattle.daq_table.specs.declared.head.ColumnHead.{ColumnHead}
 use Rattle.daq_table.specs.declared.head.Kind.{Kind}
 use Rattle.daq_table.specs.declared.table_head.Head.{Head}
-use Rattle.query_model.specs.Answers.{groups_of}
 use Rattle.query_model.specs.Meaning as typed
 use Rattle.query_model.specs.Meaning.{columns_of_pred, columns_of_atom}
 use Rattle.query_model.specs.Queries.{Aggregate, Query, Term, Column, Literal, Add, Sub, Mul}
-use Rattle.query_model.specs.Validity.{no_repeats, reads_each_once}
-use Rattle.query_model.specs.declared.query.Shape.TheVariants.{Plain}
+use Rattle.query_model.specs.Validity.{no_repeats}
 use Rattle.sql_text.specs.declared.tree.Comparison.{Comparison}
 use Rattle.sql_text.specs.declared.tree.Comparison.TheVariants as cmps
 use Rattle.sql_text.specs.Tree as tree
 use Rattle.sql_text.specs.Tree.{Item, Name}
 use Rattle.sql_typing.specs.Kinds.{is_day}
+use Rattle.sql_typing.specs.Faults.{item_fault}
 use Rattle.sql_typing.specs.Names.{dictionary_of, kind_of, names_in_ending, names_in_expr, names_in_filter, names_in_head, names_in_item, names_in_pred, number_of}
 use Rattle.sql_typing.specs.Refusals.{IsTyped}
 use Rattle.sql_typing.specs.Typing.{columns_of, compared, counted, is_name, literal_of, multiplied, raised, scale_of, spot_of, typed_call, typed_expr, typed_filter, typed_item, typed_pred}
-use Rattle.sql_typing.proofs.Alls.{all_join, all_left, all_right}
+use Rattle.sql_typing.proofs.Alls.{all_left, all_right}
 use Rattle.sql_typing.proofs.Clean.{clean}
-use Rattle.sql_meaning.specs.Answers.{grouping}
 use Rattle.sql_meaning.specs.Laws.{IsAsked}
 use Rattle.sql_meaning.proofs.Asked.{in_query}
 use Rattle.sql_meaning.proofs.Shares.{typed_as}
-use Rattle.sql_headline.specs.Attained.{names_differ, names_each_once}
-use Rattle.sql_headline.proofs.Names.{IsKnown, all_known, any_alike}
+use Rattle.sql_meaning.specs.Attained.{names_differ}
+use Rattle.sql_meaning.proofs.Names.{IsKnown, all_known, any_alike}
 
 -- ---- what is typed reads the columns of its names, in order
 
@@ -76,7 +74,7 @@ module _ (table : List ColumnHead) (columns : List ℕ) where
       by cmps.Gt false e false f = rw (e, f) refl
       by cmps.Ge false e false f = rw (e, f) refl
 
-  pred_reads : (a : tree.Pred) → columns_of_pred (typed_pred table columns a) ≡ map number (names_in_pred a)
+  pub pred_reads : (a : tree.Pred) → columns_of_pred (typed_pred table columns a) ≡ map number (names_in_pred a)
   pred_reads (tree.Compare n op v) = compared_reads (number n) op (kind_of table n.name) (dictionary_of table n.name) v
   pred_reads (tree.Columns l op r) = refl
   pred_reads (tree.Between n low high) = refl
@@ -102,11 +100,11 @@ module _ (table : List ColumnHead) (columns : List ℕ) where
       ap (λ b. not b && no_repeats (map number ns)) (any_alike table columns n ns known.0 known.1)
       ∙ ap (λ b. not (list_any (λ m. bytes_eq n.name m.name) ns) && b) (differ ns known.1)
 
-module _ (q : tree.Query) (head : Head) (query : Query) (is : IsTyped q head query) (plain : q.ending ≡ tree.Nothing) (shape : query.shape ≡ Plain) where
+module _ (q : tree.Query) (head : Head) (query : Query) (is : IsTyped q head query) where
   abbrev Known : Name → Type 0
   Known = IsKnown head.columns query.columns
 
-  in_filter : AllByRecursion Known (names_in_filter q.pred)
+  pub in_filter : AllByRecursion Known (names_in_filter q.pred)
   in_filter =
       all_right Known (names_in_head q.head) (names_in_filter q.pred)
       (all_left Known (names_in_head q.head ++ names_in_filter q.pred) (names_in_ending q.ending) (all_known q head query is))
@@ -116,28 +114,24 @@ module _ (q : tree.Query) (head : Head) (query : Query) (is : IsTyped q head que
       all_left Known (names_in_head q.head) (names_in_filter q.pred)
       (all_left Known (names_in_head q.head ++ names_in_filter q.pred) (names_in_ending q.ending) (all_known q head query is))
 
-  in_item : (item : Item) (t : Aggregate) → IsAsked q query item t → AllByRecursion Known (names_in_item item)
+  pub in_ending : AllByRecursion Known (names_in_ending q.ending)
+  in_ending = all_right Known (names_in_head q.head ++ names_in_filter q.pred) (names_in_ending q.ending) (all_known q head query is)
+
+  pub in_item : (item : Item) (t : Aggregate) → IsAsked q query item t → AllByRecursion Known (names_in_item item)
   in_item item t asked =
       subst (λ (w : Query). IsAsked q w item t → AllByRecursion (IsKnown head.columns w.columns) (names_in_head q.head) → AllByRecursion (IsKnown head.columns w.columns) (names_in_item item)) (sym is.same)
       (λ found known. (in_query head.columns (columns_of head.columns q) (IsKnown head.columns (columns_of head.columns q)) item t q.ending q.head found.place found.in_text found.in_query (clean head.columns q is.faultless).select_list known).named)
       asked in_head
 
-  filter_is : columns_of_pred query.pred ≡ map (λ (n : Name). number_of head.columns query.columns n.name) (names_in_filter q.pred)
-  filter_is =
-      subst (λ (w : Query). columns_of_pred w.pred ≡ map (λ (n : Name). number_of head.columns w.columns n.name) (names_in_filter q.pred)) (sym is.same)
-      (filter_reads head.columns (columns_of head.columns q) q.pred)
+  -- an item is typed without a fault
+  pub fine_is : (item : Item) (t : Aggregate) → IsAsked q query item t → (groups : List Name) × (item_fault head.columns groups item ≡ None)
+  fine_is item t asked =
+      subst (λ (w : Query). IsAsked q w item t → AllByRecursion (IsKnown head.columns w.columns) (names_in_head q.head) → (groups : List Name) × (item_fault head.columns groups item ≡ None)) (sym is.same)
+      (λ found known.
+      let is_typed = in_query head.columns (columns_of head.columns q) (IsKnown head.columns (columns_of head.columns q)) item t q.ending q.head found.place found.in_text found.in_query (clean head.columns q is.faultless).select_list known in
+      (is_typed.groups, is_typed.fine))
+      asked in_head
 
-  pub reads_once : (item : Item) (t : Aggregate) → IsAsked q query item t → IsTrue (names_each_once q item) → IsTrue (reads_each_once query t)
-  reads_once item t asked once =
-      let number : Name → ℕ = (λ n. number_of head.columns query.columns n.name) in
-      let first : List Name = names_in_filter q.pred in
-      let groups : groups_of query.shape ≡ map number (grouping q.ending) = ap groups_of shape ∙ ap (λ e. map number (grouping e)) (sym plain) in
-      let none : AllByRecursion Known (grouping q.ending) = subst (λ e. AllByRecursion Known (grouping e)) (sym plain) tt in
-      let reads : (columns_of_pred query.pred ++ groups_of query.shape) ++ typed.columns_of t.arg ≡ map number ((first ++ grouping q.ending) ++ names_in_item item) =
-      both_read head.columns query.columns (columns_of_pred query.pred ++ groups_of query.shape) (typed.columns_of t.arg) (first ++ grouping q.ending) (names_in_item item)
-      (both_read head.columns query.columns (columns_of_pred query.pred) (groups_of query.shape) first (grouping q.ending) filter_is groups)
-      (item_reads head.columns query.columns item t (typed_as q head query item t is asked)) in
-      ap no_repeats reads
-      ∙ differ head.columns query.columns ((first ++ grouping q.ending) ++ names_in_item item)
-      (all_join Known (first ++ grouping q.ending) (names_in_item item) (all_join Known first (grouping q.ending) in_filter none) (in_item item t asked))
-      ∙ once
+  -- the argument of an item reads the columns of its names
+  pub item_is : (item : Item) (t : Aggregate) → IsAsked q query item t → typed.columns_of t.arg ≡ map (λ (n : Name). number_of head.columns query.columns n.name) (names_in_item item)
+  item_is item t asked = item_reads head.columns query.columns item t (typed_as q head query item t is asked)

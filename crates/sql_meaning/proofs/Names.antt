@@ -1,9 +1,8 @@
 -- The names of a query: the columns for which they stand, those of GROUP BY in order, and the values that a row has there.
-use Rattle.std.proofs.Common.{◌≡◌, ◌≢◌, ℕ, suc, ◌+◌, ◌<◌, ◌==◌, Bool, true, false, if◌then◌else◌, List, [], ◌∷◌, ◌++◌, map, length, get_or, Option, Some, None, IfSome, inl, inr, refl, sym, ap, subst, ◌∙◌, arith, slice_get}
-use Rattle.std.proofs.lemmas.Bool.{cases_eq}
+use Rattle.std.proofs.Common.{◌≡◌, ℕ, ◌<◌, ◌==◌, Bool, true, false, if◌then◌else◌, List, [], ◌∷◌, ◌++◌, map, get_or, Option, Some, None, IfSome, refl, sym, ap, subst, ◌∙◌, slice_get}
 use Rattle.std.proofs.lemmas.List.{map-append}
 use Rattle.std.proofs.lemmas.List.Quantifiers.{position-Some}
-use Rattle.std.proofs.lemmas.Option.{none-some, same_Some, slice_get-get_or, slice_get_within}
+use Rattle.std.proofs.lemmas.Option.{none-some, same_Some, slice_get-get_or}
 use Rattle.std.proofs.lemmas.Slice.Eq.{bytes_eq-Decides}
 use Rattle.std.specs.Bool.{one_answer}
 use Rattle.std.specs.List.{AllByRecursion, list_any, position, position_or_len}
@@ -20,35 +19,21 @@ use Rattle.sql_typing.specs.Names.{names_in, number_at, number_of, place_of}
 use Rattle.sql_typing.specs.Refusals.{IsTyped}
 use Rattle.sql_typing.specs.Typing.{columns_of, distinct_after, group_columns, typed}
 use Rattle.sql_typing.proofs.Alls.{all_join, all_then}
-use Rattle.sql_typing.proofs.Comparisons.{is_below, number_same, other_number, same_number}
+use Rattle.sql_typing.proofs.Comparisons.{number_same, same_number}
 use Rattle.sql_typing.proofs.Distinct.{IsAmong}
 use Rattle.sql_meaning.specs.Laws.{HasValues, IsShownAs, numbers_at}
 use Rattle.sql_meaning.specs.Rows.{row_at, shown}
 use Rattle.sql_meaning.proofs.Asked.{column_argument}
-use Rattle.sql_meaning.proofs.Named.{IsRead, all_names, all_read}
+use Rattle.sql_meaning.proofs.Named.{IsRead, all_names, all_read, found, number_is}
 use Rattle.sql_meaning.proofs.Readings.{shown_is}
-use Rattle.sql_headline.specs.Sections.{with_names}
+use Rattle.sql_meaning.specs.Attained.{with_names}
 
 -- ---- places
 
-at_place : (c : ℕ) (cs : List ℕ) → IsAmong c cs → slice_get cs (position_or_len (λ i. i == c) cs) ≡ Some c
-at_place c [] h = elim h [ ]
-at_place c (x ∷ cs) h = elim (cases_eq x c) [
-  | inl e ↦ rw (number_same x c e) (ap Some e)
-  | inr other ↦
-      let next : 1 + position_or_len (λ i. i == c) cs ≡ suc (position_or_len (λ i. i == c) cs) = omega arith in
-      rw (other_number x c other, next) (at_place c cs (later x c cs other h))
-] where
-  later : (x c : ℕ) (cs : List ℕ) → x ≢ c → IsAmong c (x ∷ cs) → IsAmong c cs
-  later x c cs other (inl e) = absurd (other e)
-  later x c cs other (inr h) = h
-
 at_number : (c : ℕ) (cs : List ℕ) → IsAmong c cs → slice_get cs (number_at cs (Some c)) ≡ Some c
 at_number c cs h =
-    let at = at_place c cs h in
-    let within = slice_get_within cs (position_or_len (λ i. i == c) cs) c at in
-    let number : number_at cs (Some c) ≡ position_or_len (λ i. i == c) cs = rw (is_below (position_or_len (λ i. i == c) cs) (length cs) within) refl in
-    ap (slice_get cs) number ∙ at
+    let is = found c cs h in
+    ap (slice_get cs) (number_is c cs is) ∙ slice_get-get_or cs (position_or_len (λ i. i == c) cs) 0 is.within ∙ ap Some is.there
 
 -- the column that is found has the name
 found_name : (table : List ColumnHead) (name : List ℕ) (p : ℕ) → position (λ column. bytes_eq column.name name) table ≡ Some p → (column : ColumnHead) × (slice_get table p ≡ Some column) × (column.name ≡ name)
@@ -63,6 +48,7 @@ found_name (x ∷ xs) name p e =
 pub record IsKnown (table : List ColumnHead) (columns : List ℕ) (n : Name) : Type 0 where
   pub place : ℕ
   pub column : ColumnHead
+  pub found : place_of table n.name ≡ Some place
   pub at : slice_get table place ≡ Some column
   pub named : column.name ≡ n.name
   pub number : slice_get columns (number_of table columns n.name) ≡ Some place
@@ -78,13 +64,14 @@ module _ (table : List ColumnHead) (columns : List ℕ) where
       record {
         place = p;
         column = at.0;
+        found = e;
         at = at.1;
         named = at.2;
         number = ap (λ o. slice_get columns (number_at columns o)) e ∙ at_number p columns among;
       }
 
   -- one column has one name
-  one_name : (n m : Name) → IsKnown table columns n → IsKnown table columns m → number n ≡ number m → n.name ≡ m.name
+  pub one_name : (n m : Name) → IsKnown table columns n → IsKnown table columns m → number n ≡ number m → n.name ≡ m.name
   one_name n m a b e =
       let place : a.place ≡ b.place = same_Some a.place b.place (sym a.number ∙ ap (slice_get columns) e ∙ b.number) in
       let column : a.column ≡ b.column = same_Some a.column b.column (sym a.at ∙ ap (slice_get table) place ∙ b.at) in
