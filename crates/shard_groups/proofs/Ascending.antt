@@ -1,14 +1,12 @@
 -- Lines in order.
-use Rattle.std.proofs.Common.{◌≡◌, Bool, true, false, not, ◌&&◌, List, [], ◌∷◌, refl, sym, ◌∙◌, inl, inr, if◌then◌else◌, IsTrue, IsFalse, Option, Some, None}
-use Rattle.std.proofs.lemmas.Bool.{and_left, and_parts, and_right, false≢true, false_from_ne_true, not-true, not_from_true, or_cases, or_from}
+use Rattle.std.proofs.Common.{◌≡◌, Bool, true, false, not, ◌&&◌, List, [], ◌∷◌, refl, inl, inr, if◌then◌else◌, IsTrue, IsFalse, Option, Some, None}
+use Rattle.std.proofs.lemmas.Bool.{and_left, and_parts, and_right, false≢true, not-true, not_from_true, or_cases, or_from}
 use Rattle.shard_groups.specs.declared.keys.KeyValue.{KeyValue}
 use Rattle.shard_groups.specs.declared.keys.Span.{Span}
 use Rattle.shard_groups.specs.Keys.{at_most, comes_before, first_part, part_before}
 use Rattle.shard_groups.specs.Lines.{AreApart, AreCovered, AreLines, IsApart, IsAscending, IsCovered, in_order, placed}
-use Rattle.shard_groups.proofs.LineSets.{all_more}
+use Rattle.shard_groups.proofs.LineSets.{all_more, meets_not}
 use Rattle.shard_groups.proofs.ValueOrder.{either}
-use Rattle.shard_groups.proofs.Spans.{meets_back}
-use Rattle.shard_groups.specs.Keys.{meets}
 
 part_after : (x y : Option KeyValue) → IsTrue (part_before x y) → IsFalse (part_before y x)
 part_after None None t = refl
@@ -91,9 +89,6 @@ placed_apart own line (m ∷ ms) h = apart_if (comes_before m line) own line m m
 ordered_apart_one : (own : List Span) (lines : List (List Span)) → IsApart own lines → IsApart own (in_order lines)
 ordered_apart_one own [] h = tt
 ordered_apart_one own (line ∷ lines) h = placed_apart own line (in_order lines) (h.0, ordered_apart_one own lines h.1)
-
-meets_not : (a b : List Span) → IsFalse (meets a b) → IsFalse (meets b a)
-meets_not a b f = false_from_ne_true (meets b a) (λ t. false≢true (sym f ∙ meets_back b a t))
 
 all_apart_if : (t : Bool) (line m : List Span) (ms : List (List Span)) → IsApart line (m ∷ ms) → IsApart m ms → AreApart ms → AreApart (placed line ms) →
     AreApart (if t then m ∷ placed line ms else line ∷ m ∷ ms)

@@ -1,5 +1,5 @@
 -- Where each cell has one key, so has each line, and bounds that say the answers of the shards say that of the whole.
-use Rattle.std.proofs.Common.{◌≡◌, ℕ, ℤ, Bool, true, false, not, ◌&&◌, ◌||◌, List, [], ◌∷◌, ◌++◌, refl, sym, subst, inl, inr, if◌then◌else◌, IsTrue, IsFalse, Option, Some, None}
+use Rattle.std.proofs.Common.{◌≡◌, ℕ, ℤ, Bool, true, false, not, ◌&&◌, ◌||◌, List, [], ◌∷◌, ◌++◌, refl, sym, subst, inl, inr, if◌then◌else◌, IsTrue, IsFalse, Option, Some, None, ◌⊎◌}
 use Rattle.std.specs.List.{list_any}
 use Rattle.std.specs.Option.{is_some}
 use Rattle.std.proofs.lemmas.Bool.{and_from, and_parts, both_ways, cases_Bool, false≢true, or_cases, or_parts}
@@ -157,7 +157,7 @@ same_cell line cell one own w =
 
 -- ---- the share of a shard
 
-abbrev AreAllWithin : List Span → List Cell → Type 0
+abbrev pub AreAllWithin : List Span → List Cell → Type 0
 AreAllWithin line [] = Unit {0}
 AreAllWithin line (cell ∷ cells) = IsTrue (is_within cell.keys line) × AreAllWithin line cells
 
@@ -236,7 +236,7 @@ none_has key line (cell ∷ cells) within e has =
       | inr h ↦ none_has key line cells within.1 (kept_none (is_within cell.keys line) cell (cells_within line cells) e) h
     ]
 
-no_values : (key : Key) (line : List Span) (cells : List Cell) (values : List ℤ) → AreWithin key line cells →
+pub no_values : (key : Key) (line : List Span) (cells : List Cell) (values : List ℤ) → AreWithin key line cells →
     (IsFalse (has_cell key cells) → values ≡ []) → cells_within line cells ≡ [] → values ≡ []
 no_values key line cells values within missing e =
     elim (cases_Bool (has_cell key cells)) [ inl h ↦ absurd (none_has key line cells within e h) | inr f ↦ missing f ]
@@ -270,9 +270,27 @@ share_tells kind item key line cells values own k within told =
     tell_found kind item key line (cells_within line cells) values own k (kept_ones line cells told.one_keys) (kept_apart line cells told.apart)
     (kept_within line cells) (kept_told kind item key line cells values told.told) (no_values key line cells values within told.missing)
 
+-- ---- the only cell of a line
+
+abbrev pub OnlyCell : List Span → List Cell → Type 0
+OnlyCell line found = (cell : Cell) × (found ≡ cell ∷ []) × IsTrue (is_within line cell.keys)
+
+only_found : (line : List Span) (found : List Cell) → OneKeyOf line → AreOneKeys (keys_in found) → AreApart (keys_in found) → AreAllWithin line found →
+    (found ≡ []) ⊎ OnlyCell line found
+only_found line [] own ones apart within = inl refl
+only_found line (cell ∷ []) own ones apart within = inr (cell, refl, same_cell line cell.keys own ones.0 within.0)
+only_found line (cell ∷ next ∷ cells) own ones apart within =
+    absurd (both_ways (meets cell.keys next.keys) apart.0.0 (both_meet line cell.keys next.keys own ones.0 ones.1.0 within.0 within.1.0))
+
+-- no cell of a shard is kept, or one that has all keys of the line
+pub one_found : (line : List Span) (cells : List Cell) → OneKeyOf line → AreOneKeys (keys_in cells) → AreApart (keys_in cells) →
+    (cells_within line cells ≡ []) ⊎ OnlyCell line (cells_within line cells)
+one_found line cells own ones apart =
+    only_found line (cells_within line cells) own (kept_ones line cells ones) (kept_apart line cells apart) (kept_within line cells)
+
 -- ---- all shards
 
-ones_append : (front back : List (List Span)) → AreOneKeys front → AreOneKeys back → AreOneKeys (front ++ back)
+pub ones_append : (front back : List (List Span)) → AreOneKeys front → AreOneKeys back → AreOneKeys (front ++ back)
 ones_append [] back h k = k
 ones_append (c ∷ front) back h k = (h.0, ones_append front back h.1 k)
 

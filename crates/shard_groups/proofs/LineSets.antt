@@ -1,7 +1,7 @@
 -- How the lines of some cells change where a cell more comes.
 use Rattle.std.proofs.Common.{◌≡◌, ℕ, suc, ◌+◌, ◌<◌, Bool, false, List, [], ◌∷◌, ◌++◌, length, get_or, take, drop, sym, ap, ◌∙◌, subst, inl, inr, ◌⊎◌, IsTrue, IsFalse, add-one}
 use Rattle.std.specs.List.{insert, remove}
-use Rattle.std.proofs.lemmas.Bool.{both_ways}
+use Rattle.std.proofs.lemmas.Bool.{both_ways, false≢true, false_from_ne_true}
 use Rattle.std.proofs.lemmas.List.{drop_more, get_or_default, take-append-drop, take_more}
 use Rattle.shard_groups.specs.declared.keys.Span.{Span}
 use Rattle.shard_groups.specs.Keys.{hull, is_within, meets}
@@ -43,6 +43,10 @@ pub all_more : (cells lines others : List (List Span)) → ((c : List Span) → 
 all_more [] lines others more h = tt
 all_more (c ∷ cells) lines others more h = (more c h.0, all_more cells lines others more h.1)
 
+pub covers_itself : (cells : List (List Span)) → AreCovered cells cells
+covers_itself [] = tt
+covers_itself (c ∷ cells) = (inl (within_itself c), all_more cells cells (c ∷ cells) (λ d k. inr k) (covers_itself cells))
+
 pub covered_append : (front back others : List (List Span)) → AreCovered front others → AreCovered back others → AreCovered (front ++ back) others
 covered_append [] back others h k = k
 covered_append (l ∷ front) back others h k = (h.0, covered_append front back others h.1 k)
@@ -74,6 +78,9 @@ without_one [] other back h = h.1
 without_one (l ∷ front) other back h =
     (apart_both l front back (apart_left l front (other ∷ back) h.0) (apart_right l front (other ∷ back) h.0).1, without_one front other back h.1)
 
+pub meets_not : (a b : List Span) → IsFalse (meets a b) → IsFalse (meets b a)
+meets_not a b f = false_from_ne_true (meets b a) (λ t. false≢true (sym f ∙ meets_back b a t))
+
 -- what meets something within one of these is not apart from them
 meets_none : (a b o : List Span) (others : List (List Span)) → IsTrue (meets a b) → IsTrue (is_within a o) → IsApart o others → IsCovered b others → ⊥
 meets_none a b o [] m w apart h = h
@@ -98,7 +105,7 @@ joining_none cell cells lines h = record {
   narrowest = λ others apart k. (k.0, h.narrowest others apart k.1);
 }
 
-joined_covers : (line other : List Span) (front back : List (List Span)) → IsTrue (meets line other) → (c : List Span) →
+pub joined_covers : (line other : List Span) (front back : List (List Span)) → IsTrue (meets line other) → (c : List Span) →
     IsCovered c (line ∷ (front ++ other ∷ back)) → IsCovered c (hull line other ∷ (front ++ back))
 joined_covers line other front back m c (inl w) = inl (within_chain c line (hull line other) w (left_within line other m))
 joined_covers line other front back m c (inr h) =

@@ -10,14 +10,10 @@ use Rattle.shard_groups.specs.declared.keys.Span.{Span}
 use Rattle.shard_groups.specs.Groups.{bound_at, cells_within, is_present_by, is_present_in, keys_in, only, share, share_by}
 use Rattle.shard_groups.specs.Keys.{is_within, meets}
 use Rattle.shard_groups.specs.Laws.{AreCellBounds, AreSome, IsCellOf, OneShardIsAll}
-use Rattle.shard_groups.specs.Lines.{AreApart, AreCovered, AreLines, IsApart}
+use Rattle.shard_groups.specs.Lines.{AreApart, AreLines, IsApart}
 use Rattle.shard_groups.proofs.Later.{keep_only, keep_rest, meets_within, others_none}
-use Rattle.shard_groups.proofs.LineSets.{all_more}
+use Rattle.shard_groups.proofs.LineSets.{covers_itself}
 use Rattle.shard_groups.proofs.Spans.{within_itself}
-
-covers_itself : (cells : List (List Span)) → AreCovered cells cells
-covers_itself [] = tt
-covers_itself (c ∷ cells) = (inl (within_itself c), all_more cells cells (c ∷ cells) (λ d k. inr k) (covers_itself cells))
 
 own_lines : (cells : List (List Span)) → AreApart cells → AreLines cells cells
 own_lines cells apart = record { covered = covers_itself cells; apart = apart; narrowest = λ others h covered. covered }

@@ -112,11 +112,11 @@ null_by : (a b : Bool) → (IsTrue a → IsTrue b) → IsTrue (not a || b)
 null_by true b h = h refl
 null_by false b h = refl
 
-left_null : (a b : Bool) → IsTrue a → IsTrue (a || b)
+pub left_null : (a b : Bool) → IsTrue a → IsTrue (a || b)
 left_null true b p = refl
 left_null false b p = absurd (false≢true p)
 
-right_null : (a b : Bool) → IsTrue b → IsTrue (a || b)
+pub right_null : (a b : Bool) → IsTrue b → IsTrue (a || b)
 right_null true b p = refl
 right_null false b p = p
 
@@ -142,7 +142,7 @@ span_itself : (a : Span) → IsTrue (related_spans Within a a)
 span_itself a = within_from a a (null_itself a.null) (ends_itself a.ends)
 
 -- a is within b and b within c
-span_chain : (b a c : Span) → IsTrue (related_spans Within a b) → IsTrue (related_spans Within b c) → IsTrue (related_spans Within a c)
+pub span_chain : (b a c : Span) → IsTrue (related_spans Within a b) → IsTrue (related_spans Within b c) → IsTrue (related_spans Within a c)
 span_chain b a c p q =
     let e = within_parts a b p in
     let f = within_parts b c q in

@@ -11,7 +11,11 @@ use Rattle.query_model.specs.declared.bounds.Nullity.TheVariants.{Never, Possibl
 use Rattle.query_model.specs.declared.query.ItemKind.{ItemKind}
 use Rattle.query_model.specs.declared.query.ItemKind.TheVariants.{Count, Sum, Min, Max, Avg}
 use Rattle.shard_bounds.specs.Combined.{combined, FitsBound}
+use Rattle.shard_bounds.specs.Averages.{FitsAverage, combined_average, hull_of_averages, no_average}
+use Rattle.query_model.specs.Bounds.{AverageBound, fractions_of}
 use Rattle.shard_groups.specs.declared.cells.Cell.{Cell}
+use Rattle.shard_groups.specs.declared.cells.ItemBound.{ItemBound}
+use Rattle.shard_groups.specs.declared.cells.ItemBound.TheVariants as code
 use Rattle.shard_groups.specs.declared.fault.GroupFault.{GroupFault}
 use Rattle.shard_groups.specs.declared.fault.GroupFault.TheVariants.{NoMemory, TooWide}
 use Rattle.shard_groups.specs.declared.keys.Span.{Span}
@@ -35,9 +39,33 @@ no_rows Min = record { null = Always; lo = pos 0; hi = pos 0 }
 no_rows Max = record { null = Always; lo = pos 0; hi = pos 0 }
 no_rows Avg = record { null = Always; lo = pos 0; hi = pos 0 }
 
+-- what is said of an item: a bound, or that of an average
+pub data Said : Type 0 where
+  Value : Bound → Said
+  Average : AverageBound → Said
+
+-- the average that a cell states is that of two fractions
+abbrev pub said_of : ItemBound → Said
+said_of (code.Value bound) = Value bound
+said_of (code.Average bound) = Average (fractions_of bound)
+
+abbrev pub value_by : Option ItemBound → Bound
+value_by None = no_rows Sum
+value_by (Some (code.Value bound)) = bound
+value_by (Some (code.Average bound)) = no_rows Sum
+
 -- what a cell says of an item
 abbrev pub bound_at : ℕ → Cell → Bound
-bound_at item cell = slice_index_or cell.items item (no_rows Sum)
+bound_at item cell = value_by (slice_get cell.items item)
+
+abbrev pub average_by : Option ItemBound → AverageBound
+average_by None = no_average
+average_by (Some (code.Value bound)) = no_average
+average_by (Some (code.Average bound)) = fractions_of bound
+
+-- what a cell says of an average
+abbrev pub average_at : ℕ → Cell → AverageBound
+average_at item cell = average_by (slice_get cell.items item)
 
 abbrev pub cells_within : List Span → List Cell → List Cell
 cells_within line cells = filter (λ cell. is_within cell.keys line) cells
@@ -110,27 +138,79 @@ bound_over kind item line shards = combined kind (shares kind item line shards)
 abbrev pub is_present : List Span → List (List Cell) → Bool
 is_present line shards = list_any (is_present_in line) shards
 
--- item by item, from one on
-abbrev pub bounds_from : ℕ → List ItemKind → List Span → List (List Cell) → List Bound
-bounds_from item [] line shards = []
-bounds_from item (kind ∷ kinds) line shards = bound_over kind item line shards ∷ bounds_from (item + 1) kinds line shards
+-- ---- averages
 
--- the line of a combined report
-abbrev pub line_over : List ItemKind → List (List Cell) → List Span → Cell
-line_over kinds shards line = record { keys = line; present = is_present line shards; items = bounds_from 0 kinds line shards }
+abbrev pub loose_word : Nullity → Nullity
+loose_word Never = Possibly
+loose_word Possibly = Possibly
+loose_word Always = Always
+
+-- the same average, or none
+abbrev pub loosened : AverageBound → AverageBound
+loosened bound = record { null = loose_word bound.null; lo = bound.lo; hi = bound.hi }
+
+-- each of some bounds may tell the average, or none
+abbrev pub uncertain_average : List AverageBound → AverageBound
+uncertain_average bounds = hull_of_averages (map loosened bounds)
+
+abbrev pub average_share_by : ℕ → Option Cell → List Cell → AverageBound
+average_share_by item (Some cell) cells = average_at item cell
+average_share_by item None cells = uncertain_average (map (average_at item) cells)
+
+-- the bound that a shard gives of the average for each key of the line
+abbrev pub average_share : ℕ → List Span → List Cell → AverageBound
+average_share item line cells = average_share_by item (only line (cells_within line cells)) (cells_within line cells)
+
+-- the bound of the average over all shards for each key of the line
+abbrev pub average_over : ℕ → List Span → List (List Cell) → AverageBound
+average_over item line shards = combined_average (map (average_share item line) shards)
+
+-- ---- the combined report
+
+-- what is said of an item over all shards
+abbrev pub said_over : ItemKind → ℕ → List Span → List (List Cell) → Said
+said_over Count item line shards = Value (bound_over Count item line shards)
+said_over Sum item line shards = Value (bound_over Sum item line shards)
+said_over Min item line shards = Value (bound_over Min item line shards)
+said_over Max item line shards = Value (bound_over Max item line shards)
+said_over Avg item line shards = Average (average_over item line shards)
+
+-- item by item, from one on
+abbrev pub said_from : ℕ → List ItemKind → List Span → List (List Cell) → List Said
+said_from item [] line shards = []
+said_from item (kind ∷ kinds) line shards = said_over kind item line shards ∷ said_from (item + 1) kinds line shards
+
+-- what is said of the keys of a line
+pub record IsLineOver (kinds : List ItemKind) (shards : List (List Cell)) (cell : Cell) : Type 0 where
+  pub present : cell.present ≡ is_present cell.keys shards
+  pub items : map said_of cell.items ≡ said_from 0 kinds cell.keys shards
+
+abbrev pub AreLinesOver : List ItemKind → List (List Cell) → List Cell → Type 0
+AreLinesOver kinds shards [] = Unit {0}
+AreLinesOver kinds shards (cell ∷ cells) = IsLineOver kinds shards cell × AreLinesOver kinds shards cells
 
 -- the cells of a combined report: the lines of the cells of all shards, in order, and what each says
 pub record IsCombined (kinds : List ItemKind) (shards : List (List Cell)) (cells : List Cell) : Type 0 where
   pub lines : AreLines (all_keys shards) (keys_in cells)
   pub ascending : IsAscending (keys_in cells)
-  pub each : cells ≡ map (line_over kinds shards) (keys_in cells)
+  pub each : AreLinesOver kinds shards cells
 
--- there is such an item, and for the keys of some line its bound leaves 128 bits
+-- the ends are numbers of the code
+abbrev pub FitsSaid : Said → Type 0
+FitsSaid (Value bound) = FitsBound bound
+FitsSaid (Average bound) = FitsAverage bound
+
+-- there is such an item, and for the keys of some line an end of its bound leaves 128 bits, or a number of values 64
 pub record IsTooWide (kinds : List ItemKind) (shards : List (List Cell)) (item : ℕ) : Type 0 where
   pub kind : ItemKind
   pub is : slice_get kinds item ≡ Some kind
   pub line : List Span
-  pub wide : FitsBound (bound_over kind item line shards) → ⊥
+  pub wide : FitsSaid (said_over kind item line shards) → ⊥
+
+-- this is said of an item, and leaves these ranges
+abbrev pub IsItemFault : GroupFault → ℕ → Said → Type 0
+IsItemFault (TooWide place) item said = (place ≡ item) × (FitsSaid said → ⊥)
+IsItemFault NoMemory item said = Unit {0}
 
 abbrev pub IsGroupFault : GroupFault → List ItemKind → List (List Cell) → Type 0
 IsGroupFault (TooWide item) kinds shards = IsTooWide kinds shards item

@@ -9,14 +9,16 @@ use Rattle.query_model.specs.declared.bounds.Bound.{Bound}
 use Rattle.query_model.specs.declared.bounds.Nullity.TheVariants.{Never}
 use Rattle.query_model.specs.declared.query.ItemKind.{ItemKind}
 use Rattle.query_model.specs.declared.query.ItemKind.TheVariants.{Count, Sum, Min, Max, Avg}
-use Rattle.query_model.specs.Answers.{answer}
-use Rattle.query_model.specs.Bounds.{Admits, IsNested}
+use Rattle.query_model.specs.Answers.{answer, average}
+use Rattle.query_model.specs.Bounds.{Admits, IsNested, AdmitsAverage}
+use Rattle.shard_bounds.specs.Combined as answers
 use Rattle.shard_bounds.specs.Combined.{answer_over, IsBoundOf, Reordered}
 use Rattle.shard_bounds.specs.Laws.{Tells}
+use Rattle.shard_bounds.specs.Averages.{IsDivisible, ReportsAverage, TellsAverage}
 use Rattle.shard_groups.specs.declared.cells.Cell.{Cell}
 use Rattle.shard_groups.specs.declared.keys.Ends.{Ends}
 use Rattle.shard_groups.specs.declared.keys.Span.{Span}
-use Rattle.shard_groups.specs.Groups.{all_keys, bound_at, bound_over, is_present, keys_in}
+use Rattle.shard_groups.specs.Groups.{all_keys, bound_at, bound_over, is_present, keys_in, average_at, average_over}
 use Rattle.shard_groups.specs.Keys.{Key, at_most, holds, is_within, meets}
 use Rattle.shard_groups.specs.Lines.{AreApart, AreLines, AreCovered}
 
@@ -248,3 +250,63 @@ pub record AreOwnLines (kind : ItemKind) (item : ℕ) (cells : List Cell) : Type
 
 abbrev pub OneShardIsAll : Type 0
 OneShardIsAll = (kind : ItemKind) (item : ℕ) (cells : List Cell) → kind ≢ Avg → AreCells kind item cells → AreOwnLines kind item cells
+
+-- ---- averages
+
+-- each cell that has the key reports the average over these values
+abbrev pub AreReportedAt : ℕ → Key → List Cell → List ℤ → Type 0
+AreReportedAt item key [] values = Unit {0}
+AreReportedAt item key (cell ∷ cells) values =
+    (IsTrue (holds cell.keys key) → ReportsAverage (average_at item cell) (average values)) × AreReportedAt item key cells values
+
+abbrev pub AreCellsDivisible : ℕ → List Cell → Type 0
+AreCellsDivisible item [] = Unit {0}
+AreCellsDivisible item (cell ∷ cells) = IsDivisible (average_at item cell) × AreCellsDivisible item cells
+
+-- the report of a shard is certain of the average at the key: one fraction alone is the sum of the values over their number
+pub record IsAverageCertainAt (item : ℕ) (key : Key) (cells : List Cell) (values : List ℤ) : Type 0 where
+  pub divisible : AreCellsDivisible item cells
+  pub reports : AreReportedAt item key cells values
+  pub missing : IsFalse (has_cell key cells) → values ≡ []
+
+abbrev pub AreAveragesCertainAt : ℕ → Key → List (List Cell) → List (List ℤ) → Type 0
+AreAveragesCertainAt item key [] [] = Unit {0}
+AreAveragesCertainAt item key [] (values ∷ tables) = ⊥
+AreAveragesCertainAt item key (cells ∷ shards) [] = ⊥
+AreAveragesCertainAt item key (cells ∷ shards) (values ∷ tables) =
+    IsAverageCertainAt item key cells values × AreAveragesCertainAt item key shards tables
+
+-- a line that has the key contains its average over the rows of all shards
+abbrev pub LinesContainAverages : Type 0
+LinesContainAverages =
+    (item : ℕ) (key : Key) (shards : List (List Cell)) (tables : List (List ℤ))
+    (lines : List (List Span)) (line : List Span) →
+    AreLines (all_keys shards) lines → IsOneOf line lines → IsTrue (holds line key) →
+    AreAveragesCertainAt item key shards tables → AdmitsAverage (average_over item line shards) (answers.average_over tables)
+
+-- each cell that has the key says the sum and the number of these values
+abbrev pub AreAveragesToldAt : ℕ → Key → List Cell → List ℤ → Type 0
+AreAveragesToldAt item key [] values = Unit {0}
+AreAveragesToldAt item key (cell ∷ cells) values =
+    (IsTrue (holds cell.keys key) → TellsAverage (average_at item cell) (average values)) × AreAveragesToldAt item key cells values
+
+pub record IsAverageToldAt (item : ℕ) (key : Key) (cells : List Cell) (values : List ℤ) : Type 0 where
+  pub one_keys : AreOneKeys (keys_in cells)
+  pub apart : AreApart (keys_in cells)
+  pub told : AreAveragesToldAt item key cells values
+  pub missing : IsFalse (has_cell key cells) → values ≡ []
+
+abbrev pub AreAllAveragesToldAt : ℕ → Key → List (List Cell) → List (List ℤ) → Type 0
+AreAllAveragesToldAt item key [] [] = Unit {0}
+AreAllAveragesToldAt item key [] (values ∷ tables) = ⊥
+AreAllAveragesToldAt item key (cells ∷ shards) [] = ⊥
+AreAllAveragesToldAt item key (cells ∷ shards) (values ∷ tables) =
+    IsAverageToldAt item key cells values × AreAllAveragesToldAt item key shards tables
+
+-- where each shard's report is exact, the line of the key says the sum and the number of its values in all shards
+abbrev pub LinesTellAverages : Type 0
+LinesTellAverages =
+    (item : ℕ) (key : Key) (shards : List (List Cell)) (tables : List (List ℤ))
+    (lines : List (List Span)) (line : List Span) →
+    AreLines (all_keys shards) lines → IsOneOf line lines → IsTrue (holds line key) →
+    AreAllAveragesToldAt item key shards tables → TellsAverage (average_over item line shards) (answers.average_over tables)

@@ -1,4 +1,6 @@
+pub mod Cuts
 pub mod Groups
 pub mod Keys
 pub mod Laws
 pub mod Lines
+pub mod Steps

@@ -5,6 +5,7 @@ ghost use Rattle.std.specs.Cmp.Lexicographic.{slice_cmp};
 ghost use Rattle.std.specs.Ordering.{is_le, nat_cmp};
 ghost use Rattle.shard_groups.specs.Keys.{at_most, greater, hull, lesser, related, related_spans};
 ghost use Rattle.shard_groups.specs.Keys.{ends_hull, ends_meet, ends_within, span_hull};
+ghost use Rattle.shard_groups.specs.Steps.{same_span};
 
 use daq_table::{Listed, Text};
 use std::alloc::{AllocError, Global};
@@ -80,6 +81,13 @@ fn related_spans(relation: Relation, a: &Span, b: &Span) -> bool
         Relation::Meet => (a.null && b.null) || ends_meet(&a.ends, &b.ends),
         Relation::Within => (!a.null || b.null) && ends_within(&a.ends, &b.ends),
     }
+}
+
+// Whether both allow the same.
+pub(crate) fn same_span(a: &Span, b: &Span) -> bool
+    ensures { result ≡ same_span a.now b.now }
+{
+    related_spans(Relation::Within, a, b) && related_spans(Relation::Within, b, a)
 }
 
 // Whether the keys of `a` and of `b` stand so to one another.

@@ -1,6 +1,7 @@
 //! The laws of combined reports by groups. Each stands on a function that does nothing.
 
-ghost use Rattle.shard_groups.specs.Laws.{LinesAreOne, LinesContain, LinesNest, LinesTell, LinesTellKeys, OneShardIsAll, OrderIsFree};
+ghost use Rattle.shard_groups.specs.Laws.{LinesAreOne, LinesContain, LinesContainAverages, LinesNest};
+ghost use Rattle.shard_groups.specs.Laws.{LinesTell, LinesTellAverages, LinesTellKeys, OneShardIsAll, OrderIsFree};
 
 /// Where the shards' reports are certain of a key, a line that has it contains its answer over the rows of all shards.
 pub fn lines_contain()
@@ -35,4 +36,14 @@ pub fn lines_are_one()
 /// The lines of one shard are its cells, and each says what its cell says.
 pub fn one_shard_is_all()
     ensures { OneShardIsAll }
+{}
+
+/// Where the shards' reports are certain of the average at a key, a line that has the key contains it over the rows of all shards.
+pub fn lines_contain_averages()
+    ensures { LinesContainAverages }
+{}
+
+/// Where the shards' reports are exact, the line of a key says the sum and the number of its values in all shards.
+pub fn lines_tell_averages()
+    ensures { LinesTellAverages }
 {}

@@ -8,6 +8,7 @@ ghost use Rattle.shard_groups.specs.declared.keys.Span.{Span};
 
 use crate::cells::{Cell, Cells};
 use crate::keys::{Keys, Relation, Span, copied_keys, hull, related};
+use crate::merged::{in_steps, lines_in_order};
 use crate::order::in_order;
 use std::alloc::{AllocError, Global};
 
@@ -69,6 +70,10 @@ pub(crate) fn lines(alloc: Global, shards: &[Cells]) -> Result<Vec<Keys>, AllocE
     ensures lines { IfOk result (λ lines. AreLines (all_keys shards.now) lines.items) }
     ensures ascending { IfOk result (λ lines. IsAscending lines.items) }
 {
+    let lines = lines_in_order(alloc, shards)?;
+    if in_steps(&lines) {
+        return Ok(lines);
+    }
     let lines = lines_in_any_order(alloc, shards)?;
     let ordered = in_order(alloc, &lines)?;
     Ok(ordered)

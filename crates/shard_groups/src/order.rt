@@ -4,8 +4,9 @@ ghost use Rattle.std.specs.Prelude.{◌≡◌, ◌≤◌, IfNone, IfOk, IfSome, 
 ghost use Rattle.std.specs.List.{insert};
 ghost use Rattle.shard_groups.specs.Keys.{comes_before, first_part, part_before};
 ghost use Rattle.shard_groups.specs.Lines.{in_order, placed};
+ghost use Rattle.shard_groups.specs.Steps.{is_before, is_step, last_of, span_before};
 
-use crate::keys::{KeyValue, Keys, Span, at_most, copied_keys};
+use crate::keys::{Ends, KeyValue, Keys, Relation, Span, at_most, copied_keys, related, same_span};
 use std::alloc::{AllocError, Global};
 
 // The least value that a span allows, unless it allows null.
@@ -34,8 +35,56 @@ fn starts_before(a: &Span, b: &Span) -> bool
     }
 }
 
+// The greatest value of a range.
+fn last_of(ends: &Option<Ends>) -> Option<&KeyValue>
+    ensures value { IfSome result (λ value. last_of ends.now ≡ Some value.now) }
+    ensures none { IfNone result (last_of ends.now ≡ None) }
+{
+    match ends {
+        Some(ends) => Some(&ends.high),
+        None => None,
+    }
+}
+
+// Whether all that `a` allows comes before all that `b` does.
+fn span_before(a: &Span, b: &Span) -> bool
+    ensures { result ≡ span_before a.now b.now }
+{
+    match (last_of(&a.ends), first_part(b)) {
+        (None, None) => false,
+        (None, Some(_)) => true,
+        (Some(_), None) => false,
+        (Some(x), Some(y)) => !at_most(y, x),
+    }
+}
+
+// Whether each key of `a` comes before each of `b`.
+fn is_before(a: &[Span], b: &[Span]) -> bool
+    ensures { result ≡ is_before a.now b.now }
+{
+    for (i, span) in a.iter().enumerate() {
+        if b.len() <= i {
+            return false;
+        }
+        if span_before(span, &b[i]) {
+            return true;
+        }
+        if !same_span(span, &b[i]) {
+            return false;
+        }
+    }
+    false
+}
+
+// Whether the next line has a key, and its keys come behind those of the line.
+pub(crate) fn is_step(line: &[Span], next: &[Span]) -> bool
+    ensures { result ≡ is_step line.now next.now }
+{
+    related(Relation::Meet, next, next) && is_before(line, next) && !comes_before(next, line)
+}
+
 // Whether the least key of `a` comes before that of `b`.
-fn comes_before(a: &[Span], b: &[Span]) -> bool
+pub(crate) fn comes_before(a: &[Span], b: &[Span]) -> bool
     ensures { result ≡ comes_before a.now b.now }
 {
     for (i, span) in a.iter().enumerate() {

@@ -1,12 +1,14 @@
 //! What a shard says of the keys of a line.
 
 ghost use Rattle.std.specs.Prelude.{◌≡◌, ◌+◌, IfNone, IfSome, None, Some, [], map};
+ghost use Rattle.shard_groups.specs.Cuts.{AreNear};
 ghost use Rattle.shard_groups.specs.Groups.{IsFirstWithin, bound_at, cells_within, is_present, is_present_in};
 ghost use Rattle.shard_groups.specs.Groups.{no_rows, only, share, uncertain, wider};
 ghost use Rattle.shard_groups.specs.Keys.{is_within};
 
-use crate::cells::{Cell, Cells};
+use crate::cells::{Cell, Cells, ItemBound};
 use crate::keys::{Relation, Span, related};
+use crate::runs::{Run, near};
 use query_model::{Bound, ItemKind, Nullity};
 
 // What is said where no row counts.
@@ -25,12 +27,12 @@ fn bound_at(item: usize, cell: &Cell) -> Bound
     ensures { result ≡ bound_at item cell.now }
 {
     match cell.items.as_slice().get(item) {
-        Some(bound) => *bound,
-        None => no_rows(ItemKind::Sum),
+        Some(ItemBound::Value(bound)) => *bound,
+        Some(ItemBound::Average(_)) | None => no_rows(ItemKind::Sum),
     }
 }
 
-fn is_within(a: &[Span], b: &[Span]) -> bool
+pub(crate) fn is_within(a: &[Span], b: &[Span]) -> bool
     ensures { result ≡ is_within a.now b.now }
 {
     related(Relation::Within, a, b)
@@ -50,7 +52,7 @@ fn first_within(line: &[Span], cells: &[Cell]) -> Option<usize>
 }
 
 // The cell within the line, if it is the only one and has all keys of the line.
-fn only<'a>(line: &[Span], cells: &'a [Cell]) -> Option<&'a Cell>
+pub(crate) fn only<'a>(line: &[Span], cells: &'a [Cell]) -> Option<&'a Cell>
     ensures found { IfSome result (λ cell. only line.now (cells_within line.now cells.now) ≡ Some cell.now) }
     ensures none { IfNone result (only line.now (cells_within line.now cells.now) ≡ None) }
 {
@@ -127,11 +129,12 @@ fn is_present_in(line: &[Span], cells: &[Cell]) -> bool
 }
 
 // Whether some shard has them.
-pub(crate) fn is_present(line: &[Span], shards: &[Cells]) -> bool
+pub(crate) fn is_present(line: &[Span], shards: &[Cells], runs: &[Run]) -> bool
+    requires { AreNear line.now shards.now runs.now }
     ensures { result ≡ is_present line.now shards.now }
 {
-    for cells in shards {
-        if is_present_in(line, cells.as_slice()) {
+    for shard in 0..shards.len() {
+        if is_present_in(line, near(line, shards, runs, shard)) {
             return true;
         }
     }
