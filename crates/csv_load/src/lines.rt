@@ -47,10 +47,10 @@ fn stops(bytes: u8x16) -> u64
     ensures { result ≡ mask_l (map may_stop bytes) }
 {
     let comma = bytes.simd_eq(u8x16::splat(b','));
-    let feed = bytes.simd_eq(u8x16::splat(b'\n'));
+    let line_feed = bytes.simd_eq(u8x16::splat(b'\n'));
     let quote = bytes.simd_eq(u8x16::splat(b'"'));
-    let back = bytes.simd_eq(u8x16::splat(b'\r'));
-    (comma | feed | quote | back).to_bitmask()
+    let carriage_return = bytes.simd_eq(u8x16::splat(b'\r'));
+    (comma | line_feed | quote | carriage_return).to_bitmask()
 }
 
 // Where the line breaks end that stand at that place.
