@@ -1,5 +1,5 @@
-//! Whether what is kept of a cell is brought to rows that moved, or all rows are added one by one, which is faster where many moved and many
-//! planes are read. It affects speed alone.
+//! Whether what is kept of a cell is brought to rows that moved, or all rows are added one by one, which is faster where many rows moved
+//! and many planes are read. It affects speed alone.
 
 use crate::kept_product::KeptProduct;
 use crate::signs::count_of_counts;
