@@ -1,17 +1,18 @@
 -- That the texts of keys lack the words that stand around them, and what they begin with.
-use Rattle.std.proofs.Common.{◌≡◌, ℕ, zero, suc, ◌/◌, ◌^◌, ◌<◌, ◌≤◌, ◌==◌, Bool, true, false, List, [], ◌∷◌, ◌++◌, length, codes, decimal, Option, Some, None, refl, sym, ap, ◌∙◌, arith, append_assoc, ℤ, pos, negsuc, unsigned_abs}
+use Rattle.std.proofs.Common.{◌≡◌, ℕ, zero, suc, ◌/◌, ◌^◌, ◌<◌, ◌≤◌, ◌==◌, Bool, true, false, List, [], ◌∷◌, ◌++◌, length, codes, decimal, Option, Some, None, refl, sym, ap, subst, ◌∙◌, arith, append_assoc, ℤ, pos, negsuc, unsigned_abs}
 use Rattle.std.proofs.Math.Nat.{div-le_self}
 use Rattle.std.proofs.lemmas.Bool.{false≢true}
 use Rattle.std.proofs.lemmas.Bool.Decides.{Decides-eqb}
 use Rattle.std.proofs.lemmas.Fmt.{decimal_is_IsNumeral_wide}
-use Rattle.std.proofs.lemmas.List.{append-nil}
+use Rattle.std.proofs.lemmas.List.{append-nil, length-append}
+use Rattle.std.proofs.lemmas.Str.Parse.{digit_from_value}
 use Rattle.std.specs.Str.Parse.{AllDigits}
 use Rattle.daq_table.specs.Numbers.{sign_text}
 use Rattle.daq_table.specs.ValueTexts.{IsDay, quoted_text, text_of_date}
 use Rattle.report_text.proofs.DateTexts.{date_fails}
 use Rattle.report_text.proofs.DigitTexts.{other_byte}
 use Rattle.report_text.proofs.EndTexts.{end_is_end}
-use Rattle.report_text.proofs.NumberTexts.{abs_small, digits_fail, places, places_digits, places_length, plain, scaled-plain}
+use Rattle.report_text.proofs.NumberTexts.{abs_small, digits_fail, places, places_digits, places_length, plain, plain_some, scaled-plain}
 use Rattle.report_text.proofs.Outside.{eq_turned, fails_lacks, lacks-append, quoted_lacks}
 use Rattle.report_text.specs.Forms.{IsIntervalEnd, text_in, text_of_end}
 use Rattle.report_text.specs.Keys.{AreShownEnds, AreValueEnds, IsShownPart, dotted, part_text, text_of_ends}
@@ -22,7 +23,7 @@ use Rattle.report_text.specs.declared.forms.Form.{Form}
 use Rattle.report_text.specs.declared.forms.Form.TheVariants.{Date, Decimals}
 use Rattle.report_text.specs.declared.forms.IntervalEnd.{IntervalEnd}
 use Rattle.report_text.specs.declared.keys.ShownEnds.{ShownEnds}
-use Rattle.report_text.specs.declared.keys.ShownEnds.TheVariants.{Texts, Values}
+use Rattle.report_text.specs.declared.keys.ShownEnds.TheVariants.{NoText, Texts, Values}
 use Rattle.report_text.specs.declared.keys.TextEnds.{TextEnds}
 use Rattle.report_text.specs.declared.keys.ValueEnds.{ValueEnds}
 use Rattle.report_text.specs.declared.numbers.Number.{Number}
@@ -110,6 +111,7 @@ ends_lack w ws (Values ends) h quote dot k =
     dotted_lacks w ws _ (text_in ends.form ends.low) (text_in ends.form ends.high) dot (end_lacks w ws (low_value ends) h k.low) (end_lacks w ws (high_value ends) h k.high)
 ends_lack w ws (Texts ends) h quote dot k =
     dotted_lacks w ws _ (quoted_text ends.low) (quoted_text ends.high) dot (quoted_lacks w ws ends.low quote) (quoted_lacks w ws ends.high quote)
+ends_lack w ws NoText h quote dot k = fails_lacks w ws (codes "-") (refl, tt) (fails_byte w (codes "-") h (refl, tt))
 
 -- no comma stands in what a key may have in a column
 pub part_lacks : (null : Bool) (ends : Option ShownEnds) → IsShownPart null ends → LacksOutside (codes ", ") false (part_text null ends)
@@ -168,7 +170,47 @@ first_of_null : first (codes "null") ≡ 110
 unfolding first
 first_of_null = refl
 
+dash_first : (rest : List ℕ) → first (codes "-" ++ rest) ≡ 45
+unfolding first
+dash_first rest = refl
+
 -- nor is either the word null
 pub not_null : {P : Type 0} (ends : ShownEnds) (rest : List ℕ) → AreShownEnds ends → text_of_ends ends ++ rest ≡ codes "null" → P
 not_null (Values ends) rest h e = absurd (false≢true (sym (values_first ends rest h) ∙ ap (λ (t : List ℕ). is_other (first t)) e ∙ ap is_other first_of_null))
 not_null (Texts ends) rest h e = absurd (let same : 39 ≡ 110 = sym (texts_first ends rest) ∙ ap first e ∙ first_of_null in omega (arith, same))
+not_null NoText rest h e = absurd (let same : 45 ≡ 110 = sym (dash_first rest) ∙ ap first e ∙ first_of_null in omega (arith, same))
+
+-- ---- a dash
+
+plain_no_dash : (scale n : ℕ) → n < 2 ^ 128 → plain scale n ≡ codes "-" → ⊥
+plain_no_dash zero n small e =
+    let digits : AllDigits 10 (codes "-") = subst (AllDigits 10) e (decimal_is_IsNumeral_wide n (omega arith)).0.1 in
+    let range = digit_from_value 45 digits.0 in
+    omega (arith, range)
+plain_no_dash (suc scale) n small e =
+    let m = n / 10 ^ suc scale in
+    let some = (decimal_is_IsNumeral_wide m (omega (arith, div-le_self n (10 ^ suc scale)))).0.0 in
+    omega (arith, some, ap length e, length-append (decimal m) (46 ∷ places (suc scale) n))
+
+dash_by : (z : ℤ) (scale : ℕ) → unsigned_abs z < 2 ^ 128 → sign_text z ++ plain scale (unsigned_abs z) ≡ codes "-" → ⊥
+dash_by (pos n) scale small e = plain_no_dash scale n small e
+dash_by (negsuc n) scale small e = omega (arith, ap length e, plain_some scale (suc n) small)
+
+date_no_dash : (day : ℤ) → text_of_date day ≡ codes "-" → ⊥
+date_no_dash day e = let whole = simp length-append at (ap length e) in omega (arith, whole)
+
+value_no_dash : (form : Form) (value : ℤ) → IsIntervalEnd (record { form = form; value = value }) → text_in form value ≡ codes "-" → ⊥
+value_no_dash (Decimals decimals) value h e = dash_by value decimals (abs_small value h.fits) (sym (scaled-plain decimals value) ∙ e)
+value_no_dash Date value h e = date_no_dash value e
+
+dotted_no_dash : (equal : Bool) (low high : List ℕ) → (low ≡ codes "-" → ⊥) → dotted equal low high ≡ codes "-" → ⊥
+dotted_no_dash true low high h e = h e
+dotted_no_dash false low high h e = omega (arith, ap length e, length-append low (codes ".." ++ high))
+
+-- no value is shown so, and no text
+pub no_dash : {P : Type 0} (ends : ValueEnds) → AreValueEnds ends → text_of_ends (Values ends) ≡ codes "-" → P
+no_dash ends h e = absurd (dotted_no_dash _ (text_in ends.form ends.low) (text_in ends.form ends.high) (value_no_dash ends.form ends.low h.low) e)
+
+pub no_quoted_dash : {P : Type 0} (ends : TextEnds) → text_of_ends (Texts ends) ≡ codes "-" → P
+no_quoted_dash ends e =
+    absurd (let same : 39 ≡ 45 = sym (texts_first ends []) ∙ ap (λ (t : List ℕ). first (t ++ [])) e ∙ dash_first [] in omega (arith, same))

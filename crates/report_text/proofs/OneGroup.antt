@@ -9,7 +9,7 @@ use Rattle.std.specs.Ordering.{int_eq}
 use Rattle.std.specs.Str.{bytes_eq}
 use Rattle.daq_table.specs.ValueTexts.{quoted_text}
 use Rattle.report_text.proofs.EndTexts.{end_one}
-use Rattle.report_text.proofs.KeyTexts.{dots, high_value, low_value, no_texts, not_null, null_lacks, part_lacks, value_lacks}
+use Rattle.report_text.proofs.KeyTexts.{dots, high_value, low_value, no_dash, no_quoted_dash, no_texts, not_null, null_lacks, part_lacks, value_lacks}
 use Rattle.report_text.proofs.Outside.{parted_one, parted_or_whole, quoted_lacks, quoted_one}
 use Rattle.report_text.specs.Forms.{text_in}
 use Rattle.report_text.specs.Groups.{AreShownKeys, GroupsSayOne, presence_text}
@@ -18,7 +18,7 @@ use Rattle.report_text.specs.Quotes.{LacksOutside}
 use Rattle.report_text.specs.declared.forms.Form.{Form}
 use Rattle.report_text.specs.declared.forms.IntervalEnd.{IntervalEnd}
 use Rattle.report_text.specs.declared.keys.ShownEnds.{ShownEnds}
-use Rattle.report_text.specs.declared.keys.ShownEnds.TheVariants.{Texts, Values}
+use Rattle.report_text.specs.declared.keys.ShownEnds.TheVariants.{NoText, Texts, Values}
 use Rattle.report_text.specs.declared.keys.ShownSpan.{ShownSpan}
 use Rattle.report_text.specs.declared.keys.TextEnds.{TextEnds}
 use Rattle.report_text.specs.declared.keys.ValueEnds.{ValueEnds}
@@ -63,11 +63,16 @@ texts_one a b e =
 alone : (s t : List ℕ) → s ≡ t → s ++ [] ≡ t ++ []
 alone s t e = ap (λ (x : List ℕ). x ++ []) e
 
-ends_one : (a b : ShownEnds) → AreShownEnds a → AreShownEnds b → text_of_ends a ≡ text_of_ends b → a ≡ b
+pub ends_one : (a b : ShownEnds) → AreShownEnds a → AreShownEnds b → text_of_ends a ≡ text_of_ends b → a ≡ b
 ends_one (Values a) (Values b) h k e = ap (λ (x : ValueEnds). Values x) (values_one a b h k e)
 ends_one (Texts a) (Texts b) h k e = ap (λ (x : TextEnds). Texts x) (texts_one a b e)
 ends_one (Values a) (Texts b) h k e = no_texts a b [] [] h (alone (text_of_ends (Values a)) (text_of_ends (Texts b)) e)
 ends_one (Texts a) (Values b) h k e = no_texts b a [] [] k (alone (text_of_ends (Values b)) (text_of_ends (Texts a)) (sym e))
+ends_one NoText NoText h k e = refl
+ends_one (Values a) NoText h k e = no_dash a h e
+ends_one NoText (Values b) h k e = no_dash b k (sym e)
+ends_one (Texts a) NoText h k e = no_quoted_dash a e
+ends_one NoText (Texts b) h k e = no_quoted_dash b (sym e)
 
 -- ---- keys
 

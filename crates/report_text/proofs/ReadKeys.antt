@@ -17,7 +17,7 @@ use Rattle.report_text.specs.Quotes.{LacksOutside}
 use Rattle.report_text.specs.Reading.{IsReadTo, others_text}
 use Rattle.report_text.specs.declared.forms.IntervalEnd.{IntervalEnd}
 use Rattle.report_text.specs.declared.keys.ShownEnds.{ShownEnds}
-use Rattle.report_text.specs.declared.keys.ShownEnds.TheVariants.{Texts, Values}
+use Rattle.report_text.specs.declared.keys.ShownEnds.TheVariants.{NoText, Texts, Values}
 use Rattle.report_text.specs.declared.keys.ShownSpan.{ShownSpan}
 use Rattle.report_text.specs.declared.keys.TextEnds.{TextEnds}
 use Rattle.report_text.specs.declared.keys.ValueEnds.{ValueEnds}
@@ -40,7 +40,7 @@ abbrev pub AreAround : List ℕ → List ℕ → List ℕ → Type 0
 AreAround text low high =
     (equal : Bool) (a b : List ℕ) → LacksOutside dots false a → (equal ≡ true → a ≡ b) → dotted equal a b ≡ text → (low ≡ a) × (high ≡ b)
 
-module _ (text low high : List ℕ) (around : AreAround text low high) where
+module _ (text low high : List ℕ) (around : AreAround text low high) (other : text ≡ codes "-" → ⊥) where
   values_parts : (ends : ValueEnds) → AreValueEnds ends → text_of_ends (Values ends) ≡ text → (low ≡ text_in ends.form ends.low) × (high ≡ text_in ends.form ends.high)
   values_parts ends h e =
       around (int_eq ends.low ends.high) (text_in ends.form ends.low) (text_in ends.form ends.high) (value_lacks (low_value ends) h.low) (same_values ends) e
@@ -54,12 +54,14 @@ module _ (text low high : List ℕ) (around : AreAround text low high) where
       (ends : ShownEnds) → AreShownEnds ends → text_of_ends ends ≡ text → read ≡ Some ends
   from_texts read rest quote texts (Values ends) h e = no_quote ends rest h (sym (values_parts ends h e).0 ∙ quote)
   from_texts read rest quote texts (Texts ends) h e = let parts = texts_parts ends e in texts ends h (sym parts.0) (sym parts.1)
+  from_texts read rest quote texts NoText h e = absurd (other (sym e))
 
   pub from_values : (read : Option ShownEnds) → ((rest : List ℕ) → low ≢ codes "'" ++ rest) →
       ((ends : ValueEnds) → AreValueEnds ends → text_in ends.form ends.low ≡ low → text_in ends.form ends.high ≡ high → read ≡ Some (Values ends)) →
       (ends : ShownEnds) → AreShownEnds ends → text_of_ends ends ≡ text → read ≡ Some ends
   from_values read none values (Values ends) h e = let parts = values_parts ends h e in values ends h (sym parts.0) (sym parts.1)
   from_values read none values (Texts ends) h e = absurd (none (flat_map doubled ends.low ++ codes "'") (texts_parts ends e).0)
+  from_values read none values NoText h e = absurd (other (sym e))
 
 pub values_are_read : (ends : ValueEnds) (low high : IntervalEnd) → low ≡ low_value ends → high ≡ high_value ends →
     ◌≡◌ {A = ValueEnds} (record { form = low.form; low = low.value; high = high.value }) ends

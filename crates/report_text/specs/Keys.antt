@@ -9,7 +9,7 @@ use Rattle.std.specs.Str.{bytes_eq}
 use Rattle.daq_table.specs.ValueTexts.{quoted_text}
 use Rattle.report_text.specs.Forms.{IsIntervalEnd, text_in}
 use Rattle.report_text.specs.declared.keys.ShownEnds.{ShownEnds}
-use Rattle.report_text.specs.declared.keys.ShownEnds.TheVariants.{Texts, Values}
+use Rattle.report_text.specs.declared.keys.ShownEnds.TheVariants.{NoText, Texts, Values}
 use Rattle.report_text.specs.declared.keys.ShownSpan.{ShownSpan}
 use Rattle.report_text.specs.declared.keys.TextEnds.{TextEnds}
 use Rattle.report_text.specs.declared.keys.ValueEnds.{ValueEnds}
@@ -18,10 +18,11 @@ use Rattle.report_text.specs.declared.keys.ValueEnds.{ValueEnds}
 abbrev pub dotted : Bool → List ℕ → List ℕ → List ℕ
 dotted equal low high = if equal then low else low ++ (codes ".." ++ high)
 
--- numbers and dates in their form, and texts in quotes
+-- numbers and dates in their form, texts in quotes, and a dash where a column of texts has none
 abbrev pub text_of_ends : ShownEnds → List ℕ
 text_of_ends (Values ends) = dotted (int_eq ends.low ends.high) (text_in ends.form ends.low) (text_in ends.form ends.high)
 text_of_ends (Texts ends) = dotted (bytes_eq ends.low ends.high) (quoted_text ends.low) (quoted_text ends.high)
+text_of_ends NoText = codes "-"
 
 -- what a key may have in a column: values, null, or both
 abbrev pub part_text : Bool → Option ShownEnds → List ℕ
@@ -57,6 +58,7 @@ AreTextEnds ends = is_le (slice_cmp nat_cmp ends.low ends.high) ≡ true
 abbrev pub AreShownEnds : ShownEnds → Type 0
 AreShownEnds (Values ends) = AreValueEnds ends
 AreShownEnds (Texts ends) = AreTextEnds ends
+AreShownEnds NoText = Unit {0}
 
 -- something is allowed, and what is allowed is shown
 abbrev pub IsShownPart : Bool → Option ShownEnds → Type 0

@@ -40,6 +40,8 @@ pub struct TextEnds {
 pub enum ShownEnds {
     Values(ValueEnds),
     Texts(TextEnds),
+    /// The one value of a column of texts that has no text. No row has it.
+    NoText,
 }
 
 /// What a key may have in a group column: null, the values of a range, or both.
@@ -118,6 +120,9 @@ fn read_ends(alloc: Global, text: &[u8]) -> Result<Option<ShownEnds>, AllocError
     ensures shown { IfOk result (λ read. IfSome read AreShownEnds) }
     ensures read { IfOk result (λ read. (ends : ShownEnds) → AreShownEnds ends → text_of_ends ends ≡ text.now → read ≡ Some ends) }
 {
+    if text == b"-".as_slice() {
+        return Ok(Some(ShownEnds::NoText));
+    }
     let (low, high) = around_dots(text);
     match behind(low, b"'") {
         Some(_) => read_texts(alloc, low, high),
@@ -199,6 +204,7 @@ fn append_ends(ends: &ShownEnds, text: &mut Vec<u8>) -> Result<(), AllocError>
     match ends {
         ShownEnds::Values(ends) => append_values(ends, text),
         ShownEnds::Texts(ends) => append_texts(ends, text),
+        ShownEnds::NoText => Ok(text.extend_from_slice(b"-")?),
     }
 }
 
