@@ -17,7 +17,6 @@ pub record IsAlone (stage : Stage) (single : Bool) : Type 0 where
 
 -- the masks are of so many rows, and one has none of them
 pub record HoldMasks (rows : ℕ) (masks : CellMasks) : Type 0 where
-  pub within : length masks.within ≡ rows
   pub selection : HasRows rows masks.selection
   pub added : length masks.added ≡ rows
   pub none : masks.none ≡ replicate rows false

@@ -14,7 +14,6 @@ ghost use Rattle.round_engine.specs.Selected.{HasRows};
 ghost use Rattle.round_engine.specs.Stages.{IsOpenItem, IsOpenStage};
 
 use crate::counted_sums::is_by_counts;
-use crate::few_cells::FEW_CELLS;
 use crate::one_cell::CellMasks;
 use crate::selection::Selection;
 use aggregates::{Running, Tally};
@@ -23,7 +22,15 @@ use known_column::LentColumns;
 use plane_kernels::Mask;
 use product_sums::{CellOf, CountedRows, KeptProduct, kept_tally};
 use query_model::{Item, TypedQuery};
-use row_groups::{Cells, cells_tell_keys};
+use row_groups::{Cells, FEW_CELLS, cells_tell_keys};
+
+// A cell among others, its rows, and whether those that count do so for certain.
+#[derive(Clone, Copy)]
+struct CellRows<'a> {
+    place: CellOf,
+    within: &'a Mask,
+    certain: bool,
+}
 
 impl Selection {
     // Selects those of some rows at which a condition holds. Where `certain` is false, none of them surely counts.
@@ -54,30 +61,30 @@ impl CellMasks {
         item: &Item,
         columns: &LentColumns<'_>,
         filter: &Filter,
-        place: CellOf,
-        certain: bool,
+        part: CellRows<'_>,
         kept: &mut Option<KeptProduct>,
     ) -> Option<Tally>
         requires open_stage { IsOpenStage (stage_of query.now columns.now) }
         requires open_item { IsOpenItem columns.now.frame item.now }
         requires judged { filter.now.truths ≡ truths_under query.now.pred columns.now }
+        requires within { length part.within.now ≡ columns.now.frame.rows }
         requires by_counts { IsByCounts columns.now.frame item.now }
-        requires part { IsPart (stage_of query.now columns.now) place.cell certain self.old.within }
+        requires part { IsPart (stage_of query.now columns.now) part.place.cell part.certain part.within.now }
         requires masks { HoldMasks columns.now.frame.rows self.old }
         requires kept { IfSome kept.old (IsKeptProduct columns.now item.now.arg) }
         ensures masks { HoldMasks columns.now.frame.rows self.new }
         ensures kept { IfSome kept.new (IsKeptProduct columns.now item.now.arg) }
         ensures tally { IfSome result (λ tally.
-            tally ≡ tally_of item.now.kind (pairs_in_cell query.now item.now place.cell columns.now.frame columns.now.known)) }
+            tally ≡ tally_of item.now.kind (pairs_in_cell query.now item.now part.entry.place.cell columns.now.frame columns.now.known)) }
     {
         self.selection
-            .select_passing_within(&self.within, filter, certain, &self.none);
+            .select_passing_within(part.within, filter, part.certain, &self.none);
         self.selection.keep_valued(&item.arg, columns);
         let rows = CountedRows {
             may: &self.selection.may,
             must: &self.selection.must,
         };
-        kept_tally(item.kind, &item.arg, columns, rows, kept, place)
+        kept_tally(item.kind, &item.arg, columns, rows, kept, part.place)
     }
 
     // Makes each cell stand for its rows, where there are few cells and counts tell each.
@@ -114,10 +121,14 @@ impl CellMasks {
         cells_tell_keys();
         running.begin(total as usize);
         for cell in 0..total {
-            cells.select(cell, &mut self.within);
+            let within = cells.rows_of(cell);
             let certain = single[cell as usize];
-            let place = CellOf { cell, cells: total };
-            match self.counted_part(query, item, columns, filter, place, certain, kept) {
+            let part = CellRows {
+                place: CellOf { cell, cells: total },
+                within,
+                certain,
+            };
+            match self.counted_part(query, item, columns, filter, part, kept) {
                 Some(tally) => running.set(cell, tally),
                 None => return false,
             }

@@ -1,11 +1,12 @@
 //! Items of groups of few cells, told cell by cell by masks.
 
-ghost use Rattle.std.specs.Prelude.{◌≡◌, ◌&&◌, true, if◌then◌else◌, count_by, length, map};
+ghost use Rattle.std.specs.Prelude.{◌≡◌, ◌≤◌, ◌^◌, ◌&&◌, true, if◌then◌else◌, count_by, length, map};
 ghost use Rattle.std.specs.Simd.Lanes.{zip2};
 ghost use Rattle.aggregates.specs.Tallies.{tally_of};
 ghost use Rattle.kleene_filter.specs.Filters.{is_certain, truths_under};
 ghost use Rattle.query_model.specs.Groups.{pairs_in_cell};
 ghost use Rattle.query_model.specs.Queries.{Column};
+ghost use Rattle.row_groups.specs.Partition.{digits_of};
 ghost use Rattle.round_engine.specs.CellAnswers.{HasRoom, IsParted, StandForCells};
 ghost use Rattle.round_engine.specs.Counts.{is_counted};
 ghost use Rattle.round_engine.specs.Engines.{stage_of};
@@ -20,9 +21,6 @@ use known_column::LentColumns;
 use plane_kernels::Mask;
 use query_model::{Expr, Item, TypedQuery};
 use row_groups::{Cells, cells_tell_keys};
-
-// So many cells are told one after the other by masks. It affects speed alone.
-pub(crate) const FEW_CELLS: u32 = 16;
 
 // How many of some rows surely count: where their cell holds one key, those at which the condition surely holds.
 fn count_sure_within(within: &Mask, filter: &Filter, certain: bool) -> u64
@@ -45,17 +43,18 @@ impl CellMasks {
         columns: &LentColumns<'_>,
         filter: &Filter,
         cell: u32,
+        within: &Mask,
         certain: bool,
     ) -> Tally
         requires open_stage { IsOpenStage (stage_of query.now columns.now) }
         requires judged { filter.now.truths ≡ truths_under query.now.pred columns.now }
         requires counted { is_counted columns.now.frame item.now ≡ true }
-        requires part { IsPart (stage_of query.now columns.now) cell certain self.now.within }
+        requires part { IsPart (stage_of query.now columns.now) cell certain within.now }
         ensures { result ≡ tally_of item.now.kind (pairs_in_cell query.now item.now cell columns.now.frame columns.now.known) }
     {
         Tally {
-            certain: count_sure_within(&self.within, filter, certain),
-            all: self.within.count_and(filter.may()),
+            certain: count_sure_within(within, filter, certain),
+            all: within.count_and(filter.may()),
             ..Tally::none()
         }
     }
@@ -69,19 +68,21 @@ impl CellMasks {
         columns: &LentColumns<'_>,
         filter: &Filter,
         cell: u32,
+        within: &Mask,
         certain: bool,
     ) -> Tally
         requires open_stage { IsOpenStage (stage_of query.now columns.now) }
         requires open_item { IsOpenItem columns.now.frame item.now }
         requires judged { filter.now.truths ≡ truths_under query.now.pred columns.now }
+        requires within { length within.now ≡ columns.now.frame.rows }
         requires column { item.now.arg ≡ Column column }
-        requires part { IsPart (stage_of query.now columns.now) cell certain self.old.within }
+        requires part { IsPart (stage_of query.now columns.now) cell certain within.now }
         requires masks { HoldMasks columns.now.frame.rows self.old }
         ensures masks { HoldMasks columns.now.frame.rows self.new }
         ensures tally { result ≡ tally_of item.now.kind (pairs_in_cell query.now item.now cell columns.now.frame columns.now.known) }
     {
         let known = columns.column(column as usize);
-        self.selection.select_within(&self.within, filter, known);
+        self.selection.select_within(within, filter, known);
         self.selection
             .lend()
             .certain_if(certain, &self.none)
@@ -103,6 +104,7 @@ impl CellMasks {
         requires open_item { IsOpenItem columns.now.frame item.now }
         requires judged { filter.now.truths ≡ truths_under query.now.pred columns.now }
         requires by_masks { is_by_masks columns.now.frame item.now ≡ true }
+        requires few { 2 ^ digits_of cells.now.parts ≤ 16 }
         requires parted { IsParted (stage_of query.now columns.now) cells.now single.now }
         requires masks { HoldMasks columns.now.frame.rows self.old }
         requires room { HasRoom (stage_of query.now columns.now) item.now running.old }
@@ -112,13 +114,13 @@ impl CellMasks {
         cells_tell_keys();
         running.begin(cells.count() as usize);
         for cell in 0..cells.count() {
-            cells.select(cell, &mut self.within);
+            let within = cells.rows_of(cell);
             let certain = single[cell as usize];
             let tally = match &item.arg {
-                Expr::Column(column) => {
-                    self.column_part(query, item, *column, columns, filter, cell, certain)
-                }
-                _ => self.count_part(query, item, columns, filter, cell, certain),
+                Expr::Column(column) => self.column_part(
+                    query, item, *column, columns, filter, cell, within, certain,
+                ),
+                _ => self.count_part(query, item, columns, filter, cell, within, certain),
             };
             running.set(cell, tally);
         }

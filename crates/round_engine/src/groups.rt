@@ -18,8 +18,7 @@ ghost use Rattle.round_engine.specs.Stages.{IsGrouped, IsOpenItem, IsOpenStage, 
 
 use crate::cell_filling::fill_cells;
 use crate::cell_room::{every_row, most_cells, open_cells, open_each};
-use crate::few_cells::FEW_CELLS;
-use crate::group_columns::is_group;
+use crate::group_columns::{is_group, part_cells};
 use crate::kept_products::open_products;
 use crate::moved::{moved_items, moves_rows};
 use crate::one_cell::CellMasks;
@@ -33,7 +32,8 @@ use plane_kernels::Plane;
 use product_sums::KeptProduct;
 use query_model::{AverageBound, Bound, Item, ItemKind, Nullity, TypedQuery};
 use row_groups::{
-    CellKeys, Cells, cells_tell_keys, opening_stands, others_leave_cells, refining_stands,
+    CellKeys, Cells, FEW_CELLS, cells_tell_keys, opening_stands, others_leave_cells,
+    refining_stands,
 };
 use std::alloc::{AllocError, Global};
 
@@ -255,7 +255,7 @@ impl Groups {
         others_leave_cells();
         refining_stands();
         if is_group(query, column) {
-            self.cells.refine(column as u8, plane);
+            part_cells(query, &mut self.cells, column as u8, plane);
             tell_single(&self.cells, &mut self.single);
         }
     }

@@ -21,11 +21,10 @@ use plane_kernels::Mask;
 use query_model::{Expr, Item, TypedQuery};
 use std::alloc::{AllocError, Global};
 
-// Room for the rows of a cell, for those of them that give a value, and for those whose ends are added up; and a mask of no row. Beside it
+// Room for the rows of a cell that give a value, and for those whose ends are added up; and a mask of no row. Beside it
 // room for the counts and the sums of many cells.
 #[derive(Drop)]
 pub(crate) struct CellMasks {
-    pub(crate) within: Mask,
     pub(crate) selection: Selection,
     pub(crate) added: Mask,
     pub(crate) none: Mask,
@@ -81,7 +80,6 @@ impl CellMasks {
         ensures { IfOk result (HoldMasks rows) }
     {
         Ok(CellMasks {
-            within: Mask::none(alloc, rows)?,
             selection: Selection::open(alloc, rows)?,
             added: Mask::none(alloc, rows)?,
             none: Mask::none(alloc, rows)?,

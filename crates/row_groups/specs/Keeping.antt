@@ -1,8 +1,8 @@
 -- What is kept of cells, and what is done to one of them.
-use Rattle.std.specs.Prelude.{◌≡◌, ℕ, ◌+◌, ◌*◌, ◌/◌, ◌%◌, ◌^◌}
-use Rattle.std.specs.Prelude.{◌<◌, ◌≤◌, ◌==◌, Bool, cond, if◌then◌else◌}
+use Rattle.std.specs.Prelude.{◌≡◌, ℕ, suc, ◌+◌, ◌*◌, ◌/◌, ◌%◌, ◌^◌}
+use Rattle.std.specs.Prelude.{◌<◌, ◌≤◌, ◌==◌, Bool, false, cond, if◌then◌else◌}
 use Rattle.std.specs.Prelude.{List, [], ◌∷◌, length, map, replicate, sum, get_or}
-use Rattle.std.specs.List.{All}
+use Rattle.std.specs.List.{All, range_with_len}
 use Rattle.daq_table.specs.Tables.{planes}
 use Rattle.row_groups.specs.declared.part.GroupPart.{GroupPart}
 use Rattle.row_groups.specs.Partition.{digits_of, planes_of_parts}
@@ -31,11 +31,33 @@ AreFirst rows masks = (cell : ℕ) → cell < length masks → get_or masks cell
 abbrev pub HaveRows : ℕ → List (List Bool) → Type 0
 HaveRows rows masks = (place : ℕ) → place < length masks → length (get_or masks place []) ≡ rows
 
--- the cells, and the masks of the first of them, which have their rows where there are no more cells than masks
-pub record AreHeld (parts : List GroupPart) (cells : List ℕ) (masks : List (List Bool)) : Type 0 where
-  pub kept : AreKept parts cells
-  pub long : HaveRows (length cells) masks
-  pub told : 2 ^ digits_of parts ≤ length masks → HaveCells (2 ^ digits_of parts) cells masks
+-- the first of these masks that has a row
+abbrev pub first_with : ℕ → List (List Bool) → ℕ
+first_with row [] = 0
+first_with row (mask ∷ masks) = if get_or mask row false then 0 else suc (first_with row masks)
+
+-- the cells of so many rows, as masks tell them
+abbrev pub cells_told : ℕ → List (List Bool) → List ℕ
+cells_told rows masks = map (λ row. first_with row masks) (range_with_len 0 rows)
+
+-- the cells that are written, or where none is those that masks tell
+abbrev pub told_cells : ℕ → List (List Bool) → List ℕ → List ℕ
+told_cells rows masks [] = cells_told rows masks
+told_cells rows masks (cell ∷ cells) = cell ∷ cells
+
+-- a number where a bit is 0, another where it is 1
+abbrev pub written : ℕ → ℕ → Bool → ℕ
+written number old bit = cond bit number old
+
+-- of so many rows masks tell the cells while these are few; the cells are written before they are more, else there is room for them
+pub record AreHeld (parts : List GroupPart) (rows : ℕ) (masks : List (List Bool)) (cells : List ℕ) (room : ℕ) : Type 0 where
+  pub kept : AreKept parts (told_cells rows masks cells)
+  pub count : length masks ≡ 16
+  pub long : HaveRows rows masks
+  pub same : length (told_cells rows masks cells) ≡ rows
+  pub told : 2 ^ digits_of parts ≤ 16 → HaveCells (2 ^ digits_of parts) (told_cells rows masks cells) masks
+  pub many : 16 < 2 ^ digits_of parts → length cells ≡ rows
+  pub room_left : cells ≡ [] → rows ≤ room
 
 -- the digits of a cell that stand behind those of the column
 abbrev pub digits_behind : List GroupPart → ℕ → ℕ

@@ -1,19 +1,19 @@
 //! The cells of rows.
 
-ghost use Rattle.std.specs.Prelude.{◌≡◌, ◌≤◌, ◌<◌, ◌^◌, ◌*◌, ◌==◌};
-ghost use Rattle.std.specs.Prelude.{All, IsTrue, length, sum, map, take, drop, slice_get};
+ghost use Rattle.std.specs.Prelude.{◌≡◌, ◌≤◌, ◌<◌, ◌^◌, ◌==◌};
+ghost use Rattle.std.specs.Prelude.{All, IsTrue, length, sum, map, slice_get};
 ghost use Rattle.std.specs.Prelude.{IfOk, IfSome, IsSome, Some, ◌↔◌};
 ghost use Rattle.daq_table.specs.Tables.{planes};
 ghost use Rattle.row_groups.specs.Partition.{digits_of, has_unread, is_legal_cell, planes_of_parts};
 ghost use Rattle.row_groups.specs.Partition.{ranges_in, ranges_of_cell, refined, unread_cells, unread_part};
 
-use crate::bits::insert_plane;
+use crate::bits::insert_written;
 use crate::cell_keys::CellKeys;
 use crate::keys::read_keys;
 use crate::part::GroupPart;
-use crate::parting::part_first;
-use crate::parts::{count_digits, first_cells, numbers_of, raise, unread_parts};
-use crate::picking::{block_of, first_masks, select_rows};
+use crate::parting::{first_masks, part_first};
+use crate::parts::{count_digits, numbers_of, raise, unread_parts};
+use crate::telling::{cell_in, write_cells, write_many};
 use daq_table::Ends;
 use plane_kernels::{Mask, Plane};
 use std::alloc::{AllocError, Global};
@@ -22,9 +22,11 @@ use std::marker::Model;
 /// For each row of a table its cell: the digits that were read of the group columns, in their order, as one number.
 pub struct Cells {
     parts: Vec<GroupPart>,
-    cells: Vec<u16>,
-    // The rows of each cell, while there are no more cells than masks.
+    rows: usize,
+    // The rows of each cell, while there are few.
     masks: Vec<Mask>,
+    // The cell of each row, or room for it. It is written before there are more cells than few.
+    cells: Vec<u16>,
 }
 
 // A call of its own: a derived drop is proved anew wherever one is let go.
@@ -32,21 +34,23 @@ impl Drop for Cells {
     fn drop(self) {
         let Cells {
             parts: _,
-            cells: _,
+            rows: _,
             masks: _,
+            cells: _,
         } = self;
     }
 }
 
 impl Model for Cells {
-    ghost use Rattle.row_groups.specs.Keeping.{AreHeld};
+    ghost use Rattle.std.specs.Prelude.{vec_capacity};
+    ghost use Rattle.row_groups.specs.Keeping.{AreHeld, told_cells};
     ghost use Rattle.row_groups.specs.Partition.{RowCells};
 
     ghost Value = { RowCells };
 
-    ghost view = { λ c. record { parts = c.parts.items; cells = c.cells.items } };
+    ghost view = { λ c. record { parts = c.parts.items; cells = told_cells c.rows c.masks.items c.cells.items } };
 
-    ghost invariant = { λ c. AreHeld c.parts.items c.cells.items c.masks.items };
+    ghost invariant = { λ c. AreHeld c.parts.items c.rows c.masks.items c.cells.items (vec_capacity c.cells) };
 }
 
 impl Cells {
@@ -64,12 +68,13 @@ impl Cells {
         ensures { IfOk result (λ cells. cells ≡ unread_cells columns.now ends.now rows) }
     {
         let parts = unread_parts(alloc, columns, ends)?;
-        let cells = first_cells(alloc, rows)?;
         let masks = first_masks(alloc, rows)?;
+        let cells = Vec::with_capacity(alloc, rows)?;
         Ok(Cells {
             parts,
-            cells,
+            rows,
             masks,
+            cells,
         })
     }
 
@@ -77,7 +82,14 @@ impl Cells {
     pub fn rows(&self) -> usize
         ensures { result ≡ length self.now.cells }
     {
-        self.cells.len()
+        self.rows
+    }
+
+    /// Writes the cell of each row, unless it is written: from then on it is read where it stands. No cell changes.
+    pub fn tell_rows(&mut self)
+        ensures { self.new ≡ self.old }
+    {
+        write_cells(&mut self.cells, &self.masks, self.rows);
     }
 
     /// Parts each cell by the next plane of a group column.
@@ -87,8 +99,9 @@ impl Cells {
         ensures { self.new ≡ refined self.old column plane.now }
     {
         let digits = count_digits(&self.parts);
+        write_many(&mut self.cells, &self.masks, self.rows, digits);
         let shift = raise(&mut self.parts, column);
-        insert_plane(&mut self.cells, plane, shift, digits);
+        insert_written(&mut self.cells, plane, shift, digits);
         part_first(&mut self.masks, plane, shift, digits);
     }
 
@@ -98,27 +111,20 @@ impl Cells {
         ensures cell { slice_get self.now.cells row ≡ Some result }
         ensures counted { result < 2 ^ digits_of self.now.parts }
     {
-        u32::from(self.cells[row])
-    }
-
-    /// The cells of a block of 64 rows, or of those that the last block has.
-    pub fn block(&self, block: usize) -> &[u16]
-        requires { 64 * block < length self.now.cells }
-        ensures { result.now ≡ take 64 (drop (64 * block) self.now.cells) }
-    {
-        block_of(&self.cells, block)
-    }
-
-    /// Makes a mask the rows of a cell.
-    pub fn select(&self, cell: u32, rows: &mut Mask)
-        requires { length rows.old ≡ length self.now.cells }
-        ensures { rows.new ≡ map (λ c. c == cell) self.now.cells }
-    {
-        if self.count() as usize <= self.masks.len() && cell < self.count() {
-            rows.copy_from(&self.masks[cell as usize]);
+        if row < self.cells.len() {
+            u32::from(self.cells[row])
         } else {
-            select_rows(&self.cells, cell, rows);
+            cell_in(&self.masks, row)
         }
+    }
+
+    /// The rows of a cell, where there are few.
+    pub fn rows_of(&self, cell: u32) -> &Mask
+        requires few { 2 ^ digits_of self.now.parts ≤ 16 }
+        requires cell { cell < 2 ^ digits_of self.now.parts }
+        ensures { result.now ≡ map (λ c. c == cell) self.now.cells }
+    {
+        &self.masks[cell as usize]
     }
 
     /// How many cells there are.

@@ -9,12 +9,13 @@ mod laws;
 mod part;
 mod parting;
 mod parts;
-mod picking;
 mod planes;
 mod prefix;
+mod telling;
 
 pub use cell_keys::CellKeys;
 pub use cells::Cells;
 pub use laws::{cells_tell_keys, opening_stands, others_leave_cells, refining_stands};
 pub use part::GroupPart;
+pub use parting::FEW_CELLS;
 pub use prefix::PartRange;

@@ -1,12 +1,39 @@
-//! The masks of cells, parted by a plane.
+//! The masks of cells, at the start and parted by a plane.
 
-ghost use Rattle.std.specs.Prelude.{◌≡◌, ◌≤◌, ◌<◌, ◌+◌, ◌*◌, ◌^◌, List, ℕ, [], length, get_or, set};
+ghost use Rattle.std.specs.Prelude.{◌≡◌, ◌≤◌, ◌<◌, ◌+◌, ◌*◌, ◌^◌, ◌==◌, List, ℕ, [], length, get_or, replicate, set, IfOk};
 ghost use Rattle.std.specs.Simd.Lanes.{zip2};
 ghost use Rattle.plane_kernels.specs.Rows.{kept_rows};
-ghost use Rattle.row_groups.specs.Keeping.{HaveCells, HaveRows, digit_in, inserted, without_digit};
+ghost use Rattle.row_groups.specs.Keeping.{AreFirst, HaveCells, HaveRows, digit_in, inserted, without_digit};
 
 use crate::parts::numbers_of;
 use plane_kernels::{Mask, Plane};
+use std::alloc::{AllocError, Global};
+
+/// So many cells are few: they keep masks of their rows.
+pub const FEW_CELLS: u32 = 16;
+
+// The rows of a cell where all rows are in the first one.
+fn first_mask(alloc: Global, rows: usize, cell: usize) -> Result<Mask, AllocError>
+    ensures { IfOk result (λ mask. mask ≡ replicate rows (cell == 0)) }
+{
+    if cell == 0 {
+        Mask::all(alloc, rows)
+    } else {
+        Mask::none(alloc, rows)
+    }
+}
+
+// Those of the first cells.
+pub(crate) fn first_masks(alloc: Global, rows: usize) -> Result<Vec<Mask>, AllocError>
+    ensures count { IfOk result (λ masks. length masks.items ≡ 16) }
+    ensures masks { IfOk result (λ masks. AreFirst rows masks.items) }
+{
+    let mut masks = Vec::with_capacity(alloc, FEW_CELLS as usize)?;
+    for cell in 0..FEW_CELLS as usize {
+        masks.push(first_mask(alloc, rows, cell)?)?;
+    }
+    Ok(masks)
+}
 
 // A cell without the digit that was put in front of its lowest ones.
 fn without_digit(cell: u32, shift: u8) -> u32

@@ -1,7 +1,7 @@
 //! Group columns one after the other.
 
 ghost use Rattle.std.specs.Prelude.{◌≡◌, ◌≤◌, ◌<◌, ◌+◌, ◌^◌, ◌==◌, All, IsTrue, IfOk};
-ghost use Rattle.std.specs.Prelude.{length, map, replicate, sum};
+ghost use Rattle.std.specs.Prelude.{length, map, sum};
 ghost use Rattle.row_groups.specs.Keeping.{digits_behind};
 ghost use Rattle.row_groups.specs.Partition.{digits_of, has_unread, raised, unread_part};
 
@@ -27,13 +27,6 @@ pub(crate) fn unread_parts(
         })?;
     }
     Ok(parts)
-}
-
-// The cell of each row where nothing is read.
-pub(crate) fn first_cells(alloc: Global, rows: usize) -> Result<Vec<u16>, AllocError>
-    ensures { IfOk result (λ cells. cells.items ≡ replicate rows 0) }
-{
-    vec![in alloc; 0; rows]
 }
 
 // The planes read of these columns together.

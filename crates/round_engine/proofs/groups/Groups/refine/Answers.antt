@@ -15,15 +15,15 @@ overflow_cast-column c =
     let below = group_below (length c.args.columns.now.frame.columns) (groups_of c.args.query.now.shape) c.args.column (groups_within c.args.query.now c.args.columns.now.frame kept) is in
     omega (arith, below, kept.columns, kept.few_columns)
 
-pub refine-requires-clause-unread : goal.refine-requires-clause-unread
-refine-requires-clause-unread c =
+pub part_cells-requires-clause-unread : goal.part_cells-requires-clause-unread
+part_cells-requires-clause-unread c =
     let stood = c.requires.before in
     let is : IsTrue (is_group (groups_of c.args.query.now.shape) c.args.column) = sym c.is_group.ensures ∙ c.if-is_group.true in
     group_unread stood.before c.args.column c.args.plane.now stood.open_stage c.args.self.now.cells stood.answered.parted.cells_are
     (subst IsOpenStage stood.read c.requires.open_stage) (subst (λ (s : Stage). IsTrue (is_group (groups_of s.query.shape) c.args.column)) stood.read is)
 
-pub refine-requires-clause-rows : goal.refine-requires-clause-rows
-refine-requires-clause-rows c =
+pub part_cells-requires-clause-rows : goal.part_cells-requires-clause-rows
+part_cells-requires-clause-rows c =
     let stood = c.requires.before in
     c.requires.rows ∙ ap (λ (s : Stage). s.frame.rows) stood.read ∙ sym (parted_rows stood.before c.args.self.now.cells c.args.self.now.single.items stood.answered.parted)
 
@@ -32,10 +32,10 @@ tell_single-requires c =
     let stood = c.requires.before in
     let next = stepped stood.before c.args.column c.args.plane.now in
     let kept = subst IsOpenStage stood.read c.requires.open_stage in
-    let cells = c.refine.new.self in
+    let cells = c.part_cells.new.cells in
     let is = subst (λ (s : Stage). IsTrue (is_group (groups_of s.query.shape) c.args.column)) stood.read (sym c.is_group.ensures ∙ c.if-is_group.true) in
     let long = c.requires.rows ∙ ap (λ (s : Stage). s.frame.rows) stood.read in
-    let are = subst (AreCells next.frame next.known (groups_of next.query.shape)) (sym c.refine.ensures)
+    let are = subst (AreCells next.frame next.known (groups_of next.query.shape)) (sym c.part_cells.ensures)
     (cells_more stood.before c.args.column c.args.plane.now stood.open_stage c.refining_stands.ensures c.args.self.now.cells stood.answered.parted.cells_are long is) in
     let counted = (c.cells_tell_keys.ensures next.frame next.known (groups_of next.query.shape) cells are).count in
     omega (arith, counted, cells_fit next kept, ap length c.deref_mut.ensures.value, stood.answered.parted.room)
@@ -50,10 +50,10 @@ returns-then-is_group c =
     let room = c.tell_single.ensures.room in
     let same = written c.tell_single.new.single (drop (length c.tell_single.new.single) single.items) single.len (omega (arith, value, single.ok.0, room)) in
     parted_holds stood.before _ c.args.column c.args.plane.now c.args.self.now _ stood.read stood.answered
-    (subst (λ cells. IsParted (stepped stood.before c.args.column c.args.plane.now) cells (take single.len (c.tell_single.new.single ++ drop (length c.tell_single.new.single) single.items))) (sym c.refine.ensures)
+    (subst (λ cells. IsParted (stepped stood.before c.args.column c.args.plane.now) cells (take single.len (c.tell_single.new.single ++ drop (length c.tell_single.new.single) single.items))) (sym c.part_cells.ensures)
     (subst (IsParted (stepped stood.before c.args.column c.args.plane.now) (refined c.args.self.now.cells c.args.column c.args.plane.now)) (sym same)
     (parted_more stood.before c.args.column c.args.plane.now stood.open_stage c.refining_stands.ensures c.args.self.now.cells single.items c.tell_single.new.single stood.answered.parted long is
-    (subst (λ (cells : RowCells). TellSingle cells.parts c.tell_single.new.single) c.refine.ensures c.tell_single.ensures.told) (omega (arith, value, room)))))
+    (subst (λ (cells : RowCells). TellSingle cells.parts c.tell_single.new.single) c.part_cells.ensures c.tell_single.ensures.told) (omega (arith, value, room)))))
     refl refl refl refl
     (products_stay stood.before c.args.column c.args.plane.now c.args.self.now.products.items stood.open_stage (subst IsOpenStage stood.read c.requires.open_stage) (c.requires.rows ∙ ap (λ (s : Stage). s.frame.rows) stood.read) stood.answered.products)
 

@@ -8,16 +8,15 @@ use Rattle.round_engine.proofs.one_cell.CellMasks.column_part.Goals as goal
 
 pub tally-requires-clause-selection : goal.tally-requires-clause-selection
 tally-requires-clause-selection c =
-    selection_part c.args.query.now c.args.item.now c.args.columns.now c.args.cell c.args.certain c.args.self.now.within c.requires.part c.args.filter.now.truths c.requires.judged
+    selection_part c.args.query.now c.args.item.now c.args.columns.now c.args.cell c.args.certain c.args.within.now c.requires.part c.args.filter.now.truths c.requires.judged
     c.column-known.result.now c.args.column c.requires.column c.column-known.ensures.column c.column-known.ensures.rows c.certain_if.result
     (c.certain_if.ensures.may ∙ ap (λ s. s.may) c.lend.ensures ∙ c.select_within.ensures.may)
     (must_if c.args.certain _ _ _ _ _ c.certain_if.ensures.must (ap (λ s. s.must) c.lend.ensures ∙ c.select_within.ensures.must) c.requires.masks.none)
 
 pub returns-clause-masks : goal.returns-clause-masks
 returns-clause-masks c = record {
-  within = c.requires.masks.within;
   selection =
-      part_rows c.args.query.now c.args.item.now c.args.columns.now c.args.cell c.args.certain c.args.self.now.within c.requires.part c.args.filter.now.truths c.requires.judged
+      part_rows c.args.query.now c.args.item.now c.args.columns.now c.args.cell c.args.certain c.args.within.now c.requires.part c.args.filter.now.truths c.requires.judged
       c.column-known.result.now c.column-known.ensures.rows c.select_within.new.self c.select_within.ensures.may c.select_within.ensures.must;
   added = c.tally.ensures.room ∙ c.column-known.ensures.rows;
   none = c.requires.masks.none;
@@ -26,7 +25,7 @@ returns-clause-masks c = record {
 pub returns-clause-tally : goal.returns-clause-tally
 returns-clause-tally c =
     let same =
-    selected_part c.args.query.now c.args.item.now c.args.columns.now c.args.cell c.args.certain c.args.self.now.within c.requires.part c.args.filter.now.truths c.requires.judged
+    selected_part c.args.query.now c.args.item.now c.args.columns.now c.args.cell c.args.certain c.args.within.now c.requires.part c.args.filter.now.truths c.requires.judged
     c.column-known.result.now c.args.column c.requires.column c.column-known.ensures.column c.column-known.ensures.rows c.certain_if.result
     (c.certain_if.ensures.may ∙ ap (λ s. s.may) c.lend.ensures ∙ c.select_within.ensures.may)
     (must_if c.args.certain _ _ _ _ _ c.certain_if.ensures.must (ap (λ s. s.must) c.lend.ensures ∙ c.select_within.ensures.must) c.requires.masks.none) in

@@ -8,7 +8,7 @@ use Rattle.round_engine.proofs.one_cell.CellMasks.counted_part.Goals as goal
 
 pub keep_valued-requires-clause-room : goal.keep_valued-requires-clause-room
 keep_valued-requires-clause-room c =
-    part_room c.args.query.now c.args.item.now c.args.columns.now c.args.place.cell c.args.certain c.args.self.now.within c.requires.part c.args.filter.now.truths c.requires.judged
+    part_room c.args.query.now c.args.item.now c.args.columns.now c.args.part.place.cell c.args.part.certain c.args.part.within.now c.requires.part c.args.filter.now.truths c.requires.judged
     c.args.self.now.none c.requires.masks.none c.select_passing_within.new.self c.select_passing_within.ensures.may c.select_passing_within.ensures.must
 
 pub kept_tally-requires-clause-fits : goal.kept_tally-requires-clause-fits
@@ -18,16 +18,16 @@ kept_tally-requires-clause-fits c =
 
 pub kept_tally-requires-clause-must : goal.kept_tally-requires-clause-must
 kept_tally-requires-clause-must c =
-    part_nested c.args.query.now c.args.item.now c.args.columns.now c.args.place.cell c.args.certain c.args.self.now.within c.requires.part c.args.filter.now.truths c.requires.judged _ _ (ap (λ (i : Aggregate). i.kind) c.item.view_is) (ap (λ (i : Aggregate). i.arg) c.item.view_is)
+    part_nested c.args.query.now c.args.item.now c.args.columns.now c.args.part.place.cell c.args.part.certain c.args.part.within.now c.requires.part c.args.filter.now.truths c.requires.judged _ _ (ap (λ (i : Aggregate). i.kind) c.item.view_is) (ap (λ (i : Aggregate). i.arg) c.item.view_is)
     c.args.self.now.none c.requires.masks.none c.select_passing_within.new.self c.keep_valued.new.self c.keep_valued.ensures.room c.select_passing_within.ensures.may c.select_passing_within.ensures.must c.keep_valued.ensures.may c.keep_valued.ensures.must
 
 pub kept_tally-requires-clause-values : goal.kept_tally-requires-clause-values
 kept_tally-requires-clause-values c =
-    part_values c.args.query.now c.args.item.now c.args.columns.now c.args.place.cell c.args.certain c.args.self.now.within c.requires.part c.args.filter.now.truths c.requires.judged _ _ (ap (λ (i : Aggregate). i.kind) c.item.view_is) (ap (λ (i : Aggregate). i.arg) c.item.view_is)
+    part_values c.args.query.now c.args.item.now c.args.columns.now c.args.part.place.cell c.args.part.certain c.args.part.within.now c.requires.part c.args.filter.now.truths c.requires.judged _ _ (ap (λ (i : Aggregate). i.kind) c.item.view_is) (ap (λ (i : Aggregate). i.arg) c.item.view_is)
     c.args.self.now.none c.requires.masks.none c.select_passing_within.new.self c.keep_valued.new.self c.keep_valued.ensures.room c.select_passing_within.ensures.may c.select_passing_within.ensures.must c.keep_valued.ensures.may c.keep_valued.ensures.must
 
 pub returns-clause-tally : goal.returns-clause-tally
 returns-clause-tally c =
-    part_told c.args.query.now c.args.item.now c.args.columns.now c.args.place.cell c.args.certain c.args.self.now.within c.requires.part c.args.filter.now.truths c.requires.judged _ _ (ap (λ (i : Aggregate). i.kind) c.item.view_is) (ap (λ (i : Aggregate). i.arg) c.item.view_is)
+    part_told c.args.query.now c.args.item.now c.args.columns.now c.args.part.place.cell c.args.part.certain c.args.part.within.now c.requires.part c.args.filter.now.truths c.requires.judged _ _ (ap (λ (i : Aggregate). i.kind) c.item.view_is) (ap (λ (i : Aggregate). i.arg) c.item.view_is)
     c.args.self.now.none c.requires.masks.none c.select_passing_within.new.self c.keep_valued.new.self c.keep_valued.ensures.room c.select_passing_within.ensures.may c.select_passing_within.ensures.must c.keep_valued.ensures.may c.keep_valued.ensures.must
     c.kept_tally.result c.kept_tally.ensures.tally

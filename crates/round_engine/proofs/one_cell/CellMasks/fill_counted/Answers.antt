@@ -1,4 +1,4 @@
-use Rattle.std.proofs.Common.{◌≡◌, ◌==◌, length, IfSome, ap, sym, subst, ◌∙◌, arith}
+use Rattle.std.proofs.Common.{◌≡◌, ◌==◌, length, IfSome, ap, subst, ◌∙◌, arith}
 use Rattle.std.proofs.lemmas.List.{length-map}
 use Rattle.aggregates.specs.Tallies.{tally_of}
 use Rattle.query_model.specs.Answers.{groups_of}
@@ -15,9 +15,6 @@ begin-requires c =
     let counted = (c.cells_tell_keys.ensures c.args.columns.now.frame c.args.columns.now.known (groups_of c.args.query.now.shape) c.args.cells.now c.requires.parted.cells_are).count in
     omega (arith, counted, c.count-total.ensures, cells_fit stage c.requires.open_stage, c.requires.room.room)
 
-pub select-requires : goal.select-requires
-select-requires c = c.loop-cell.invariant.masks.within ∙ sym (parted_rows (stage_of c.args.query.now c.args.columns.now) c.args.cells.now c.args.single.now c.requires.parted)
-
 pub bounds-single-cell : goal.bounds-single-cell
 bounds-single-cell c =
     let stage = stage_of c.args.query.now c.args.columns.now in
@@ -26,18 +23,10 @@ bounds-single-cell c =
 
 pub counted_part-requires-clause-part : goal.counted_part-requires-clause-part
 counted_part-requires-clause-part c =
-    is_part (stage_of c.args.query.now c.args.columns.now) c.args.cells.now c.args.single.now c.loop-cell.cell c.select.new.rows c.requires.parted c.requires.open_stage.knowledge c.cells_tell_keys.ensures c.select.ensures
+    is_part (stage_of c.args.query.now c.args.columns.now) c.args.cells.now c.args.single.now c.loop-cell.cell c.rows_of-within.result.now c.requires.parted c.requires.open_stage.knowledge c.cells_tell_keys.ensures c.rows_of-within.ensures
 
 pub counted_part-requires-clause-masks : goal.counted_part-requires-clause-masks
-counted_part-requires-clause-masks c =
-    let masks = c.loop-cell.invariant.masks in
-    let cells = c.args.cells.now in
-    record {
-      within = ap length c.select.ensures ∙ length-map cells.cells (λ n. n == c.loop-cell.cell) ∙ parted_rows (stage_of c.args.query.now c.args.columns.now) cells c.args.single.now c.requires.parted;
-      selection = masks.selection;
-      added = masks.added;
-      none = masks.none;
-    }
+counted_part-requires-clause-masks c = c.loop-cell.invariant.masks
 
 pub loop-cell-preserved : goal.loop-cell-preserved
 loop-cell-preserved c = record {
@@ -47,3 +36,8 @@ loop-cell-preserved c = record {
       part_more c.args.query.now c.args.item.now c.args.columns.now c.loop-cell.cell c.loop-cell.running c.set.new.self _ c.requires.open_stage.knowledge c.loop-cell.invariant.parts c.set.ensures
       (subst (λ o. IfSome o (λ tally. tally ≡ tally_of c.args.item.now.kind (pairs_in_cell c.args.query.now c.args.item.now c.loop-cell.cell c.args.columns.now.frame c.args.columns.now.known))) c.in-Some.is c.counted_part.ensures.tally);
 }
+
+pub counted_part-requires-clause-within : goal.counted_part-requires-clause-within
+counted_part-requires-clause-within c =
+    let cells = c.args.cells.now in
+    ap length c.rows_of-within.ensures ∙ length-map cells.cells (λ n. n == c.loop-cell.cell) ∙ parted_rows (stage_of c.args.query.now c.args.columns.now) cells c.args.single.now c.requires.parted

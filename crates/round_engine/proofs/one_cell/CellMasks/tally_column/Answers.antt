@@ -36,7 +36,6 @@ tally-requires-else-nullable-clause-selection c =
 
 pub returns-then-nullable-clause-masks : goal.returns-then-nullable-clause-masks
 returns-then-nullable-clause-masks c = record {
-  within = c.requires.masks.within;
   selection =
       selected_rows c.args.columns.now.frame.rows c.args.filter.now.truths c.column-known.result.now c.select.new.self
       (ap length c.requires.judged ∙ length-map-range_with_len (truth_at c.args.query.now.pred c.args.columns.now) 0 c.args.columns.now.frame.rows)

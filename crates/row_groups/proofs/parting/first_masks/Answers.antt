@@ -1,6 +1,6 @@
 use Rattle.std.proofs.Common.{◌==◌, ◌∷◌, [], length-append, replicate, sym, ap, ◌∙◌, arith}
 use Rattle.row_groups.proofs.Picked.{first_more}
-use Rattle.row_groups.proofs.picking.first_masks.Goals as goal
+use Rattle.row_groups.proofs.parting.first_masks.Goals as goal
 
 pub loop-cell-preserved : goal.loop-cell-preserved
 loop-cell-preserved c =
