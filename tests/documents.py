@@ -26,7 +26,7 @@ LIMITS = {
     "columns of a CSV": ("daq_table/src/schema.rt", r"items\.len\(\) > "),
     "cells: rows times columns": ("csv_load/src/limits.rt", r"cells: "),
     "different texts in a column": ("csv_load/src/limits.rt", r"names: "),
-    "bytes of a text |": ("csv_load/src/values.rt", r"bytes\.len\(\) <= "),
+    "bytes of a text |": ("csv_load/src/texts.rt", r"bytes\.len\(\) <= "),
     "bytes of a column's name": ("daq_table/src/schema_items.rt", r"bytes\.len\(\) <= "),
     "bytes of the text": ("sql_text/src/reading.rt", r"MOST_BYTES: usize = "),
     "open levels": ("sql_text/src/reading.rt", r"MOST_LEVELS: u8 = "),
