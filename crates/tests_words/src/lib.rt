@@ -8,6 +8,8 @@ mod devices;
 #[cfg(test)]
 mod files;
 #[cfg(test)]
+mod group_lines;
+#[cfg(test)]
 mod part_reports;
 #[cfg(test)]
 mod query_lines;
