@@ -1,17 +1,19 @@
 -- What the lines of a report say of an item, in each round: where the answer to the item as it is written lies, in each world.
-use Rattle.std.specs.Prelude.{◌≡◌, ◌≢◌, ℕ, ◌+◌, ◌<◌, ◌≤◌, ⊤, List, IsTrue}
+use Rattle.std.specs.Prelude.{◌≡◌, ◌≢◌, ◌⊎◌, ℕ, ◌+◌, ◌<◌, ◌≤◌, ⊤, true, false, List, [], ◌++◌, codes, decimal, IsTrue}
 use Rattle.std.specs.declared.option.Option.{Option}
 use Rattle.std.specs.declared.option.Option.TheVariants.{Some, None}
+use Rattle.command_line.specs.Commands.{Options}
 use Rattle.daq_table.specs.Tables.{Cells}
 use Rattle.query_model.specs.declared.bounds.Nullity.TheVariants.{Always, Possibly}
 use Rattle.sql_headline.specs.Intervals.{Interval}
 use Rattle.sql_headline.specs.Spans.{IsIt, IsShown, LiesIn, Narrows, Span, answered, shares, values}
 use Rattle.sql_meaning.specs.Answers.{answer, group_of, is_same}
-use Rattle.sql_meaning.specs.Attained.{AttainsEnds, HasTexts}
+use Rattle.sql_meaning.specs.Attained.{AttainsKeys, HasTexts}
 use Rattle.sql_meaning.specs.Conditions.{Row}
 use Rattle.sql_meaning.specs.Rows.{rows_at}
 use Rattle.sql_meaning.specs.Values.{Value}
-use Rattle.sql_text.specs.Tree.{Item}
+use Rattle.sql_text.specs.declared.tree.CallKind.TheVariants.{Avg}
+use Rattle.sql_text.specs.Tree.{Call, Item}
 use Rattle.run_headline.specs.Readings.{IsAllRead, IsWorld, Reading, last_round, rows_in}
 
 -- ---- how far out the ends are
@@ -37,7 +39,7 @@ IsTightSpan reading round item one (shares averages) = ⊤
 -- ---- what a report says of an item
 
 -- for an item whose texts these are, round by round, its answer lies in a span in each round
-pub record Holds (reading : Reading) (item : Item) (texts : ℕ → Option (List ℕ)) : Type 0 where
+pub record Holds (reading : Reading) (item : Item) (attains : Type 0) (texts : ℕ → Option (List ℕ)) : Type 0 where
   pub spans : ℕ → Span
   -- the text shows it
   pub shown : (round : ℕ) → round ≤ last_round reading → (text : List ℕ) → texts round ≡ Some text → IsShown (spans round) text
@@ -50,5 +52,33 @@ pub record Holds (reading : Reading) (item : Item) (texts : ℕ → Option (List
   pub exact : (round : ℕ) → round ≤ last_round reading → IsAllRead reading round → (world : Cells) (one : ℕ) →
       IsWorld reading round world → IsIt (spans round) (answered item (rows_in reading world one))
   -- where the query attains the ends, and each column of texts has a text, no end is farther out than it must be
-  pub tight : (round : ℕ) → round ≤ last_round reading → AttainsEnds reading.head reading.text item → HasTexts reading.head →
-      (one : Row) → IsTightSpan reading round item one (spans round)
+  pub tight : (round : ℕ) → round ≤ last_round reading → attains → HasTexts reading.head → (one : Row) →
+      IsTightSpan reading round item one (spans round)
+
+-- ---- what it says of an item once more
+
+-- behind the line of an item there is another in each round, with this in front of its text, and then lines of rows. The text holds the
+-- answer too; its ends are attained where WHERE names no column twice, but for ranges that meet. It shows a span inside that of the item's
+-- own text
+pub record HoldsAgain (reading : Reading) (item : Item) (own : ℕ → Span) (front : List ℕ) (rows : ℕ → List ℕ)
+    (behind : ℕ → Option (List ℕ)) : Type 0 where
+  pub texts : ℕ → List ℕ
+  pub line : (round : ℕ) → round ≤ last_round reading → behind round ≡ Some (front ++ (texts round ++ (codes "\n" ++ rows round)))
+  pub holds : Holds reading item (AttainsKeys reading.head reading.text) (λ round. Some (texts round))
+  pub within : (round : ℕ) → round ≤ last_round reading → Narrows (own round) (holds.spans round)
+
+-- behind it there is nothing in each round
+abbrev pub HasNone : Reading → (ℕ → Option (List ℕ)) → Type 0
+HasNone reading behind = (round : ℕ) → round ≤ last_round reading → behind round ≡ Some []
+
+-- behind the line of an item, by its place, there is nothing. But with `--exact-avg` there is such a line of an average, and lines of the
+-- rows that its ends take; and with `--clip` there is such a line alone of some other items
+abbrev pub IsBehind : Reading → Options → ℕ → Item → (ℕ → Span) → (ℕ → Option (List ℕ)) → Type 0
+IsBehind reading options place (Call Avg e) own behind =
+    (options.exact ≡ false → HasNone reading behind)
+    × (options.exact ≡ true →
+    (rows : ℕ → List ℕ) × HoldsAgain reading (Call Avg e) own (decimal (place + 1) ++ codes " exact ") rows behind)
+IsBehind reading options place item own behind =
+    (options.clip ≡ false → HasNone reading behind)
+    × (options.clip ≡ true →
+    HasNone reading behind ⊎ HoldsAgain reading item own (decimal (place + 1) ++ codes " clip ") (λ round. []) behind)

@@ -1,5 +1,5 @@
 -- The report of a query: a line of the query, a block for each round, and why the rounds ended. Of totals a block has a line for each item.
-use Rattle.std.specs.Prelude.{◌≡◌, ℕ, zero, suc, ◌≤◌, false, List, [], ◌++◌, codes, decimal, length, slice_get}
+use Rattle.std.specs.Prelude.{◌≡◌, ℕ, zero, suc, ◌≤◌, List, [], ◌++◌, codes, decimal, length, slice_get}
 use Rattle.std.specs.declared.option.Option.{Option}
 use Rattle.std.specs.declared.option.Option.TheVariants.{Some, None}
 use Rattle.command_line.specs.Commands.{Options}
@@ -9,8 +9,9 @@ use Rattle.daq_table.specs.Tables.{ends_at, frame_of, planes}
 use Rattle.plane_schedule.specs.declared.policy.Ending.{Ending}
 use Rattle.sql_headline.specs.Lined.{lines_of}
 use Rattle.sql_meaning.specs.Answers.{asked}
+use Rattle.sql_meaning.specs.Attained.{AttainsEnds}
 use Rattle.sql_text.specs.Tree.{Item}
-use Rattle.run_headline.specs.Answers.{Holds}
+use Rattle.run_headline.specs.Answers.{Holds, IsBehind}
 use Rattle.table_rounds.specs.Rounds.{column_read}
 use Rattle.run_headline.specs.Readings.{Reading, count_read, last_round}
 
@@ -37,17 +38,15 @@ abbrev pub line_of_round : Reading → ℕ → List ℕ
 line_of_round reading round =
     codes "round " ++ (decimal round ++ (column_text reading round (column_read reading.columns round) ++ codes "\n"))
 
--- the block has the line of its round, and for each item a line with its text; behind such a line there are lines besides where
--- `--clip` or `--exact-avg` is given, and else none
-pub record HasLines (reading : Reading) (options : Options) (round : ℕ) (texts : List (List ℕ)) (block : List ℕ) : Type 0 where
-  pub besides : List (List ℕ)
-  pub alone : options.clip ≡ false → options.exact ≡ false → besides ≡ []
-  pub is : block ≡ line_of_round reading round ++ lines_of 1 texts besides
-
--- these are the blocks of a query without GROUP BY and ORDER BY: the texts of their lines hold the answers
+-- these are the blocks of a query without GROUP BY and ORDER BY: behind the line of its round there is for each item a line with its text,
+-- which holds the answer, and what stands behind it
 pub record HoldsTotals (reading : Reading) (options : Options) (block : ℕ → List ℕ) : Type 0 where
   pub texts : ℕ → List (List ℕ)
-  pub lines : (round : ℕ) → round ≤ last_round reading → HasLines reading options round (texts round) (block round)
+  pub besides : ℕ → List (List ℕ)
+  pub lines : (round : ℕ) → round ≤ last_round reading →
+      block round ≡ line_of_round reading round ++ lines_of 1 (texts round) (besides round)
   pub as_many : (round : ℕ) → round ≤ last_round reading → length (texts round) ≡ length (asked reading.text.head)
   pub holds : (place : ℕ) (item : Item) → slice_get (asked reading.text.head) place ≡ Some item →
-      Holds reading item (λ round. slice_get (texts round) place)
+      Holds reading item (AttainsEnds reading.head reading.text item) (λ round. slice_get (texts round) place)
+  pub behind : (place : ℕ) (item : Item) (there : slice_get (asked reading.text.head) place ≡ Some item) →
+      IsBehind reading options place item (holds place item there).spans (λ round. slice_get (besides round) place)

@@ -17,4 +17,5 @@ pub mod Ranges
 pub mod Ranked
 pub mod Worlds
 pub mod Tight
+pub mod Retold
 pub mod LeftOpen

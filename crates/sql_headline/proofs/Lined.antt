@@ -1,5 +1,5 @@
 -- Blocks of totals have a line for each item.
-use Rattle.std.proofs.Common.{◌≡◌, ◌≢◌, ℕ, zero, suc, ◌+◌, Bool, true, false, if◌then◌else◌, List, [], ◌∷◌, ◌++◌, length, map, Some, inl, refl, sym, ap, subst, ◌∙◌, slice_get}
+use Rattle.std.proofs.Common.{◌≡◌, ◌≢◌, ℕ, zero, suc, ◌+◌, Bool, true, false, if◌then◌else◌, List, [], ◌∷◌, ◌++◌, length, map, Some, inl, refl, sym, ap, subst, ◌∙◌, arith, slice_get}
 use Rattle.std.proofs.lemmas.List.{append_assoc}
 use Rattle.std.proofs.lemmas.Option.{none-some, same_Some}
 use Rattle.daq_report.specs.Blocks.{form_text, round_line}
@@ -51,6 +51,15 @@ module _ (head : Head) (stage : Stage) where
   many extra n [] = refl
   many extra n (item ∷ items) = ap suc (many extra (n + 1) items)
 
+  behind : (extra : ℕ → Aggregate → List ℕ) (n : ℕ) (items : List Aggregate) (i : ℕ) (item : Aggregate) → slice_get items i ≡ Some item → slice_get (besides extra n items) i ≡ Some (extra (i + n) item)
+  behind extra n [] i item e = absurd (none-some item e)
+  behind extra n (first ∷ items) zero item e =
+      let none : n ≡ 0 + n = omega (arith) in
+      ap (λ w. Some (extra n w)) (same_Some first item e) ∙ ap (λ k. Some (extra k item)) none
+  behind extra n (first ∷ items) (suc i) item e =
+      let shift : i + (n + 1) ≡ suc i + n = omega (arith) in
+      behind extra (n + 1) items i item e ∙ ap (λ k. Some (extra k item)) shift
+
   as_many : (items : List Aggregate) → length (map answer items) ≡ length items
   as_many [] = refl
   as_many (item ∷ items) = ap suc (as_many items)
@@ -100,6 +109,7 @@ module _ (head : Head) (stage : Stage) where
     wanted = λ list extras round last. (
       besides (extra_lines head stage extras) 1 stage.query.items,
       many (extra_lines head stage extras) 1 stage.query.items,
+      behind (extra_lines head stage extras) 1 stage.query.items,
       ap (λ (s : Shape). round_line head stage round last ++ form_text head list extras stage s) is_plain ∙ ap (λ text. round_line head stage round last ++ text) (form_with list extras),
     );
   }

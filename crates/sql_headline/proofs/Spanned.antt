@@ -51,7 +51,7 @@ pub record IsSpanned (run : Run) (item : tree.Item) (t : Aggregate) (key : Key) 
       IsIt (span_for run t key round) (answered item (rows_in run world one))
 
 -- what is asked is an average where what is typed is one
-no_average : (kind : ItemKind) → kind ≢ kinds.Avg → is_average kind ≡ false
+pub no_average : (kind : ItemKind) → kind ≢ kinds.Avg → is_average kind ≡ false
 no_average kinds.Count other = refl
 no_average kinds.Sum other = refl
 no_average kinds.Min other = refl

@@ -27,6 +27,7 @@ use Rattle.sql_headline.specs.Intervals.{Interval}
 use Rattle.sql_headline.specs.Spans.{Span, shares, values}
 use Rattle.sql_headline.specs.Worlds.{IsGroupOf, IsWorld, Run, stage_at}
 use Rattle.sql_headline.proofs.Begun.{IsSure, Laws}
+use Rattle.sql_headline.proofs.Ends.{interval_of}
 use Rattle.sql_headline.proofs.Holding as holding
 use Rattle.sql_headline.proofs.Spanned.{span_by, span_for}
 use Rattle.sql_headline.proofs.Worlds.{has_planes, has_values}
@@ -53,7 +54,7 @@ no_average kind e same = true≢false (sym (ap is_average same) ∙ e)
 
 -- of the group of a row of a table
 module _ (law : Laws) (run : Run) (plan : Plan) (is : IsSure run plan) (item : tree.Item) (t : Aggregate) (asked : IsAsked run.text run.query item t) (key : Key) (on : IsKeyOn run.query (frame_of run.head) key)
-    (base : Cells) (of_base : HasValues run.head base) (one : ℕ) (group : IsGroupOf run base key one) (texts : HasTexts run.head) (round : ℕ) (h : round ≤ length run.reads) (attains : AttainsEnds run.head run.text item) where
+    (base : Cells) (of_base : HasValues run.head base) (one : ℕ) (group : IsGroupOf run base key one) (texts : HasTexts run.head) (round : ℕ) (h : round ≤ length run.reads) where
   abbrev shows : ℤ → Option Value
   shows = shown run.head.columns run.query.columns t.face
 
@@ -93,18 +94,20 @@ module _ (law : Laws) (run : Run) (plan : Plan) (is : IsSure run plan) (item : t
       let at = shown_there None occurs in
       record { world = occurs.0; is_world = world_of occurs.0 occurs.1; is = subst (λ v. IsTrue (is_same None v)) (sym at) refl }
 
-  extremes : t.kind ≢ kinds.Avg → IsExtremes Agrees answered bound
-  extremes kind = (holding.is_certain law run plan is item t key asked on kind round h).tight (attains_ends run.text run.head run.query is.typed item t asked attains)
+  -- so are the ends of a bound that is the extremes
+  pub ends_reached : (of : Bound) → IsExtremes Agrees answered of → AreEndsReached run round item (row_at run.head base one) (interval_of run.head.columns run.query.columns t.face of)
+  ends_reached of ends = record {
+    low = λ some. end_reached of.lo (ends.lo some);
+    high = λ some. end_reached of.hi (ends.hi some);
+    null = λ possible. null_reached (subst (λ n. WordIsRight Agrees answered n) possible ends.null);
+  }
 
-  span_reached : (average : Bool) → is_average t.kind ≡ average → IsSpanReached run round item (row_at run.head base one) (span_by average run t key (stage_at run round))
-  span_reached true e = tt
-  span_reached false e =
-      let ends = extremes (no_average t.kind e) in
-      record {
-        low = λ some. end_reached bound.lo (ends.lo some);
-        high = λ some. end_reached bound.hi (ends.hi some);
-        null = λ possible. null_reached (subst (λ n. WordIsRight Agrees answered n) possible ends.null);
-      }
+  extremes : AttainsEnds run.head run.text item → t.kind ≢ kinds.Avg → IsExtremes Agrees answered bound
+  extremes attains kind = (holding.is_certain law run plan is item t key asked on kind round h).tight (attains_ends run.text run.head run.query is.typed item t asked attains)
 
-  pub reached : IsSpanReached run round item (row_at run.head base one) (span_for run t key round)
+  span_reached : (average : Bool) → is_average t.kind ≡ average → AttainsEnds run.head run.text item → IsSpanReached run round item (row_at run.head base one) (span_by average run t key (stage_at run round))
+  span_reached true e attains = tt
+  span_reached false e attains = ends_reached bound (extremes attains (no_average t.kind e))
+
+  pub reached : AttainsEnds run.head run.text item → IsSpanReached run round item (row_at run.head base one) (span_for run t key round)
   reached = span_reached (is_average t.kind) refl

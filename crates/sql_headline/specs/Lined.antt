@@ -3,6 +3,7 @@ use Rattle.std.specs.Prelude.{◌≡◌, ◌≢◌, ℕ, ◌+◌, Bool, List, []
 use Rattle.std.specs.declared.option.Option.{Option}
 use Rattle.std.specs.declared.option.Option.TheVariants.{Some}
 use Rattle.daq_report.specs.Blocks.{block_text, round_line}
+use Rattle.daq_report.specs.Extras.{extra_lines}
 use Rattle.daq_table.specs.declared.table_head.Head.{Head}
 use Rattle.plane_schedule.specs.Plans.{no_extras}
 use Rattle.plane_schedule.specs.declared.policy.Extras.{Extras}
@@ -27,7 +28,8 @@ abbrev pub IsItemText : Head → Stage → Aggregate → List ℕ → Type 0
 IsItemText head stage item text =
     (item.kind ≢ Avg → IsShownFor head stage item [] text) × (item.kind ≡ Avg → IsAverageShownFor head stage item [] text)
 
--- the texts are those of the items, one for each, and a block has them line by line; `--clip` and `--exact-avg` add lines and change none
+-- the texts are those of the items, one for each, and a block has them line by line; `--clip` and `--exact-avg` add to each the lines that
+-- are wanted of it, and change none
 pub record AreLines (head : Head) (stage : Stage) (texts : List (List ℕ)) : Type 0 where
   pub as_many : length texts ≡ length stage.query.items
   pub shown : (i : ℕ) (item : Aggregate) (text : List ℕ) → slice_get stage.query.items i ≡ Some item →
@@ -36,6 +38,8 @@ pub record AreLines (head : Head) (stage : Stage) (texts : List (List ℕ)) : Ty
       block_text head list no_extras stage round last ≡ round_line head stage round last ++ lines_of 1 texts []
   pub wanted : (list : Bool) (extras : Extras) (round : ℕ) (last : Option ℕ) →
       (besides : List (List ℕ)) × (length besides ≡ length texts)
+      × ((i : ℕ) (item : Aggregate) → slice_get stage.query.items i ≡ Some item →
+      slice_get besides i ≡ Some (extra_lines head stage extras (i + 1) item))
       × (block_text head list extras stage round last ≡ round_line head stage round last ++ lines_of 1 texts besides)
 
 -- each block of totals consists of such lines
