@@ -1,6 +1,7 @@
 pub mod Counts
 pub mod Ran
 pub mod Tight
+pub mod Averages
 pub mod Totals
 pub mod Groups
 pub mod Rankings

@@ -48,8 +48,9 @@ use Rattle.sql_text.specs.Tree.{Call, CountAll, Expr, Item}
 use Rattle.sql_typing.specs.Typing.{columns_of, typed_ending, typed_head, typed_items}
 use Rattle.table_rounds.specs.Headline.{IsKeyOn}
 use Rattle.table_rounds.specs.Rounds.{Planes, column_read}
-use Rattle.run_headline.specs.Answers.{HasNone, Holds, HoldsAgain, IsBehind, IsTightSpan}
+use Rattle.run_headline.specs.Answers.{HasNone, Holds, HoldsAgain, IsBehind, IsTightAverage, IsTightSpan}
 use Rattle.run_headline.specs.Printed.{HoldsTotals, line_of_round}
+use Rattle.run_headline.proofs.Averages.{averages_reached}
 use Rattle.run_headline.proofs.Ran as rounds
 use Rattle.run_headline.proofs.Ran.{IsRan}
 use Rattle.run_headline.proofs.Tight.{tight}
@@ -188,7 +189,9 @@ module _ (law : Laws) (q : tree.Query) (head : Head) (bits : Planes) (options : 
     no_clip e off round h = by_options false e round ∙ ap (λ x. Some (chosen false options.exact x (exact_part round) (clip_part round))) off
 
     told_exact : (e : Expr) → IsAsked q ran.query (Call calls.Avg e) t → is_average t.kind ≡ true → options.exact ≡ true
-        → (rows : ℕ → List ℕ) × HoldsAgain (rounds.reading law q head bits options ran) (Call calls.Avg e) (span_for run t []) (decimal (place + 1) ++ codes " exact ") rows behind
+        → (rows : ℕ → List ℕ) × (told : HoldsAgain (rounds.reading law q head bits options ran) (Call calls.Avg e) (span_for run t []) (decimal (place + 1) ++ codes " exact ") rows behind)
+        × ((round : ℕ) → round ≤ length (rounds.columns law q head bits options ran) → AttainsEnds head q (Call calls.Avg e) → HasTexts head → IsTightAverage (rounds.reading law q head bits options ran) round e (told.holds.spans round))
+    unfolding holds_again
     told_exact e asked average on_exact =
         let rows : ℕ → List ℕ = λ round. unless_always (exact_at (stage_at run round) t).null (taken_lines head run.query (place + 1) t.face (exact_at (stage_at run round) t)) in
         let front : List ℕ = decimal (place + 1) ++ codes " exact " in (
@@ -196,6 +199,7 @@ module _ (law : Laws) (q : tree.Query) (head : Head) (bits : Planes) (options : 
           holds_again (Call calls.Avg e) t (exact_span run t) (exact_text run t) (retold.exact law run ran.plan sure t on shape_is e asked) (λ round h attains some. tt) front rows behind
               (λ round. by_options true average round ∙ ap (λ x. Some (chosen true x options.clip (exact_part round) (clip_part round))) on_exact
               ∙ ap Some (append_assoc front (exact_text run t round ++ codes "\n") (rows round) ∙ ap (λ l. front ++ l) (append_assoc (exact_text run t round) (codes "\n") (rows round)))),
+          λ round h attains some. averages_reached law q head bits options ran on shape_is (λ world. group_is world 0) e t asked some round (within round h) attains,
         )
 
     -- the item has a clip, or none

@@ -1,19 +1,21 @@
 -- What the lines of a report say of an item, in each round: where the answer to the item as it is written lies, in each world.
 use Rattle.std.specs.Prelude.{◌≡◌, ◌≢◌, ◌⊎◌, ℕ, ◌+◌, ◌<◌, ◌≤◌, ⊤, true, false, List, [], ◌++◌, codes, decimal, IsTrue}
+use Rattle.std.specs.List.{filter_map}
 use Rattle.std.specs.declared.option.Option.{Option}
 use Rattle.std.specs.declared.option.Option.TheVariants.{Some, None}
 use Rattle.command_line.specs.Commands.{Options}
 use Rattle.daq_table.specs.Tables.{Cells}
 use Rattle.query_model.specs.declared.bounds.Nullity.TheVariants.{Always, Possibly}
-use Rattle.sql_headline.specs.Intervals.{Interval}
+use Rattle.sql_headline.specs.Intervals.{Interval, IsSameShare, Shares}
 use Rattle.sql_headline.specs.Spans.{IsIt, IsShown, LiesIn, Narrows, Span, answered, shares, values}
-use Rattle.sql_meaning.specs.Answers.{answer, group_of, is_same}
-use Rattle.sql_meaning.specs.Attained.{AttainsKeys, HasTexts}
+use Rattle.sql_meaning.specs.Answers.{Share, answer, average, group_of, is_same}
+use Rattle.sql_meaning.specs.Attained.{AttainsEnds, AttainsKeys, HasTexts}
 use Rattle.sql_meaning.specs.Conditions.{Row}
+use Rattle.sql_meaning.specs.Expressions.{value}
 use Rattle.sql_meaning.specs.Rows.{rows_at}
 use Rattle.sql_meaning.specs.Values.{Value}
 use Rattle.sql_text.specs.declared.tree.CallKind.TheVariants.{Avg}
-use Rattle.sql_text.specs.Tree.{Call, Item}
+use Rattle.sql_text.specs.Tree.{Call, Expr, Item}
 use Rattle.run_headline.specs.Readings.{IsAllRead, IsWorld, Reading, last_round, rows_in}
 
 -- ---- how far out the ends are
@@ -35,6 +37,25 @@ pub record IsTight (reading : Reading) (round : ℕ) (item : Item) (one : Row) (
 abbrev pub IsTightSpan : Reading → ℕ → Item → Row → Span → Type 0
 IsTightSpan reading round item one (values interval) = IsTight reading round item one interval
 IsTightSpan reading round item one (shares averages) = ⊤
+
+-- in some world of the round the average of an expression, over all rows at which the condition is true, is this value over this count
+pub record OccursShare (reading : Reading) (round : ℕ) (e : Expr) (share : Share) : Type 0 where
+  pub world : Cells
+  pub is_world : IsWorld reading round world
+  pub found : Share
+  pub is : average (filter_map (value e) (rows_in reading world 0)) ≡ Some found
+  pub same : IsSameShare share found
+
+-- each end is the average in some world, and where it may be null it is so in one
+pub record AreTight (reading : Reading) (round : ℕ) (e : Expr) (averages : Shares) : Type 0 where
+  pub low : averages.null ≢ Always → OccursShare reading round e averages.low
+  pub high : averages.null ≢ Always → OccursShare reading round e averages.high
+  pub null : averages.null ≡ Possibly →
+      (world : Cells) × IsWorld reading round world × (average (filter_map (value e) (rows_in reading world 0)) ≡ None)
+
+abbrev pub IsTightAverage : Reading → ℕ → Expr → Span → Type 0
+IsTightAverage reading round e (values interval) = ⊥
+IsTightAverage reading round e (shares averages) = AreTight reading round e averages
 
 -- ---- what a report says of an item
 
@@ -72,12 +93,15 @@ abbrev pub HasNone : Reading → (ℕ → Option (List ℕ)) → Type 0
 HasNone reading behind = (round : ℕ) → round ≤ last_round reading → behind round ≡ Some []
 
 -- behind the line of an item, by its place, there is nothing. But with `--exact-avg` there is such a line of an average, and lines of the
--- rows that its ends take; and with `--clip` there is such a line alone of some other items
+-- rows that its ends take, and the ends of this line are attained where the query attains them; and with `--clip` there is such a line
+-- alone of some other items
 abbrev pub IsBehind : Reading → Options → ℕ → Item → (ℕ → Span) → (ℕ → Option (List ℕ)) → Type 0
 IsBehind reading options place (Call Avg e) own behind =
     (options.exact ≡ false → HasNone reading behind)
     × (options.exact ≡ true →
-    (rows : ℕ → List ℕ) × HoldsAgain reading (Call Avg e) own (decimal (place + 1) ++ codes " exact ") rows behind)
+    (rows : ℕ → List ℕ) × (told : HoldsAgain reading (Call Avg e) own (decimal (place + 1) ++ codes " exact ") rows behind)
+    × ((round : ℕ) → round ≤ last_round reading → AttainsEnds reading.head reading.text (Call Avg e) → HasTexts reading.head →
+    IsTightAverage reading round e (told.holds.spans round)))
 IsBehind reading options place item own behind =
     (options.clip ≡ false → HasNone reading behind)
     × (options.clip ≡ true →
