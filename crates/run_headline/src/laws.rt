@@ -10,8 +10,8 @@ use table_rounds::{planes_tell_stages, rounds_are_certain, tables_tell_stages};
 /// What `daq_cli::run` says of words that were done, its clause `done`, the headline says in the words of SQL. Where they are an `ask`, a
 /// `demo`, or a `query` or a `session` whose file tells its bytes, the SQL is a query, and a text was written that shows where answers lie,
 /// by decimals, days and texts: of totals, of groups, and of rows in an order. In each round, and in each table that has the planes read,
-/// the answers of the query as it is written lie there; each lies inside the one before; and with all planes read it is the answer alone. So
-/// it is with the lines of `--clip` and `--exact-avg` behind those of totals.
+/// the answers of the query as it is written lie there; each lies inside the one before; and with all planes read it is the answer alone.
+/// So it is with the lines of `--clip` and `--exact-avg` behind those of totals.
 pub fn runs_hold_answers()
     ensures { RunsHoldAnswers }
 {
