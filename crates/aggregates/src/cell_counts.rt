@@ -11,7 +11,7 @@ use crate::tally::Tally;
 use std::alloc::{AllocError, Global};
 use std::marker::Model;
 
-// How many rows of a cell count for certain, and how many may count, in few bits: it is seen as the tally of a count.
+// How many rows of a cell count for certain, and how many may count, in few bits; its model is the tally of a count.
 #[derive(Drop)]
 pub(crate) struct CellCount {
     certain: u32,

@@ -16,7 +16,7 @@ use query_model::ItemKind;
 use std::alloc::{AllocError, Global};
 use std::marker::Model;
 
-// What a sum keeps of the rows of a cell, in few bits: it is seen as the tally of a sum. The outermost ends are of meaning while there are
+// What a sum keeps of the rows of a cell, in few bits; its model is the tally of a sum. The outermost ends are of meaning while there are
 // rows, and none of them counts for certain.
 #[derive(Drop)]
 pub(crate) struct CellSum {

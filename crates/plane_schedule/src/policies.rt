@@ -10,7 +10,7 @@ ghost use Rattle.plane_schedule.specs.Choices.{HasLeftFor, IsLeastTakenOf, IsLes
 use crate::progress::{Progress, Role};
 use query_model::Columns;
 
-/// A policy that has a word, and goes by what is open alone. A column is wider the more unread planes it has.
+/// A policy with a word of its own; it depends only on what is still open. A column is wider the more unread planes it has.
 #[derive(Clone, Copy, Debug, PartialEq, Eq)]
 pub enum FixedPolicy {
     /// The widest column, of equals the least number.
@@ -188,7 +188,7 @@ fn least_taken_for(role: Role, progress: &Progress) -> Option<usize>
     best
 }
 
-// Whether of the rows that may pass as large a share is unknown as is unread of a value of which so many digits are taken.
+// Whether at least as large a share of the rows that may pass is unknown, as of a value is unread when so many of its digits are taken.
 fn is_share_unknown(progress: &Progress, taken: u8) -> bool
     requires { 0 < progress.now.unknown }
     ensures { IsTrue result ↔ progress.now.possible ≤ progress.now.unknown * 2 ^ taken }
@@ -201,7 +201,7 @@ fn is_share_unknown(progress: &Progress, taken: u8) -> bool
     possible <= u128::from(progress.unknown).saturating_mul(parts)
 }
 
-// Whether of the rows that may pass as large a share is unknown as is unread of any key or value.
+// Whether at least as large a share of the rows that may pass is unknown, as is unread of any key or value.
 fn is_less_parted(progress: &Progress) -> bool
     ensures { IsTrue result ↔ IsLessParted (outlook_of progress.now) }
 {
@@ -235,8 +235,8 @@ fn parting(progress: &Progress) -> Option<usize>
     }
 }
 
-/// A column of the condition while as large a share of the rows that may pass is unknown as of a value is unread; next one of the groups,
-/// then one of values: of each the one of which the fewest planes are read, of equals the least.
+/// A column of the condition, while at least as large a share of the rows that may pass is unknown as of a value is unread; then one of the
+/// groups, then one of the values. In each case the column with the fewest planes read, of equals the first.
 pub fn balanced(progress: &Progress) -> usize
     requires { HasUnread (outlook_of progress.now) }
     ensures { Chooses (By Balanced) (outlook_of progress.now) result }

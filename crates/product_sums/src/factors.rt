@@ -79,7 +79,7 @@ fn most_read(expr: &Expr, columns: &LentColumns<'_>) -> u8 {
     }
 }
 
-// Whether the first of two expressions is the one whose planes are better gone through inmost.
+// Whether the innermost loop should go through the planes of the first of two expressions.
 pub(crate) fn is_longer(a: &Expr, b: &Expr, columns: &LentColumns<'_>) -> bool {
     most_read(a, columns) > most_read(b, columns)
 }

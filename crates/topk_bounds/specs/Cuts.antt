@@ -118,7 +118,7 @@ Settles rivals key share cut found =
 
 -- ---- the whole
 
--- where rows of which each may come before each other are told apart, they are among those that are counted
+-- rows that may come before one another and are told apart are among those that are counted
 abbrev pub AreNested : Rivals → List Bool → List Bool → Type 0
 AreNested Must counted among = Unit {0}
 AreNested May counted among = (r : ℕ) → IsTrue (is_in among r) → IsTrue (is_in counted r)
