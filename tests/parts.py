@@ -5,7 +5,8 @@ parts.py PARTS REPORTS [--width W] [--rounds N]  prints the combined report of P
                                                  of that part's report. A refusal is told on standard error, with status 9. As the program,
                                                  it takes no extremes of texts
 parts.py --certain [COUNT [SEED]]                cuts tables made by chance into parts, combines the parts' reports in several orders of
-                                                 their lines, and looks whether each interval holds what the uncut table answers
+                                                 their lines, and looks whether each interval holds what the uncut table answers; also of
+                                                 groups, which the program does not combine
 parts.py --program DAQ [COUNT [SEED]]            loads the parts of such tables by the program DAQ, asks them side by side, combines them by it,
                                                  and looks at the same, and whether it prints what is worked out here
 """
@@ -178,6 +179,143 @@ def hull(told):
     low = min((part.low for part in told), key=lambda end: Fraction(*end))
     high = max((part.high for part in reversed(told)), key=lambda end: Fraction(*end))
     return Known(word, low, high, told[0].form)
+
+
+# ---- keys of groups
+
+
+VALUE = re.compile(r"%s|%s|-?\d+(?:\.\d+)?" % (DATE, TEXT), re.DOTALL)
+
+
+class Span:
+    """What the keys of a line are in one column: from a value to a value, or no value, and whether null is one of them."""
+
+    def __init__(self, low, high, null):
+        self.low, self.high, self.null = low, high, null
+
+    def hull(self, other):
+        ends = [span for span in (self, other) if span.low is not None]
+        low, high = min((s.low for s in ends), default=None), max((s.high for s in ends), default=None)
+        return Span(low, high, self.null or other.null)
+
+    def meets(self, other):
+        has_values = self.low is not None and other.low is not None
+        return self.null and other.null or has_values and self.low <= other.high and other.low <= self.high
+
+    def is_within(self, other):
+        has_values = self.low is None or other.low is not None and other.low <= self.low and self.high <= other.high
+        return (other.null or not self.null) and has_values
+
+    def least(self):
+        """Null comes before all values."""
+        return (0,) if self.null or self.low is None else (1, self.low)
+
+    def allows(self, value):
+        return self.null if value is None else self.low is not None and self.low <= value <= self.high
+
+
+def value_of(text):
+    """A number, a day or the bytes of a text; in a column all values are of one kind."""
+    if text.startswith("'"):
+        return TEXTS.value(text)
+    return DATES.value(text) if re.fullmatch(DATE, text) else Fraction(text)
+
+
+def span_at(text, place):
+    """What is written of a column's keys from a place on, and where it ends."""
+    if text.startswith("null", place) or text.startswith(NO_TEXTS, place):
+        return Span(None, None, True), place + (4 if text.startswith("null", place) else len(NO_TEXTS))
+    low = VALUE.match(text, place)
+    high = VALUE.match(text, low.end() + 2) if text.startswith("..", low.end()) else low
+    null = text.startswith(" or null", high.end())
+    return Span(value_of(low[0]), value_of(high[0]), null), high.end() + (8 if null else 0)
+
+
+def keys_of(line):
+    """The spans of the line of a group, one for each column, and whether its key is present."""
+    text, _, word = line.removeprefix("group ").rpartition(" ")
+    spans, place = [], 0
+    while True:
+        span, place = span_at(text, place)
+        spans.append(span)
+        if place == len(text):
+            return spans, word == "present"
+        place += len(", ")
+
+
+def related(test, a, b):
+    return all(test(x, y) for x, y in zip(a, b))
+
+
+def meet(a, b):
+    return related(Span.meets, a, b)
+
+
+def are_within(a, b):
+    return related(Span.is_within, a, b)
+
+
+def lines_over(cells):
+    """The narrowest sets of keys, apart from each other, of which each cell lies in one."""
+    lines = []
+    for line in cells:
+        while True:
+            met = [other for other in lines if meet(line, other)]
+            if not met:
+                break
+            lines = [other for other in lines if not meet(line, other)]
+            for other in met:
+                line = [x.hull(y) for x, y in zip(line, other)]
+        lines.append(line)
+    return sorted(lines, key=lambda spans: [span.least() for span in spans])
+
+
+def no_rows(kind):
+    return Known("never", 0, 0, number_form(0)) if kind == "COUNT" else NOTHING
+
+
+def uncertain(kind, some):
+    """One of these tells the answer, or none."""
+    told = [known for known in some if known.word != "always"]
+    if kind == "COUNT":
+        return Known("never", 0, max(known.high for known in some), number_form(0)) if some else no_rows(kind)
+    if not told:
+        return NOTHING
+    if kind == "AVG":
+        return Known("possibly", hull(told).low, hull(told).high, told[0].form)
+    return Known("possibly", min(k.low for k in told), max(k.high for k in told), told[0].form)
+
+
+def only(line, sections):
+    """The part's sections within a line, and whether there is one alone, with all its keys."""
+    within = [section for section in sections if are_within(section[0], line)]
+    return within, len(within) == 1 and are_within(line, within[0][0])
+
+
+def is_present(line, sections):
+    within, is_alone = only(line, sections)
+    return is_alone and within[0][1]
+
+
+def share(kind, place, line, sections):
+    """What a part says of an item for each key of a line."""
+    within, is_alone = only(line, sections)
+    return within[0][2][place] if is_alone else uncertain(kind, [section[2][place] for section in within])
+
+
+def entries_over(kinds, line, blocks):
+    shares = [[share(kind, place, line, block) for block in blocks] for place, kind in enumerate(kinds)]
+    for some in shares:
+        look_alike(some)
+    return [combined(kind, some) for kind, some in zip(kinds, shares)]
+
+
+def combined_sections(kinds, blocks):
+    """The sections of a block over all parts: keys, whether they are present, and what is said of each item."""
+    whole = []
+    for line in lines_over([section[0] for block in blocks for section in block]):
+        whole.append((line, any(is_present(line, block) for block in blocks), entries_over(kinds, line, blocks)))
+    return whole
 
 
 def fits(known):
@@ -415,6 +553,13 @@ def some_query(chance, columns):
     return "SELECT %s FROM t%s" % (", ".join(reports.some_items(chance, columns)), reports.some_condition(chance, columns))
 
 
+def some_query_by_groups(chance, columns):
+    groups = [column[0] for column in chance.sample(columns, chance.randint(1, min(2, len(columns))))]
+    items = groups + reports.some_items(chance, columns)
+    by = ", ".join(groups)
+    return "SELECT %s FROM t%s GROUP BY %s" % (", ".join(items), reports.some_condition(chance, columns), by)
+
+
 def cut(chance, text, count):
     """The CSVs of the parts of a table: runs of its rows."""
     head, *rows = text.splitlines(True)
@@ -498,12 +643,77 @@ def faults(chance, text, schema, sql, count):
     return wrong + faults_of_blocks(last.kinds, first.blocks, last.blocks[-1])
 
 
+def blocks_by_groups(sql, text):
+    """The blocks of a report by groups: for each line its keys, whether they are present, and where each answer lies."""
+    kinds, blocks = kinds_of("query " + sql), []
+    for line in text.splitlines():
+        if line.startswith("round "):
+            blocks.append([])
+        elif line.startswith("group "):
+            blocks[-1].append(keys_of(line) + ([],))
+        elif line[0].isdigit():
+            known = blocks[-1][-1][2]
+            known.append(read(kinds[len(known)], line.partition(" ")[2], True))
+    return kinds, blocks
+
+
+def line_of(key, block):
+    """The line that has a key. No two have it."""
+    having = [section for section in block if all(span.allows(value) for span, value in zip(section[0], key))]
+    assert len(having) < 2
+    return having[0] if having else None
+
+
+def faults_of_groups(chance, text, schema, sql, count):
+    """What is wrong with what the parts of a table tell of groups together, block by block."""
+    parts = []
+    for part in cut(chance, text, count):
+        words = ["--policy", chance.choice(["widest", "order", "filter", "balanced"])]
+        kinds, blocks = blocks_by_groups(sql, reports.report(part, schema, sql, words))
+        parts.append(blocks)
+    answers = blocks_by_groups(sql, reports.report(text, schema, sql, []))[1][-1]
+    wrong, before = [], None
+    for number in range(max(map(len, parts))):
+        block = combined_sections(kinds, [blocks[min(number, len(blocks) - 1)] for blocks in parts])
+        if count == 1 and block_text(block) != block_text(parts[0][number]):
+            wrong.append("block %d is not that of the one part: %s" % (number, block_text(block)))
+        wrong += ["block %d: %s" % (number, fault) for fault in faults_of_sections(kinds, block, before or block, answers)]
+        before = block
+    return wrong + ([] if block_text(before) == block_text(answers) else ["at the end: %s" % block_text(before)])
+
+
+def block_text(block):
+    """What sections say; averages by what they come to."""
+    values = lambda known: (known.word, *(Fraction(*end) if isinstance(end, tuple) else end for end in (known.low, known.high)))
+    return [([(s.low, s.high, s.null) for s in spans], present, [values(known) for known in entries]) for spans, present, entries in block]
+
+
+def faults_of_sections(kinds, block, before, answers):
+    """Where a line does not hold the answers of its keys, or says more than was said before; what is said of keys that no result has."""
+    wrong, present = [], 0
+    for spans, _, entries in answers:
+        key = [None if span.null else span.low for span in spans]
+        line, old = line_of(key, block), line_of(key, before)
+        if not line or not old:
+            wrong.append("no line has %s" % key)
+            continue
+        present += line[1]
+        for kind, told, earlier, answer in zip(kinds, line[2], old[2], entries):
+            if not (holds(kind, told, answer) and is_within(kind, told, earlier)):
+                wrong.append("%s of %s" % (kind, key))
+        if old[1] and not line[1]:
+            wrong.append("%s is present no more" % key)
+    return wrong + (["a key is present that is in no result"] if present != sum(section[1] for section in block) else [])
+
+
 def certain(count, seed):
     chance, wrong = random.Random(seed), 0
     for number in range(count):
         text, schema, columns = reports.some_table(chance)
-        sql = some_query(chance, columns)
-        found = faults(chance, text, schema, sql, chance.choice([1, 2, 2, 3, 5]))
+        is_by_groups = number % 3 == 2
+        sql = (some_query_by_groups if is_by_groups else some_query)(chance, columns)
+        look = faults_of_groups if is_by_groups else faults
+        found = look(chance, text, schema, sql, chance.choice([1, 2, 2, 3, 5]))
         if found:
             wrong += 1
             print("wrong (%d): %s\n%s%s\n%s" % (number, schema, text, sql, "\n".join(found)))
