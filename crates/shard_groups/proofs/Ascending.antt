@@ -4,18 +4,18 @@ use Rattle.std.proofs.lemmas.Bool.{and_left, and_parts, and_right, false≢true,
 use Rattle.shard_groups.specs.declared.keys.KeyValue.{KeyValue}
 use Rattle.shard_groups.specs.declared.keys.Span.{Span}
 use Rattle.shard_groups.specs.Keys.{at_most, comes_before, first_part, part_before}
-use Rattle.shard_groups.specs.Lines.{AreApart, AreCovered, AreLines, IsApart, IsAscending, IsCovered, in_order, placed}
+use Rattle.shard_groups.specs.Lines.{AreApart, AreCovered, AreLines, AreUsed, IsApart, IsAscending, IsCovered, IsUsed, in_order, placed}
 use Rattle.shard_groups.proofs.LineSets.{all_more, meets_not}
 use Rattle.shard_groups.proofs.ValueOrder.{either}
 
-part_after : (x y : Option KeyValue) → IsTrue (part_before x y) → IsFalse (part_before y x)
+pub part_after : (x y : Option KeyValue) → IsTrue (part_before x y) → IsFalse (part_before y x)
 part_after None None t = refl
 part_after None (Some y) t = refl
 part_after (Some x) None t = absurd (false≢true t)
 part_after (Some x) (Some y) t = not_from_true (at_most x y) (either y x (not-true (at_most y x) t))
 
 -- of two lines one at most comes before the other
-after : (a b : List Span) → IsTrue (comes_before a b) → IsFalse (comes_before b a)
+pub after : (a b : List Span) → IsTrue (comes_before a b) → IsFalse (comes_before b a)
 after [] b t = absurd (false≢true t)
 after (x ∷ a) [] t = absurd (false≢true t)
 after (x ∷ a) (y ∷ b) t =
@@ -117,10 +117,24 @@ ordered_narrow : (lines others : List (List Span)) → AreCovered lines others �
 ordered_narrow [] others h = tt
 ordered_narrow (line ∷ lines) others h = placed_narrow line (in_order lines) others h.0 (ordered_narrow lines others h.1)
 
+used_if : (t : Bool) (line m : List Span) (ms cells : List (List Span)) → IsUsed line cells → IsUsed m cells → AreUsed ms cells →
+    AreUsed (placed line ms) cells → AreUsed (if t then m ∷ placed line ms else line ∷ m ∷ ms) cells
+used_if true line m ms cells h k rest more = (k, more)
+used_if false line m ms cells h k rest more = (h, (k, rest))
+
+placed_used : (line : List Span) (ms cells : List (List Span)) → IsUsed line cells → AreUsed ms cells → AreUsed (placed line ms) cells
+placed_used line [] cells h k = (h, tt)
+placed_used line (m ∷ ms) cells h k = used_if (comes_before m line) line m ms cells h k.0 k.1 (placed_used line ms cells h k.1)
+
+ordered_used : (lines cells : List (List Span)) → AreUsed lines cells → AreUsed (in_order lines) cells
+ordered_used [] cells h = tt
+ordered_used (line ∷ lines) cells h = placed_used line (in_order lines) cells h.0 (ordered_used lines cells h.1)
+
 -- lines in order are lines
 pub ordered_lines : (cells lines : List (List Span)) → AreLines cells lines → AreLines cells (in_order lines)
 ordered_lines cells lines are = record {
   covered = all_more cells lines (in_order lines) (λ c h. ordered_covers c lines h) are.covered;
+  used = ordered_used lines cells are.used;
   apart = ordered_apart lines are.apart;
   narrowest = λ others apart covered. ordered_narrow lines others (are.narrowest others apart covered);
 }

@@ -5,11 +5,13 @@ mod Cutting
 mod Done
 mod Exact
 mod ExactAverages
+mod Found
 mod Later
 mod LineSets
 mod Narrow
 mod Nests
 mod One
+mod OneOrder
 mod Pairs
 mod Places
 mod Present

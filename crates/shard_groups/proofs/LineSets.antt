@@ -5,7 +5,7 @@ use Rattle.std.proofs.lemmas.Bool.{both_ways, false≢true, false_from_ne_true}
 use Rattle.std.proofs.lemmas.List.{drop_more, get_or_default, take-append-drop, take_more}
 use Rattle.shard_groups.specs.declared.keys.Span.{Span}
 use Rattle.shard_groups.specs.Keys.{hull, is_within, meets}
-use Rattle.shard_groups.specs.Lines.{AreApart, AreCovered, AreJoining, AreLines, IsApart, IsCovered}
+use Rattle.shard_groups.specs.Lines.{AreApart, AreCovered, AreJoining, AreLines, AreUsed, IsApart, IsCovered, IsUsed}
 use Rattle.shard_groups.proofs.Spans.{hull_within, left_within, meets_back, meets_both, right_within, within_chain, within_itself}
 
 -- ---- what is covered
@@ -59,6 +59,71 @@ pub covered_back : (front back others : List (List Span)) → AreCovered (front 
 covered_back [] back others h = h
 covered_back (l ∷ front) back others h = covered_back front back others h.1
 
+-- ---- what is used
+
+pub used_left : (l : List Span) (front back : List (List Span)) → IsUsed l front → IsUsed l (front ++ back)
+used_left l [] back h = absurd h
+used_left l (c ∷ front) back (inl w) = inl w
+used_left l (c ∷ front) back (inr h) = inr (used_left l front back h)
+
+pub used_right : (l : List Span) (front back : List (List Span)) → IsUsed l back → IsUsed l (front ++ back)
+used_right l [] back h = h
+used_right l (c ∷ front) back h = inr (used_right l front back h)
+
+pub used_cases : (l : List Span) (front back : List (List Span)) → IsUsed l (front ++ back) → (IsUsed l front) ⊎ (IsUsed l back)
+used_cases l [] back h = inr h
+used_cases l (c ∷ front) back (inl w) = inl (inl w)
+used_cases l (c ∷ front) back (inr h) = elim (used_cases l front back h) [ inl k ↦ inl (inr k) | inr k ↦ inr k ]
+
+-- what has all keys of something that has a cell has that cell
+pub used_within : (l m : List Span) (cells : List (List Span)) → IsTrue (is_within l m) → IsUsed l cells → IsUsed m cells
+used_within l m [] w h = h
+used_within l m (c ∷ cells) w (inl v) = inl (within_chain c l m v w)
+used_within l m (c ∷ cells) w (inr h) = inr (used_within l m cells w h)
+
+pub all_used : (lines cells others : List (List Span)) → ((l : List Span) → IsUsed l cells → IsUsed l others) → AreUsed lines cells → AreUsed lines others
+all_used [] cells others more h = tt
+all_used (l ∷ lines) cells others more h = (more l h.0, all_used lines cells others more h.1)
+
+used_by_one : (l : List Span) (lines cells : List (List Span)) → IsUsed l lines → AreUsed lines cells → IsUsed l cells
+used_by_one l [] cells h all = absurd h
+used_by_one l (m ∷ lines) cells (inl w) all = used_within m l cells w all.0
+used_by_one l (m ∷ lines) cells (inr h) all = used_by_one l lines cells h all.1
+
+pub used_chain : (others lines cells : List (List Span)) → AreUsed others lines → AreUsed lines cells → AreUsed others cells
+used_chain others lines cells h all = all_used others lines cells (λ l k. used_by_one l lines cells k all) h
+
+pub used_itself : (cells : List (List Span)) → AreUsed cells cells
+used_itself [] = tt
+used_itself (c ∷ cells) = (inl (within_itself c), all_used cells cells (c ∷ cells) (λ d k. inr k) (used_itself cells))
+
+-- lines in two parts, each by cells of its own
+pub used_front : (lines front back : List (List Span)) → AreUsed lines front → AreUsed lines (front ++ back)
+used_front lines front back h = all_used lines front (front ++ back) (λ l k. used_left l front back k) h
+
+pub used_back : (lines front back : List (List Span)) → AreUsed lines back → AreUsed lines (front ++ back)
+used_back lines front back h = all_used lines back (front ++ back) (λ l k. used_right l front back k) h
+
+pub used_append : (front back cells : List (List Span)) → AreUsed front cells → AreUsed back cells → AreUsed (front ++ back) cells
+used_append [] back cells h k = k
+used_append (l ∷ front) back cells h k = (h.0, used_append front back cells h.1 k)
+
+pub used_in_front : (front back cells : List (List Span)) → AreUsed (front ++ back) cells → AreUsed front cells
+used_in_front [] back cells h = tt
+used_in_front (l ∷ front) back cells h = (h.0, used_in_front front back cells h.1)
+
+pub used_behind : (front back cells : List (List Span)) → AreUsed (front ++ back) cells → AreUsed back cells
+used_behind [] back cells h = h
+used_behind (l ∷ front) back cells h = used_behind front back cells h.1
+
+-- one line takes in another
+pub used_joined : (line other : List Span) (front back cells : List (List Span)) → IsTrue (meets line other) →
+    AreUsed (line ∷ (front ++ other ∷ back)) cells → AreUsed (hull line other ∷ (front ++ back)) cells
+used_joined line other front back cells m h = (
+  used_within line (hull line other) cells (left_within line other m) h.0,
+  used_append front back cells (used_in_front front (other ∷ back) cells h.1) (used_behind front (other ∷ back) cells h.1).1,
+)
+
 -- ---- what is apart
 
 apart_left : (line : List Span) (front back : List (List Span)) → IsApart line (front ++ back) → IsApart line front
@@ -101,6 +166,7 @@ hull_covered a b (o ∷ others) m apart (inr h) (inr k) = inr (hull_covered a b 
 pub joining_none : (cell : List Span) (cells lines : List (List Span)) → AreLines cells lines → AreJoining (cell ∷ cells) cell lines
 joining_none cell cells lines h = record {
   covered = (inl (within_itself cell), all_more cells lines (cell ∷ lines) (λ c k. inr k) h.covered);
+  used = (inl (within_itself cell), all_used lines cells (cell ∷ cells) (λ l k. inr k) h.used);
   apart = h.apart;
   narrowest = λ others apart k. (k.0, h.narrowest others apart k.1);
 }
@@ -121,6 +187,7 @@ joining_split : (cells : List (List Span)) (line other : List Span) (front back 
     AreJoining cells line (front ++ other ∷ back) → AreJoining cells (hull line other) (front ++ back)
 joining_split cells line other front back m h = record {
   covered = all_more cells (line ∷ (front ++ other ∷ back)) (hull line other ∷ (front ++ back)) (joined_covers line other front back m) h.covered;
+  used = used_joined line other front back cells m h.used;
   apart = without_one front other back h.apart;
   narrowest = λ others apart k.
       let all = h.narrowest others apart k in
@@ -141,7 +208,7 @@ joining_more cells line lines at d h m j =
 -- where none is left that does, they are lines
 pub joining_done : (cells : List (List Span)) (line : List Span) (lines : List (List Span)) → IsApart line lines → AreJoining cells line lines →
     AreLines cells (line ∷ lines)
-joining_done cells line lines none h = record { covered = h.covered; apart = (none, h.apart); narrowest = h.narrowest }
+joining_done cells line lines none h = record { covered = h.covered; used = h.used; apart = (none, h.apart); narrowest = h.narrowest }
 
 -- ---- as the code has them
 

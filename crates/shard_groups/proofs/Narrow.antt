@@ -7,15 +7,17 @@ use Rattle.shard_groups.specs.Groups.{all_keys, keys_in}
 use Rattle.shard_groups.specs.Keys.{hull, meets}
 use Rattle.shard_groups.specs.Lines.{AreLines, IsCovered}
 use Rattle.shard_groups.specs.Steps.{AreNarrow, in_steps}
-use Rattle.shard_groups.proofs.LineSets.{all_chain, all_more, covered_append, covered_back, covered_front, covers_itself, hull_covered, joined_covers}
+use Rattle.shard_groups.proofs.LineSets.{all_chain, all_more, covered_append, covered_back, covered_front, covers_itself, hull_covered, joined_covers, used_append, used_back, used_chain, used_front, used_itself, used_joined, all_used}
+use Rattle.shard_groups.proofs.Spans.{within_itself}
 use Rattle.shard_groups.proofs.Steps.{steps_apart}
 
 pub narrow_itself : (cells : List (List Span)) → AreNarrow cells cells
-narrow_itself cells = record { covered = covers_itself cells; narrowest = λ others apart h. h }
+narrow_itself cells = record { covered = covers_itself cells; used = used_itself cells; narrowest = λ others apart h. h }
 
 pub narrow_chain : (a b c : List (List Span)) → AreNarrow a b → AreNarrow b c → AreNarrow a c
 narrow_chain a b c n m = record {
   covered = all_chain a b c n.covered m.covered;
+  used = used_chain c b a m.used n.used;
   narrowest = λ others apart h. m.narrowest others apart (n.narrowest others apart h);
 }
 
@@ -25,6 +27,11 @@ insert_one a b m next x n k =
     let all = all_chain (a ++ b) m next n.covered k.covered.1 in
     record {
       covered = covered_append a (x ∷ b) next (covered_front a b next all) (k.covered.0, covered_back a b next all);
+      used = used_chain next (x ∷ m) (a ++ x ∷ b) k.used (
+        (used_back (x ∷ []) a (x ∷ b) (inl (within_itself x), tt)).0,
+        used_chain m (a ++ b) (a ++ x ∷ b) n.used (used_append a b (a ++ x ∷ b)
+            (used_front a a (x ∷ b) (used_itself a)) (used_back b a (x ∷ b) (all_used b b (x ∷ b) (λ l h. inr h) (used_itself b)))),
+      );
       narrowest = λ others apart h.
           let back = covered_back a (x ∷ b) others h in
           k.narrowest others apart (back.0, n.narrowest others apart (covered_append a b others (covered_front a (x ∷ b) others h) back.1));
@@ -40,6 +47,7 @@ narrow_more cell from line last lines m n =
     subst (λ (ls : List (List Span)). AreNarrow (cell ∷ from) (hull line last ∷ ls)) (append-nil lines)
     (record {
       covered = all_more (cell ∷ from) (line ∷ (lines ++ last ∷ [])) to (joined_covers line last lines [] m) n.covered;
+      used = used_joined line last lines [] (cell ∷ from) m n.used;
       narrowest = λ others apart h.
           let all = n.narrowest others apart h in
           let rest = covered_back lines (last ∷ []) others all.1 in
@@ -64,6 +72,7 @@ pub narrow_push : (from : List (List Span)) (line : List Span) (lines : List (Li
     AreNarrow from (lines ++ line ∷ [])
 narrow_push from line lines n = record {
   covered = all_more from (line ∷ lines) (lines ++ line ∷ []) (λ c h. push_covers c line lines h) n.covered;
+  used = used_append lines (line ∷ []) from n.used.1 (n.used.0, tt);
   narrowest = λ others apart h.
       let all = n.narrowest others apart h in
       covered_append lines (line ∷ []) others all.1 (all.0, tt);
@@ -108,6 +117,8 @@ narrow_shard keys all lines next n k =
     let back = covered_back keys lines next k.covered in
     record {
       covered = covered_append keys all next (covered_front keys lines next k.covered) (all_chain all lines next n.covered back);
+      used = used_chain next (keys ++ lines) (keys ++ all) k.used
+          (used_append keys lines (keys ++ all) (used_front keys keys all (used_itself keys)) (used_back lines keys all n.used));
       narrowest = λ others apart h.
           k.narrowest others apart
           (covered_append keys lines others (covered_front keys all others h) (n.narrowest others apart (covered_back keys all others h)));
@@ -127,7 +138,7 @@ narrow_before shards i cells lines same next some fits is e n k =
 
 -- where they come one behind the other they are lines
 pub narrow_lines : (cells lines : List (List Span)) → AreNarrow cells lines → IsTrue (in_steps lines) → AreLines cells lines
-narrow_lines cells lines n t = record { covered = n.covered; apart = steps_apart lines t; narrowest = n.narrowest }
+narrow_lines cells lines n t = record { covered = n.covered; used = n.used; apart = steps_apart lines t; narrowest = n.narrowest }
 
 -- ---- from each to the next
 

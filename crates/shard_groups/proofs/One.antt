@@ -12,11 +12,11 @@ use Rattle.shard_groups.specs.Keys.{is_within, meets}
 use Rattle.shard_groups.specs.Laws.{AreCellBounds, AreSome, IsCellOf, OneShardIsAll}
 use Rattle.shard_groups.specs.Lines.{AreApart, AreLines, IsApart}
 use Rattle.shard_groups.proofs.Later.{keep_only, keep_rest, meets_within, others_none}
-use Rattle.shard_groups.proofs.LineSets.{covers_itself}
+use Rattle.shard_groups.proofs.LineSets.{covers_itself, used_itself}
 use Rattle.shard_groups.proofs.Spans.{within_itself}
 
 own_lines : (cells : List (List Span)) → AreApart cells → AreLines cells cells
-own_lines cells apart = record { covered = covers_itself cells; apart = apart; narrowest = λ others h covered. covered }
+own_lines cells apart = record { covered = covers_itself cells; used = used_itself cells; apart = apart; narrowest = λ others h covered. covered }
 
 apart_of : (cell : Cell) (own : List Span) (cells : List Cell) → IsApart own (keys_in cells) → IsCellOf cell cells → IsFalse (meets own cell.keys)
 apart_of cell own [] apart one = absurd one

@@ -1,5 +1,5 @@
 -- The order of the shards makes no difference.
-use Rattle.std.proofs.Common.{◌≡◌, ℕ, Bool, true, false, ◌||◌, List, ◌++◌, refl, ap, ◌∙◌}
+use Rattle.std.proofs.Common.{◌≡◌, ℕ, Bool, true, false, ◌||◌, List, ◌++◌, refl, ap, ◌∙◌, inl, inr}
 use Rattle.query_model.specs.declared.query.ItemKind.{ItemKind}
 use Rattle.shard_bounds.specs.Combined.{Reordered}
 use Rattle.shard_bounds.specs.Combined.Reordered.{same, swapped, farther, both}
@@ -8,8 +8,8 @@ use Rattle.shard_groups.specs.declared.cells.Cell.{Cell}
 use Rattle.shard_groups.specs.declared.keys.Span.{Span}
 use Rattle.shard_groups.specs.Groups.{all_keys, is_present, is_present_in, keys_in, share, shares}
 use Rattle.shard_groups.specs.Laws.{LinesAreOne, OrderIsFree}
-use Rattle.shard_groups.specs.Lines.{AreCovered, AreLines}
-use Rattle.shard_groups.proofs.LineSets.{covered_append, covered_back, covered_front}
+use Rattle.shard_groups.specs.Lines.{AreCovered, AreLines, IsUsed}
+use Rattle.shard_groups.proofs.LineSets.{all_used, covered_append, covered_back, covered_front, used_cases, used_left, used_right}
 
 shares_reordered : (kind : ItemKind) (item : ℕ) (line : List Span) (shards others : List (List Cell)) → Reordered shards others →
     Reordered (shares kind item line shards) (shares kind item line others)
@@ -45,6 +45,24 @@ covered_reordered xs ys lines (farther x us vs r) h =
     (covered_reordered us vs lines r (covered_back (keys_in x) (all_keys us) lines h))
 covered_reordered xs ys lines (both us vs ws r s) h = covered_reordered vs ws lines s (covered_reordered us vs lines r h)
 
+used_reordered : (shards others : List (List Cell)) (line : List Span) → Reordered shards others → IsUsed line (all_keys shards) →
+    IsUsed line (all_keys others)
+used_reordered xs ys line (same zs) h = h
+used_reordered xs ys line (swapped x y zs) h =
+    elim (used_cases line (keys_in x) (keys_in y ++ all_keys zs) h) [
+      | inl k ↦ used_right line (keys_in y) (keys_in x ++ all_keys zs) (used_left line (keys_in x) (all_keys zs) k)
+      | inr k ↦ elim (used_cases line (keys_in y) (all_keys zs) k) [
+        | inl f ↦ used_left line (keys_in y) (keys_in x ++ all_keys zs) f
+        | inr f ↦ used_right line (keys_in y) (keys_in x ++ all_keys zs) (used_right line (keys_in x) (all_keys zs) f)
+      ]
+    ]
+used_reordered xs ys line (farther x us vs r) h =
+    elim (used_cases line (keys_in x) (all_keys us) h) [
+      | inl k ↦ used_left line (keys_in x) (all_keys vs) k
+      | inr k ↦ used_right line (keys_in x) (all_keys vs) (used_reordered us vs line r k)
+    ]
+used_reordered xs ys line (both us vs ws r s) h = used_reordered vs ws line s (used_reordered us vs line r h)
+
 back : {X : Type 0} (xs ys : List X) → Reordered xs ys → Reordered ys xs
 back xs ys (same zs) = same zs
 back xs ys (swapped x y zs) = swapped y x zs
@@ -55,6 +73,7 @@ lines_reordered : (shards others : List (List Cell)) (lines : List (List Span)) 
     AreLines (all_keys others) lines
 lines_reordered shards others lines r are = record {
   covered = covered_reordered shards others lines r are.covered;
+  used = all_used lines (all_keys shards) (all_keys others) (λ line h. used_reordered shards others line r h) are.used;
   apart = are.apart;
   narrowest = λ more apart covered. are.narrowest more apart (covered_reordered others shards more (back shards others r) covered);
 }

@@ -12,6 +12,15 @@ abbrev pub AreCovered : List (List Span) → List (List Span) → Type 0
 AreCovered [] lines = Unit {0}
 AreCovered (cell ∷ cells) lines = IsCovered cell lines × AreCovered cells lines
 
+-- the line has all keys of one of these
+abbrev pub IsUsed : List Span → List (List Span) → Type 0
+IsUsed line [] = ⊥
+IsUsed line (cell ∷ cells) = IsTrue (is_within cell line) ⊎ IsUsed line cells
+
+abbrev pub AreUsed : List (List Span) → List (List Span) → Type 0
+AreUsed [] cells = Unit {0}
+AreUsed (line ∷ lines) cells = IsUsed line cells × AreUsed lines cells
+
 -- none of these meets the line
 abbrev pub IsApart : List Span → List (List Span) → Type 0
 IsApart line [] = Unit {0}
@@ -22,16 +31,18 @@ abbrev pub AreApart : List (List Span) → Type 0
 AreApart [] = Unit {0}
 AreApart (line ∷ lines) = IsApart line lines × AreApart lines
 
--- Each cell lies within one line, no two lines meet, and whichever others are so too, each line lies within one of these: no lines are
--- narrower. Cells that meet, or that meet the hull of others that do, are so in one line, over all shards
+-- Each cell lies within one line, each line has a cell, no two lines meet, and whichever others are so too, each line lies within one of
+-- these: no lines are narrower. Cells that meet, or that meet the hull of others that do, are so in one line, over all shards
 pub record AreLines (cells lines : List (List Span)) : Type 0 where
   pub covered : AreCovered cells lines
+  pub used : AreUsed lines cells
   pub apart : AreApart lines
   pub narrowest : (others : List (List Span)) → AreApart others → AreCovered cells others → AreCovered lines others
 
 -- on the way: a line that may meet others takes in one after another
 pub record AreJoining (cells : List (List Span)) (line : List Span) (lines : List (List Span)) : Type 0 where
   pub covered : AreCovered cells (line ∷ lines)
+  pub used : AreUsed (line ∷ lines) cells
   pub apart : AreApart lines
   pub narrowest : (others : List (List Span)) → AreApart others → AreCovered cells others → AreCovered (line ∷ lines) others
 

@@ -7,7 +7,7 @@ use Rattle.shard_groups.specs.declared.keys.KeyValue.{KeyValue}
 use Rattle.shard_groups.specs.declared.keys.Relation.TheVariants.{Within}
 use Rattle.shard_groups.specs.declared.keys.Span.{Span}
 use Rattle.shard_groups.specs.Keys.{comes_before, first_part, meets, part_before, related_spans}
-use Rattle.shard_groups.specs.Lines.{AreApart, AreCovered}
+use Rattle.shard_groups.specs.Lines.{AreApart, AreCovered, AreUsed}
 
 -- ---- sets of keys in order
 
@@ -32,10 +32,11 @@ is_before (x ∷ a) (y ∷ b) = span_before x y || (same_span x y && is_before a
 
 -- ---- lines that may meet
 
--- each cell lies within a line, and whichever others are so too, and no two of them meet, each line lies within one of these. Lines may
--- meet
+-- each cell lies within a line, each line has a cell, and whichever others are so too, and no two of them meet, each line lies within one
+-- of these. Lines may meet
 pub record AreNarrow (cells lines : List (List Span)) : Type 0 where
   pub covered : AreCovered cells lines
+  pub used : AreUsed lines cells
   pub narrowest : (others : List (List Span)) → AreApart others → AreCovered cells others → AreCovered lines others
 
 -- ---- from line to line

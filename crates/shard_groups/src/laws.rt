@@ -1,5 +1,6 @@
 //! The laws of combined reports by groups. Each stands on a function that does nothing.
 
+ghost use Rattle.shard_groups.specs.Found.{LinesAreFound};
 ghost use Rattle.shard_groups.specs.Laws.{LinesAreOne, LinesContain, LinesContainAverages, LinesNest};
 ghost use Rattle.shard_groups.specs.Laws.{LinesTell, LinesTellAverages, LinesTellKeys, OneShardIsAll, OrderIsFree};
 
@@ -31,6 +32,11 @@ pub fn order_is_free()
 /// Some cells have no other lines.
 pub fn lines_are_one()
     ensures { LinesAreOne }
+{}
+
+/// Lines of cells are found by taking in one cell after another. Where each cell has a key, there are no others in that order.
+pub fn lines_are_found()
+    ensures { LinesAreFound }
 {}
 
 /// The lines of one shard are its cells, and each says what its cell says.
