@@ -1,5 +1,5 @@
 -- Lines that each have a key, and do not meet, stand in one order.
-use Rattle.std.proofs.Common.{◌≡◌, ℕ, suc, Bool, true, false, not, ◌&&◌, ◌||◌, List, [], ◌∷◌, length, refl, arith, sym, ap, ◌∙◌, subst, inl, inr, ◌⊎◌, IsTrue, IsFalse, Option, Some, None}
+use Rattle.std.proofs.Common.{◌≡◌, ℕ, suc, Bool, true, false, not, ◌&&◌, ◌||◌, List, [], ◌∷◌, length, map, refl, arith, sym, ap, ◌∙◌, subst, inl, inr, ◌⊎◌, IsTrue, IsFalse, Option, Some, None}
 use Rattle.std.proofs.lemmas.Bool.{and_from, and_parts, both_ways, false≢true, false_from_ne_true, not-true, not_from_false, or_cases, or_left, or_parts, or_right, true_from_ne_false}
 use Rattle.std.proofs.lemmas.Cmp.{nat_list_cmp_total}
 use Rattle.std.proofs.lemmas.Int.{ints}
@@ -14,7 +14,10 @@ use Rattle.shard_groups.specs.declared.keys.KeyValue.{KeyValue}
 use Rattle.shard_groups.specs.declared.keys.KeyValue.TheVariants.{Number, Text}
 use Rattle.shard_groups.specs.declared.keys.Relation.TheVariants.{Meet, Within}
 use Rattle.shard_groups.specs.declared.keys.Span.{Span}
-use Rattle.shard_groups.specs.Found.{HaveKeys, LinesAreFound, lines_of, lines_over}
+use Rattle.shard_groups.specs.Found.{CombinedIsFound, HaveKeys, Line, LinesAreFound, line_of, line_over, lines_of, lines_over}
+use Rattle.query_model.specs.declared.query.ItemKind.{ItemKind}
+use Rattle.shard_groups.specs.declared.cells.Cell.{Cell}
+use Rattle.shard_groups.specs.Groups.{AreLinesOver, Said, all_keys, is_present, keys_in, said_of}
 use Rattle.shard_groups.specs.Keys.{Key, allows, at_most, comes_before, ends_meet, ends_within, first_of, first_part, holds, is_within, meets, part_before, related_spans}
 use Rattle.shard_groups.specs.Laws.{IsOneOf}
 use Rattle.shard_groups.specs.Lines.{AreApart, AreCovered, AreUsed, IsApart, IsAscending, IsCovered, IsUsed}
@@ -317,3 +320,21 @@ lines_are_found columns cells = record {
       one_list columns lines others k l are.apart own.apart was (ordered_ascends (lines_of cells))
       (is_other columns lines others k are.apart there back) (is_other columns others lines l own.apart back there);
 }
+
+-- ---- what the lines say
+
+says : (kinds : List ItemKind) (shards : List (List Cell)) (cells : List Cell) → AreLinesOver kinds shards cells →
+    map line_of cells ≡ map (line_over kinds shards) (keys_in cells)
+says kinds shards [] h = refl
+says kinds shards (cell ∷ cells) h =
+    let own : line_of cell ≡ line_over kinds shards cell.keys =
+    ap (λ (t : Bool). record { keys = cell.keys; present = t; said = map said_of cell.items }) h.0.present
+    ∙ ap (λ (s : List Said). record { keys = cell.keys; present = is_present cell.keys shards; said = s }) h.0.items in
+    ap (λ (l : Line). l ∷ map line_of cells) own
+    ∙ ap (λ (ls : List Line). line_over kinds shards cell.keys ∷ ls) (says kinds shards cells h.1)
+
+pub combined_is_found : CombinedIsFound
+combined_is_found columns kinds shards cells keys is =
+    says kinds shards cells is.each
+    ∙ ap (λ (ls : List (List Span)). map (line_over kinds shards) ls)
+    ((lines_are_found columns (all_keys shards)).alone keys (keys_in cells) is.lines is.ascending)

@@ -1,6 +1,9 @@
 -- The lines of cells, found by taking in one cell after another.
-use Rattle.std.specs.Prelude.{◌≡◌, ℕ, zero, suc, List, [], ◌∷◌, length, IsTrue, if◌then◌else◌}
+use Rattle.std.specs.Prelude.{◌≡◌, ℕ, zero, suc, Bool, List, [], ◌∷◌, length, map, IsTrue, if◌then◌else◌}
+use Rattle.query_model.specs.declared.query.ItemKind.{ItemKind}
+use Rattle.shard_groups.specs.declared.cells.Cell.{Cell}
 use Rattle.shard_groups.specs.declared.keys.Span.{Span}
+use Rattle.shard_groups.specs.Groups.{IsCombined, Said, all_keys, is_present, said_from, said_of}
 use Rattle.shard_groups.specs.Keys.{hull, meets}
 use Rattle.shard_groups.specs.Lines.{AreLines, IsAscending, in_order}
 
@@ -44,3 +47,28 @@ pub record AreFound (columns : ℕ) (cells : List (List Span)) : Type 0 where
 
 abbrev pub LinesAreFound : Type 0
 LinesAreFound = (columns : ℕ) (cells : List (List Span)) → AreFound columns cells
+
+-- ---- what each line says
+
+pub record Line : Type 0 where
+  pub keys : List Span
+  pub present : Bool
+  pub said : List Said
+
+-- what a cell says
+abbrev pub line_of : Cell → Line
+line_of cell = record { keys = cell.keys; present = cell.present; said = map said_of cell.items }
+
+-- what the shards say of the keys of a line together
+abbrev pub line_over : List ItemKind → List (List Cell) → List Span → Line
+line_over kinds shards keys = record { keys = keys; present = is_present keys shards; said = said_from 0 kinds keys shards }
+
+-- the combined report
+abbrev pub combined_lines : List ItemKind → List (List Cell) → List Line
+combined_lines kinds shards = map (line_over kinds shards) (lines_over (all_keys shards))
+
+-- combined cells say this, where each cell of the shards has a key
+abbrev pub CombinedIsFound : Type 0
+CombinedIsFound =
+    (columns : ℕ) (kinds : List ItemKind) (shards : List (List Cell)) (cells : List Cell) → HaveKeys columns (all_keys shards) →
+    IsCombined kinds shards cells → map line_of cells ≡ combined_lines kinds shards

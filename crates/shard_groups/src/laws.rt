@@ -1,6 +1,6 @@
 //! The laws of combined reports by groups. Each stands on a function that does nothing.
 
-ghost use Rattle.shard_groups.specs.Found.{LinesAreFound};
+ghost use Rattle.shard_groups.specs.Found.{CombinedIsFound, LinesAreFound};
 ghost use Rattle.shard_groups.specs.Laws.{LinesAreOne, LinesContain, LinesContainAverages, LinesNest};
 ghost use Rattle.shard_groups.specs.Laws.{LinesTell, LinesTellAverages, LinesTellKeys, OneShardIsAll, OrderIsFree};
 
@@ -37,6 +37,11 @@ pub fn lines_are_one()
 /// Lines of cells are found by taking in one cell after another. Where each cell has a key, there are no others in that order.
 pub fn lines_are_found()
     ensures { LinesAreFound }
+{}
+
+/// Where each cell of the shards has a key, what combined cells say is found line by line.
+pub fn combined_is_found()
+    ensures { CombinedIsFound }
 {}
 
 /// The lines of one shard are its cells, and each says what its cell says.
