@@ -32,3 +32,4 @@ pub mod TableSteps
 pub mod WholeTable
 pub mod FileFaults
 pub mod SomeTable
+pub mod DigitBlocks

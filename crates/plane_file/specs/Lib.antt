@@ -1,3 +1,4 @@
+pub mod ByteDigits
 pub mod Bytes
 pub mod Format
 pub mod Places

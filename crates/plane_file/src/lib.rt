@@ -1,6 +1,7 @@
 //! Files of planes: a table's head and its planes, byte by byte, written to a sink and read from a store.
 #![tactic(auto)]
 
+mod byte_digits;
 mod checks;
 mod column_cells;
 mod column_reading;

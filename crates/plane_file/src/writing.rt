@@ -1,8 +1,9 @@
 //! From a table to the bytes of its file.
 
-ghost use Rattle.std.specs.Prelude.{◌≡◌, ◌≤◌, ◌++◌, length, IfErr, IfOk, OnOk};
+ghost use Rattle.std.specs.Prelude.{◌≡◌, ◌≤◌, length, IfErr, IfOk, OnOk};
 ghost use Rattle.std.specs.Io.KnownBytes.{Appends};
-ghost use Rattle.outer_world.specs.Whole.{Writes};
+ghost use Rattle.outer_world.specs.Whole.{Writes, text_of};
+ghost use Rattle.plane_kernels.specs.Bytes.{word_count};
 ghost use Rattle.plane_file.specs.Format.{CanBeSpelled, file, file_size, head_bytes, heads_bytes, plane_size};
 ghost use Rattle.plane_file.specs.Writing.{StopsWriting};
 
@@ -14,22 +15,23 @@ use outer_world::{Failed, Sink, write_pieces};
 use plane_kernels::Plane;
 use std::alloc::Global;
 
-// Writes what stands before the planes, in two pieces, and then the planes.
+// Writes what stands before the planes, in pieces, and then the planes.
 fn write_parts<K: Sink>(
     table: &Table,
-    header: &[u8],
-    heads: &[u8],
+    head: &[&[u8]],
     plane: &mut Plane,
+    blocks: &mut [[u64; 8]],
     bytes: &mut [u8],
     sink: &mut K,
 ) -> Result<(), Failed>
-    requires head { header.now ++ heads.now ≡ head_bytes 2 table.now.head }
+    requires head { text_of head.now ≡ head_bytes 2 table.now.head }
     requires rows { length plane.old ≡ table.now.head.rows }
+    requires blocks { length blocks.old ≡ word_count table.now.head.rows }
     requires size { length bytes.old ≡ plane_size table.now.head.rows }
     ensures { Writes result (K.state sink.old) (K.state sink.new) (file 2 table.now) }
 {
-    write_pieces(sink, &[header, heads])?;
-    write_planes(table, plane, bytes, sink)
+    write_pieces(sink, head)?;
+    write_planes(table, plane, blocks, bytes, sink)
 }
 
 // The size of the file with these heads and planes as long as this one.
@@ -54,9 +56,12 @@ pub fn write<K: Sink>(alloc: Global, table: &Table, sink: &mut K) -> Result<u64,
     let heads = spelled_heads(alloc, head)?;
     let header = spelled_header(alloc, head, heads.len() as u64)?;
     let mut plane = Plane::blank(alloc, head.rows as usize)?;
-    let mut bytes = vec![in alloc; 0; 8 * (head.rows as usize).div_ceil(64)]?;
+    let words = (head.rows as usize).div_ceil(64);
+    let mut blocks = vec![in alloc; [0; 8]; words]?;
+    let mut bytes = vec![in alloc; 0; 8 * words]?;
     let size = size_of_file(head, &heads, &bytes);
-    match write_parts(table, &header, &heads, &mut plane, &mut bytes, sink) {
+    let front = [header.as_slice(), heads.as_slice()];
+    match write_parts(table, &front, &mut plane, &mut blocks, &mut bytes, sink) {
         Ok(()) => Ok(size),
         Err(Failed) => Err(FileWriteFault::Fault),
     }

@@ -1,6 +1,5 @@
 -- The next plane goes behind those that were written.
-use Rattle.std.proofs.Common.{◌≡◌, ℕ, ap, ◌∙◌, sym, subst, arith}
-use Rattle.plane_file.specs.Format.{plane_size}
+use Rattle.std.proofs.Common.{ℕ, ◌∙◌, subst, arith}
 use Rattle.daq_table.specs.Tables.{frame_of, planes, ends_at}
 use Rattle.outer_world.specs.Whole.{Writes}
 use Rattle.plane_kernels.specs.Bytes.{bytes_of_rows}
@@ -8,24 +7,21 @@ use Rattle.query_model.specs.Knowledge.{plane_of}
 use Rattle.plane_file.proofs.Parts.{piece_after, piece_cut}
 use Rattle.plane_file.proofs.planes.write_column.Goals as goal
 
-pub store-requires : goal.store-requires
-store-requires g c = c.loop-number.invariant.size ∙ c.requires.size ∙ ap plane_size (sym (c.cut.ensures.rows ∙ c.loop-number.invariant.rows ∙ c.requires.rows))
-
 pub returns-in_err-write_whole-clause-written : goal.returns-in_err-write_whole-clause-written
 returns-in_err-write_whole-clause-written g c =
     let plane = λ (j : ℕ). bytes_of_rows (plane_of (frame_of c.args.table.now.head) c.args.table.now.cells c.args.column j) in
     let number = c.loop-number.number in
-    let piece : c.store.new.out ≡ plane number = c.store.ensures ∙ ap bytes_of_rows c.cut.ensures.bits in
     piece_cut {A = Unit {0}} {B = Unit {0}} tt _ c.from_residual.result _ _ _ plane number (planes (ends_at (frame_of c.args.table.now.head) c.args.column)) (omega (arith, c.planes_of-number-end.ensures))
-    c.from_residual.ensures.0 c.loop-number.invariant.written (subst (Writes _ _ _) piece c.in_err-write_whole.ensures)
+    c.from_residual.ensures.0 c.loop-number.invariant.written (subst (Writes _ _ _) c.cut_plane.ensures.bytes c.in_err-write_whole.ensures)
 
 pub loop-number-preserved : goal.loop-number-preserved
 loop-number-preserved g c =
     let plane = λ (j : ℕ). bytes_of_rows (plane_of (frame_of c.args.table.now.head) c.args.table.now.cells c.args.column j) in
     let number = c.loop-number.number in
-    let piece : c.store.new.out ≡ plane number = c.store.ensures ∙ ap bytes_of_rows c.cut.ensures.bits in
     record {
-      rows = c.cut.ensures.rows ∙ c.loop-number.invariant.rows;
+      rows = c.cut_plane.ensures.rows ∙ c.loop-number.invariant.rows;
       size = omega (arith, c.loop-number.invariant.size);
-      written = piece_after {A = Unit {0}} {B = Unit {0}} tt tt _ _ _ plane number c.loop-number.invariant.written (subst (Writes _ _ _) piece c.in_ok-write_whole.ensures);
+      blocks = omega (arith, c.loop-number.invariant.blocks);
+      kept = c.cut_plane.ensures.kept;
+      written = piece_after {A = Unit {0}} {B = Unit {0}} tt tt _ _ _ plane number c.loop-number.invariant.written (subst (Writes _ _ _) c.cut_plane.ensures.bytes c.in_ok-write_whole.ensures);
     }

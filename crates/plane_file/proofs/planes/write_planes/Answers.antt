@@ -18,6 +18,7 @@ pub loop-column-preserved : goal.loop-column-preserved
 loop-column-preserved g c = record {
   rows = c.write_column.ensures.rows ∙ c.loop-column.invariant.rows;
   size = omega (arith, c.loop-column.invariant.size);
+  blocks = omega (arith, c.loop-column.invariant.blocks);
   written = piece_after {A = Unit {0}} {B = Unit {0}} tt tt _ _ _ (column_planes (frame_of c.args.table.now.head) c.args.table.now.cells) c.loop-column.column
       c.loop-column.invariant.written c.in_ok-write_column.ensures.written;
 }

@@ -11,6 +11,7 @@ abbrev pub invariant-loop-column : goal.invariant-loop-column
 invariant-loop-column g l = record {
   rows : length l.plane ≡ length l.initial.plane;
   size : length l.bytes ≡ length l.initial.bytes;
+  blocks : length l.blocks ≡ length l.initial.blocks;
   written : Writes {T = Unit {0}} {E = Failed} (Ok tt) (g.K.Sink.state l.initial.sink) (g.K.Sink.state l.sink)
       (flat_map (column_planes (frame_of l.table.head) l.table.cells) (range_with_len 0 l.column));
 }
