@@ -122,6 +122,7 @@ next_high false xs earlier number is first = next_greatest xs earlier number (in
 
 -- a cell with a row more
 pub record IsWith (old new : RowDigits) (top n : ℕ) : Type 0 where
+  pub certain : new.certain ≡ old.certain
   pub rows : new.rows ≡ old.rows + 1
   pub at_top : new.at_top ≡ old.at_top + cond (n == top) 1 0
   pub least : new.least ≡ min old.least n
@@ -172,50 +173,50 @@ module _ (ends : DigitEnds) (old new : RowDigits) (n : ℕ) (few : n ≤ 4294967
   first_high : (old.rows == 0) ≡ true → int_max (high_by ends old.greatest) (high_by ends n) ≡ high_by ends n
   first_high none = (let greatest = kept.greatest (eqb-true old.rows 0 none) in let this : max old.greatest n ≡ n = omega (arith, greatest) in sym (high_greatest ends old.greatest n) ∙ ap (high_by ends) this)
 
-  module _ (certain : Bool) (ps : List Pair) (e : tally_by ends certain old ≡ tally_of Sum ps) where
+  module _ (ps : List Pair) (e : tally_by ends old ≡ tally_of Sum ps) where
     abbrev p : Pair
-    p = pair_by ends certain n
+    p = pair_by ends old.certain n
 
     abbrev one : ℕ
-    one = cond certain 1 0
+    one = cond old.certain 1 0
 
-    before : certain_rows certain old ≡ certain_count ps
+    before : certain_rows old ≡ certain_count ps
     before = ap (λ (t : Tally). t.certain) e
 
-    counted_rows : certain_rows certain new ≡ certain_rows certain old + one
-    counted_rows = ap (λ k. cond certain k 0) is.rows ∙ one_if certain old.rows
+    counted_rows : certain_rows new ≡ certain_rows old + one
+    counted_rows = ap (λ b. cond b new.rows 0) is.certain ∙ ap (λ k. cond old.certain k 0) is.rows ∙ one_if old.certain old.rows
 
-    counted : certain_rows certain old + one ≡ certain_count (ps ++ p ∷ [])
+    counted : certain_rows old + one ≡ certain_count (ps ++ p ∷ [])
     counted = ap (λ k. k + one) before ∙ sym (count-more ps p one refl)
 
-    least_more : end_if (certain_rows certain new) new.rows (low_by ends new.least) ≡ (if certain_count (ps ++ p ∷ []) == 0 then answer Min (lows (ps ++ p ∷ [])) else None)
+    least_more : end_if (certain_rows new) new.rows (low_by ends new.least) ≡ (if certain_count (ps ++ p ∷ []) == 0 then answer Min (lows (ps ++ p ∷ [])) else None)
     least_more =
-        ap (λ k. end_if k new.rows (low_by ends new.least)) counted_rows ∙ ap (λ k. end_if (certain_rows certain old + one) k (low_by ends new.least)) is.rows
-        ∙ end_more (certain_rows certain old) old.rows one (low_by ends old.least) (low_by ends new.least) (answer Min (lows ps)) (answer Min (lows (ps ++ p ∷ [])))
+        ap (λ k. end_if k new.rows (low_by ends new.least)) counted_rows ∙ ap (λ k. end_if (certain_rows old + one) k (low_by ends new.least)) is.rows
+        ∙ end_more (certain_rows old) old.rows one (low_by ends old.least) (low_by ends new.least) (answer Min (lows ps)) (answer Min (lows (ps ++ p ∷ [])))
         (ap (λ (t : Tally). t.least_low) e ∙ ap (λ k. if k == 0 then answer Min (lows ps) else None) (sym before))
         (λ none end. ap (λ a. Some (low_by ends a)) is.least ∙ ap Some (low_least ends old.least n) ∙ next_low (old.rows == 0) (lows ps) (low_by ends old.least) (low_by ends n) end first_low ∙ ap (answer Min) (sym (map-more (λ (q : Pair). q.low) ps p)))
         ∙ ap (λ k. if k == 0 then answer Min (lows (ps ++ p ∷ [])) else None) counted
 
-    greatest_more : end_if (certain_rows certain new) new.rows (high_by ends new.greatest) ≡ (if certain_count (ps ++ p ∷ []) == 0 then answer Max (highs (ps ++ p ∷ [])) else None)
+    greatest_more : end_if (certain_rows new) new.rows (high_by ends new.greatest) ≡ (if certain_count (ps ++ p ∷ []) == 0 then answer Max (highs (ps ++ p ∷ [])) else None)
     greatest_more =
-        ap (λ k. end_if k new.rows (high_by ends new.greatest)) counted_rows ∙ ap (λ k. end_if (certain_rows certain old + one) k (high_by ends new.greatest)) is.rows
-        ∙ end_more (certain_rows certain old) old.rows one (high_by ends old.greatest) (high_by ends new.greatest) (answer Max (highs ps)) (answer Max (highs (ps ++ p ∷ [])))
+        ap (λ k. end_if k new.rows (high_by ends new.greatest)) counted_rows ∙ ap (λ k. end_if (certain_rows old + one) k (high_by ends new.greatest)) is.rows
+        ∙ end_more (certain_rows old) old.rows one (high_by ends old.greatest) (high_by ends new.greatest) (answer Max (highs ps)) (answer Max (highs (ps ++ p ∷ [])))
         (ap (λ (t : Tally). t.greatest_high) e ∙ ap (λ k. if k == 0 then answer Max (highs ps) else None) (sym before))
         (λ none end. ap (λ a. Some (high_by ends a)) is.greatest ∙ ap Some (high_greatest ends old.greatest n) ∙ next_high (old.rows == 0) (highs ps) (high_by ends old.greatest) (high_by ends n) end first_high ∙ ap (answer Max) (sym (map-more (λ (q : Pair). q.high) ps p)))
         ∙ ap (λ k. if k == 0 then answer Max (highs (ps ++ p ∷ [])) else None) counted
 
-    low_more : cond certain (lows_of ends new) (pos 0) ≡ total (map low_share (ps ++ p ∷ []))
+    low_more : cond new.certain (lows_of ends new) (pos 0) ≡ total (map low_share (ps ++ p ∷ []))
     low_more =
-        ap (λ z. cond certain z (pos 0)) lows_more ∙ both_if certain (lows_of ends old) (low_by ends n)
-        ∙ ap (λ z. z +ℤ cond certain (low_by ends n) (pos 0)) (ap (λ (t : Tally). t.low_sum) e)
-        ∙ ap (λ z. total (map low_share ps) +ℤ z) (sym (low_share_of ends certain n)) ∙ sym (total-more low_share ps p)
+        ap (λ b. cond b (lows_of ends new) (pos 0)) is.certain ∙ ap (λ z. cond old.certain z (pos 0)) lows_more ∙ both_if old.certain (lows_of ends old) (low_by ends n)
+        ∙ ap (λ z. z +ℤ cond old.certain (low_by ends n) (pos 0)) (ap (λ (t : Tally). t.low_sum) e)
+        ∙ ap (λ z. total (map low_share ps) +ℤ z) (sym (low_share_of ends old.certain n)) ∙ sym (total-more low_share ps p)
 
     high_more : (lows_of ends new +ℤ pos (spans_of ends new)) ≡ total (map high_share (ps ++ p ∷ []))
     high_more =
         highs_more ∙ ap (λ z. z +ℤ high_by ends n) (ap (λ (t : Tally). t.high_sum) e)
-        ∙ ap (λ z. total (map high_share ps) +ℤ z) (sym (high_share_of ends certain n)) ∙ sym (total-more high_share ps p)
+        ∙ ap (λ z. total (map high_share ps) +ℤ z) (sym (high_share_of ends old.certain n)) ∙ sym (total-more high_share ps p)
 
-    pub tally_more : tally_by ends certain new ≡ tally_of Sum (ps ++ p ∷ [])
+    pub tally_more : tally_by ends new ≡ tally_of Sum (ps ++ p ∷ [])
     tally_more =
         sym (same_tally _ _ _ _ _ _ _ _ (tally_of Sum (ps ++ p ∷ []))
         (counted_rows ∙ counted) (is.rows ∙ ap (λ k. k + 1) (ap (λ (t : Tally). t.all) e) ∙ sym (length-more ps p))

@@ -39,9 +39,10 @@ top_digits ends = ends.spread / 2 ^ ends.unread
 
 -- ---- cells
 
--- the rows of a cell: how many they are, how many of them have the digits of the greatest number, and of their digits, as numbers, the
--- least, the greatest and the sum
+-- the rows of a cell: whether they count for certain, how many they are, how many of them have the digits of the greatest number, and of
+-- their digits, as numbers, the least, the greatest and the sum
 pub record RowDigits : Type 0 where
+  pub certain : Bool
   pub rows : ℕ
   pub at_top : ℕ
   pub least : ℕ
@@ -57,9 +58,9 @@ pub record IsKept (cell : RowDigits) : Type 0 where
   pub least : cell.rows ≡ 0 → cell.least ≡ 4294967295
   pub greatest : cell.rows ≡ 0 → cell.greatest ≡ 0
 
--- how many of its rows count for certain, where all do or none
-abbrev pub certain_rows : Bool → RowDigits → ℕ
-certain_rows certain cell = cond certain cell.rows 0
+-- how many of its rows count for certain
+abbrev pub certain_rows : RowDigits → ℕ
+certain_rows cell = cond cell.certain cell.rows 0
 
 -- the low ends of its rows, added up, and how far their high ends lie above these
 abbrev pub lows_of : DigitEnds → RowDigits → ℤ
@@ -69,15 +70,15 @@ abbrev pub spans_of : DigitEnds → RowDigits → ℕ
 spans_of ends cell = cell.at_top * (ends.spread % 2 ^ ends.unread) + (cell.rows - cell.at_top) * (2 ^ ends.unread - 1)
 
 -- what a sum keeps of them
-abbrev pub tally_by : DigitEnds → Bool → RowDigits → Tally
-tally_by ends certain cell = record {
-  certain = certain_rows certain cell;
+abbrev pub tally_by : DigitEnds → RowDigits → Tally
+tally_by ends cell = record {
+  certain = certain_rows cell;
   all = cell.rows;
-  least_low = end_if (certain_rows certain cell) cell.rows (low_by ends cell.least);
-  greatest_high = end_if (certain_rows certain cell) cell.rows (high_by ends cell.greatest);
+  least_low = end_if (certain_rows cell) cell.rows (low_by ends cell.least);
+  greatest_high = end_if (certain_rows cell) cell.rows (high_by ends cell.greatest);
   least_certain_high = None;
   greatest_certain_low = None;
-  low_sum = cond certain (lows_of ends cell) (pos 0);
+  low_sum = cond cell.certain (lows_of ends cell) (pos 0);
   high_sum = lows_of ends cell +ℤ pos (spans_of ends cell);
 }
 

@@ -1,6 +1,6 @@
 //! What is kept of the rows of a cell by their digits.
 
-ghost use Rattle.std.specs.Prelude.{◌≡◌, ◌≢◌, ◌<◌, ◌≤◌, Bool, false, List, [], ◌∷◌, ◌++◌, cond, pos};
+ghost use Rattle.std.specs.Prelude.{◌≡◌, ◌<◌, List, [], ◌∷◌, ◌++◌, cond, pos};
 ghost use Rattle.query_model.specs.declared.query.ItemKind.TheVariants.{Sum};
 ghost use Rattle.query_model.specs.Bounds.{Pair};
 ghost use Rattle.aggregates.specs.SumsOfCells.{end_if};
@@ -12,15 +12,16 @@ use crate::ends::DigitEnds;
 use aggregates::Tally;
 use std::marker::Model;
 
-// The rows of a cell: how many they are, the sum of their digits, as numbers, the least and the greatest of these, and how many rows have
-// the digits of top. The last three seldom change.
+// The rows of a cell, which all count for certain or may all count: how many they are, how many of them have the digits of top, and of
+// their digits, as numbers, the least, the greatest and the sum.
 #[derive(Drop)]
 pub(crate) struct CellDigits {
-    sum: u64,
+    certain: bool,
     rows: u32,
+    at_top: u32,
     least: u32,
     greatest: u32,
-    at_top: u32,
+    sum: u64,
 }
 
 impl Model for CellDigits {
@@ -29,6 +30,7 @@ impl Model for CellDigits {
     ghost Value = { RowDigits };
 
     ghost view = { λ c. record {
+      certain = c.certain;
       rows = c.rows;
       at_top = c.at_top;
       least = c.least;
@@ -37,6 +39,7 @@ impl Model for CellDigits {
     } };
 
     ghost invariant = { λ c. IsKept (record {
+      certain = c.certain;
       rows = c.rows;
       at_top = c.at_top;
       least = c.least;
@@ -65,65 +68,57 @@ fn sum_if(certain: bool, sum: i128) -> i128
 
 impl CellDigits {
     // That of no row.
-    pub(crate) fn none() -> CellDigits
-        ensures { (ends : DigitEnds) (certain : Bool) → tally_by ends certain result ≡ tally_of Sum [] }
+    pub(crate) fn none(certain: bool) -> CellDigits
+        ensures certain { result.certain ≡ certain }
+        ensures none { (ends : DigitEnds) → tally_by ends result ≡ tally_of Sum [] }
     {
         CellDigits {
-            sum: 0,
+            certain,
             rows: 0,
+            at_top: 0,
             least: u32::MAX,
             greatest: 0,
-            at_top: 0,
+            sum: 0,
         }
-    }
-
-    // Whether a row's digits lie outside of those of the rows before, or are those of the greatest number. Few are, so that most rows are
-    // added by less; it affects speed alone which others are taken for such.
-    fn is_outermost(&self, digits: u32, top: u32) -> bool
-        ensures { result ≡ false → (self.now.least ≤ digits) × (digits ≤ self.now.greatest) × (digits ≢ top) }
-    {
-        digits < self.least || digits > self.greatest || digits == top
     }
 
     // Adds a row by its digits; those of the greatest number are handed in.
     pub(crate) fn add(&mut self, digits: u32, top: u32)
-        requires { self.old.rows < 16777216 }
-        ensures { (ends : DigitEnds) (certain : Bool) (ps : List Pair) → top ≡ top_digits ends → AreDigits ends digits
-            → tally_by ends certain self.old ≡ tally_of Sum ps
-            → tally_by ends certain self.new ≡ tally_of Sum (ps ++ pair_by ends certain digits ∷ []) }
+        requires few { self.old.rows < 16777216 }
+        ensures certain { self.new.certain ≡ self.old.certain }
+        ensures added { (ends : DigitEnds) (ps : List Pair) → top ≡ top_digits ends → AreDigits ends digits
+            → tally_by ends self.old ≡ tally_of Sum ps
+            → tally_by ends self.new ≡ tally_of Sum (ps ++ pair_by ends self.old.certain digits ∷ []) }
     {
-        let outermost = self.is_outermost(digits, top);
         self.rows += 1;
+        self.at_top += u32::from(digits == top);
+        self.least = self.least.min(digits);
+        self.greatest = self.greatest.max(digits);
         self.sum += u64::from(digits);
-        if outermost {
-            self.least = self.least.min(digits);
-            self.greatest = self.greatest.max(digits);
-            self.at_top += u32::from(digits == top);
-        }
     }
 
-    // How many of the rows count for certain.
-    fn certain_rows(&self, certain: bool) -> u32
-        ensures { result ≡ certain_rows certain self.now }
+    // How many rows count for certain.
+    fn certain_rows(&self) -> u32
+        ensures { result ≡ certain_rows self.now }
     {
-        if certain { self.rows } else { 0 }
+        if self.certain { self.rows } else { 0 }
     }
 
-    // The tally of a sum of the rows, which all count for certain or may all count.
-    pub(crate) fn tally(&self, ends: DigitEnds, certain: bool) -> Tally
-        ensures { result ≡ tally_by ends certain self.now }
+    // The tally of a sum of the rows.
+    pub(crate) fn tally(&self, ends: DigitEnds) -> Tally
+        ensures { result ≡ tally_by ends self.now }
     {
-        let sure = self.certain_rows(certain);
+        let certain = self.certain_rows();
         let low = ends.lows(self.rows, self.sum);
         let spans = ends.spans(self.rows, self.at_top);
         Tally {
-            certain: u64::from(sure),
+            certain: u64::from(certain),
             all: u64::from(self.rows),
-            least_low: end_of(sure, self.rows, ends.low(self.least)),
-            greatest_high: end_of(sure, self.rows, ends.high(self.greatest)),
+            least_low: end_of(certain, self.rows, ends.low(self.least)),
+            greatest_high: end_of(certain, self.rows, ends.high(self.greatest)),
             least_certain_high: None,
             greatest_certain_low: None,
-            low_sum: sum_if(certain, low),
+            low_sum: sum_if(self.certain, low),
             high_sum: low + i128::from(spans),
         }
     }

@@ -14,37 +14,30 @@ use std::alloc::{AllocError, Global};
 use std::marker::Model;
 
 /// For each cell what a sum keeps of its rows by their digits. A cell stands for the list of the rows that were added to it, as a
-/// [`Running`] of the kind Sum or Avg does, and takes 24 bytes, and one that says whether these count for certain.
+/// [`Running`] of the kind Sum or Avg does, and takes 32 bytes.
 #[derive(Drop)]
 pub struct DigitSums {
     kind: ItemKind,
     ends: DigitEnds,
     top: u32,
     cells: u32,
-    certain: Vec<bool>,
     sums: Vec<CellDigits>,
 }
 
 impl Model for DigitSums {
-    ghost use Rattle.std.specs.Prelude.{◌≡◌, ◌≤◌, length, take};
-    ghost use Rattle.std.specs.Simd.Lanes.{zip2};
+    ghost use Rattle.std.specs.Prelude.{◌≡◌, ◌≤◌, length, map, take};
     ghost use Rattle.query_model.specs.Validity.{IsSumKind};
-    ghost use Rattle.digit_sums.specs.Digits.{DigitTallies, tally_by, top_digits};
+    ghost use Rattle.digit_sums.specs.Digits.{DigitTallies, RowDigits, tally_by, top_digits};
 
     ghost Value = { DigitTallies };
 
     ghost view = { λ s. record {
-      tallies = record {
-        kind = s.kind;
-        room = length s.sums.items;
-        cells = take s.cells (zip2 (tally_by s.ends) s.certain.items s.sums.items);
-      };
+      tallies = record { kind = s.kind; room = length s.sums.items; cells = take s.cells (map (tally_by s.ends) s.sums.items) };
       ends = s.ends;
-      certain = take s.cells s.certain.items;
+      certain = take s.cells (map (λ (c : RowDigits). c.certain) s.sums.items);
     } };
 
-    ghost invariant = { λ s. (s.cells ≤ length s.sums.items) × (length s.certain.items ≡ length s.sums.items) × IsSumKind s.kind
-        × (s.top ≡ top_digits s.ends) };
+    ghost invariant = { λ s. (s.cells ≤ length s.sums.items) × IsSumKind s.kind × (s.top ≡ top_digits s.ends) };
 }
 
 impl DigitSums {
@@ -52,10 +45,9 @@ impl DigitSums {
     pub fn open(alloc: Global, room: usize) -> Result<DigitSums, AllocError>
         ensures { IfOk result (λ sums. IsBlank sums.tallies Sum room 0) }
     {
-        let certain = vec![in alloc; false; room]?;
         let mut sums = Vec::with_capacity(alloc, room)?;
         for _ in 0..room {
-            sums.push(CellDigits::none())?;
+            sums.push(CellDigits::none(false))?;
         }
         let ends = DigitEnds::none();
         Ok(DigitSums {
@@ -63,7 +55,6 @@ impl DigitSums {
             ends,
             top: ends.top_digits(),
             cells: 0,
-            certain,
             sums,
         })
     }
@@ -79,8 +70,7 @@ impl DigitSums {
         ensures certain { self.new.certain ≡ take cells certain.now }
     {
         for cell in 0..cells {
-            self.sums[cell as usize] = CellDigits::none();
-            self.certain[cell as usize] = certain[cell as usize];
+            self.sums[cell as usize] = CellDigits::none(certain[cell as usize]);
         }
         self.kind = kind;
         self.ends = ends;
@@ -113,7 +103,7 @@ impl DigitSums {
         requires { cell < length self.now.tallies.cells }
         ensures { slice_get self.now.tallies.cells cell ≡ Some result }
     {
-        self.sums[cell as usize].tally(self.ends, self.certain[cell as usize])
+        self.sums[cell as usize].tally(self.ends)
     }
 
     /// Makes the cells of a sum or an average stand for what these stand for.

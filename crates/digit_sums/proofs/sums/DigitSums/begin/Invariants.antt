@@ -5,6 +5,5 @@ use Rattle.digit_sums.proofs.sums.DigitSums.begin.Given as goal
 abbrev pub invariant-loop-cell : goal.invariant-loop-cell
 invariant-loop-cell l = record {
   count : length l.self-inside.sums.items ≡ length l.initial.self-inside.sums.items;
-  known : length l.self-inside.certain.items ≡ length l.initial.self-inside.certain.items;
-  done : AreFirst l.certain l.self-inside.certain.items l.self-inside.sums.items l.cell;
+  done : AreFirst l.certain l.self-inside.sums.items l.cell;
 }
