@@ -1,6 +1,6 @@
 //! What is kept of the rows of a cell by their digits.
 
-ghost use Rattle.std.specs.Prelude.{◌≡◌, ◌<◌, List, [], ◌∷◌, ◌++◌, cond, pos};
+ghost use Rattle.std.specs.Prelude.{◌≡◌, ◌<◌, List, [], ◌∷◌, ◌++◌, cond, min, max, pos};
 ghost use Rattle.query_model.specs.declared.query.ItemKind.TheVariants.{Sum};
 ghost use Rattle.query_model.specs.Bounds.{Pair};
 ghost use Rattle.aggregates.specs.SumsOfCells.{end_if};
@@ -66,6 +66,24 @@ fn sum_if(certain: bool, sum: i128) -> i128
     if certain { sum } else { 0 }
 }
 
+// Makes the least digits no greater than these. They seldom change, and are written only then.
+fn lower(least: &mut u32, digits: u32)
+    ensures { least.new ≡ min least.old digits }
+{
+    if digits < *least {
+        *least = digits;
+    }
+}
+
+// Makes the greatest no less.
+fn raise(greatest: &mut u32, digits: u32)
+    ensures { greatest.new ≡ max greatest.old digits }
+{
+    if digits > *greatest {
+        *greatest = digits;
+    }
+}
+
 impl CellDigits {
     // That of no row.
     pub(crate) fn none(certain: bool) -> CellDigits
@@ -92,8 +110,8 @@ impl CellDigits {
     {
         self.rows += 1;
         self.at_top += u32::from(digits == top);
-        self.least = self.least.min(digits);
-        self.greatest = self.greatest.max(digits);
+        lower(&mut self.least, digits);
+        raise(&mut self.greatest, digits);
         self.sum += u64::from(digits);
     }
 

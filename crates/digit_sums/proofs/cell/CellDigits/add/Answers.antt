@@ -11,7 +11,7 @@ returns-clause-added c = λ ends ps top digits e.
     let inside = c.self.inside in
     let n = c.args.digits in
     let old : RowDigits = record { certain = inside.certain; rows = inside.rows; at_top = inside.at_top; least = inside.least; greatest = inside.greatest; sum = inside.sum } in
-    let new : RowDigits = record { certain = inside.certain; rows = inside.rows + 1; at_top = inside.at_top + c.from.result; least = c.min-self-inside.result; greatest = c.max-self-inside.result; sum = inside.sum + c.from-2.result } in
+    let new : RowDigits = record { certain = inside.certain; rows = inside.rows + 1; at_top = inside.at_top + c.from.result; least = c.lower.new.least; greatest = c.raise.new.greatest; sum = inside.sum + c.from-2.result } in
     let is : IsWith old new _ n = record {
       certain = refl;
       rows = refl;
