@@ -9,7 +9,7 @@ pub mod BlockSteps
 pub mod NumberBlocks
 pub mod Several
 pub mod WordDigits
-pub mod OctetDigits
+pub mod BitBytes
 pub mod Joining
 pub mod TableBlocks
 pub mod Lent

@@ -1,36 +1,34 @@
-//! Eight rows at a time: their digits in at most eight words, as the bytes of one word.
+//! The digits of 64 rows in at most eight words, a byte for each row.
 
-ghost use Rattle.std.specs.Prelude.{◌≡◌, ◌≤◌, ◌<◌, ◌*◌, ◌/◌, ◌%◌, ◌^◌, length, replicate};
+ghost use Rattle.std.specs.Prelude.{◌≡◌, ◌≤◌, cond, length, map, replicate};
 ghost use Rattle.plane_kernels.specs.Rows.{bits_of};
-ghost use Rattle.known_column.specs.BlockDigits.{digits_after, octet_of, packed, packed_bits};
+ghost use Rattle.known_column.specs.BlockDigits.{digits_after};
 
-// A byte's bits as the bytes of a word, the lowest lowest.
-fn spread(byte: u8) -> u64
-    ensures { result ≡ packed_bits (bits_of 8 byte) }
-{
-    let each_its_own = u64::from(byte) * 0x0101_0101_0101_0101 & 0x8040_2010_0804_0201;
-    each_its_own + 0x7F7F_7F7F_7F7F_7F7F >> 7 & 0x0101_0101_0101_0101
-}
+use std::simd::prelude::*;
 
-// A byte of a word, counted from the lowest.
-fn byte_of(word: u64, at: usize) -> u8
-    requires { at < 8 }
-    ensures { result ≡ word / 2 ^ (8 * at) % 256 }
-{
-    ((word >> (8 * at)) % 256) as u8
-}
+// For each of 64 rows the byte of a word in which its bit stands, the lowest first.
+const BYTES: [u8; 64] = [
+    0, 0, 0, 0, 0, 0, 0, 0, 1, 1, 1, 1, 1, 1, 1, 1, 2, 2, 2, 2, 2, 2, 2, 2, 3, 3, 3, 3, 3, 3, 3, 3,
+    4, 4, 4, 4, 4, 4, 4, 4, 5, 5, 5, 5, 5, 5, 5, 5, 6, 6, 6, 6, 6, 6, 6, 6, 7, 7, 7, 7, 7, 7, 7, 7,
+];
 
-// The digits of eight rows in at most eight words, a byte for each row.
-fn octet_digits(words: &[u64], octet: usize) -> u64
-    requires few { length words.now ≤ 8 }
-    requires octet { octet < 8 }
-    ensures { result ≡ packed (octet_of octet (digits_after words.now (replicate 64 0))) }
+// And the bit's value there.
+const BITS: [u8; 64] = [
+    1, 2, 4, 8, 16, 32, 64, 128, 1, 2, 4, 8, 16, 32, 64, 128, 1, 2, 4, 8, 16, 32, 64, 128, 1, 2, 4,
+    8, 16, 32, 64, 128, 1, 2, 4, 8, 16, 32, 64, 128, 1, 2, 4, 8, 16, 32, 64, 128, 1, 2, 4, 8, 16,
+    32, 64, 128, 1, 2, 4, 8, 16, 32, 64, 128,
+];
+
+// For each of 64 rows its bit in a word, as 0 or 1.
+fn bit_bytes(word: u64) -> u8x64
+    ensures { result ≡ map (λ bit. cond bit 1 0) (bits_of 64 word) }
 {
-    let mut sum = 0;
-    for word in words {
-        sum = 2 * sum + spread(byte_of(*word, octet));
-    }
-    sum
+    let bytes = u64x8::splat(word).to_le_bytes();
+    let own = bytes.swizzle_dyn_within::<16>(u8x64::from_array(BYTES));
+    let bits = u8x64::from_array(BITS);
+    (own & bits)
+        .simd_eq(bits)
+        .select(u8x64::splat(1), u8x64::splat(0))
 }
 
 // For each of 64 rows its digits in at most eight words.
@@ -39,8 +37,9 @@ pub(crate) fn byte_digits(words: &[u64], digits: &mut [u8])
     requires count { length digits.old ≡ 64 }
     ensures { digits.new ≡ digits_after words.now (replicate 64 0) }
 {
-    for octet in 0..8 {
-        let bytes = octet_digits(words, octet).to_le_bytes();
-        digits[8 * octet..8 * octet + 8].copy_from_slice(&bytes);
+    let mut sum = u8x64::splat(0);
+    for word in words {
+        sum = sum + sum + bit_bytes(*word);
     }
+    sum.copy_to_slice(digits);
 }

@@ -1,6 +1,0 @@
-use Rattle.std.proofs.Common.{◌≡◌, replicate, take}
-use Rattle.known_column.specs.BlockDigits.{digits_after, octet_of, packed}
-use Rattle.known_column.proofs.octets.octet_digits.Given as goal
-
-abbrev pub invariant-loop-word : goal.invariant-loop-word
-invariant-loop-word l = l.sum ≡ packed (octet_of l.octet (digits_after (take l.word-index l.words) (replicate 64 0)))
