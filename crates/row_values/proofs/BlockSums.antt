@@ -123,6 +123,10 @@ module _ (give : ℕ → Option Pair) (row : ℕ) where
         high = (let a = with.high in let b = are.high in let more = total-more high_share ps p in omega (arith, ints, a, b, more));
       })
 
+-- what is kept of so many rows that surely count
+abbrev pub sure_rows : ℕ → ℤ → ℤ → Shares
+sure_rows count low high = record { all = count; certain = count; low = low; high = high }
+
 -- a bit as a number
 pub one_of : (b : Bool) → bool_byte b ≡ cond b 1 0
 one_of true = refl

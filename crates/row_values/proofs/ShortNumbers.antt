@@ -2,9 +2,7 @@
 use Rattle.std.proofs.Common.{◌≡◌, ℕ, ◌≤◌, ℤ, pos, negsuc, ◌+ℤ◌, ◌-ℤ◌, ◌*ℤ◌, ◌≤ℤ◌, ap, ◌∙◌, arith, FitsSigned, to_z, of_z}
 use Rattle.std.specs.Prelude.{nat_abs}
 use Rattle.std.specs.Int.{w64, w128, int_min, int_max}
-use Rattle.std.proofs.Math.IntN.{*ℤ_comm}
 use Rattle.std.proofs.lemmas.Int.{to_z-of_z, ints, clamps}
-use Rattle.interval_calc.proofs.LeastSpans.{times_pos}
 use Rattle.interval_calc.specs.Intervals.{Interval, hull_of_four}
 use Rattle.query_model.proofs.Spans.{IsSmaller}
 use Rattle.row_values.specs.ShortSpans.{IsShort}
@@ -48,32 +46,6 @@ corners_fit a b c d h = record {
 
 pub product_again : (a b : ℤ) → FitsSigned w64 a → FitsSigned w64 b → FitsSigned w64 (a *ℤ b) → again (again a *ℤ again b) ≡ a *ℤ b
 product_again a b f g h = ap (λ z. again (z *ℤ again b)) (to_z-of_z w64 a f) ∙ ap (λ z. again (a *ℤ z)) (to_z-of_z w64 b g) ∙ to_z-of_z w64 (a *ℤ b) h
-
--- of intervals that lie above or at 0 the product goes from that of the low ends to that of the high ends
-pub record AreCorners (a b c d : ℤ) : Type 0 where
-  pub low : a *ℤ c ≡ (hull_of_four (a *ℤ c) (a *ℤ d) (b *ℤ c) (b *ℤ d)).low
-  pub high : b *ℤ d ≡ (hull_of_four (a *ℤ c) (a *ℤ d) (b *ℤ c) (b *ℤ d)).high
-  pub ordered : (a *ℤ c) ≤ℤ (b *ℤ d)
-
-pub corners_above : (a b c d : ℤ) → pos 0 ≤ℤ a → a ≤ℤ b → pos 0 ≤ℤ c → c ≤ℤ d → AreCorners a b c d
-corners_above (pos m) (pos n) (pos p) (pos q) f g h k =
-    let ac_bc : (pos m *ℤ pos p) ≤ℤ (pos n *ℤ pos p) = times_pos (pos m) (pos n) p g in
-    let ad_bd : (pos m *ℤ pos q) ≤ℤ (pos n *ℤ pos q) = times_pos (pos m) (pos n) q g in
-    let bc_bd : (pos p *ℤ pos n) ≤ℤ (pos q *ℤ pos n) = times_pos (pos p) (pos q) n k in
-    let ac_ad : (pos p *ℤ pos m) ≤ℤ (pos q *ℤ pos m) = times_pos (pos p) (pos q) m k in
-    let first = *ℤ_comm (pos p) (pos n) in
-    let second = *ℤ_comm (pos q) (pos n) in
-    let third = *ℤ_comm (pos p) (pos m) in
-    let fourth = *ℤ_comm (pos q) (pos m) in
-    record {
-      low = omega (arith, ints, clamps, ac_bc, ad_bd, bc_bd, ac_ad, first, second, third, fourth);
-      high = omega (arith, ints, clamps, ac_bc, ad_bd, bc_bd, ac_ad, first, second, third, fourth);
-      ordered = omega (arith, ints, ac_bc, bc_bd, first, second);
-    }
-corners_above (negsuc m) b c d f g h k = absurd (omega (arith, ints, f))
-corners_above (pos m) (negsuc n) c d f g h k = absurd (omega (arith, ints, g))
-corners_above (pos m) (pos n) (negsuc p) d f g h k = absurd (omega (arith, ints, h))
-corners_above (pos m) (pos n) (pos p) (negsuc q) f g h k = absurd (omega (arith, ints, k))
 
 -- the least of four, by two calls on two and one on what they give
 pub min_of_four : (m p q a b c d : ℤ) → FitsSigned w64 p → FitsSigned w64 q → FitsSigned w64 a → FitsSigned w64 b → FitsSigned w64 c → FitsSigned w64 d

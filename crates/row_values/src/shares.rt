@@ -20,11 +20,18 @@ pub(crate) struct Shares {
     pub(crate) high: i64,
 }
 
+const NONE: Shares = Shares {
+    all: 0,
+    certain: 0,
+    low: 0,
+    high: 0,
+};
+
 // The number if it is kept, else 0.
 fn kept(keeps: bool, number: i64) -> i64
     ensures { result ≡ (if keeps then number else pos 0) }
 {
-    number * i64::from(keeps)
+    if keeps { number } else { 0 }
 }
 
 // What a row adds to the least sum, if it may count.
@@ -41,20 +48,32 @@ fn high_share(may: bool, must: bool, high: i64) -> i64
     kept(may & (must | (high > 0)), high)
 }
 
-// What a sum keeps of a block's first rows: bit i of a word is that of row i, which may count where its bit in the first is 1, and surely
-// counts where besides its bit in the second is.
-pub(crate) fn shares_of(may: u64, must: u64, count: usize, spans: &[ShortInterval; 64]) -> Shares
+// What a sum keeps of a block whose rows all surely count.
+fn whole_shares(spans: &[ShortInterval; 64]) -> Shares
+    requires small { AreSmall 64 spans.now }
+    ensures within { AreWithin 64 result }
+    ensures shares { (give : ℕ → Option Pair) (count : ℕ) → count ≡ 64
+        → Give give 18446744073709551615 18446744073709551615 count spans.now → AreShares (given give count) result }
+{
+    let mut shares = NONE;
+    for i in 0..64 {
+        let span = spans[i];
+        shares.low += span.lo;
+        shares.high += span.hi;
+    }
+    shares.all = 64;
+    shares.certain = 64;
+    shares
+}
+
+// What a sum keeps of a block's first rows, one after another.
+fn row_shares(may: u64, must: u64, count: usize, spans: &[ShortInterval; 64]) -> Shares
     requires few { count ≤ 64 }
     requires small { AreSmall count spans.now }
     ensures within { AreWithin 64 result }
     ensures shares { (give : ℕ → Option Pair) → Give give may must count spans.now → AreShares (given give count) result }
 {
-    let mut shares = Shares {
-        all: 0,
-        certain: 0,
-        low: 0,
-        high: 0,
-    };
+    let mut shares = NONE;
     for i in 0..count {
         let counts = has_bit(may, i);
         let surely = has_bit(must, i);
@@ -65,4 +84,19 @@ pub(crate) fn shares_of(may: u64, must: u64, count: usize, spans: &[ShortInterva
         shares.high += high_share(counts, surely, span.hi);
     }
     shares
+}
+
+// What a sum keeps of a block's first rows: bit i of a word is that of row i, which may count where its bit in the first is 1, and surely
+// counts where besides its bit in the second is.
+pub(crate) fn shares_of(may: u64, must: u64, count: usize, spans: &[ShortInterval; 64]) -> Shares
+    requires few { count ≤ 64 }
+    requires small { AreSmall count spans.now }
+    ensures within { AreWithin 64 result }
+    ensures shares { (give : ℕ → Option Pair) → Give give may must count spans.now → AreShares (given give count) result }
+{
+    if count == 64 && may == u64::MAX && must == u64::MAX {
+        whole_shares(spans)
+    } else {
+        row_shares(may, must, count, spans)
+    }
 }

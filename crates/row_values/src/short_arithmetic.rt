@@ -1,6 +1,6 @@
 //! Sums, differences and products of intervals of 64 bits.
 
-ghost use Rattle.std.specs.Prelude.{◌≡◌, ◌≤◌, ◌≤ℤ◌, pos, IfSome, IsTrue};
+ghost use Rattle.std.specs.Prelude.{◌≡◌, ◌≤◌, IfSome};
 ghost use Rattle.interval_calc.specs.Intervals as wide;
 ghost use Rattle.interval_calc.specs.Intervals.{difference_of, hull_of_four, product_of, sum_of};
 ghost use Rattle.row_values.specs.ShortSpans.{interval_of, result_of, FitEach, AreResults, IsShort};
@@ -48,24 +48,11 @@ fn hull_of(a: i64, b: i64, c: i64, d: i64) -> ShortInterval
     }
 }
 
-// Whether both intervals lie above or at 0.
-fn are_above(a: ShortInterval, b: ShortInterval) -> bool
-    ensures { IsTrue result → (pos 0 ≤ℤ a.lo) × (pos 0 ≤ℤ b.lo) }
-{
-    a.lo >= 0 && b.lo >= 0
-}
-
-// The product of two intervals.
+// The product of two intervals, without a branch: of numbers of both signs none is foreseen.
 fn product(a: ShortInterval, b: ShortInterval) -> ShortInterval
     requires { IsShort (product_of (interval_of a) (interval_of b)) }
     ensures { interval_of result ≡ product_of (interval_of a) (interval_of b) }
 {
-    if are_above(a, b) {
-        return ShortInterval {
-            lo: a.lo * b.lo,
-            hi: a.hi * b.hi,
-        };
-    }
     hull_of(a.lo * b.lo, a.lo * b.hi, a.hi * b.lo, a.hi * b.hi)
 }
 

@@ -9,6 +9,15 @@ ghost use Rattle.row_values.specs.ShortSpans.{AreShortRanges};
 use crate::short::ShortInterval;
 use known_column::Known;
 
+// The first number that begins with these digits and has so many more. Where it has 64 more there are no digits, so they are 0.
+fn first_of(unread: u8, digits: u64) -> u64
+    requires unread { unread ≤ 64 }
+    requires digits { digits * 2 ^ unread < 2 ^ 64 }
+    ensures { result ≡ digits * 2 ^ unread }
+{
+    digits << unread.min(63)
+}
+
 // The first and the last number that begin with these digits and have so many more, of those up to the greatest.
 fn numbers_of(greatest: u64, unread: u8, digits: u64) -> (u64, u64)
     requires unread { unread ≤ 64 }
@@ -16,9 +25,9 @@ fn numbers_of(greatest: u64, unread: u8, digits: u64) -> (u64, u64)
     ensures first { result.0 ≡ digits * 2 ^ unread }
     ensures last { result.1 ≡ min (digits * 2 ^ unread + (2 ^ unread - 1)) greatest }
 {
-    let first = (u128::from(digits) << unread) as u64;
+    let first = first_of(unread, digits);
     let rest = ((1u128 << unread) - 1) as u64;
-    (first, first.saturating_add(rest).min(greatest))
+    (first, first + rest.min(greatest - first))
 }
 
 // Those numbers, counted from base.

@@ -69,21 +69,23 @@ pub(crate) fn short_spans(
     ensures { AreShortSpans (term_of expr.now) columns.now block spans.new }
 {
     let count = (columns.rows() - 64 * block).min(64);
-    let mut right = [ZERO; 64];
     match expr {
         Expr::Column(column) => column_ranges(columns.column(*column as usize), block, spans),
         Expr::Literal(value) => repeat(*value as i64, spans),
         Expr::Add(a, b) => {
+            let mut right = [ZERO; 64];
             short_spans(a, columns, block, spans);
             short_spans(b, columns, block, &mut right);
             join_each(Operation::Sum, count, spans, &right);
         }
         Expr::Sub(a, b) => {
+            let mut right = [ZERO; 64];
             short_spans(a, columns, block, spans);
             short_spans(b, columns, block, &mut right);
             join_each(Operation::Difference, count, spans, &right);
         }
         Expr::Mul(a, b) => {
+            let mut right = [ZERO; 64];
             short_spans(a, columns, block, spans);
             short_spans(b, columns, block, &mut right);
             join_each(Operation::Product, count, spans, &right);

@@ -7,7 +7,7 @@ use Rattle.row_values.specs.BlockSums.{pair_if}
 use Rattle.row_values.specs.ShortSpans.{interval_of}
 use Rattle.row_values.proofs.BlockSums.{IsWithRow, added_short, again_small, high_part, high_part_small, low_part, low_part_small, one_of, with_row, within_more}
 use Rattle.row_values.proofs.ShortNumbers.{again}
-use Rattle.row_values.proofs.shares.shares_of.Goals as goal
+use Rattle.row_values.proofs.shares.row_shares.Goals as goal
 
 pub overflow_add-shares-in-loop-i-2 : goal.overflow_add-shares-in-loop-i-2
 overflow_add-shares-in-loop-i-2 c =

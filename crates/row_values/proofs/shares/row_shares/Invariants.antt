@@ -2,7 +2,7 @@ use Rattle.std.proofs.Common.{ℕ}
 use Rattle.std.specs.declared.option.Option.{Option}
 use Rattle.query_model.specs.Bounds.{Pair}
 use Rattle.row_values.specs.BlockSums.{given, AreShares, AreWithin, Give}
-use Rattle.row_values.proofs.shares.shares_of.Given as goal
+use Rattle.row_values.proofs.shares.row_shares.Given as goal
 
 abbrev pub invariant-loop-i : goal.invariant-loop-i
 invariant-loop-i l = record {
