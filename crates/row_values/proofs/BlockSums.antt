@@ -136,6 +136,15 @@ most_one : (b : Bool) → cond b 1 0 ≤ 1
 most_one true = omega arith
 most_one false = omega arith
 
+pub and_true : (b : Bool) → (b && true) ≡ b
+and_true true = refl
+and_true false = refl
+
+-- a row that surely counts where it may
+pub sure_pair : (may must : Bool) (i : Interval) → (may && must) ≡ may → pair_if may must i ≡ pair_if may true i
+sure_pair true must i h = ap (λ b. pair_if true b i) h
+sure_pair false must i h = refl
+
 -- small rows add no more than their number allows
 pub within_more : (rows : ℕ) (may must : Bool) (i : Interval) (old new : Shares) → i.low ≤ℤ i.high → IsSmall i → IsWithRow old new may must i → AreWithin rows old → AreWithin (rows + 1) new
 within_more rows may must i old new ordered small with within =

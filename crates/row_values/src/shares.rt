@@ -2,6 +2,7 @@
 
 ghost use Rattle.std.specs.Prelude.{◌≡◌, ◌<◌, ◌≤◌, ℕ, pos, if◌then◌else◌};
 ghost use Rattle.std.specs.Int.{int_max, int_min};
+ghost use Rattle.std.specs.Int.Bits.{bit_and};
 ghost use Rattle.std.specs.declared.option.Option.{Option};
 ghost use Rattle.query_model.specs.Bounds.{Pair};
 ghost use Rattle.row_values.specs.BlockSums.{given, AreShares, AreSmall, AreWithin, Give, IsSmall};
@@ -66,6 +67,26 @@ fn whole_shares(spans: &[ShortInterval; 64]) -> Shares
     shares
 }
 
+// What a sum keeps of a block's first rows where each that may count surely does.
+fn sure_shares(rows: u64, count: usize, spans: &[ShortInterval; 64]) -> Shares
+    requires few { count ≤ 64 }
+    requires small { AreSmall count spans.now }
+    ensures within { AreWithin 64 result }
+    ensures shares { (give : ℕ → Option Pair) (must : ℕ) → bit_and rows must ≡ rows → Give give rows must count spans.now
+        → AreShares (given give count) result }
+{
+    let mut shares = NONE;
+    for i in 0..count {
+        let counts = has_bit(rows, i);
+        let span = spans[i];
+        shares.all += u64::from(counts);
+        shares.low += kept(counts, span.lo);
+        shares.high += kept(counts, span.hi);
+    }
+    shares.certain = shares.all;
+    shares
+}
+
 // What a sum keeps of a block's first rows, one after another.
 fn row_shares(may: u64, must: u64, count: usize, spans: &[ShortInterval; 64]) -> Shares
     requires few { count ≤ 64 }
@@ -96,6 +117,8 @@ pub(crate) fn shares_of(may: u64, must: u64, count: usize, spans: &[ShortInterva
 {
     if count == 64 && may == u64::MAX && must == u64::MAX {
         whole_shares(spans)
+    } else if may & must == may {
+        sure_shares(may, count, spans)
     } else {
         row_shares(may, must, count, spans)
     }
