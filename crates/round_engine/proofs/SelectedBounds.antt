@@ -1,11 +1,12 @@
 -- Counts, ends and sums of a selection's pairs, by masks.
-use Rattle.std.proofs.Common.{◌≡◌, ℕ, ◌+◌, ◌<◌, ℤ, pos, ◌+ℤ◌, Bool, true, false, not, ◌&&◌, ◌||◌, List, length, map, filter, get_or, count_by, refl, sym, ap, ◌∙◌, arith}
+use Rattle.std.proofs.Common.{◌≡◌, ℕ, ◌+◌, ◌<◌, ◌≤◌, ℤ, pos, ◌+ℤ◌, Bool, true, false, not, ◌&&◌, ◌||◌, List, length, map, filter, get_or, count_by, refl, sym, ap, ◌∙◌, arith}
 use Rattle.std.specs.declared.option.Option.{Option}
 use Rattle.std.specs.Option.{option_or, unwrap_or}
 use Rattle.std.specs.Simd.Lanes.{zip2}
 use Rattle.std.proofs.lemmas.Bool.{false≢true}
 use Rattle.std.proofs.lemmas.Int.{ints}
 use Rattle.std.proofs.lemmas.List.{length-map}
+use Rattle.std.proofs.lemmas.List.Sums.{count_by-le-length, length-filter}
 use Rattle.std.proofs.lemmas.List.FromFn.{get_or-map-range_with_len, length-map-range_with_len}
 use Rattle.std.proofs.lemmas.Simd.{get_or-zip2, length-zip2, map-map}
 use Rattle.aggregates.specs.Widening.{widens}
@@ -176,3 +177,13 @@ module _ (column : KnownColumn) (selection : Selection) (is : IsSelection column
     one_alone none =
         ap (λ ns. unwrap_or (outermost e ns) (pos 0)) (ends_are e) ∙ outermost_or_zero e (pairs_in column selection)
         ∙ alone e column selection.must (rows_in selection.may) (sym adding_count ∙ none)
+
+  -- where all rows count for certain, no other widens the sum
+  pub all_certain : (e : End) → certain_count (pairs_in column selection) ≡ length (pairs_in column selection) → total (ends_in e column selection.must) ≡ total (map (share_at e) (pairs_in column selection))
+  all_certain e all =
+      let others = widening_rows e column selection in
+      let adding : ℕ → Bool = adds e column selection.must in
+      let rows = rows_in selection.may in
+      let few : length (filter adding rows) ≤ length rows = omega (arith, length-filter adding rows, count_by-le-length adding rows) in
+      let none : count_by (λ b. b) others ≡ 0 = omega (arith, adding_count e others refl, few, certain_is, all_is, all, count_rows selection.may) in
+      with_nothing _ _ (total_of_none (end_at e column) others none) ∙ shares_are e others refl

@@ -1,10 +1,13 @@
 //! What an item of a cell keeps of a column's rows, told by masks and planes.
 
-ghost use Rattle.std.specs.Prelude.{◌≡◌, length};
+ghost use Rattle.std.specs.Prelude.{◌≡◌, length, map};
+ghost use Rattle.aggregates.specs.Selections.{ends_in, IsSmallSum};
 ghost use Rattle.aggregates.specs.Tallies.{tally_of};
 ghost use Rattle.known_column.specs.Columns.{KnownColumn, rows_of_column};
+ghost use Rattle.query_model.specs.Answers.{total};
 ghost use Rattle.query_model.specs.declared.query.ItemKind.TheVariants.{Count, Max, Min, Sum};
 ghost use Rattle.round_engine.specs.Selected.{IsSelection, pairs_in};
+ghost use Rattle.round_engine.specs.SumEnds.{share_at};
 
 use crate::selection::Selected;
 use aggregates::{End, Tally, greatest_ends, least_ends, sum_ends};
@@ -24,6 +27,24 @@ impl Selected<'_> {
         }
     }
 
+    // What the rows add to this end of the sum, where those that surely count come to this and they are so many. Where these are all rows,
+    // no other is looked for.
+    fn share(&self, end: End, known: &Known, certain: i128, counts: Tally, added: &mut Mask) -> i128
+        requires selection { IsSelection known.now self.now }
+        requires counts { counts ≡ tally_of Count (pairs_in known.now self.now) }
+        requires certain { certain ≡ total (ends_in end known.now self.now.must) }
+        requires small { IsSmallSum certain }
+        requires room { length added.old ≡ rows_of_column known.now }
+        ensures room { length added.new ≡ rows_of_column known.now }
+        ensures sum { result ≡ total (map (share_at end) (pairs_in known.now self.now)) }
+    {
+        if counts.certain == counts.all {
+            certain
+        } else {
+            self.shares(end, known, certain, added)
+        }
+    }
+
     // Of a sum.
     fn sum_tally(&self, known: &Known, added: &mut Mask) -> Tally
         requires selection { IsSelection known.now self.now }
@@ -36,8 +57,8 @@ impl Selected<'_> {
         Tally {
             least_low: self.end_if_none(End::Low, known, counts.certain),
             greatest_high: self.end_if_none(End::High, known, counts.certain),
-            low_sum: self.shares(End::Low, known, sums.low, added),
-            high_sum: self.shares(End::High, known, sums.high, added),
+            low_sum: self.share(End::Low, known, sums.low, counts, added),
+            high_sum: self.share(End::High, known, sums.high, counts, added),
             ..counts
         }
     }

@@ -14,13 +14,13 @@ use Rattle.round_engine.proofs.selection.Selected.sum_tally.Goals as goal
 pub sum_ends-sums-requires-clause-values : goal.sum_ends-sums-requires-clause-values
 sum_ends-sums-requires-clause-values c = subst (λ s. MayHaveValues c.args.known.now s.must) (sym c.self.view_is) (must_values c.args.known.now c.args.self.now c.requires.selection)
 
-pub shares-requires-clause-certain : goal.shares-requires-clause-certain
-shares-requires-clause-certain c =
+pub share-requires-clause-certain : goal.share-requires-clause-certain
+share-requires-clause-certain c =
     let same : to_z w128 (of_z w128 c.sum_ends-sums.result.low) ≡ c.sum_ends-sums.result.low = omega (arith, ints, c.sum_ends-sums.ensures.few.0) in
     same ∙ c.sum_ends-sums.ensures.low ∙ ap (λ s. total (lows_in c.args.known.now s.must)) c.self.view_is
 
-pub shares-requires-2-clause-certain : goal.shares-requires-2-clause-certain
-shares-requires-2-clause-certain c =
+pub share-requires-2-clause-certain : goal.share-requires-2-clause-certain
+share-requires-2-clause-certain c =
     let same : to_z w128 (of_z w128 c.sum_ends-sums.result.high) ≡ c.sum_ends-sums.result.high = omega (arith, ints, c.sum_ends-sums.ensures.few.1) in
     same ∙ c.sum_ends-sums.ensures.high ∙ ap (λ s. total (highs_in c.args.known.now s.must)) c.self.view_is
 
@@ -31,8 +31,8 @@ returns-clause-tally c =
     let is = c.requires.selection in
     let counts = c.count_tally-counts.ensures column is in
     let certain = ap (λ (t : Tally). t.certain) counts in
-    let low : to_z w128 (of_z w128 c.shares.result) ≡ c.shares.result = omega (arith, ints) in
-    let high : to_z w128 (of_z w128 c.shares-2.result) ≡ c.shares-2.result = omega (arith, ints) in
+    let low : to_z w128 (of_z w128 c.share.result) ≡ c.share.result = omega (arith, ints) in
+    let high : to_z w128 (of_z w128 c.share-2.result) ≡ c.share-2.result = omega (arith, ints) in
     sym (same_tally _ _ _ _ _ _ _ _ _
     certain
     (ap (λ (t : Tally). t.all) counts)
@@ -40,5 +40,5 @@ returns-clause-tally c =
     (c.end_if_none-2.ensures ∙ ap (λ n. if n == 0 then answer Max (highs (pairs_in column selection)) else None) certain)
     (ap (λ (t : Tally). t.least_certain_high) counts)
     (ap (λ (t : Tally). t.greatest_certain_low) counts)
-    (low ∙ c.shares.ensures.sum)
-    (high ∙ c.shares-2.ensures.sum))
+    (low ∙ c.share.ensures.sum)
+    (high ∙ c.share-2.ensures.sum))
