@@ -1,8 +1,9 @@
 -- A selection of a column's rows, and the pairs of an item over the column.
-use Rattle.std.proofs.Common.{◌≡◌, ℕ, zero, suc, ◌+◌, ◌<◌, ◌≤◌, ◌==◌, Bool, true, false, ◌&&◌, not, cond, List, [], ◌∷◌, length, map, filter, filter_map, get_or, refl, sym, ap, subst, ◌∙◌, arith}
+use Rattle.std.proofs.Common.{◌≡◌, ℕ, zero, suc, ◌+◌, ◌<◌, ◌≤◌, ◌==◌, Bool, true, false, ◌&&◌, not, cond, List, [], ◌∷◌, length, map, filter, filter_map, get_or, replicate, count_by, refl, sym, ap, subst, ◌∙◌, arith}
 use Rattle.std.specs.declared.option.Option.{Option}
 use Rattle.std.specs.List.{cons_option, range_with_len}
 use Rattle.std.specs.Simd.Lanes.{zip2}
+use Rattle.std.proofs.lemmas.List.Sums.{count_by-le-length, sum_by-cons}
 use Rattle.std.proofs.lemmas.List.FromFn.{get_or-map-range_with_len, length-map-range_with_len}
 use Rattle.interval_calc.specs.Intervals.{Interval}
 use Rattle.aggregates.specs.Selections.{MayHaveValues, has_row}
@@ -20,8 +21,8 @@ use Rattle.query_model.specs.Knowledge.{ranges_of}
 use Rattle.query_model.specs.Queries.{Aggregate, Column, Query}
 use Rattle.query_model.specs.Truths.{may_be_null, may_be_number, null_of, span_of, truth_of}
 use Rattle.round_engine.specs.declared.selection.Selection.{Selection}
-use Rattle.round_engine.specs.Selected.{IsSelection, pair_in, pairs_in}
-use Rattle.round_engine.proofs.Masked.{pair_by_masks, rows_by_column, sure_may, told_pair}
+use Rattle.round_engine.specs.Selected.{HasEach, IsSelection, pair_in, pairs_in}
+use Rattle.round_engine.proofs.Masked.{certain_may, pair_by_masks, rows_by_column, sure_may, told_pair}
 use Rattle.round_engine.proofs.RowPairs.{plain_pair}
 
 -- ---- rows that give a pair where a test says so
@@ -112,3 +113,34 @@ never_null known mask plain long = (both_all (is_sure known.ends known.known.rea
 
     possible : (p : ℕ) → column.is_possible known.ends known.known.read p ≡ true
     possible p = ap (λ b. may_be_number (cond (b && (p == 0)) (cond (known.known.read == 0) Possibly Always) Never)) plain
+
+-- ---- a condition that surely holds at each row
+
+-- a mask that counts as many rows as it has has each
+pub has_each : (mask : List Bool) → length mask ≤ count_by (λ b. b) mask → HasEach mask
+has_each [] h = refl
+has_each (true ∷ mask) h = ap (λ l. true ∷ l) (has_each mask (omega (arith, h, sum_by-cons (λ b. cond {A = ℕ} b 1 0) true mask)))
+has_each (false ∷ mask) h = absurd (omega (arith, h, sum_by-cons (λ b. cond {A = ℕ} b 1 0) false mask, count_by-le-length {X = Bool} (λ b. b) mask))
+
+-- of a mask's rows it leaves out none
+pub left_whole : (within mask : List Bool) → length within ≡ length mask → HasEach mask → within ≡ zip2 (λ a b. a && b) within mask
+left_whole within mask long each = whole within (length mask) long ∙ ap (zip2 (λ a b. a && b) within) (sym each)
+  where
+    whole : (within : List Bool) (n : ℕ) → length within ≡ n → within ≡ zip2 (λ a b. a && b) within (replicate n true)
+    whole [] zero h = refl
+    whole [] (suc n) h = absurd (omega (arith, h))
+    whole (b ∷ within) zero h = absurd (omega (arith, h))
+    whole (true ∷ within) (suc n) h = ap (λ l. true ∷ l) (whole within n (omega (arith, h)))
+    whole (false ∷ within) (suc n) h = ap (λ l. false ∷ l) (whole within n (omega (arith, h)))
+
+pub possible_each : (truths : List Truth) → HasEach (map is_certain truths) → HasEach (map is_possible truths)
+possible_each [] each = refl
+possible_each (t ∷ truths) each =
+    ap (λ b. b ∷ map is_possible truths) (certain_may t (first (is_certain t) (map is_certain truths) _ each))
+    ∙ ap (λ l. true ∷ l) (possible_each truths (others (is_certain t) (map is_certain truths) _ each))
+  where
+    first : (b : Bool) (xs zs : List Bool) → (b ∷ xs) ≡ (true ∷ zs) → b ≡ true
+    first b xs zs e = cc
+
+    others : (b : Bool) (xs zs : List Bool) → (b ∷ xs) ≡ (true ∷ zs) → xs ≡ zs
+    others b xs zs e = cc

@@ -28,6 +28,10 @@ pub record HasRows (rows : ℕ) (selection : Selection) : Type 0 where
   pub may : length selection.may ≡ rows
   pub must : length selection.must ≡ rows
 
+-- the mask has each row
+abbrev pub HasEach : List Bool → Type 0
+HasEach mask = mask ≡ replicate (length mask) true
+
 -- so many rows each mask has
 pub record AreCounts (selection : Selection) (counts : RowCounts) : Type 0 where
   pub most : counts.most ≡ count_by (λ b. b) selection.may

@@ -15,6 +15,7 @@ ghost use Rattle.round_engine.specs.Selected.{is_by_masks};
 ghost use Rattle.round_engine.specs.Stages.{IsOpenItem, IsOpenStage};
 
 use crate::one_cell::CellMasks;
+use crate::selection::{leaves_out, select_part};
 use aggregates::{Running, Tally};
 use kleene_filter::Filter;
 use known_column::LentColumns;
@@ -82,11 +83,17 @@ impl CellMasks {
         ensures tally { result ≡ tally_of item.now.kind (pairs_in_cell query.now item.now cell columns.now.frame columns.now.known) }
     {
         let known = columns.column(column as usize);
-        self.selection.select_within(within, filter, known);
-        self.selection
-            .lend()
-            .certain_if(certain, &self.none)
-            .tally(item.kind, known, &mut self.added)
+        if leaves_out(filter, known) {
+            self.selection.select_within(within, filter, known);
+            self.selection
+                .lend()
+                .certain_if(certain, &self.none)
+                .tally(item.kind, known, &mut self.added)
+        } else {
+            select_part(within, filter, known)
+                .certain_if(certain, &self.none)
+                .tally(item.kind, known, &mut self.added)
+        }
     }
 
     // Makes each cell stand for its rows.

@@ -6,7 +6,7 @@ ghost use Rattle.kleene_filter.specs.Filters.{is_certain, is_possible};
 ghost use Rattle.known_column.specs.Columns as column;
 ghost use Rattle.known_column.specs.Columns.{is_sure, rows_of_column, rows_where};
 ghost use Rattle.round_engine.specs.declared.selection.Selection.{Selection};
-ghost use Rattle.round_engine.specs.Selected.{AreCounts, HasRows};
+ghost use Rattle.round_engine.specs.Selected.{AreCounts, HasEach, HasRows};
 
 use kleene_filter::Filter;
 use known_column::Known;
@@ -65,6 +65,32 @@ pub(crate) fn select_all<'a>(filter: &'a Filter, known: &Known) -> Selected<'a>
     Selected {
         may: filter.may(),
         must: filter.must(),
+    }
+}
+
+// Whether a condition or the nulls of a column may leave out rows. If not, the condition surely holds at each row, and each has a value.
+pub(crate) fn leaves_out(filter: &Filter, known: &Known) -> bool
+    ensures never_null { IsFalse result → IsFalse known.now.ends.nullable }
+    ensures each { IsFalse result → HasEach (map is_certain filter.now.truths) }
+{
+    let each = filter.must().rows() as u64;
+    known.nullable() | (counts_of(filter).fewest < each)
+}
+
+// Those of some rows at which a condition holds and a column has a value, where neither leaves out rows.
+pub(crate) fn select_part<'a>(within: &'a Mask, filter: &Filter, known: &Known) -> Selected<'a>
+    requires never_null { IsFalse known.now.ends.nullable }
+    requires each { HasEach (map is_certain filter.now.truths) }
+    requires within { length within.now ≡ rows_of_column known.now }
+    requires rows { length filter.now.truths ≡ rows_of_column known.now }
+    ensures may { result.may ≡ zip2 (λ a b. a && b) (zip2 (λ a b. a && b) within.now (map is_possible filter.now.truths))
+        (rows_where column.is_possible known.now) }
+    ensures must { result.must ≡ zip2 (λ a b. a && b) (zip2 (λ a b. a && b) within.now (map is_certain filter.now.truths))
+        (rows_where is_sure known.now) }
+{
+    Selected {
+        may: within,
+        must: within,
     }
 }
 

@@ -13,8 +13,8 @@ tally-requires-clause-selection c =
     (c.certain_if.ensures.may ∙ ap (λ s. s.may) c.lend.ensures ∙ c.select_within.ensures.may)
     (must_if c.args.certain _ _ _ _ _ c.certain_if.ensures.must (ap (λ s. s.must) c.lend.ensures ∙ c.select_within.ensures.must) c.requires.masks.none)
 
-pub returns-clause-masks : goal.returns-clause-masks
-returns-clause-masks c = record {
+pub returns-then-leaves_out-clause-masks : goal.returns-then-leaves_out-clause-masks
+returns-then-leaves_out-clause-masks c = record {
   selection =
       part_rows c.args.query.now c.args.item.now c.args.columns.now c.args.cell c.args.certain c.args.within.now c.requires.part c.args.filter.now.truths c.requires.judged
       c.column-known.result.now c.column-known.ensures.rows c.select_within.new.self c.select_within.ensures.may c.select_within.ensures.must;
@@ -22,11 +22,27 @@ returns-clause-masks c = record {
   none = c.requires.masks.none;
 }
 
-pub returns-clause-tally : goal.returns-clause-tally
-returns-clause-tally c =
+pub returns-then-leaves_out-clause-tally : goal.returns-then-leaves_out-clause-tally
+returns-then-leaves_out-clause-tally c =
     let same =
     selected_part c.args.query.now c.args.item.now c.args.columns.now c.args.cell c.args.certain c.args.within.now c.requires.part c.args.filter.now.truths c.requires.judged
     c.column-known.result.now c.args.column c.requires.column c.column-known.ensures.column c.column-known.ensures.rows c.certain_if.result
     (c.certain_if.ensures.may ∙ ap (λ s. s.may) c.lend.ensures ∙ c.select_within.ensures.may)
     (must_if c.args.certain _ _ _ _ _ c.certain_if.ensures.must (ap (λ s. s.must) c.lend.ensures ∙ c.select_within.ensures.must) c.requires.masks.none) in
     c.tally.ensures.tally ∙ ap (λ (i : Aggregate). tally_of i.kind (pairs_in c.column-known.result.now c.certain_if.result)) c.item.view_is ∙ ap (tally_of c.args.item.now.kind) (sym same)
+
+pub tally-requires-else-leaves_out-clause-selection : goal.tally-requires-else-leaves_out-clause-selection
+tally-requires-else-leaves_out-clause-selection c =
+    selection_part c.args.query.now c.args.item.now c.args.columns.now c.args.cell c.args.certain c.args.within.now c.requires.part c.args.filter.now.truths c.requires.judged
+    c.column-known.result.now c.args.column c.requires.column c.column-known.ensures.column c.column-known.ensures.rows c.certain_if-else-leaves_out.result
+    (c.certain_if-else-leaves_out.ensures.may ∙ c.select_part.ensures.may)
+    (must_if c.args.certain _ _ _ _ _ c.certain_if-else-leaves_out.ensures.must c.select_part.ensures.must c.requires.masks.none)
+
+pub returns-else-leaves_out-clause-tally : goal.returns-else-leaves_out-clause-tally
+returns-else-leaves_out-clause-tally c =
+    let same =
+    selected_part c.args.query.now c.args.item.now c.args.columns.now c.args.cell c.args.certain c.args.within.now c.requires.part c.args.filter.now.truths c.requires.judged
+    c.column-known.result.now c.args.column c.requires.column c.column-known.ensures.column c.column-known.ensures.rows c.certain_if-else-leaves_out.result
+    (c.certain_if-else-leaves_out.ensures.may ∙ c.select_part.ensures.may)
+    (must_if c.args.certain _ _ _ _ _ c.certain_if-else-leaves_out.ensures.must c.select_part.ensures.must c.requires.masks.none) in
+    c.tally-else-leaves_out.ensures.tally ∙ ap (λ (i : Aggregate). tally_of i.kind (pairs_in c.column-known.result.now c.certain_if-else-leaves_out.result)) c.item.view_is ∙ ap (tally_of c.args.item.now.kind) (sym same)
