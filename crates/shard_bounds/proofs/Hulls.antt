@@ -15,10 +15,10 @@ use Rattle.shard_bounds.proofs.FractionOrder.{IsAtMost, at_most-trans, at_most-r
 
 -- ---- one of two fractions
 
-lesser_is : (a b : Fraction) → (lesser a b ≡ a) ⊎ (lesser a b ≡ b)
+pub lesser_is : (a b : Fraction) → (lesser a b ≡ a) ⊎ (lesser a b ≡ b)
 lesser_is a b = cond_both _ a b (λ m. (m ≡ a) ⊎ (m ≡ b)) (λ t. inl refl) (λ f. inr refl)
 
-greater_is : (a b : Fraction) → (greater a b ≡ a) ⊎ (greater a b ≡ b)
+pub greater_is : (a b : Fraction) → (greater a b ≡ a) ⊎ (greater a b ≡ b)
 greater_is a b = cond_both _ b a (λ m. (m ≡ a) ⊎ (m ≡ b)) (λ t. inr refl) (λ f. inl refl)
 
 -- ---- what a hull of two is like

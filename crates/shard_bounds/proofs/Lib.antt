@@ -18,3 +18,5 @@ pub mod AverageOrders
 pub mod AverageNests
 pub mod ShardAverages
 pub mod DividedSums
+pub mod Following
+pub mod Meets

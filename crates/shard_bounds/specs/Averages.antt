@@ -1,9 +1,9 @@
 -- The bound of an average over shards, from the shards' bounds.
-use Rattle.std.specs.Prelude.{max, nat_abs, ◌≡◌, ℕ, ◌+◌, ◌<◌, ◌^◌, ℤ, pos, ◌+ℤ◌, ◌*ℤ◌, int_le, Bool, true, false, ◌&&◌, ◌==◌, List, []}
+use Rattle.std.specs.Prelude.{nat_abs, ◌≡◌, ℕ, ◌+◌, ◌<◌, ◌^◌, ℤ, pos, ◌+ℤ◌, ◌*ℤ◌, int_le, Bool, true, false, ◌&&◌, ◌==◌, List, []}
 use Rattle.std.specs.Prelude.{◌∷◌, if◌then◌else◌, FitsSigned, IsTrue}
 use Rattle.std.specs.declared.option.Option.{Option}
 use Rattle.std.specs.declared.option.Option.TheVariants.{Some, None}
-use Rattle.std.specs.Int.{w128}
+use Rattle.std.specs.Int.{int_max, w128}
 use Rattle.std.specs.List.{filter_map, list_all}
 use Rattle.std.specs.Ordering.{int_eq}
 use Rattle.interval_calc.specs.Intervals.{Fraction}
@@ -119,16 +119,17 @@ pub record FitsAverage (bound : AverageBound) : Type 0 where
 
 -- ---- from sums and numbers of values
 
+-- as many values as an end says, and one at least: an average is of some values
+abbrev pub values_at : ℤ → ℕ
+values_at end = nat_abs (int_max end (pos 1))
+
 -- a sum that is not negative is divided by as many values as there may be for the low end, and by as few for the high end
 abbrev pub divided : Nullity → Bound → Bound → AverageBound
-divided null sum count =
-    let fewest = max (nat_abs count.lo) 1 in
-    let most = nat_abs count.hi in
-    record {
-      null = null;
-      lo = record { num = sum.lo; den = if int_le (pos 0) sum.lo then most else fewest };
-      hi = record { num = sum.hi; den = if int_le (pos 0) sum.hi then fewest else most };
-    }
+divided null sum count = record {
+  null = null;
+  lo = record { num = sum.lo; den = values_at (if int_le (pos 0) sum.lo then count.hi else count.lo) };
+  hi = record { num = sum.hi; den = values_at (if int_le (pos 0) sum.hi then count.lo else count.hi) };
+}
 
 -- the bound of an average from those of the sum and of the number of the values
 abbrev pub average_by : Nullity → Bound → Bound → AverageBound
@@ -138,3 +139,22 @@ average_by Possibly sum count = divided Possibly sum count
 
 abbrev pub average_from : Bound → Bound → AverageBound
 average_from sum count = average_by sum.null sum count
+
+-- ---- what lies in two bounds
+
+-- of ends that are equal the first bound's
+abbrev pub within : Nullity → AverageBound → AverageBound → AverageBound
+within null a b = record { null = null; lo = greater b.lo a.lo; hi = lesser a.hi b.hi }
+
+abbrev pub meet_by : Nullity → Nullity → AverageBound → AverageBound → AverageBound
+meet_by Always w a b = a
+meet_by Never Always a b = b
+meet_by Never Never a b = within Never a b
+meet_by Never Possibly a b = within Never a b
+meet_by Possibly Always a b = b
+meet_by Possibly Never a b = within Never a b
+meet_by Possibly Possibly a b = within Possibly a b
+
+-- the averages that lie in both
+abbrev pub meet_of_two : AverageBound → AverageBound → AverageBound
+meet_of_two a b = meet_by a.null b.null a b

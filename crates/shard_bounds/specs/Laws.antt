@@ -11,7 +11,7 @@ use Rattle.query_model.specs.Answers.{answer, average}
 use Rattle.query_model.specs.Bounds.{Admits, AdmitsAverage, AverageBound, IsExtremes, IsNested, IsNestedAverage, Pair, average_bound_of}
 use Rattle.query_model.specs.Bounds.{bound_of}
 use Rattle.query_model.specs.Laws.{AreOutcomes, ArePairs, present}
-use Rattle.shard_bounds.specs.Averages.{average_from, hull_of_averages, is_exact, combined_average, IsDivisible, AreDivisible}
+use Rattle.shard_bounds.specs.Averages.{average_from, hull_of_averages, is_exact, combined_average, meet_of_two, IsDivisible, AreDivisible}
 use Rattle.shard_bounds.specs.Averages.{TellsAverage, ReportsAverage}
 use Rattle.shard_bounds.specs.Combined.{answer_over, average_over, combined, IsBoundOf, AreBoundsOf, Reordered}
 
@@ -215,3 +215,29 @@ abbrev pub SumsGiveAverages : Type 0
 SumsGiveAverages =
     (pss : List (List Pair)) → AreAllPairs pss →
     average_from (combined Sum (map (bound_of Sum) pss)) (combined Count (map (bound_of Count) pss)) ≡ average_bound_of (flattened pss)
+
+-- the bound that follows from those of the sum and of the number of some values
+pub record AveragesFollow : Type 0 where
+  -- where these are admitted, so is the average
+  pub contain : (sum count : Bound) (values : List ℤ) → Admits sum (answer Sum values) → Admits count (answer Count values) →
+      AdmitsAverage (average_from sum count) (average values)
+  -- with narrower ones it is narrower
+  pub nest : (sum count new_sum new_count : Bound) → IsNested sum new_sum → IsNested count new_count → new_count.null ≢ Always →
+      IsNestedAverage (average_from sum count) (average_from new_sum new_count)
+  -- where they are said, it says them
+  pub tell : (sum count : Bound) (values : List ℤ) → Tells sum (answer Sum values) → Tells count (answer Count values) →
+      TellsAverage (average_from sum count) (average values)
+
+-- what lies in two bounds of an average
+pub record MeetsStand : Type 0 where
+  -- an average that lies in both
+  pub contain : (a b : AverageBound) (x : Option (ℤ × ℕ)) → AdmitsAverage a x → AdmitsAverage b x → AdmitsAverage (meet_of_two a b) x
+  -- with narrower ones it is narrower, where some average lies in both of these
+  pub nest : (a b new other : AverageBound) (x : Option (ℤ × ℕ)) → AreDivisible (new ∷ other ∷ []) →
+      IsNestedAverage a new → IsNestedAverage b other →
+      AdmitsAverage new x → AdmitsAverage other x → IsNestedAverage (meet_of_two a b) (meet_of_two new other)
+  -- where the first says the sum and the number of values, and the second admits them
+  pub tell : (a b : AverageBound) (x : Option (ℤ × ℕ)) → TellsAverage a x → AdmitsAverage b x → TellsAverage (meet_of_two a b) x
+  -- it lies in each of the two
+  pub narrow : (a b : AverageBound) (x : Option (ℤ × ℕ)) → AdmitsAverage a x → AdmitsAverage b x →
+      IsNestedAverage a (meet_of_two a b) × IsNestedAverage b (meet_of_two a b)

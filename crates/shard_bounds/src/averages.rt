@@ -12,7 +12,7 @@ use crate::wide::Wide;
 use interval_calc::Fraction;
 use query_model::{AverageBound, Nullity};
 
-fn no_average() -> AverageBound
+pub(crate) fn no_average() -> AverageBound
     ensures { fractions_of result ≡ no_average }
 {
     let zero = Fraction { num: 0, den: 1 };

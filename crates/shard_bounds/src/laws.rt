@@ -1,5 +1,6 @@
 //! The laws of bounds over shards. Each stands on a function that does nothing.
 
+ghost use Rattle.shard_bounds.specs.Laws.{AveragesFollow, MeetsStand};
 ghost use Rattle.shard_bounds.specs.Laws.{AveragesNest, CombinedIsBound, GroupsCombine, HullsContain, HullsNest, ListsGiveBounds};
 ghost use Rattle.shard_bounds.specs.Laws.{ListsReportAverages, NothingIsLost, OneAverageIsAll, OneShardIsAll};
 ghost use Rattle.shard_bounds.specs.Laws.{OrderIsFree, OrderOfAveragesIsFree, CombinationsContain, SumsGiveAverages};
@@ -141,4 +142,14 @@ pub fn shards_become_exact_averages()
 /// From the shards' bounds of the sum and of the number of values follows the bound of the average that all rows together have.
 pub fn sums_give_averages()
     ensures { SumsGiveAverages }
+{}
+
+/// That bound contains the average, nests and becomes exact, as the two bounds do.
+pub fn averages_follow()
+    ensures { AveragesFollow }
+{}
+
+/// So does what lies in two bounds of an average.
+pub fn meets_stand()
+    ensures { MeetsStand }
 {}
