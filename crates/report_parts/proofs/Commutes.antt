@@ -7,7 +7,7 @@ use Rattle.std.specs.Cmp.Lexicographic.{slice_cmp}
 use Rattle.std.specs.Ordering.{nat_cmp, ordering_reverse}
 use Rattle.std.specs.declared.cmp.Ordering.{Ordering}
 use Rattle.std.specs.declared.cmp.Ordering.TheVariants.{Less, Equal, Greater}
-use Rattle.query_model.specs.declared.query.ItemKind.{ItemKind}
+use Rattle.report_parts.specs.declared.shape.Shape.{Shape}
 use Rattle.report_text.specs.declared.lines.ReportEnd.{ReportEnd}
 use Rattle.report_parts.proofs.Courses.{by_each, longer, tag_of_told, tag_stays}
 use Rattle.report_parts.proofs.FromRounds.{cases_lt}
@@ -112,22 +112,22 @@ other_stays told tag (part ∷ parts) ne =
 
 -- ---- two lines
 
-line_tag : (query : List ℕ) (kinds : List ItemKind) (parts : List Told) (line : List ℕ) (next : List Told) (h : TakesTagged query kinds parts line next) →
+line_tag : (query : List ℕ) (shape : Shape) (parts : List Told) (line : List ℕ) (next : List Told) (h : TakesTagged query shape parts line next) →
     h.told.tag ≡ tag_of line
-line_tag query kinds parts line next h =
-    tag_stays query kinds (told_of (tag_of line) parts) (behind_tag line) h.told h.taken ∙ tag_of_told (tag_of line) parts
+line_tag query shape parts line next h =
+    tag_stays query shape (told_of (tag_of line) parts) (behind_tag line) h.told h.taken ∙ tag_of_told (tag_of line) parts
 
 -- the second line first
-pub record TakesFirst (query : List ℕ) (kinds : List ItemKind) (parts : List Told) (first second : List ℕ) (last : List Told) : Type 0 where
+pub record TakesFirst (query : List ℕ) (shape : Shape) (parts : List Told) (first second : List ℕ) (last : List Told) : Type 0 where
   pub mid : List Told
-  pub before : TakesTagged query kinds parts second mid
-  pub behind : TakesTagged query kinds mid first last
+  pub before : TakesTagged query shape parts second mid
+  pub behind : TakesTagged query shape mid first last
 
-swaps : (query : List ℕ) (kinds : List ItemKind) (parts : List Told) (first second : List ℕ) (mid last : List Told) → tag_of first ≢ tag_of second →
-    TakesTagged query kinds parts first mid → TakesTagged query kinds mid second last → TakesFirst query kinds parts first second last
-swaps query kinds parts first second mid last ne h k =
-    let a = line_tag query kinds parts first mid h in
-    let b = line_tag query kinds mid second last k in
+swaps : (query : List ℕ) (shape : Shape) (parts : List Told) (first second : List ℕ) (mid last : List Told) → tag_of first ≢ tag_of second →
+    TakesTagged query shape parts first mid → TakesTagged query shape mid second last → TakesFirst query shape parts first second last
+swaps query shape parts first second mid last ne h k =
+    let a = line_tag query shape parts first mid h in
+    let b = line_tag query shape mid second last k in
     let apart : h.told.tag ≢ k.told.tag = λ e. ne (sym a ∙ e ∙ b) in
     let others : told_of (tag_of second) mid ≡ told_of (tag_of second) parts =
     ap (λ (ps : List Told). told_of (tag_of second) ps) h.put ∙ other_stays h.told (tag_of second) parts (λ e. ne (sym a ∙ e)) in
@@ -138,13 +138,13 @@ swaps query kinds parts first second mid last ne h k =
       before = record {
         told = k.told;
         is_tag = k.is_tag;
-        taken = subst (λ (t : Told). Takes query kinds t (behind_tag second) k.told) others k.taken;
+        taken = subst (λ (t : Told). Takes query shape t (behind_tag second) k.told) others k.taken;
         put = refl;
       };
       behind = record {
         told = h.told;
         is_tag = h.is_tag;
-        taken = subst (λ (t : Told). Takes query kinds t (behind_tag first) h.told) (sym own) h.taken;
+        taken = subst (λ (t : Told). Takes query shape t (behind_tag first) h.told) (sym own) h.taken;
         put = k.put ∙ ap (λ (ps : List Told). with_part k.told ps) h.put ∙ put_either h.told k.told parts apart;
       };
     }
@@ -152,8 +152,8 @@ swaps query kinds parts first second mid last ne h k =
 tell_swapped : (task : Task) (parts : List Told) (first second : List ℕ) (lines : List (List ℕ)) (last : List Told) → tag_of first ≢ tag_of second →
     Tell task parts (first ∷ second ∷ lines) last → Tell task parts (second ∷ first ∷ lines) last
 tell_swapped task parts first second lines last ne h =
-    let done = swaps task.query task.kinds parts first second h.0 h.2.0 ne h.1.taken h.2.1.taken in
-    let fewer = longer task.query task.kinds done.mid first h.2.0 done.behind in (
+    let done = swaps task.query task.shape parts first second h.0 h.2.0 ne h.1.taken h.2.1.taken in
+    let fewer = longer task.query task.shape done.mid first h.2.0 done.behind in (
       done.mid,
       record { taken = done.before; few = omega (arith, fewer, h.2.1.few) },
       (h.2.0, record { taken = done.behind; few = h.2.1.few }, h.2.2),
@@ -180,13 +180,13 @@ writes_one wanted parts round a b e f (waits r h) (goes s rest end has none k) =
 writes_one wanted parts round a b e f (ends r end has last) (waits s k) = absurd (false≢true (sym k ∙ has))
 writes_one wanted parts round a b e f (ends r end has last) (ends s other here later) =
     let same : other ≡ end = some_same other end (sym later ∙ last) in
-    (ap (λ (x : ReportEnd). block_text round wanted.kinds parts ++ end_text x) same, ap (λ (x : ReportEnd). Some x) same)
+    (ap (λ (x : ReportEnd). block_text round wanted.shape.kinds parts ++ end_text x) same, ap (λ (x : ReportEnd). Some x) same)
 writes_one wanted parts round a b e f (ends r end has last) (goes s rest other here none k) = absurd (none-some end (sym none ∙ last))
 writes_one wanted parts round a b e f (goes r rest end has none h) (waits s k) = absurd (false≢true (sym k ∙ has))
 writes_one wanted parts round a b e f (goes r rest end has none h) (ends s other here last) = absurd (none-some other (sym none ∙ last))
 writes_one wanted parts round a b e f (goes r rest end has none h) (goes s more other here off k) =
     let behind = writes_one wanted parts (round + 1) rest more end other h k in
-    (ap (λ (x : List ℕ). block_text round wanted.kinds parts ++ x) behind.0, behind.1)
+    (ap (λ (x : List ℕ). block_text round wanted.shape.kinds parts ++ x) behind.0, behind.1)
 
 pub text_one : TextIsOne
 text_one task parts text other end later few h k = elim (cases_lt (length parts) task.count) [

@@ -30,12 +30,13 @@ use Rattle.report_parts.specs.declared.entry.Entry.{Entry}
 use Rattle.report_parts.specs.declared.fault.BlockFault.{BlockFault}
 use Rattle.report_parts.specs.declared.fault.BlockFault.TheVariants.{NoMemory, OtherDecimals, TooWide}
 use Rattle.report_parts.specs.declared.fault.InputFault.{InputFault}
+use Rattle.report_parts.specs.declared.shape.Shape.{Shape}
 
 -- ---- the parts of which lines came are those that take the next
 
 -- a line leaves the tag
-pub tag_stays : (query : List ℕ) (kinds : List ItemKind) (told : Told) (line : List ℕ) (next : Told) → Takes query kinds told line next → next.tag ≡ told.tag
-tag_stays query kinds told line next h = (follows told.place query kinds told line next refl h).tag
+pub tag_stays : (query : List ℕ) (shape : Shape) (told : Told) (line : List ℕ) (next : Told) → Takes query shape told line next → next.tag ≡ told.tag
+tag_stays query shape told line next h = (follows told.place query shape told line next refl h).tag
 
 pub by_each : (P : Ordering → Type 0) (o : Ordering) → (o ≡ Less → P Less) → (o ≡ Equal → P Equal) → (o ≡ Greater → P Greater) → P o
 by_each P Less a b c = a refl
@@ -48,34 +49,34 @@ tag_of_told tag (part ∷ parts) =
     let rest = tag_of_told tag parts in
     by_each (λ (o : Ordering). (by_order o (told_of tag parts) part (nothing_told tag)).tag ≡ tag) (against tag part) (λ e. rest) (λ e. tag_is tag part e) (λ e. refl)
 
-all_stay : (query : List ℕ) (kinds : List ItemKind) (parts : List Told) → AllReach query kinds parts parts
-all_stay query kinds [] = tt
-all_stay query kinds (part ∷ parts) = (remains part, all_stay query kinds parts)
+all_stay : (query : List ℕ) (shape : Shape) (parts : List Told) → AllReach query shape parts parts
+all_stay query shape [] = tt
+all_stay query shape (part ∷ parts) = (remains part, all_stay query shape parts)
 
 -- where no part comes in, one takes the line and the others stay
-reach_by : (query : List ℕ) (kinds : List ItemKind) (tag line : List ℕ) (told : Told) (parts : List Told) → told.tag ≡ tag →
-    Takes query kinds (told_of tag parts) line told → length (with_part told parts) ≤ length parts → AllReach query kinds parts (with_part told parts)
-reach_by query kinds tag line told [] e h few = absurd (omega (arith, few))
-reach_by query kinds tag line told (part ∷ parts) e h few =
+reach_by : (query : List ℕ) (shape : Shape) (tag line : List ℕ) (told : Told) (parts : List Told) → told.tag ≡ tag →
+    Takes query shape (told_of tag parts) line told → length (with_part told parts) ≤ length parts → AllReach query shape parts (with_part told parts)
+reach_by query shape tag line told [] e h few = absurd (omega (arith, few))
+reach_by query shape tag line told (part ∷ parts) e h few =
     let same : against told.tag part ≡ against tag part = ap (λ (t : List ℕ). against t part) e in
-    let taken : Takes query kinds (by_order (against told.tag part) (told_of tag parts) part (nothing_told tag)) line told =
-    subst (λ (o : Ordering). Takes query kinds (by_order o (told_of tag parts) part (nothing_told tag)) line told) (sym same) h in
-    by_each (λ (o : Ordering). Takes query kinds (by_order o (told_of tag parts) part (nothing_told tag)) line told →
+    let taken : Takes query shape (by_order (against told.tag part) (told_of tag parts) part (nothing_told tag)) line told =
+    subst (λ (o : Ordering). Takes query shape (by_order o (told_of tag parts) part (nothing_told tag)) line told) (sym same) h in
+    by_each (λ (o : Ordering). Takes query shape (by_order o (told_of tag parts) part (nothing_told tag)) line told →
     length (by_order o (part ∷ with_part told parts) (told ∷ parts) (told ∷ part ∷ parts)) ≤ suc (length parts) →
-    AllReach query kinds (part ∷ parts) (by_order o (part ∷ with_part told parts) (told ∷ parts) (told ∷ part ∷ parts)))
+    AllReach query shape (part ∷ parts) (by_order o (part ∷ with_part told parts) (told ∷ parts) (told ∷ part ∷ parts)))
     (against told.tag part)
-    (λ f own fewer. (remains part, reach_by query kinds tag line told parts e own (omega (arith, fewer))))
-    (λ f own fewer. (reaches part line told told own (remains told), all_stay query kinds parts))
+    (λ f own fewer. (remains part, reach_by query shape tag line told parts e own (omega (arith, fewer))))
+    (λ f own fewer. (reaches part line told told own (remains told), all_stay query shape parts))
     (λ f own fewer. absurd (omega (arith, fewer)))
     taken few
 
-pub all_reach : (query : List ℕ) (kinds : List ItemKind) (parts : List Told) (line : List ℕ) (next : List Told) →
-    TakesTagged query kinds parts line next → length next ≤ length parts → AllReach query kinds parts next
-all_reach query kinds parts line next h few =
+pub all_reach : (query : List ℕ) (shape : Shape) (parts : List Told) (line : List ℕ) (next : List Told) →
+    TakesTagged query shape parts line next → length next ≤ length parts → AllReach query shape parts next
+all_reach query shape parts line next h few =
     let own = told_of (tag_of line) parts in
-    let tagged : h.told.tag ≡ tag_of line = tag_stays query kinds own (behind_tag line) h.told h.taken ∙ tag_of_told (tag_of line) parts in
-    subst (λ (ps : List Told). AllReach query kinds parts ps) (sym h.put)
-    (reach_by query kinds (tag_of line) (behind_tag line) h.told parts tagged h.taken (subst (λ (ps : List Told). length ps ≤ length parts) h.put few))
+    let tagged : h.told.tag ≡ tag_of line = tag_stays query shape own (behind_tag line) h.told h.taken ∙ tag_of_told (tag_of line) parts in
+    subst (λ (ps : List Told). AllReach query shape parts ps) (sym h.put)
+    (reach_by query shape (tag_of line) (behind_tag line) h.told parts tagged h.taken (subst (λ (ps : List Told). length ps ≤ length parts) h.put few))
 
 -- ---- what was written stays
 
@@ -83,17 +84,17 @@ yes_or_no : (b : Bool) → (b ≡ true) ⊎ (b ≡ false)
 yes_or_no true = inl refl
 yes_or_no false = inr refl
 
-pub passes_on : (query : List ℕ) (wanted : Wanted) (parts laters : List Told) (round : ℕ) (text : List ℕ) → AllReach query wanted.kinds parts laters →
+pub passes_on : (query : List ℕ) (wanted : Wanted) (parts laters : List Told) (round : ℕ) (text : List ℕ) → AllReach query wanted.shape parts laters →
     Passes wanted parts round text → Passes wanted laters round text
 passes_on query wanted parts laters round text h p = record {
-  has = λ r below. all_keep query wanted.kinds r parts laters h (p.has r below);
-  wide = λ r below. ap (λ (entries : List Entry). wanted.narrow entries) (same_over query wanted.kinds wanted.kinds r 0 parts laters h (p.has r below)) ∙ p.wide r below;
+  has = λ r below. all_keep query wanted.shape r parts laters h (p.has r below);
+  wide = λ r below. ap (λ (entries : List Entry). wanted.narrow entries) (same_over query wanted.shape wanted.shape.kinds r 0 parts laters h (p.has r below)) ∙ p.wide r below;
   more = p.more;
   goes = λ r below. elim (yes_or_no (list_all (is_over r) laters)) [
-    | inl over ↦ absurd (false≢true (sym (not_all_yet query wanted.kinds r parts laters h over (p.goes r below)) ∙ p.has (r + 1) below))
+    | inl over ↦ absurd (false≢true (sym (not_all_yet query wanted.shape r parts laters h over (p.goes r below)) ∙ p.has (r + 1) below))
     | inr off ↦ off
   ];
-  is_text = p.is_text ∙ sym (only_grow query wanted.kinds round parts laters h p.has).same;
+  is_text = p.is_text ∙ sym (only_grow query wanted.shape round parts laters h p.has).same;
 }
 
 pub none_passed : (wanted : Wanted) (parts : List Told) → Passes wanted parts 0 []
@@ -110,15 +111,15 @@ none_passed wanted parts = record {
 
 writes_back : (wanted : Wanted) (parts : List Told) (round : ℕ) (rest : List ℕ) (end : Option ReportEnd) →
     ((r : ℕ) → r < round → list_all (has_block r) parts ≡ true) → ((r : ℕ) → r < round → end_at wanted r parts ≡ None) →
-    Writes wanted parts round rest end → Writes wanted parts 0 (blocks_text round wanted.kinds parts ++ rest) end
+    Writes wanted parts round rest end → Writes wanted parts 0 (blocks_text round wanted.shape.kinds parts ++ rest) end
 unfolding blocks_text
 writes_back wanted parts zero rest end has opened w = w
 writes_back wanted parts (suc round) rest end has opened w =
     let one : suc round ≡ round + 1 = omega arith in
     let behind = subst (λ (n : ℕ). Writes wanted parts n rest end) one w in
     let here = goes_behind round rest end (has round (omega arith)) (opened round (omega arith)) behind in
-    let first = writes_back wanted parts round (block_text round wanted.kinds parts ++ rest) end (λ r below. has r (omega (arith, below))) (λ r below. opened r (omega (arith, below))) here in
-    subst (λ (text : List ℕ). Writes wanted parts 0 text end) (sym (append_assoc (blocks_text round wanted.kinds parts) (block_text round wanted.kinds parts) rest)) first
+    let first = writes_back wanted parts round (block_text round wanted.shape.kinds parts ++ rest) end (λ r below. has r (omega (arith, below))) (λ r below. opened r (omega (arith, below))) here in
+    subst (λ (text : List ℕ). Writes wanted parts 0 text end) (sym (append_assoc (blocks_text round wanted.shape.kinds parts) (block_text round wanted.shape.kinds parts) rest)) first
 
 goes_on : (wanted : Wanted) (parts : List Told) (round : ℕ) → is_narrow_at wanted round parts ≡ false → wanted.last round ≡ false →
     list_all (is_over round) parts ≡ false → end_at wanted round parts ≡ None
@@ -150,15 +151,15 @@ writes_over wanted parts (suc round) text p before =
     let end = end_of_all parts in
     let there : end_at wanted round parts ≡ Some end = rw (p.wide round (omega arith), p.more round (omega arith), before) refl in
     let here = ends round end (p.has round (omega arith)) there in
-    let first = writes_back wanted parts round (block_text round wanted.kinds parts ++ end_text end) (Some end) (λ r below. p.has r (omega (arith, below)))
+    let first = writes_back wanted parts round (block_text round wanted.shape.kinds parts ++ end_text end) (Some end) (λ r below. p.has r (omega (arith, below)))
     (λ r below. goes_on wanted parts r (p.wide r (omega (arith, below))) (p.more r (omega (arith, below))) (p.goes r (omega (arith, below)))) here in
     subst (λ (front : List ℕ). Writes wanted parts 0 (front ++ end_text end) (Some end)) (sym p.is_text)
-    (subst (λ (whole : List ℕ). Writes wanted parts 0 whole (Some end)) (sym (append_assoc (blocks_text round wanted.kinds parts) (block_text round wanted.kinds parts) (end_text end))) first)
+    (subst (λ (whole : List ℕ). Writes wanted parts 0 whole (Some end)) (sym (append_assoc (blocks_text round wanted.shape.kinds parts) (block_text round wanted.shape.kinds parts) (end_text end))) first)
 
 -- a block more
 pub passes_more : (wanted : Wanted) (parts : List Told) (round : ℕ) (text : List ℕ) → Passes wanted parts round text → is_over_before round parts ≡ false →
     list_all (has_block round) parts ≡ true → is_narrow_at wanted round parts ≡ false → wanted.last round ≡ false →
-    Passes wanted parts (round + 1) (text ++ block_text round wanted.kinds parts)
+    Passes wanted parts (round + 1) (text ++ block_text round wanted.shape.kinds parts)
 unfolding blocks_text
 passes_more wanted parts round text p before has narrow last = record {
   has = λ r below. there (λ (r : ℕ). list_all (has_block r) parts ≡ true) r below p.has has;
@@ -167,8 +168,8 @@ passes_more wanted parts round text p before has narrow last = record {
   goes = λ r below. all_go wanted parts round text p before r (omega (arith, below));
   is_text =
       let one : round + 1 ≡ suc round = omega arith in
-      ap (λ (front : List ℕ). front ++ block_text round wanted.kinds parts) p.is_text
-      ∙ sym (ap (λ (n : ℕ). blocks_text n wanted.kinds parts) one);
+      ap (λ (front : List ℕ). front ++ block_text round wanted.shape.kinds parts) p.is_text
+      ∙ sym (ap (λ (n : ℕ). blocks_text n wanted.shape.kinds parts) one);
 }
   where
     there : (P : ℕ → Type 0) (r : ℕ) → r < round + 1 → ((r : ℕ) → r < round → P r) → P round → P r
@@ -202,7 +203,7 @@ stands_combined course lines text h = record { parts = h.parts; told = h.told; i
   where
     by_case : (end : Option ReportEnd) → Holds end course h.parts text → IsText course.task h.parts text end
     by_case None o = record {
-      early = λ few. (o.ahead.passed.is_text ∙ ap (λ (n : ℕ). blocks_text n course.task.kinds h.parts) (o.early few), refl);
+      early = λ few. (o.ahead.passed.is_text ∙ ap (λ (n : ℕ). blocks_text n course.task.shape.kinds h.parts) (o.early few), refl);
       whole = λ all.
           let rest = o.rests all in
           subst (λ (t : List ℕ). Writes (wanted_of course.task) h.parts 0 t None) (append-nil text)
@@ -234,9 +235,9 @@ pub record IsReady (course : Course) (lines : List (List ℕ)) (text : List ℕ)
   pub ahead : IsAhead course parts text
   pub early : length parts < course.task.count → course.round ≡ 0
 
-pub longer : (query : List ℕ) (kinds : List ItemKind) (parts : List Told) (line : List ℕ) (next : List Told) → TakesTagged query kinds parts line next →
+pub longer : (query : List ℕ) (shape : Shape) (parts : List Told) (line : List ℕ) (next : List Told) → TakesTagged query shape parts line next →
     length parts ≤ length next
-longer query kinds parts line next h = rw h.put (put_longer h.told parts)
+longer query shape parts line next h = rw h.put (put_longer h.told parts)
 
 -- what was written of the parts before the line
 passed_behind : (course : Course) (parts : List Told) (text line : List ℕ) (next : List Told) → IsOpen course parts text → length parts ≤ course.task.count →
@@ -245,27 +246,27 @@ unfolding blocks_text
 passed_behind course parts text line next opened most h = elim (cases_lt (length parts) course.task.count) [
   | inl early ↦
       let none = opened.early early in
-      let empty : text ≡ [] = opened.ahead.passed.is_text ∙ ap (λ (n : ℕ). blocks_text n course.task.kinds parts) none in
+      let empty : text ≡ [] = opened.ahead.passed.is_text ∙ ap (λ (n : ℕ). blocks_text n course.task.shape.kinds parts) none in
       subst (λ (t : List ℕ). Passes (wanted_of course.task) next course.round t) (sym empty)
       (subst (λ (n : ℕ). Passes (wanted_of course.task) next n []) (sym none) (none_passed (wanted_of course.task) next))
   | inr all ↦
       passes_on course.task.query (wanted_of course.task) parts next course.round text
-      (all_reach course.task.query course.task.kinds parts line next h.taken (omega (arith, all, h.few))) opened.ahead.passed
+      (all_reach course.task.query course.task.shape parts line next h.taken (omega (arith, all, h.few))) opened.ahead.passed
 ]
 
 ready_here : (course : Course) (parts : List Told) (lines : List (List ℕ)) (text line : List ℕ) (next : List Told) (end : Option ReportEnd) →
-    Tell course.task [] lines parts → IsOpen course parts text → TakesTagged course.task.query course.task.kinds course.parts line next →
+    Tell course.task [] lines parts → IsOpen course parts text → TakesTagged course.task.query course.task.shape course.parts line next →
     (length course.parts ≤ course.task.count → length next ≤ course.task.count) →
     IsReady (record { task = course.task; parts = next; round = course.round; end = end }) (lines ++ line ∷ []) text
 ready_here course parts lines text line next end told opened taken few =
     let task = course.task in
-    let too = takes_tagged_too task.query task.kinds course.round parts course.parts line next opened.ahead.kept taken in
+    let too = takes_tagged_too task.query task.shape course.round parts course.parts line next opened.ahead.kept taken in
     let most = few_told task [] lines parts (omega arith) told in
     let before = same_count course.round parts course.parts opened.ahead.kept in
     let behind = same_count course.round too.wholly next too.tells in
     let fewer = few (omega (arith, most, before)) in
     let takes : TakesLine task parts line too.wholly = record { taken = too.taken; few = omega (arith, fewer, behind) } in
-    let more = longer task.query task.kinds parts line too.wholly too.taken in
+    let more = longer task.query task.shape parts line too.wholly too.taken in
     record {
       parts = too.wholly;
       told = tell_behind task [] lines parts line too.wholly told takes;
@@ -278,7 +279,7 @@ remade old mid t r = rw (sym t, sym r) refl
 
 -- the parts have taken the line
 pub ready_behind : (old mid : Course) (lines : List (List ℕ)) (text line : List ℕ) → old.end ≡ None → mid.task ≡ old.task → mid.round ≡ old.round →
-    TakesTagged old.task.query old.task.kinds old.parts line mid.parts → (length old.parts ≤ old.task.count → length mid.parts ≤ old.task.count) →
+    TakesTagged old.task.query old.task.shape old.parts line mid.parts → (length old.parts ≤ old.task.count → length mid.parts ≤ old.task.count) →
     Stands old lines text → IsReady mid (lines ++ line ∷ []) text
 ready_behind old mid lines text line e t r taken few h =
     subst (λ (course : Course). IsReady course (lines ++ line ∷ []) text) (remade old mid t r)
@@ -312,7 +313,7 @@ same_behind narrow last round wholes parts h = rw (same_over_all round round who
 
 same_end_at : (wanted : Wanted) (round : ℕ) (wholes parts : List Told) → AllTellFrom round wholes parts → end_at wanted round parts ≡ end_at wanted round wholes
 same_end_at wanted round wholes parts h =
-    ap (λ (entries : List Entry). end_behind (wanted.narrow entries) (wanted.last round) round parts) (same_entries_over round round 0 wanted.kinds wholes parts (omega arith) h)
+    ap (λ (entries : List Entry). end_behind (wanted.narrow entries) (wanted.last round) round parts) (same_entries_over round round 0 wanted.shape.kinds wholes parts (omega arith) h)
     ∙ same_behind (is_narrow_at wanted round wholes) (wanted.last round) round wholes parts h
 
 pub same_over_before : (from round : ℕ) (wholes parts : List Told) → AllTellFrom from wholes parts → is_over_before round parts ≡ is_over_before round wholes
@@ -323,11 +324,11 @@ same_over_before from (suc round) wholes parts h = same_over_all from round whol
 pub round_ends : (old new : Course) (wholes : List Told) (text before : List ℕ) (end : ReportEnd) → new.task ≡ old.task → new.end ≡ Some end →
     IsAhead old wholes text → is_over_before old.round wholes ≡ false → list_all (has_block old.round) old.parts ≡ true →
     end_at (wanted_of old.task) old.round old.parts ≡ Some end →
-    Moves new wholes text before ((before ++ block_text old.round old.task.kinds old.parts) ++ end_text end)
+    Moves new wholes text before ((before ++ block_text old.round old.task.shape.kinds old.parts) ++ end_text end)
 round_ends old new wholes text before end t e ahead goes has there =
     let wanted = wanted_of old.task in
-    let block = block_text old.round old.task.kinds old.parts in
-    let same = same_block_over old.round old.round old.task.kinds wholes old.parts (omega arith) ahead.kept in
+    let block = block_text old.round old.task.shape.kinds old.parts in
+    let same = same_block_over old.round old.round old.task.shape.kinds wholes old.parts (omega arith) ahead.kept in
     let last = ends old.round end (sym (same_has old.round old.round wholes old.parts ahead.kept) ∙ has) (sym (same_end_at wanted old.round wholes old.parts ahead.kept) ∙ there) in
     let whole : Writes wanted wholes 0 (text ++ (block ++ end_text end)) (Some end) =
     subst (λ (b : List ℕ). Writes wanted wholes 0 (text ++ (b ++ end_text end)) (Some end)) (sym same)
@@ -358,11 +359,11 @@ more_behind wanted round parts none = (open_parts (is_narrow_at wanted round par
 -- the report goes on behind the block of the round
 pub round_goes : (old new : Course) (wholes : List Told) (text before : List ℕ) → new.task ≡ old.task → new.end ≡ None → GoesOnTo old new →
     IsAhead old wholes text → is_over_before old.round wholes ≡ false → list_all (has_block old.round) old.parts ≡ true →
-    end_at (wanted_of old.task) old.round old.parts ≡ None → Moves new wholes text before (before ++ block_text old.round old.task.kinds old.parts)
+    end_at (wanted_of old.task) old.round old.parts ≡ None → Moves new wholes text before (before ++ block_text old.round old.task.shape.kinds old.parts)
 round_goes old new wholes text before t e on ahead goes has none =
     let wanted = wanted_of old.task in
-    let block = block_text old.round old.task.kinds old.parts in
-    let same = same_block_over old.round old.round old.task.kinds wholes old.parts (omega arith) ahead.kept in
+    let block = block_text old.round old.task.shape.kinds old.parts in
+    let same = same_block_over old.round old.round old.task.shape.kinds wholes old.parts (omega arith) ahead.kept in
     let opened = open_parts (is_narrow_at wanted old.round wholes) (wanted.last old.round) (list_all (is_over old.round) wholes) (end_of_all wholes)
     (sym (same_end_at wanted old.round wholes old.parts ahead.kept) ∙ none) in
     let more = passes_more wanted wholes old.round text ahead.passed goes (sym (same_has old.round old.round wholes old.parts ahead.kept) ∙ has) opened.narrow opened.last in
@@ -453,10 +454,10 @@ adds_rests mid new lines text before after t all writes h =
 -- ---- a block that is not written
 
 pub stops_here : (why : BlockFault) (old : Course) (wholes : List Told) (text before : List ℕ) → list_all (has_block old.round) old.parts ≡ true →
-    IsBlockFault why old.round old.task.kinds old.parts → IsAhead old wholes text → StopsBy why old.task wholes text before before
-stops_here why old wholes text before has fault ahead = by_case why (block_fault_too why old.round old.task.kinds wholes old.parts ahead.kept fault)
+    IsBlockFault why old.round old.task.shape.kinds old.parts → IsAhead old wholes text → StopsBy why old.task wholes text before before
+stops_here why old wholes text before has fault ahead = by_case why (block_fault_too why old.round old.task.shape.kinds wholes old.parts ahead.kept fault)
   where
-    stopped : (why : BlockFault) → IsBlockFault why old.round old.task.kinds wholes → Stops old.task wholes text before before why
+    stopped : (why : BlockFault) → IsBlockFault why old.round old.task.shape.kinds wholes → Stops old.task wholes text before before why
     stopped why refused = record {
       round = old.round;
       more = [];
@@ -466,7 +467,7 @@ stops_here why old wholes text before has fault ahead = by_case why (block_fault
       fault = refused;
     }
 
-    by_case : (why : BlockFault) → IsBlockFault why old.round old.task.kinds wholes → StopsBy why old.task wholes text before before
+    by_case : (why : BlockFault) → IsBlockFault why old.round old.task.shape.kinds wholes → StopsBy why old.task wholes text before before
     by_case (OtherDecimals item) refused = stopped (OtherDecimals item) refused
     by_case (TooWide item) refused = stopped (TooWide item) refused
     by_case NoMemory refused = tt
@@ -495,13 +496,13 @@ pub no_memory : (why : BlockFault) (task : Task) (wholes : List Told) (text befo
 no_memory why task wholes text before after e = subst (λ (w : BlockFault). StopsBy w task wholes text before after) (sym e) tt
 
 pub line_fault : (why : InputFault) (old : Course) (lines : List (List ℕ)) (text line : List ℕ) → old.end ≡ None →
-    IsRefused why old.task.query old.task.kinds old.task.count old.parts line → Stands old lines text → IsLineFault old.task lines line why
+    IsRefused why old.task.query old.task.shape old.task.count old.parts line → Stands old lines text → IsLineFault old.task lines line why
 line_fault why old lines text line e refused h =
     let opened : IsOpen old h.parts text = subst (λ (end : Option ReportEnd). Holds end old h.parts text) e h.holds in
     record {
       parts = h.parts;
       told = h.told;
-      refused = refused_too why old.task.query old.task.kinds old.task.count old.round h.parts old.parts line opened.ahead.kept refused;
+      refused = refused_too why old.task.query old.task.shape old.task.count old.round h.parts old.parts line opened.ahead.kept refused;
     }
 
 pub stopped_behind : (why : BlockFault) (old mid : Course) (lines : List (List ℕ)) (text before after : List ℕ) → mid.task ≡ old.task →
@@ -586,12 +587,12 @@ err_each (Err why) p f = f why p
 
 -- the block and the end are put behind the text
 pub wrote_end : (old new : Course) (end : ReportEnd) (r : Result (Unit {0}) BlockFault) (before mid after block : List ℕ) → new.task ≡ old.task →
-    mid ≡ before ++ block → block ≡ block_text old.round old.task.kinds old.parts → OnOk r (new.end ≡ Some end) → OnOk r (after ≡ mid ++ end_text end) →
+    mid ≡ before ++ block → block ≡ block_text old.round old.task.shape.kinds old.parts → OnOk r (new.end ≡ Some end) → OnOk r (after ≡ mid ++ end_text end) →
     list_all (has_block old.round) old.parts ≡ true → end_at (wanted_of old.task) old.round old.parts ≡ Some end →
     OnOk r ((wholes : List Told) (text : List ℕ) → IsAhead old wholes text → is_over_before old.round wholes ≡ false → Moves new wholes text before after)
 wrote_end old new end r before mid after block t m b ended put has last =
     ok_both r ended put (λ e p wholes text ahead goes.
-    let whole : after ≡ (before ++ block_text old.round old.task.kinds old.parts) ++ end_text end =
+    let whole : after ≡ (before ++ block_text old.round old.task.shape.kinds old.parts) ++ end_text end =
     p ∙ ap (λ (x : List ℕ). x ++ end_text end) (m ∙ ap (λ (x : List ℕ). before ++ x) b) in
     subst (λ (x : List ℕ). Moves new wholes text before x) (sym whole) (round_ends old new wholes text before end t e ahead goes has last))
 
@@ -601,12 +602,12 @@ on_goes old new r round kept none =
     ok_both r round kept (λ e k. record { round = e; kept = k; more = more_behind (wanted_of old.task) old.round old.parts none })
 
 pub wrote_block : (old new : Course) (r : Result (Unit {0}) BlockFault) (before mid block : List ℕ) → new.task ≡ old.task → new.end ≡ None →
-    mid ≡ before ++ block → block ≡ block_text old.round old.task.kinds old.parts → OnOk r (GoesOnTo old new) →
+    mid ≡ before ++ block → block ≡ block_text old.round old.task.shape.kinds old.parts → OnOk r (GoesOnTo old new) →
     list_all (has_block old.round) old.parts ≡ true → end_at (wanted_of old.task) old.round old.parts ≡ None →
     OnOk r ((wholes : List Told) (text : List ℕ) → IsAhead old wholes text → is_over_before old.round wholes ≡ false → Moves new wholes text before mid)
 wrote_block old new r before mid block t e m b on has none =
     ok_both r on on (λ g h wholes text ahead goes.
-    let whole : mid ≡ before ++ block_text old.round old.task.kinds old.parts = m ∙ ap (λ (x : List ℕ). before ++ x) b in
+    let whole : mid ≡ before ++ block_text old.round old.task.shape.kinds old.parts = m ∙ ap (λ (x : List ℕ). before ++ x) b in
     subst (λ (x : List ℕ). Moves new wholes text before x) (sym whole) (round_goes old new wholes text before t e g ahead goes has none))
 
 pub wrote_over : (old new : Course) (end : ReportEnd) (r : Result (Unit {0}) BlockFault) (before after : List ℕ) → new.task ≡ old.task →

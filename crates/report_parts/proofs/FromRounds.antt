@@ -15,12 +15,15 @@ use Rattle.report_text.specs.Extras.{IsRowsLine, extra_line}
 use Rattle.report_text.specs.Lines.{IsRoundLine, item_line}
 use Rattle.report_parts.specs.Ends.{end_of_all, ends_narrow}
 use Rattle.report_parts.specs.Passed.{AllTellFrom, TellsFrom}
+use Rattle.report_parts.specs.Blocks.{entries_of, no_block}
 use Rattle.report_parts.specs.Combined.{AreAlikeEntries, FitEntries}
 use Rattle.report_parts.specs.Entries.{ends_with_extra, last_entry, no_entry}
 use Rattle.report_parts.specs.Reports.{IsBlockFault, entries_over}
 use Rattle.report_parts.specs.Rounds.{entries_in, entry_in, has_block, is_over}
 use Rattle.report_parts.specs.Tags.{AreInOrder, CannotTake, IsLineRefused, IsRefused, TakesTagged, against, behind_tag, by_order, tag_of, told_of, with_part}
 use Rattle.report_parts.specs.Told.{Answers, Closes, Extends, GoesOn, OrElse, PassesBehind, PassesInside, Takes, TakesAt, TakesBehind, TakesBehindAnswer, TakesInside, TakesRest, Told, at_place, closed, is_whole, nothing_told, settled, with_answer, with_current, with_extra}
+use Rattle.report_parts.specs.declared.block.Block.{Block}
+use Rattle.report_parts.specs.declared.block.Block.TheVariants.{Totals}
 use Rattle.report_parts.specs.declared.closing.Closing.{Closing}
 use Rattle.report_parts.specs.declared.closing.Closing.TheVariants.{Unknown}
 use Rattle.report_parts.specs.declared.entry.Entry.{Entry}
@@ -32,6 +35,7 @@ use Rattle.report_parts.specs.declared.fault.LineFault.{LineFault}
 use Rattle.report_parts.specs.declared.fault.LineFault.TheVariants.{NoMemory, OtherLine, OtherQuery}
 use Rattle.report_parts.specs.declared.part.Place.{Place}
 use Rattle.report_parts.specs.declared.part.Place.TheVariants.{Query, Opened, Round, Items, Ended}
+use Rattle.report_parts.specs.declared.shape.Shape.{Shape}
 
 -- ---- the same from a round on
 
@@ -102,7 +106,7 @@ same_in from round item [] [] le h = refl
 same_in from round item [] (part ∷ parts) le h = absurd h
 same_in from round item (whole ∷ wholes) [] le h = absurd h
 same_in from round item (whole ∷ wholes) (part ∷ parts) le h =
-    let one : entry_in round item part ≡ entry_in round item whole = ap (λ (block : List Entry). get_or block item no_entry) (h.0.same round le) in
+    let one : entry_in round item part ≡ entry_in round item whole = ap (λ (block : Block). get_or (entries_of block) item no_entry) (h.0.same round le) in
     rw (one, same_in from round item wholes parts le h.1) refl
 
 pub same_entries_over : (from round item : ℕ) (kinds : List ItemKind) (wholes parts : List Told) → from ≤ round → AllTellFrom from wholes parts →
@@ -123,9 +127,9 @@ pub cases_lt : (a b : ℕ) → (a < b) ⊎ (b ≤ a)
 cases_lt a b = grind arith
 
 -- the block for a round once there is one more
-last_or : (round later : ℕ) (whole told : List (List Entry)) (block : List Entry) → length told ≡ length whole → round ≤ later →
-    ((there : ℕ) → round ≤ there → get_or told (min there (length told - 1)) [] ≡ get_or whole (min there (length whole - 1)) []) →
-    get_or (told ++ block ∷ []) (min later (length (told ++ block ∷ []) - 1)) [] ≡ get_or (whole ++ block ∷ []) (min later (length (whole ++ block ∷ []) - 1)) []
+last_or : (round later : ℕ) (whole told : List Block) (block : Block) → length told ≡ length whole → round ≤ later →
+    ((there : ℕ) → round ≤ there → get_or told (min there (length told - 1)) no_block ≡ get_or whole (min there (length whole - 1)) no_block) →
+    get_or (told ++ block ∷ []) (min later (length (told ++ block ∷ []) - 1)) no_block ≡ get_or (whole ++ block ∷ []) (min later (length (whole ++ block ∷ []) - 1)) no_block
 last_or round later whole told block count le same =
     let longer : length (told ++ block ∷ []) ≡ length told + 1 = length-append told (block ∷ []) in
     let wholly : length (whole ++ block ∷ []) ≡ length whole + 1 = length-append whole (block ∷ []) in
@@ -135,20 +139,20 @@ last_or round later whole told block count le same =
           let b : min later (length (whole ++ block ∷ []) - 1) ≡ later = omega (arith, below, wholly, count) in
           let c : min later (length told - 1) ≡ later = omega (arith, below) in
           let d : min later (length whole - 1) ≡ later = omega (arith, below, count) in
-          ap (λ (k : ℕ). get_or (told ++ block ∷ []) k []) a
-          ∙ get_or_append_left told (block ∷ []) [] later below
-          ∙ sym (ap (λ (k : ℕ). get_or told k []) c)
+          ap (λ (k : ℕ). get_or (told ++ block ∷ []) k no_block) a
+          ∙ get_or_append_left told (block ∷ []) no_block later below
+          ∙ sym (ap (λ (k : ℕ). get_or told k no_block) c)
           ∙ same later le
-          ∙ ap (λ (k : ℕ). get_or whole k []) d
-          ∙ sym (get_or_append_left whole (block ∷ []) [] later (omega (arith, below, count)))
-          ∙ sym (ap (λ (k : ℕ). get_or (whole ++ block ∷ []) k []) b)
+          ∙ ap (λ (k : ℕ). get_or whole k no_block) d
+          ∙ sym (get_or_append_left whole (block ∷ []) no_block later (omega (arith, below, count)))
+          ∙ sym (ap (λ (k : ℕ). get_or (whole ++ block ∷ []) k no_block) b)
       | inr above ↦
           let a : min later (length (told ++ block ∷ []) - 1) ≡ length told = omega (arith, above, longer) in
           let b : min later (length (whole ++ block ∷ []) - 1) ≡ length whole = omega (arith, above, wholly, count) in
-          ap (λ (k : ℕ). get_or (told ++ block ∷ []) k []) a
-          ∙ get_or-append_seam told block [] []
-          ∙ sym (get_or-append_seam whole block [] [])
-          ∙ sym (ap (λ (k : ℕ). get_or (whole ++ block ∷ []) k []) b)
+          ap (λ (k : ℕ). get_or (told ++ block ∷ []) k no_block) a
+          ∙ get_or-append_seam told block [] no_block
+          ∙ sym (get_or-append_seam whole block [] no_block)
+          ∙ sym (ap (λ (k : ℕ). get_or (whole ++ block ∷ []) k no_block) b)
     ]
 
 abbrev closed_with : Told → List Entry → Told
@@ -162,8 +166,8 @@ closed_too round whole told h =
       closing = refl;
       current = refl;
       place = refl;
-      count = length-append told.blocks (told.current ∷ []) ∙ ap (λ (n : ℕ). n + 1) h.count ∙ sym (length-append whole.blocks (told.current ∷ []));
-      same = λ later le. last_or round later whole.blocks told.blocks told.current h.count le h.same;
+      count = length-append told.blocks (Totals told.current ∷ []) ∙ ap (λ (n : ℕ). n + 1) h.count ∙ sym (length-append whole.blocks (Totals told.current ∷ []));
+      same = λ later le. last_or round later whole.blocks told.blocks (Totals told.current) h.count le h.same;
     })
 
 with_current_too : (round : ℕ) (whole told : Told) (current : List Entry) → TellsFrom round whole told →
@@ -278,69 +282,69 @@ passes_behind round kinds line whole told next h k = record {
   tells = subst (λ (t : Told). TellsFrom round whole t) (sym k.same) h;
 }
 
-closes : (round : ℕ) (kinds : List ItemKind) (line : List ℕ) → IsTaken round (λ told next. Closes kinds told line next)
-closes round kinds line whole told next h k =
+closes : (round : ℕ) (shape : Shape) (line : List ℕ) → IsTaken round (λ told next. Closes shape told line next)
+closes round shape line whole told next h k =
     let g = goes_on round line (closed whole) (closed told) next (closed_too round whole told h) k.goes_on in
     record {
       wholly = g.wholly;
       taken = record {
         first = sym h.closing ∙ k.first;
-        all = subst (λ (current : List Entry). length current ≡ length kinds) h.current k.all;
+        all = subst (λ (current : List Entry). length current ≡ length shape.kinds) h.current k.all;
         goes_on = g.taken;
       };
       tells = g.tells;
     }
 
-rest : (round : ℕ) (kinds : List ItemKind) (line : List ℕ) → IsTaken round (λ told next. TakesRest kinds told line next)
-rest round kinds line =
-    or_else round (λ told next. PassesInside kinds told line next) (λ told next. Closes kinds told line next)
-    (passes_inside round kinds line) (closes round kinds line)
+rest : (round : ℕ) (shape : Shape) (line : List ℕ) → IsTaken round (λ told next. TakesRest shape told line next)
+rest round shape line =
+    or_else round (λ told next. PassesInside shape.kinds told line next) (λ told next. Closes shape told line next)
+    (passes_inside round shape.kinds line) (closes round shape line)
 
-behind_answer : (round : ℕ) (kinds : List ItemKind) (line : List ℕ) → IsTaken round (λ told next. TakesBehindAnswer kinds told line next)
-behind_answer round kinds line =
-    or_else round (λ told next. Extends kinds told line next) (λ told next. TakesRest kinds told line next)
-    (extends round kinds line) (rest round kinds line)
+behind_answer : (round : ℕ) (shape : Shape) (line : List ℕ) → IsTaken round (λ told next. TakesBehindAnswer shape told line next)
+behind_answer round shape line =
+    or_else round (λ told next. Extends shape.kinds told line next) (λ told next. TakesRest shape told line next)
+    (extends round shape.kinds line) (rest round shape line)
 
-inside : (round : ℕ) (kinds : List ItemKind) (line : List ℕ) → IsTaken round (λ told next. TakesInside kinds told line next)
-inside round kinds line =
-    or_else round (λ told next. Answers kinds told line next) (λ told next. TakesBehindAnswer kinds told line next)
-    (answers round kinds line) (behind_answer round kinds line)
+inside : (round : ℕ) (shape : Shape) (line : List ℕ) → IsTaken round (λ told next. TakesInside shape told line next)
+inside round shape line =
+    or_else round (λ told next. Answers shape.kinds told line next) (λ told next. TakesBehindAnswer shape told line next)
+    (answers round shape.kinds line) (behind_answer round shape line)
 
-behind : (round : ℕ) (kinds : List ItemKind) (line : List ℕ) → IsTaken round (λ told next. TakesBehind kinds told line next)
-behind round kinds line =
-    or_else round (λ told next. GoesOn told line next) (λ told next. PassesBehind kinds told line next)
-    (goes_on round line) (passes_behind round kinds line)
+behind : (round : ℕ) (shape : Shape) (line : List ℕ) → IsTaken round (λ told next. TakesBehind shape told line next)
+behind round shape line =
+    or_else round (λ told next. GoesOn told line next) (λ told next. PassesBehind shape.kinds told line next)
+    (goes_on round line) (passes_behind round shape.kinds line)
 
 -- the whole report takes the line, and tells the same from the round on
-abbrev pub TakesToo : Place → List ℕ → List ItemKind → ℕ → Told → List ℕ → Told → Type 0
-TakesToo place query kinds round whole line next = GoesToo round whole (λ told after. TakesAt place query kinds told line after) next
+abbrev pub TakesToo : Place → List ℕ → Shape → ℕ → Told → List ℕ → Told → Type 0
+TakesToo place query shape round whole line next = GoesToo round whole (λ told after. TakesAt place query shape told line after) next
 
-takes_at : (place : Place) (query : List ℕ) (kinds : List ItemKind) (round : ℕ) (whole told : Told) (line : List ℕ) (next : Told) →
-    TellsFrom round whole told → TakesAt place query kinds told line next → TakesToo place query kinds round whole line next
-takes_at Query query kinds round whole told line next h k = record {
+takes_at : (place : Place) (query : List ℕ) (shape : Shape) (round : ℕ) (whole told : Told) (line : List ℕ) (next : Told) →
+    TellsFrom round whole told → TakesAt place query shape told line next → TakesToo place query shape round whole line next
+takes_at Query query shape round whole told line next h k = record {
   wholly = at_place whole Opened;
   taken = record { is_query = k.is_query; opened = refl };
   tells = moved_too round whole told next Opened h k.opened;
 }
-takes_at Opened query kinds round whole told line next h (inl k) = record {
+takes_at Opened query shape round whole told line next h (inl k) = record {
   wholly = at_place whole Round;
   taken = inl (record { parts = k.parts; few = k.few; is_line = k.is_line; passed = refl });
   tells = moved_too round whole told next Round h k.passed;
 }
-takes_at Opened query kinds round whole told line next h (inr k) = record {
+takes_at Opened query shape round whole told line next h (inr k) = record {
   wholly = at_place whole Items;
   taken = inr (record { is_round = subst (λ (n : ℕ). IsRoundLine n line) h.count k.is_round; begun = refl });
   tells = moved_too round whole told next Items h k.begun;
 }
-takes_at Round query kinds round whole told line next h k = behind round kinds line whole told next h k
-takes_at Items query kinds round whole told line next h k = inside round kinds line whole told next h k
-takes_at (Ended end) query kinds round whole told line next h k = absurd k
+takes_at Round query shape round whole told line next h k = behind round shape line whole told next h k
+takes_at Items query shape round whole told line next h k = inside round shape line whole told next h k
+takes_at (Ended end) query shape round whole told line next h k = absurd k
 
-pub takes_too : (query : List ℕ) (kinds : List ItemKind) (round : ℕ) (whole told : Told) (line : List ℕ) (next : Told) →
-    TellsFrom round whole told → Takes query kinds told line next → TakesToo whole.place query kinds round whole line next
-takes_too query kinds round whole told line next h k =
-    subst (λ (place : Place). TakesToo place query kinds round whole line next) h.place
-    (takes_at told.place query kinds round whole told line next h k)
+pub takes_too : (query : List ℕ) (shape : Shape) (round : ℕ) (whole told : Told) (line : List ℕ) (next : Told) →
+    TellsFrom round whole told → Takes query shape told line next → TakesToo whole.place query shape round whole line next
+takes_too query shape round whole told line next h k =
+    subst (λ (place : Place). TakesToo place query shape round whole line next) h.place
+    (takes_at told.place query shape round whole told line next h k)
 
 -- ---- a line of the input more
 
@@ -375,15 +379,15 @@ with_part_too round wholly told (whole ∷ wholes) (part ∷ parts) h k =
     (by_order o (part ∷ with_part told parts) (told ∷ parts) (told ∷ part ∷ parts)))
     (against wholly.tag whole) (k.0, with_part_too round wholly told wholes parts h k.1) (h, k.1) (h, k))
 
-pub record TakesTaggedToo (query : List ℕ) (kinds : List ItemKind) (round : ℕ) (wholes : List Told) (line : List ℕ) (next : List Told) : Type 0 where
+pub record TakesTaggedToo (query : List ℕ) (shape : Shape) (round : ℕ) (wholes : List Told) (line : List ℕ) (next : List Told) : Type 0 where
   pub wholly : List Told
-  pub taken : TakesTagged query kinds wholes line wholly
+  pub taken : TakesTagged query shape wholes line wholly
   pub tells : AllTellFrom round wholly next
 
-pub takes_tagged_too : (query : List ℕ) (kinds : List ItemKind) (round : ℕ) (wholes parts : List Told) (line : List ℕ) (next : List Told) →
-    AllTellFrom round wholes parts → TakesTagged query kinds parts line next → TakesTaggedToo query kinds round wholes line next
-takes_tagged_too query kinds round wholes parts line next h k =
-    let one = takes_too query kinds round (told_of (tag_of line) wholes) (told_of (tag_of line) parts) (behind_tag line) k.told
+pub takes_tagged_too : (query : List ℕ) (shape : Shape) (round : ℕ) (wholes parts : List Told) (line : List ℕ) (next : List Told) →
+    AllTellFrom round wholes parts → TakesTagged query shape parts line next → TakesTaggedToo query shape round wholes line next
+takes_tagged_too query shape round wholes parts line next h k =
+    let one = takes_too query shape round (told_of (tag_of line) wholes) (told_of (tag_of line) parts) (behind_tag line) k.told
     (told_of_too round (tag_of line) wholes parts h) k.taken in
     record {
       wholly = with_part one.wholly wholes;
@@ -394,24 +398,24 @@ takes_tagged_too query kinds round wholes parts line next h k =
 
 -- ---- a block is forgotten
 
-forgotten : (n : ℕ) (block : List Entry) (blocks : List (List Entry)) (i : ℕ) → n + 1 ≤ i →
-    get_or (replicate (n + 1) [] ++ blocks) i [] ≡ get_or (replicate n [] ++ block ∷ blocks) i []
+forgotten : (n : ℕ) (block : Block) (blocks : List Block) (i : ℕ) → n + 1 ≤ i →
+    get_or (replicate (n + 1) no_block ++ blocks) i no_block ≡ get_or (replicate n no_block ++ block ∷ blocks) i no_block
 forgotten n block blocks i le =
     let next : i - n ≡ suc (i - (n + 1)) = omega (arith, le) in
-    get_or-append_right (replicate (n + 1) []) blocks (n + 1) i [] (length-replicate (n + 1) []) le
-    ∙ sym (ap (λ (k : ℕ). get_or (block ∷ blocks) k []) next)
-    ∙ sym (get_or-append_right (replicate n []) (block ∷ blocks) n i [] (length-replicate n []) (omega (arith, le)))
+    get_or-append_right (replicate (n + 1) no_block) blocks (n + 1) i no_block (length-replicate (n + 1) no_block) le
+    ∙ sym (ap (λ (k : ℕ). get_or (block ∷ blocks) k no_block) next)
+    ∙ sym (get_or-append_right (replicate n no_block) (block ∷ blocks) n i no_block (length-replicate n no_block) (omega (arith, le)))
 
 -- where it is before the round, and not the last
-pub passed_on : (tag : List ℕ) (n round : ℕ) (blocks : List (List Entry)) (closing : Closing) (current : List Entry) (place : Place) → n < round → 1 < length blocks →
-    TellsFrom round (record { tag = tag; blocks = replicate n [] ++ blocks; closing = closing; current = current; place = place })
-    (record { tag = tag; blocks = replicate (n + 1) [] ++ remove blocks 0; closing = closing; current = current; place = place })
+pub passed_on : (tag : List ℕ) (n round : ℕ) (blocks : List Block) (closing : Closing) (current : List Entry) (place : Place) → n < round → 1 < length blocks →
+    TellsFrom round (record { tag = tag; blocks = replicate n no_block ++ blocks; closing = closing; current = current; place = place })
+    (record { tag = tag; blocks = replicate (n + 1) no_block ++ remove blocks 0; closing = closing; current = current; place = place })
 passed_on tag n round [] closing current place less some = absurd (omega (arith, some))
 passed_on tag n round (block ∷ blocks) closing current place less some =
-    let before : length (replicate n [] ++ block ∷ blocks) ≡ n + suc (length blocks) =
-    length-append (replicate n []) (block ∷ blocks) ∙ ap (λ (k : ℕ). k + suc (length blocks)) (length-replicate n []) in
-    let behind : length (replicate (n + 1) [] ++ blocks) ≡ n + 1 + length blocks =
-    length-append (replicate (n + 1) []) blocks ∙ ap (λ (k : ℕ). k + length blocks) (length-replicate (n + 1) []) in
+    let before : length (replicate n no_block ++ block ∷ blocks) ≡ n + suc (length blocks) =
+    length-append (replicate n no_block) (block ∷ blocks) ∙ ap (λ (k : ℕ). k + suc (length blocks)) (length-replicate n no_block) in
+    let behind : length (replicate (n + 1) no_block ++ blocks) ≡ n + 1 + length blocks =
+    length-append (replicate (n + 1) no_block) blocks ∙ ap (λ (k : ℕ). k + length blocks) (length-replicate (n + 1) no_block) in
     record {
       tag = refl;
       closing = refl;
@@ -419,10 +423,10 @@ passed_on tag n round (block ∷ blocks) closing current place less some =
       place = refl;
       count = omega (arith, before, behind);
       same = λ later le.
-          let there : min later (length (replicate (n + 1) [] ++ blocks) - 1) ≡ min later (length (replicate n [] ++ block ∷ blocks) - 1) =
-          ap (λ (k : ℕ). min later (k - 1)) (let e : length (replicate (n + 1) [] ++ blocks) ≡ length (replicate n [] ++ block ∷ blocks) = omega (arith, before, behind) in e) in
-          ap (λ (k : ℕ). get_or (replicate (n + 1) [] ++ blocks) k []) there
-          ∙ forgotten n block blocks (min later (length (replicate n [] ++ block ∷ blocks) - 1)) (omega (arith, before, less, le, some));
+          let there : min later (length (replicate (n + 1) no_block ++ blocks) - 1) ≡ min later (length (replicate n no_block ++ block ∷ blocks) - 1) =
+          ap (λ (k : ℕ). min later (k - 1)) (let e : length (replicate (n + 1) no_block ++ blocks) ≡ length (replicate n no_block ++ block ∷ blocks) = omega (arith, before, behind) in e) in
+          ap (λ (k : ℕ). get_or (replicate (n + 1) no_block ++ blocks) k no_block) there
+          ∙ forgotten n block blocks (min later (length (replicate n no_block ++ block ∷ blocks) - 1)) (omega (arith, before, less, le, some));
     }
 
 pub all_here : (round : ℕ) (parts : List Told) → AllTellFrom round parts parts
@@ -448,7 +452,7 @@ same_tags round (whole ∷ wholes) (part ∷ parts) h = rw (h.0.tag, same_tags r
 
 -- ---- what is refused
 
-empty_list : (blocks : List (List Entry)) → 0 ≡ length blocks → blocks ≡ []
+empty_list : (blocks : List Block) → 0 ≡ length blocks → blocks ≡ []
 empty_list [] e = refl
 empty_list (block ∷ blocks) e = absurd (omega (arith, e))
 
@@ -456,29 +460,29 @@ empty_list (block ∷ blocks) e = absurd (omega (arith, e))
 nothing_is : (round : ℕ) (tag : List ℕ) (whole : Told) → TellsFrom round whole (nothing_told tag) → whole ≡ nothing_told tag
 nothing_is round tag whole h =
     subst (λ (t : List ℕ). whole ≡ record { tag = t; blocks = []; closing = Unknown; current = []; place = Query }) (sym h.tag)
-    (subst (λ (b : List (List Entry)). whole ≡ record { tag = whole.tag; blocks = b; closing = Unknown; current = []; place = Query }) (empty_list whole.blocks h.count)
+    (subst (λ (b : List Block). whole ≡ record { tag = whole.tag; blocks = b; closing = Unknown; current = []; place = Query }) (empty_list whole.blocks h.count)
     (subst (λ (c : Closing). whole ≡ record { tag = whole.tag; blocks = whole.blocks; closing = c; current = []; place = Query }) (sym h.closing)
     (subst (λ (c : List Entry). whole ≡ record { tag = whole.tag; blocks = whole.blocks; closing = whole.closing; current = c; place = Query }) (sym h.current)
     (subst (λ (p : Place). whole ≡ record { tag = whole.tag; blocks = whole.blocks; closing = whole.closing; current = whole.current; place = p }) (sym h.place) refl))))
 
-cannot_too : (query : List ℕ) (kinds : List ItemKind) (round : ℕ) (whole told : Told) (line : List ℕ) → TellsFrom round whole told →
-    CannotTake query kinds told line → CannotTake query kinds whole line
-cannot_too query kinds round whole told line h cannot next taken =
-    let back = takes_too query kinds round told whole line next (tells_back round whole told h) taken in
+cannot_too : (query : List ℕ) (shape : Shape) (round : ℕ) (whole told : Told) (line : List ℕ) → TellsFrom round whole told →
+    CannotTake query shape told line → CannotTake query shape whole line
+cannot_too query shape round whole told line h cannot next taken =
+    let back = takes_too query shape round told whole line next (tells_back round whole told h) taken in
     cannot back.wholly back.taken
 
-line_refused_too : (why : LineFault) (query : List ℕ) (kinds : List ItemKind) (round : ℕ) (whole told : Told) (line : List ℕ) → TellsFrom round whole told →
-    IsLineRefused why query kinds told line → IsLineRefused why query kinds whole line
-line_refused_too OtherQuery query kinds round whole told line h refused = (sym h.place ∙ refused.0, cannot_too query kinds round whole told line h refused.1)
-line_refused_too OtherLine query kinds round whole told line h refused =
-    (λ e. refused.0 (h.place ∙ e), cannot_too query kinds round whole told line h refused.1)
-line_refused_too NoMemory query kinds round whole told line h refused = tt
+line_refused_too : (why : LineFault) (query : List ℕ) (shape : Shape) (round : ℕ) (whole told : Told) (line : List ℕ) → TellsFrom round whole told →
+    IsLineRefused why query shape told line → IsLineRefused why query shape whole line
+line_refused_too OtherQuery query shape round whole told line h refused = (sym h.place ∙ refused.0, cannot_too query shape round whole told line h refused.1)
+line_refused_too OtherLine query shape round whole told line h refused =
+    (λ e. refused.0 (h.place ∙ e), cannot_too query shape round whole told line h refused.1)
+line_refused_too NoMemory query shape round whole told line h refused = tt
 
-pub refused_too : (why : InputFault) (query : List ℕ) (kinds : List ItemKind) (most round : ℕ) (wholes parts : List Told) (line : List ℕ) →
-    AllTellFrom round wholes parts → IsRefused why query kinds most parts line → IsRefused why query kinds most wholes line
-refused_too NoTab query kinds most round wholes parts line h refused = refused
-refused_too NoTag query kinds most round wholes parts line h refused = refused
-refused_too OtherPart query kinds most round wholes parts line h refused =
+pub refused_too : (why : InputFault) (query : List ℕ) (shape : Shape) (most round : ℕ) (wholes parts : List Told) (line : List ℕ) →
+    AllTellFrom round wholes parts → IsRefused why query shape most parts line → IsRefused why query shape most wholes line
+refused_too NoTab query shape most round wholes parts line h refused = refused
+refused_too NoTag query shape most round wholes parts line h refused = refused
+refused_too OtherPart query shape most round wholes parts line h refused =
     let count = same_count round wholes parts h in (
       refused.0,
       (
@@ -487,9 +491,9 @@ refused_too OtherPart query kinds most round wholes parts line h refused =
             (subst (λ (t : Told). TellsFrom round (told_of (tag_of line) wholes) t) refused.1.1 (told_of_too round (tag_of line) wholes parts h)),
       ),
     )
-refused_too (Line why) query kinds most round wholes parts line h refused = (
+refused_too (Line why) query shape most round wholes parts line h refused = (
   refused.0,
-  line_refused_too why query kinds round (told_of (tag_of line) wholes) (told_of (tag_of line) parts) (behind_tag line)
+  line_refused_too why query shape round (told_of (tag_of line) wholes) (told_of (tag_of line) parts) (behind_tag line)
       (told_of_too round (tag_of line) wholes parts h) refused.1,
 )
 
@@ -508,35 +512,38 @@ block_fault_too NoBlock round kinds wholes parts h refused = tt
 
 -- ---- a block among those that are kept
 
-kept_count : (n : ℕ) (blocks : List (List Entry)) → length (replicate n [] ++ blocks) ≡ n + length blocks
-kept_count n blocks = length-append (replicate n []) blocks ∙ ap (λ (k : ℕ). k + length blocks) (length-replicate n [])
+kept_count : (n : ℕ) (blocks : List Block) → length (replicate n no_block ++ blocks) ≡ n + length blocks
+kept_count n blocks = length-append (replicate n no_block) blocks ∙ ap (λ (k : ℕ). k + length blocks) (length-replicate n no_block)
 
-pub count_is : (count n : ℕ) (blocks : List (List Entry)) → count ≡ n + length blocks → count ≡ length (replicate n [] ++ blocks)
+pub count_is : (count n : ℕ) (blocks : List Block) → count ≡ n + length blocks → count ≡ length (replicate n no_block ++ blocks)
 count_is count n blocks e = e ∙ sym (kept_count n blocks)
 
-last_is : (count n round : ℕ) (blocks : List (List Entry)) → count ≡ length (replicate n [] ++ blocks) →
-    min round (length (replicate n [] ++ blocks) - 1) ≡ min round (count - 1)
+last_is : (count n round : ℕ) (blocks : List Block) → count ≡ length (replicate n no_block ++ blocks) →
+    min round (length (replicate n no_block ++ blocks) - 1) ≡ min round (count - 1)
 last_is count n round blocks e = ap (λ (k : ℕ). min round (k - 1)) (sym e)
 
-pub none_kept : (count n round : ℕ) (blocks : List (List Entry)) → count ≡ length (replicate n [] ++ blocks) → count ≡ 0 →
-    [] ≡ get_or (replicate n [] ++ blocks) (min round (length (replicate n [] ++ blocks) - 1)) []
-none_kept count n round blocks e none = sym (get_or-eq_default (replicate n [] ++ blocks) [] (let nothing : length (replicate n [] ++ blocks) ≤ min round (length (replicate n [] ++ blocks) - 1) = omega (arith, e, none) in nothing))
+pub none_kept : (count n round : ℕ) (blocks : List Block) → count ≡ length (replicate n no_block ++ blocks) → count ≡ 0 →
+    [] ≡ entries_of (get_or (replicate n no_block ++ blocks) (min round (length (replicate n no_block ++ blocks) - 1)) no_block)
+none_kept count n round blocks e none =
+    ap entries_of (sym (get_or-eq_default (replicate n no_block ++ blocks) no_block
+    (let nothing : length (replicate n no_block ++ blocks) ≤ min round (length (replicate n no_block ++ blocks) - 1) = omega (arith, e, none) in nothing)))
 
-long : (n k : ℕ) → k < n → k < length (replicate {A = List Entry} n [])
-long n k less = subst (λ (m : ℕ). k < m) (sym (length-replicate n [])) less
+long : (n k : ℕ) → k < n → k < length (replicate n no_block)
+long n k less = subst (λ (m : ℕ). k < m) (sym (length-replicate n no_block)) less
 
-pub block_forgotten : (count n round : ℕ) (blocks : List (List Entry)) → count ≡ length (replicate n [] ++ blocks) → min round (count - 1) < n →
-    [] ≡ get_or (replicate n [] ++ blocks) (min round (length (replicate n [] ++ blocks) - 1)) []
+pub block_forgotten : (count n round : ℕ) (blocks : List Block) → count ≡ length (replicate n no_block ++ blocks) → min round (count - 1) < n →
+    [] ≡ entries_of (get_or (replicate n no_block ++ blocks) (min round (length (replicate n no_block ++ blocks) - 1)) no_block)
 block_forgotten count n round blocks e less =
-    sym (ap (λ (k : ℕ). get_or (replicate n [] ++ blocks) k []) (last_is count n round blocks e)
-    ∙ get_or_append_left (replicate n []) blocks [] (min round (count - 1)) (long n (min round (count - 1)) less)
-    ∙ get_or-replicate n (min round (count - 1)) [] [] less)
+    ap entries_of (sym (ap (λ (k : ℕ). get_or (replicate n no_block ++ blocks) k no_block) (last_is count n round blocks e)
+    ∙ get_or_append_left (replicate n no_block) blocks no_block (min round (count - 1)) (long n (min round (count - 1)) less)
+    ∙ get_or-replicate n (min round (count - 1)) no_block no_block less))
 
-pub block_kept : (count n round : ℕ) (blocks : List (List Entry)) → count ≡ length (replicate n [] ++ blocks) → n ≤ min round (count - 1) →
-    get_or blocks (min round (count - 1) - n) [] ≡ get_or (replicate n [] ++ blocks) (min round (length (replicate n [] ++ blocks) - 1)) []
+pub block_kept : (count n round : ℕ) (blocks : List Block) → count ≡ length (replicate n no_block ++ blocks) → n ≤ min round (count - 1) →
+    entries_of (get_or blocks (min round (count - 1) - n) no_block)
+    ≡ entries_of (get_or (replicate n no_block ++ blocks) (min round (length (replicate n no_block ++ blocks) - 1)) no_block)
 block_kept count n round blocks e le =
-    sym (ap (λ (k : ℕ). get_or (replicate n [] ++ blocks) k []) (last_is count n round blocks e)
-    ∙ get_or-append_right (replicate n []) blocks n (min round (count - 1)) [] (length-replicate n []) le)
+    ap entries_of (sym (ap (λ (k : ℕ). get_or (replicate n no_block ++ blocks) k no_block) (last_is count n round blocks e)
+    ∙ get_or-append_right (replicate n no_block) blocks n (min round (count - 1)) no_block (length-replicate n no_block) le))
 
 -- the parts stay in order
 pub order_behind : (n round : ℕ) (items old new : List Told) → old ≡ items → n ≡ length items → AreInOrder items → AllTellFrom round old new →

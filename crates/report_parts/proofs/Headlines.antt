@@ -13,6 +13,7 @@ use Rattle.shard_bounds.proofs.AverageOrders.{nested-refl}
 use Rattle.report_text.specs.declared.answers.Answer.{Answer}
 use Rattle.report_parts.proofs.FromRounds.{cases_lt}
 use Rattle.report_parts.proofs.Certain.{all_divisible, averages, contain, nest, tell}
+use Rattle.report_parts.specs.Blocks.{entries_of, no_block}
 use Rattle.report_parts.specs.Combined.{answer_over, average_of, bound_of, entry_over, extra_of_all, extra_over}
 use Rattle.report_parts.specs.Entries.{entry_at, extras_of, have_extras, or_no_answer}
 use Rattle.report_parts.specs.Headline.{AreCertainAverages, AreCertainBlocks, AreClippedOf, AreExactOf, AverageNests, DoAveragesNest, IsCertainOver, IsClippedOf, IsExactOf, OfEach, extra_at}
@@ -54,7 +55,7 @@ Reading = Entry → Answer
 
 -- what a block says by that reading
 abbrev read_at : Reading → ℕ → Told → ℕ → Answer
-read_at reads item told block = reads (entry_at item (get_or told.blocks block []))
+read_at reads item told block = reads (entry_at item (entries_of (get_or told.blocks block no_block)))
 
 abbrev read_in : Reading → ℕ → ℕ → Told → Answer
 read_in reads round item told = reads (entry_in round item told)

@@ -26,6 +26,7 @@ use Rattle.report_parts.specs.Written.{Wanted, Writes, end_text, is_narrow_at}
 use Rattle.report_parts.specs.Written.Writes.{ends, goes, waits}
 use Rattle.report_parts.specs.declared.part.Place.{Place}
 use Rattle.report_parts.specs.declared.part.Place.TheVariants.{Query, Opened, Round, Items, Ended}
+use Rattle.report_parts.specs.declared.shape.Shape.{Shape}
 
 -- ---- a line
 
@@ -93,37 +94,37 @@ extends kinds told line a b h k =
     let extra = extras_say_one k.kind (length told.current) h.extra k.extra mine k.is_next.of_kind (my_line ∙ sym k.is_next.is_line) in
     k.told_so ∙ ap (λ (x : Answer). with_extra kinds told x) (sym extra) ∙ sym h.told_so
 
-rest : (kinds : List ItemKind) (told : Told) (line : List ℕ) → IsOneWay (TakesRest kinds told line)
-rest kinds told line =
-    or_else (PassesInside kinds told line) (Closes kinds told line) (λ a b h k. k.same ∙ sym h.same) (λ a b h k. goes_on (closed told) line a b h.goes_on k.goes_on)
+rest : (shape : Shape) (told : Told) (line : List ℕ) → IsOneWay (TakesRest shape told line)
+rest shape told line =
+    or_else (PassesInside shape.kinds told line) (Closes shape told line) (λ a b h k. k.same ∙ sym h.same) (λ a b h k. goes_on (closed told) line a b h.goes_on k.goes_on)
 
-inside : (kinds : List ItemKind) (told : Told) (line : List ℕ) → IsOneWay (TakesInside kinds told line)
-inside kinds told line =
-    or_else (Answers kinds told line) (TakesBehindAnswer kinds told line) (answers kinds told line)
-    (or_else (Extends kinds told line) (TakesRest kinds told line) (extends kinds told line) (rest kinds told line))
+inside : (shape : Shape) (told : Told) (line : List ℕ) → IsOneWay (TakesInside shape told line)
+inside shape told line =
+    or_else (Answers shape.kinds told line) (TakesBehindAnswer shape told line) (answers shape.kinds told line)
+    (or_else (Extends shape.kinds told line) (TakesRest shape told line) (extends shape.kinds told line) (rest shape told line))
 
-takes_one : (place : Place) (query : List ℕ) (kinds : List ItemKind) (told : Told) (line : List ℕ) (a b : Told) →
-    TakesAt place query kinds told line a → TakesAt place query kinds told line b → b ≡ a
-takes_one Query query kinds told line a b h k = k.opened ∙ sym h.opened
-takes_one Opened query kinds told line a b (inl h) (inl k) = k.passed ∙ sym h.passed
-takes_one Opened query kinds told line a b (inl h) (inr k) = parts_or_round told line a b h k
-takes_one Opened query kinds told line a b (inr h) (inl k) = parts_or_round told line b a k h
-takes_one Opened query kinds told line a b (inr h) (inr k) = k.begun ∙ sym h.begun
-takes_one Round query kinds told line a b h k =
-    or_else (GoesOn told line) (PassesBehind kinds told line) (goes_on told line) (λ x y f g. g.same ∙ sym f.same) a b h k
-takes_one Items query kinds told line a b h k = inside kinds told line a b h k
-takes_one (Ended end) query kinds told line a b h k = absurd h
+takes_one : (place : Place) (query : List ℕ) (shape : Shape) (told : Told) (line : List ℕ) (a b : Told) →
+    TakesAt place query shape told line a → TakesAt place query shape told line b → b ≡ a
+takes_one Query query shape told line a b h k = k.opened ∙ sym h.opened
+takes_one Opened query shape told line a b (inl h) (inl k) = k.passed ∙ sym h.passed
+takes_one Opened query shape told line a b (inl h) (inr k) = parts_or_round told line a b h k
+takes_one Opened query shape told line a b (inr h) (inl k) = parts_or_round told line b a k h
+takes_one Opened query shape told line a b (inr h) (inr k) = k.begun ∙ sym h.begun
+takes_one Round query shape told line a b h k =
+    or_else (GoesOn told line) (PassesBehind shape.kinds told line) (goes_on told line) (λ x y f g. g.same ∙ sym f.same) a b h k
+takes_one Items query shape told line a b h k = inside shape told line a b h k
+takes_one (Ended end) query shape told line a b h k = absurd h
 
-tagged_one : (query : List ℕ) (kinds : List ItemKind) (parts : List Told) (line : List ℕ) (a b : List Told) →
-    TakesTagged query kinds parts line a → TakesTagged query kinds parts line b → b ≡ a
-tagged_one query kinds parts line a b h k =
+tagged_one : (query : List ℕ) (shape : Shape) (parts : List Told) (line : List ℕ) (a b : List Told) →
+    TakesTagged query shape parts line a → TakesTagged query shape parts line b → b ≡ a
+tagged_one query shape parts line a b h k =
     let own = told_of (tag_of line) parts in
-    k.put ∙ ap (λ (told : Told). with_part told parts) (takes_one own.place query kinds own (behind_tag line) h.told k.told h.taken k.taken) ∙ sym h.put
+    k.put ∙ ap (λ (told : Told). with_part told parts) (takes_one own.place query shape own (behind_tag line) h.told k.told h.taken k.taken) ∙ sym h.put
 
 pub telling_one : TellingIsOne
 telling_one task parts [] last other h k = k ∙ sym h
 telling_one task parts (line ∷ lines) last other h k =
-    let next = tagged_one task.query task.kinds parts line h.0 k.0 h.1.taken k.1.taken in
+    let next = tagged_one task.query task.shape parts line h.0 k.0 h.1.taken k.1.taken in
     telling_one task h.0 lines last other h.2 (subst (λ (ps : List Told). Tell task ps lines other) next k.2)
 
 -- ---- some lines and more
@@ -135,31 +136,31 @@ tells_split task parts (line ∷ lines) more last h =
     let (mid, before, behind) = tells_split task h.0 lines more last h.2 in
     (mid, (h.0, h.1, before), behind)
 
-reaches_both : (query : List ℕ) (kinds : List ItemKind) (a b c : Told) → Reaches query kinds a b → Reaches query kinds b c → Reaches query kinds a c
-reaches_both query kinds a b c (remains same) k = k
-reaches_both query kinds a b c (reaches from line next last h rest) k = reaches from line next c h (reaches_both query kinds next last c rest k)
+reaches_both : (query : List ℕ) (shape : Shape) (a b c : Told) → Reaches query shape a b → Reaches query shape b c → Reaches query shape a c
+reaches_both query shape a b c (remains same) k = k
+reaches_both query shape a b c (reaches from line next last h rest) k = reaches from line next c h (reaches_both query shape next last c rest k)
 
-all_both : (query : List ℕ) (kinds : List ItemKind) (xs ys zs : List Told) → AllReach query kinds xs ys → AllReach query kinds ys zs → AllReach query kinds xs zs
-all_both query kinds [] [] [] h k = tt
-all_both query kinds [] [] (c ∷ zs) h k = absurd k
-all_both query kinds [] (b ∷ ys) zs h k = absurd h
-all_both query kinds (a ∷ xs) [] zs h k = absurd h
-all_both query kinds (a ∷ xs) (b ∷ ys) [] h k = absurd k
-all_both query kinds (a ∷ xs) (b ∷ ys) (c ∷ zs) h k = (reaches_both query kinds a b c h.0 k.0, all_both query kinds xs ys zs h.1 k.1)
+all_both : (query : List ℕ) (shape : Shape) (xs ys zs : List Told) → AllReach query shape xs ys → AllReach query shape ys zs → AllReach query shape xs zs
+all_both query shape [] [] [] h k = tt
+all_both query shape [] [] (c ∷ zs) h k = absurd k
+all_both query shape [] (b ∷ ys) zs h k = absurd h
+all_both query shape (a ∷ xs) [] zs h k = absurd h
+all_both query shape (a ∷ xs) (b ∷ ys) [] h k = absurd k
+all_both query shape (a ∷ xs) (b ∷ ys) (c ∷ zs) h k = (reaches_both query shape a b c h.0 k.0, all_both query shape xs ys zs h.1 k.1)
 
-all_here : (query : List ℕ) (kinds : List ItemKind) (parts : List Told) → AllReach query kinds parts parts
-all_here query kinds [] = tt
-all_here query kinds (part ∷ parts) = (remains part, all_here query kinds parts)
+all_here : (query : List ℕ) (shape : Shape) (parts : List Told) → AllReach query shape parts parts
+all_here query shape [] = tt
+all_here query shape (part ∷ parts) = (remains part, all_here query shape parts)
 
 -- once there are all parts, whatever lines come behind are theirs
 pub tells_reach : (task : Task) (parts : List Told) (lines : List (List ℕ)) (last : List Told) → length parts ≡ task.count → Tell task parts lines last →
-    AllReach task.query task.kinds parts last
-tells_reach task parts [] last all h = subst (λ (ps : List Told). AllReach task.query task.kinds parts ps) (sym h) (all_here task.query task.kinds parts)
+    AllReach task.query task.shape parts last
+tells_reach task parts [] last all h = subst (λ (ps : List Told). AllReach task.query task.shape parts ps) (sym h) (all_here task.query task.shape parts)
 tells_reach task parts (line ∷ lines) last all h =
     let few = h.1.few in
-    let first = all_reach task.query task.kinds parts line h.0 h.1.taken (omega (arith, few, all)) in
-    let grown = longer task.query task.kinds parts line h.0 h.1.taken in
-    all_both task.query task.kinds parts h.0 last first (tells_reach task h.0 lines last (omega (arith, few, all, grown)) h.2)
+    let first = all_reach task.query task.shape parts line h.0 h.1.taken (omega (arith, few, all)) in
+    let grown = longer task.query task.shape parts line h.0 h.1.taken in
+    all_both task.query task.shape parts h.0 last first (tells_reach task h.0 lines last (omega (arith, few, all, grown)) h.2)
 
 -- a report that has ended has a part for each that there is to be
 pub ended_all : (task : Task) (lines : List (List ℕ)) (text : List ℕ) (end : ReportEnd) → (h : Combines task lines text (Some end)) → length h.parts ≡ task.count
@@ -182,36 +183,36 @@ has_when_some wanted parts round text o end (ends r other has there) e = has
 has_when_some wanted parts round text o end (goes r rest behind has none k) e = has
 
 stays_ended : (query : List ℕ) (wanted : Wanted) (parts laters : List Told) (round : ℕ) (text longer : List ℕ) (o later : Option ReportEnd) (end : ReportEnd) →
-    AllReach query wanted.kinds parts laters → Writes wanted parts round text o → o ≡ Some end → Writes wanted laters round longer later →
+    AllReach query wanted.shape parts laters → Writes wanted parts round text o → o ≡ Some end → Writes wanted laters round longer later →
     (longer ≡ text) × (later ≡ Some end)
 stays_ended query wanted parts laters round text longer o later end h (waits r fails) e now = absurd (none-some end e)
 stays_ended query wanted parts laters round text longer o later end h (ends r mine has there) e (waits s fails) =
-    absurd (false≢true (sym fails ∙ all_keep query wanted.kinds round parts laters h has))
+    absurd (false≢true (sym fails ∙ all_keep query wanted.shape round parts laters h has))
 stays_ended query wanted parts laters round text longer o later end h (ends r mine has there) e (ends s other now f) =
     let same : other ≡ mine = some_same other mine (sym f ∙ end_stays query wanted round parts laters mine h has there) in (
-      ap (λ (x : ReportEnd). block_text round wanted.kinds laters ++ end_text x) same
-          ∙ ap (λ (block : List ℕ). block ++ end_text mine) (same_block query wanted.kinds round parts laters h has),
+      ap (λ (x : ReportEnd). block_text round wanted.shape.kinds laters ++ end_text x) same
+          ∙ ap (λ (block : List ℕ). block ++ end_text mine) (same_block query wanted.shape round parts laters h has),
       ap (λ (x : ReportEnd). Some x) same ∙ e,
     )
 stays_ended query wanted parts laters round text longer o later end h (ends r mine has there) e (goes s rest behind now none k) =
     absurd (none-some mine (sym none ∙ end_stays query wanted round parts laters mine h has there))
 stays_ended query wanted parts laters round text longer o later end h (goes r rest behind has none k) e (waits s fails) =
-    absurd (false≢true (sym fails ∙ all_keep query wanted.kinds round parts laters h has))
+    absurd (false≢true (sym fails ∙ all_keep query wanted.shape round parts laters h has))
 stays_ended query wanted parts laters round text longer o later end h (goes r rest behind has none k) e (ends s mine now f) =
-    let gone = none_behind_yet query wanted.kinds (is_narrow_at wanted round parts) (wanted.last round) (list_all (is_over round) parts) (list_all (is_over round) laters) round parts laters mine
+    let gone = none_behind_yet query wanted.shape (is_narrow_at wanted round parts) (wanted.last round) (list_all (is_over round) parts) (list_all (is_over round) laters) round parts laters mine
     refl refl h none (sym (same_end query wanted round parts laters h has) ∙ f) in
     absurd (false≢true (sym gone ∙ has_when_some wanted parts (round + 1) rest behind end k e))
 stays_ended query wanted parts laters round text longer o later end h (goes r rest behind has none k) e (goes s rest_now behind_now now none_now k_now) =
     let after = stays_ended query wanted parts laters (round + 1) rest rest_now behind behind_now end h k e k_now in (
-      ap (λ (block : List ℕ). block ++ rest_now) (same_block query wanted.kinds round parts laters h has)
-          ∙ ap (λ (x : List ℕ). block_text round wanted.kinds parts ++ x) after.0,
+      ap (λ (block : List ℕ). block ++ rest_now) (same_block query wanted.shape round parts laters h has)
+          ∙ ap (λ (x : List ℕ). block_text round wanted.shape.kinds parts ++ x) after.0,
       after.1,
     )
 
 -- the parts of some lines, and those of more, where there are all
 pub record Grown (task : Task) (parts : List Told) (more : List (List ℕ)) (laters : List Told) : Type 0 where
   pub all : length laters ≡ task.count
-  pub reach : AllReach task.query task.kinds parts laters
+  pub reach : AllReach task.query task.shape parts laters
 
 pub grown : (task : Task) (parts laters : List Told) (lines more : List (List ℕ)) → length parts ≡ task.count → Tell task [] lines parts → Tell task [] (lines ++ more) laters →
     Grown task parts more laters
@@ -221,7 +222,7 @@ grown task parts laters lines more all h k =
     let reach = tells_reach task parts more laters all own in
     record { all = same_length parts laters reach ∙ all; reach = reach }
   where
-    same_length : (xs ys : List Told) → AllReach task.query task.kinds xs ys → length ys ≡ length xs
+    same_length : (xs ys : List Told) → AllReach task.query task.shape xs ys → length ys ≡ length xs
     same_length [] [] h = refl
     same_length [] (b ∷ ys) h = absurd h
     same_length (a ∷ xs) [] h = absurd h

@@ -1,9 +1,9 @@
 -- That of several ways in which a line may be taken the first is taken that it goes.
 use Rattle.std.proofs.Common.{◌≡◌, ℕ, List, length, Bool, true, false, Result, Ok, Err, IfOk, refl, sym, subst, ◌∙◌, inl, inr, ◌⊎◌, MatchBool}
 use Rattle.std.proofs.lemmas.Bool.{false≢true}
-use Rattle.query_model.specs.declared.query.ItemKind.{ItemKind}
 use Rattle.report_parts.specs.Told.{Closes, GoesOn, OrElse, Refuses, Told, closed}
 use Rattle.report_parts.specs.declared.closing.Closing.TheVariants.{Unknown}
+use Rattle.report_parts.specs.declared.shape.Shape.{Shape}
 
 -- where the first is refused, which changes nothing, the second decides
 pub second_decides : (r : Bool) (First Second : Told → Told → Type 0) (old mid new : Told) → Refuses (First old) old mid →
@@ -48,9 +48,9 @@ unchanged true Way told h = h
 unchanged false Way told h = (refl, h)
 
 -- what ends the first block
-pub closes_ok : {E : Type 0} (r : Result Bool E) (kinds : List ItemKind) (told : Told) (line : List ℕ) (next : Told) → told.closing ≡ Unknown → length told.current ≡ length kinds →
+pub closes_ok : {E : Type 0} (r : Result Bool E) (shape : Shape) (told : Told) (line : List ℕ) (next : Told) → told.closing ≡ Unknown → length told.current ≡ length shape.kinds →
     IfOk r (λ taken. MatchBool taken (GoesOn (closed told) line next) (Refuses (GoesOn (closed told) line) told next)) →
-    IfOk r (λ taken. MatchBool taken (Closes kinds told line next) (Refuses (Closes kinds told line) told next))
-closes_ok (Ok true) kinds told line next first all h = record { first = first; all = all; goes_on = h }
-closes_ok (Ok false) kinds told line next first all h = (h.0, λ after k. h.1 after k.goes_on)
-closes_ok (Err e) kinds told line next first all h = tt
+    IfOk r (λ taken. MatchBool taken (Closes shape told line next) (Refuses (Closes shape told line) told next))
+closes_ok (Ok true) shape told line next first all h = record { first = first; all = all; goes_on = h }
+closes_ok (Ok false) shape told line next first all h = (h.0, λ after k. h.1 after k.goes_on)
+closes_ok (Err e) shape told line next first all h = tt

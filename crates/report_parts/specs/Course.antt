@@ -3,7 +3,6 @@ use Rattle.std.specs.Prelude.{◌≡◌, ◌≢◌, ℕ, zero, suc, ◌+◌, ◌
 use Rattle.std.specs.declared.option.Option.{Option}
 use Rattle.std.specs.declared.option.Option.TheVariants.{Some, None}
 use Rattle.std.specs.List.{list_all}
-use Rattle.query_model.specs.declared.query.ItemKind.{ItemKind}
 use Rattle.report_text.specs.Lines.{parts_line}
 use Rattle.report_text.specs.declared.lines.ReportEnd.{ReportEnd}
 use Rattle.report_parts.specs.Narrowness.{is_narrow}
@@ -18,12 +17,13 @@ use Rattle.report_parts.specs.declared.fault.BlockFault.TheVariants.{NoMemory, O
 use Rattle.report_parts.specs.declared.fault.CourseFault.{CourseFault}
 use Rattle.report_parts.specs.declared.fault.CourseFault.TheVariants.{Block, Input}
 use Rattle.report_parts.specs.declared.fault.InputFault.{InputFault}
+use Rattle.report_parts.specs.declared.shape.Shape.{Shape}
 
--- what is asked: the query and the kinds of its items, how many parts there are, the width of a narrow answer, and the number of the last
+-- what is asked: the query and the shape of its blocks, how many parts there are, the width of a narrow answer, and the number of the last
 -- round, if it is limited
 pub record Task : Type 0 where
   pub query : List ℕ
-  pub kinds : List ItemKind
+  pub shape : Shape
   pub count : ℕ
   pub width : ℕ
   pub last : Option ℕ
@@ -35,7 +35,7 @@ is_last (Some last) round = last == round
 -- a block is narrow where each answer is, whatever the lines behind tell
 abbrev pub wanted_of : Task → Wanted
 wanted_of task = record {
-  kinds = task.kinds;
+  shape = task.shape;
   narrow = λ entries. list_all (λ entry. is_narrow task.width entry.answer) entries;
   last = is_last task.last;
 }
@@ -48,7 +48,7 @@ opening_text query count = (query ++ codes "\n") ++ (parts_line count ++ codes "
 
 -- the parts take a line, and there are not more of them than are asked for
 pub record TakesLine (task : Task) (parts : List Told) (line : List ℕ) (next : List Told) : Type 0 where
-  pub taken : TakesTagged task.query task.kinds parts line next
+  pub taken : TakesTagged task.query task.shape parts line next
   pub few : length next ≤ task.count
 
 -- what the parts have told behind these lines
@@ -84,7 +84,7 @@ pub record Passes (wanted : Wanted) (parts : List Told) (round : ℕ) (text : Li
   pub wide : (r : ℕ) → r < round → is_narrow_at wanted r parts ≡ false
   pub more : (r : ℕ) → r < round → wanted.last r ≡ false
   pub goes : (r : ℕ) → r + 1 < round → list_all (is_over r) parts ≡ false
-  pub is_text : text ≡ blocks_text round wanted.kinds parts
+  pub is_text : text ≡ blocks_text round wanted.shape.kinds parts
 
 -- no part goes on behind the last block that was written
 abbrev pub is_over_before : ℕ → List Told → Bool
@@ -163,7 +163,7 @@ TakesOn old new line before after =
 pub record IsLineFault (task : Task) (lines : List (List ℕ)) (line : List ℕ) (why : InputFault) : Type 0 where
   pub parts : List Told
   pub told : Tell task [] lines parts
-  pub refused : IsRefused why task.query task.kinds task.count parts line
+  pub refused : IsRefused why task.query task.shape task.count parts line
 
 -- the blocks before a round are written, and that of the round is not
 pub record Stops (task : Task) (parts : List Told) (text before after : List ℕ) (why : BlockFault) : Type 0 where
@@ -172,7 +172,7 @@ pub record Stops (task : Task) (parts : List Told) (text before after : List ℕ
   pub put : after ≡ before ++ more
   pub passed : Passes (wanted_of task) parts round (text ++ more)
   pub has : list_all (has_block round) parts ≡ true
-  pub fault : IsBlockFault why round task.kinds parts
+  pub fault : IsBlockFault why round task.shape.kinds parts
 
 abbrev pub StopsBy : BlockFault → Task → List Told → List ℕ → List ℕ → List ℕ → Type 0
 StopsBy (OtherDecimals item) task parts text before after = Stops task parts text before after (OtherDecimals item)

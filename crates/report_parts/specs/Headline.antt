@@ -11,6 +11,7 @@ use Rattle.shard_bounds.specs.Averages.{ReportsAverage, TellsAverage, combined_a
 use Rattle.shard_bounds.specs.Combined as shards
 use Rattle.shard_bounds.specs.Combined.{IsBoundOf}
 use Rattle.shard_bounds.specs.Laws.{AreAveragesTold, AreTold, IsNestedReport, Tells}
+use Rattle.report_parts.specs.Blocks.{entries_of, no_block}
 use Rattle.report_parts.specs.Combined.{answer_over, average_of, bound_of, exact_over}
 use Rattle.report_parts.specs.Entries.{entry_at, or_no_answer}
 use Rattle.report_parts.specs.Reports.{entries_over}
@@ -20,10 +21,10 @@ use Rattle.report_parts.specs.declared.entry.Entry.{Entry}
 
 -- what a block says of an item, and what its line behind tells
 abbrev pub answer_at : ℕ → ℕ → Told → Answer
-answer_at block item told = (entry_at item (slice_index_or told.blocks block [])).answer
+answer_at block item told = (entry_at item (entries_of (slice_index_or told.blocks block no_block))).answer
 
 abbrev pub extra_at : ℕ → ℕ → Told → Option Answer
-extra_at block item told = (entry_at item (slice_index_or told.blocks block [])).extra
+extra_at block item told = (entry_at item (entries_of (slice_index_or told.blocks block no_block))).extra
 
 -- so it is of each part with its own values
 abbrev pub OfEach : (Told → List ℤ → Type 0) → List Told → List (List ℤ) → Type 0

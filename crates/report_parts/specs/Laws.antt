@@ -11,18 +11,19 @@ use Rattle.report_parts.specs.Combined.{answer_over, average_of, bound_of}
 use Rattle.report_parts.specs.Reports.{AreTold, blocks_text}
 use Rattle.report_parts.specs.Rounds.{block_for, has_block}
 use Rattle.report_parts.specs.Told.{Takes, Told}
-use Rattle.report_parts.specs.declared.entry.Entry.{Entry}
+use Rattle.report_parts.specs.declared.block.Block.{Block}
+use Rattle.report_parts.specs.declared.shape.Shape.{Shape}
 use Rattle.report_text.specs.declared.answers.Answer.{Answer}
 
 -- the blocks of the one are those of the other, and perhaps more
 pub record GoesBehind (told next : Told) : Type 0 where
-  pub more : List (List Entry)
+  pub more : List Block
   pub blocks : next.blocks ≡ told.blocks ++ more
 
 abbrev pub LinesOnlyAdd : Type 0
 LinesOnlyAdd =
-    (query : List ℕ) (kinds : List ItemKind) (told : Told) (line : List ℕ) (next : Told) →
-    Takes query kinds told line next → GoesBehind told next
+    (query : List ℕ) (shape : Shape) (told : Told) (line : List ℕ) (next : Told) →
+    Takes query shape told line next → GoesBehind told next
 
 -- the block for a round that a part has told stays that
 pub record KeepsBlock (round : ℕ) (told next : Told) : Type 0 where
@@ -31,23 +32,23 @@ pub record KeepsBlock (round : ℕ) (told next : Told) : Type 0 where
 
 abbrev pub ToldBlocksStay : Type 0
 ToldBlocksStay =
-    (query : List ℕ) (kinds : List ItemKind) (round : ℕ) (told : Told) (line : List ℕ) (next : Told) →
-    Takes query kinds told line next → has_block round told ≡ true → KeepsBlock round told next
+    (query : List ℕ) (shape : Shape) (round : ℕ) (told : Told) (line : List ℕ) (next : Told) →
+    Takes query shape told line next → has_block round told ≡ true → KeepsBlock round told next
 
 -- ---- some lines later
 
 -- what is told after some more lines
-pub data Reaches (query : List ℕ) (kinds : List ItemKind) : Told → Told → Type 0 where
-  stays : (told : Told) → Reaches query kinds told told
+pub data Reaches (query : List ℕ) (shape : Shape) : Told → Told → Type 0 where
+  stays : (told : Told) → Reaches query shape told told
   goes : (told : Told) (line : List ℕ) (next later : Told) →
-      Takes query kinds told line next → Reaches query kinds next later → Reaches query kinds told later
+      Takes query shape told line next → Reaches query shape next later → Reaches query shape told later
 
 -- of each part, whatever lines of it came, and in whatever order with those of the others
-abbrev pub AllReach : List ℕ → List ItemKind → List Told → List Told → Type 0
-AllReach query kinds [] [] = Unit {0}
-AllReach query kinds [] (later ∷ laters) = ⊥
-AllReach query kinds (part ∷ parts) [] = ⊥
-AllReach query kinds (part ∷ parts) (later ∷ laters) = Reaches query kinds part later × AllReach query kinds parts laters
+abbrev pub AllReach : List ℕ → Shape → List Told → List Told → Type 0
+AllReach query shape [] [] = Unit {0}
+AllReach query shape [] (later ∷ laters) = ⊥
+AllReach query shape (part ∷ parts) [] = ⊥
+AllReach query shape (part ∷ parts) (later ∷ laters) = Reaches query shape part later × AllReach query shape parts laters
 
 -- the rounds stay told, with the same text
 pub record Grows (rounds : ℕ) (kinds : List ItemKind) (parts laters : List Told) : Type 0 where
@@ -56,8 +57,8 @@ pub record Grows (rounds : ℕ) (kinds : List ItemKind) (parts laters : List Tol
 
 abbrev pub ReportsOnlyGrow : Type 0
 ReportsOnlyGrow =
-    (query : List ℕ) (kinds : List ItemKind) (rounds : ℕ) (parts laters : List Told) →
-    AllReach query kinds parts laters → AreTold rounds parts → Grows rounds kinds parts laters
+    (query : List ℕ) (shape : Shape) (rounds : ℕ) (parts laters : List Told) →
+    AllReach query shape parts laters → AreTold rounds parts → Grows rounds shape.kinds parts laters
 
 -- ---- what is combined is certain
 

@@ -1,8 +1,10 @@
 -- Which block of a part stands for a round of all parts.
-use Rattle.std.specs.Prelude.{ℕ, ◌-◌, ◌+◌, nat_lt, nat_le, min, Bool, true, false, ◌&&◌, ◌||◌, List, [], length, map, slice_index_or}
+use Rattle.std.specs.Prelude.{ℕ, ◌-◌, ◌+◌, nat_lt, nat_le, min, Bool, true, false, ◌&&◌, ◌||◌, List, length, map, slice_index_or}
 use Rattle.report_text.specs.declared.answers.Answer.{Answer}
+use Rattle.report_parts.specs.Blocks.{entries_of, no_block}
 use Rattle.report_parts.specs.Entries.{answers_of, entry_at, extras_of}
 use Rattle.report_parts.specs.Told.{Told}
+use Rattle.report_parts.specs.declared.block.Block.{Block}
 use Rattle.report_parts.specs.declared.entry.Entry.{Entry}
 use Rattle.report_parts.specs.declared.part.Place.{Place}
 use Rattle.report_parts.specs.declared.part.Place.TheVariants.{Query, Opened, Round, Items, Ended}
@@ -19,12 +21,12 @@ abbrev pub has_block : ℕ → Told → Bool
 has_block round told = is_ended told.place || nat_lt round (length told.blocks)
 
 -- its block for the round: where its report has ended before, the last
-abbrev pub block_for : ℕ → Told → List Entry
-block_for round told = slice_index_or told.blocks (min round (length told.blocks - 1)) []
+abbrev pub block_for : ℕ → Told → Block
+block_for round told = slice_index_or told.blocks (min round (length told.blocks - 1)) no_block
 
 -- what it says of an item
 abbrev pub entry_in : ℕ → ℕ → Told → Entry
-entry_in round item told = entry_at item (block_for round told)
+entry_in round item told = entry_at item (entries_of (block_for round told))
 
 -- what all parts say of an item in that round
 abbrev pub entries_in : ℕ → ℕ → List Told → List Entry

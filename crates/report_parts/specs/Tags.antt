@@ -7,13 +7,13 @@ use Rattle.std.specs.List.Sorted.{IsStrictlySortedBy}
 use Rattle.std.specs.Ordering.{nat_cmp}
 use Rattle.std.specs.declared.cmp.Ordering.{Ordering}
 use Rattle.std.specs.declared.cmp.Ordering.TheVariants.{Less, Equal, Greater}
-use Rattle.query_model.specs.declared.query.ItemKind.{ItemKind}
 use Rattle.report_parts.specs.Told.{Takes, Told, nothing_told}
 use Rattle.report_parts.specs.declared.fault.InputFault.{InputFault}
 use Rattle.report_parts.specs.declared.fault.InputFault.TheVariants.{Line, NoTab, NoTag, OtherPart}
 use Rattle.report_parts.specs.declared.fault.LineFault.{LineFault}
 use Rattle.report_parts.specs.declared.fault.LineFault.TheVariants.{NoMemory, OtherLine, OtherQuery}
 use Rattle.report_parts.specs.declared.part.Place.TheVariants.{Query}
+use Rattle.report_parts.specs.declared.shape.Shape.{Shape}
 
 -- ---- a tag, a tab and a line of a report
 
@@ -57,10 +57,10 @@ with_part told [] = told ∷ []
 with_part told (part ∷ parts) = by_order (against told.tag part) (part ∷ with_part told parts) (told ∷ parts) (told ∷ part ∷ parts)
 
 -- the part of the line's tag takes the line
-pub record TakesTagged (query : List ℕ) (kinds : List ItemKind) (parts : List Told) (line : List ℕ) (next : List Told) : Type 0 where
+pub record TakesTagged (query : List ℕ) (shape : Shape) (parts : List Told) (line : List ℕ) (next : List Told) : Type 0 where
   pub told : Told
   pub is_tag : IsTag (tag_of line)
-  pub taken : Takes query kinds (told_of (tag_of line) parts) (behind_tag line) told
+  pub taken : Takes query shape (told_of (tag_of line) parts) (behind_tag line) told
   pub put : next ≡ with_part told parts
 
 -- ---- where a part stands
@@ -84,24 +84,24 @@ pub record BelongsAt (tag : List ℕ) (parts : List Told) (place : ℕ) : Type 0
 -- ---- why a line is refused
 
 -- the part's report does not go on so
-abbrev pub CannotTake : List ℕ → List ItemKind → Told → List ℕ → Type 0
-CannotTake query kinds told line = (next : Told) → Takes query kinds told line next → ⊥
+abbrev pub CannotTake : List ℕ → Shape → Told → List ℕ → Type 0
+CannotTake query shape told line = (next : Told) → Takes query shape told line next → ⊥
 
-abbrev pub IsLineRefused : LineFault → List ℕ → List ItemKind → Told → List ℕ → Type 0
-IsLineRefused OtherQuery query kinds told line = (told.place ≡ Query) × CannotTake query kinds told line
-IsLineRefused OtherLine query kinds told line = (told.place ≢ Query) × CannotTake query kinds told line
-IsLineRefused NoMemory query kinds told line = Unit {0}
+abbrev pub IsLineRefused : LineFault → List ℕ → Shape → Told → List ℕ → Type 0
+IsLineRefused OtherQuery query shape told line = (told.place ≡ Query) × CannotTake query shape told line
+IsLineRefused OtherLine query shape told line = (told.place ≢ Query) × CannotTake query shape told line
+IsLineRefused NoMemory query shape told line = Unit {0}
 
 -- so many parts are wanted at most, and this is one more
 abbrev pub IsOneMore : ℕ → List Told → List ℕ → Type 0
 IsOneMore most parts tag = (most ≤ length parts) × (told_of tag parts ≡ nothing_told tag)
 
-abbrev pub IsRefused : InputFault → List ℕ → List ItemKind → ℕ → List Told → List ℕ → Type 0
-IsRefused NoTab query kinds most parts line = ¬ HasTab line
-IsRefused NoTag query kinds most parts line = HasTab line × ¬ IsTag (tag_of line)
-IsRefused OtherPart query kinds most parts line = IsTagged line × IsOneMore most parts (tag_of line)
-IsRefused (Line why) query kinds most parts line =
-    IsTagged line × IsLineRefused why query kinds (told_of (tag_of line) parts) (behind_tag line)
+abbrev pub IsRefused : InputFault → List ℕ → Shape → ℕ → List Told → List ℕ → Type 0
+IsRefused NoTab query shape most parts line = ¬ HasTab line
+IsRefused NoTag query shape most parts line = HasTab line × ¬ IsTag (tag_of line)
+IsRefused OtherPart query shape most parts line = IsTagged line × IsOneMore most parts (tag_of line)
+IsRefused (Line why) query shape most parts line =
+    IsTagged line × IsLineRefused why query shape (told_of (tag_of line) parts) (behind_tag line)
 
 -- what is refused changes nothing
 abbrev pub IsKept : {X : Type 0} → LineFault → X → X → Type 0

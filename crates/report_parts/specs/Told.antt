@@ -11,17 +11,20 @@ use Rattle.report_text.specs.Lines.{IsRoundLine, end_line, item_line, parts_line
 use Rattle.report_text.specs.declared.answers.Answer.{Answer}
 use Rattle.report_text.specs.declared.lines.ReportEnd.{ReportEnd}
 use Rattle.report_parts.specs.Entries.{ends_with_extra, last_entry}
+use Rattle.report_parts.specs.declared.block.Block.{Block}
+use Rattle.report_parts.specs.declared.block.Block.TheVariants.{Totals}
 use Rattle.report_parts.specs.declared.entry.Entry.{Entry}
 use Rattle.report_parts.specs.declared.closing.Closing.{Closing}
 use Rattle.report_parts.specs.declared.closing.Closing.TheVariants.{Unknown, Item, Extra}
 use Rattle.report_parts.specs.declared.part.Place.{Place}
 use Rattle.report_parts.specs.declared.part.Place.TheVariants.{Query, Opened, Round, Items, Ended}
+use Rattle.report_parts.specs.declared.shape.Shape.{Shape}
 
--- the tag of the part; the whole blocks, each with an entry for each item; the line that is the last of a block; the entries of a block
+-- the tag of the part; the whole blocks; the line that is the last of a block; the entries of a block
 -- that is not whole yet; and what comes next
 pub record Told : Type 0 where
   pub tag : List ℕ
-  pub blocks : List (List Entry)
+  pub blocks : List Block
   pub closing : Closing
   pub current : List Entry
   pub place : Place
@@ -64,7 +67,7 @@ closing_of block = if ends_with_extra block then Extra else Item
 abbrev pub closed : Told → Told
 closed told = record {
   tag = told.tag;
-  blocks = told.blocks ++ told.current ∷ [];
+  blocks = told.blocks ++ Totals told.current ∷ [];
   closing = closing_of told.current;
   current = [];
   place = Round;
@@ -160,37 +163,37 @@ abbrev pub GoesOn : Told → List ℕ → Told → Type 0
 GoesOn told line next = BeginsRound told line next ⊎ Ends told line next
 
 -- the first block ends with the line before this one
-pub record Closes (kinds : List ItemKind) (told : Told) (line : List ℕ) (next : Told) : Type 0 where
+pub record Closes (shape : Shape) (told : Told) (line : List ℕ) (next : Told) : Type 0 where
   pub first : told.closing ≡ Unknown
-  pub all : length told.current ≡ length kinds
+  pub all : length told.current ≡ length shape.kinds
   pub goes_on : GoesOn (closed told) line next
 
 -- the one, or else the other
 abbrev pub OrElse : (Told → Type 0) → (Told → Type 0) → Told → Type 0
 OrElse First Second next = First next ⊎ (((other : Told) → First other → ⊥) × Second next)
 
-abbrev pub TakesBehind : List ItemKind → Told → List ℕ → Told → Type 0
-TakesBehind kinds told line = OrElse (GoesOn told line) (PassesBehind kinds told line)
+abbrev pub TakesBehind : Shape → Told → List ℕ → Told → Type 0
+TakesBehind shape told line = OrElse (GoesOn told line) (PassesBehind shape.kinds told line)
 
-abbrev pub TakesRest : List ItemKind → Told → List ℕ → Told → Type 0
-TakesRest kinds told line = OrElse (PassesInside kinds told line) (Closes kinds told line)
+abbrev pub TakesRest : Shape → Told → List ℕ → Told → Type 0
+TakesRest shape told line = OrElse (PassesInside shape.kinds told line) (Closes shape told line)
 
-abbrev pub TakesBehindAnswer : List ItemKind → Told → List ℕ → Told → Type 0
-TakesBehindAnswer kinds told line = OrElse (Extends kinds told line) (TakesRest kinds told line)
+abbrev pub TakesBehindAnswer : Shape → Told → List ℕ → Told → Type 0
+TakesBehindAnswer shape told line = OrElse (Extends shape.kinds told line) (TakesRest shape told line)
 
-abbrev pub TakesInside : List ItemKind → Told → List ℕ → Told → Type 0
-TakesInside kinds told line = OrElse (Answers kinds told line) (TakesBehindAnswer kinds told line)
+abbrev pub TakesInside : Shape → Told → List ℕ → Told → Type 0
+TakesInside shape told line = OrElse (Answers shape.kinds told line) (TakesBehindAnswer shape told line)
 
-abbrev pub TakesAt : Place → List ℕ → List ItemKind → Told → List ℕ → Told → Type 0
-TakesAt Query query kinds told line next = Opens query told line next
-TakesAt Opened query kinds told line next = IsOpened told line next
-TakesAt Round query kinds told line next = TakesBehind kinds told line next
-TakesAt Items query kinds told line next = TakesInside kinds told line next
-TakesAt (Ended end) query kinds told line next = ⊥
+abbrev pub TakesAt : Place → List ℕ → Shape → Told → List ℕ → Told → Type 0
+TakesAt Query query shape told line next = Opens query told line next
+TakesAt Opened query shape told line next = IsOpened told line next
+TakesAt Round query shape told line next = TakesBehind shape told line next
+TakesAt Items query shape told line next = TakesInside shape told line next
+TakesAt (Ended end) query shape told line next = ⊥
 
--- a report of that query, which asks for items of these kinds, may go on with this line
-abbrev pub Takes : List ℕ → List ItemKind → Told → List ℕ → Told → Type 0
-Takes query kinds told line next = TakesAt told.place query kinds told line next
+-- a report of that query, with blocks of this shape, may go on with this line
+abbrev pub Takes : List ℕ → Shape → Told → List ℕ → Told → Type 0
+Takes query shape told line next = TakesAt told.place query shape told line next
 
 -- no report goes on so, and nothing changes
 abbrev pub Refuses : (Told → Type 0) → Told → Told → Type 0

@@ -3,7 +3,6 @@ use Rattle.std.specs.Prelude.{◌≡◌, ℕ, ◌+◌, Bool, true, false, List, 
 use Rattle.std.specs.declared.option.Option.{Option}
 use Rattle.std.specs.declared.option.Option.TheVariants.{Some, None}
 use Rattle.std.specs.List.{list_all}
-use Rattle.query_model.specs.declared.query.ItemKind.{ItemKind}
 use Rattle.report_text.specs.Lines.{end_line}
 use Rattle.report_text.specs.declared.lines.ReportEnd.{ReportEnd}
 use Rattle.report_parts.specs.Ends.{end_behind}
@@ -12,16 +11,17 @@ use Rattle.report_parts.specs.Reports.{block_text, entries_over}
 use Rattle.report_parts.specs.Rounds.{has_block}
 use Rattle.report_parts.specs.Told.{Told}
 use Rattle.report_parts.specs.declared.entry.Entry.{Entry}
+use Rattle.report_parts.specs.declared.shape.Shape.{Shape}
 
--- what is asked for: the kinds of the items, which blocks are narrow, and which round is the last that is wanted
+-- what is asked for: the shape of a block, which blocks are narrow, and which round is the last that is wanted
 pub record Wanted : Type 0 where
-  pub kinds : List ItemKind
+  pub shape : Shape
   pub narrow : List Entry → Bool
   pub last : ℕ → Bool
 
 -- the block of the round is narrow
 abbrev pub is_narrow_at : Wanted → ℕ → List Told → Bool
-is_narrow_at wanted round parts = wanted.narrow (entries_over round 0 wanted.kinds parts)
+is_narrow_at wanted round parts = wanted.narrow (entries_over round 0 wanted.shape.kinds parts)
 
 -- how the report ends behind the block of that round, if it does
 abbrev pub end_at : Wanted → ℕ → List Told → Option ReportEnd
@@ -35,10 +35,10 @@ end_text end = end_line end ++ codes "\n"
 pub data Writes (wanted : Wanted) (parts : List Told) : ℕ → List ℕ → Option ReportEnd → Type 0 where
   waits : (round : ℕ) → list_all (has_block round) parts ≡ false → Writes wanted parts round [] None
   ends : (round : ℕ) (end : ReportEnd) → list_all (has_block round) parts ≡ true → end_at wanted round parts ≡ Some end →
-      Writes wanted parts round (block_text round wanted.kinds parts ++ end_text end) (Some end)
+      Writes wanted parts round (block_text round wanted.shape.kinds parts ++ end_text end) (Some end)
   goes : (round : ℕ) (rest : List ℕ) (end : Option ReportEnd) → list_all (has_block round) parts ≡ true →
       end_at wanted round parts ≡ None → Writes wanted parts (round + 1) rest end →
-      Writes wanted parts round (block_text round wanted.kinds parts ++ rest) end
+      Writes wanted parts round (block_text round wanted.shape.kinds parts ++ rest) end
 
 -- the one text begins the other
 pub record Begins (text longer : List ℕ) : Type 0 where
@@ -49,5 +49,5 @@ pub record Begins (text longer : List ℕ) : Type 0 where
 abbrev pub WrittenStays : Type 0
 WrittenStays =
     (query : List ℕ) (wanted : Wanted) (parts laters : List Told) (round : ℕ) (text longer : List ℕ) (end later : Option ReportEnd) →
-    AllReach query wanted.kinds parts laters → Writes wanted parts round text end → Writes wanted laters round longer later →
+    AllReach query wanted.shape parts laters → Writes wanted parts round text end → Writes wanted laters round longer later →
     Begins text longer

@@ -50,7 +50,7 @@ impl Model for Combination {
     ghost view = { λ c. record {
       task = record {
         query = c.asked.query.items;
-        kinds = c.asked.kinds.items;
+        shape = c.asked.shape;
         count = c.count;
         width = c.until.width;
         last = c.until.rounds;
@@ -88,7 +88,7 @@ impl Combination {
     pub fn new(alloc: Global, asked: Asked, count: usize, until: Until) -> Combination
         requires { 0 < count }
         ensures query { result.task.query ≡ asked.query.items }
-        ensures kinds { result.task.kinds ≡ asked.kinds.items }
+        ensures shape { result.task.shape ≡ asked.shape }
         ensures count { result.task.count ≡ count }
         ensures width { result.task.width ≡ until.width }
         ensures last { result.task.last ≡ until.rounds }
@@ -137,10 +137,10 @@ impl Combination {
         ensures task { self.new.task ≡ self.old.task }
         ensures round { self.new.round ≡ self.old.round }
         ensures end { self.new.end ≡ self.old.end }
-        ensures taken { OnOk result (TakesTagged self.old.task.query self.old.task.kinds self.old.parts line.now self.new.parts) }
+        ensures taken { OnOk result (TakesTagged self.old.task.query self.old.task.shape self.old.parts line.now self.new.parts) }
         ensures few { OnOk result (length self.old.parts ≤ self.old.task.count → length self.new.parts ≤ self.old.task.count) }
         ensures refused { IfErr result (λ why.
-            IsRefused why self.old.task.query self.old.task.kinds self.old.task.count self.old.parts line.now) }
+            IsRefused why self.old.task.query self.old.task.shape self.old.task.count self.old.parts line.now) }
     {
         self.parts.take(alloc, &self.asked, self.count, line)
     }
@@ -175,13 +175,14 @@ impl Combination {
 
     // The block of the round, and how the report ends behind it, if it does.
     fn block(&self, alloc: Global) -> Result<Ahead, BlockFault>
-        ensures block { IfOk result (λ ahead. ahead.block.items ≡ block_text self.now.round self.now.task.kinds self.now.parts) }
+        ensures block { IfOk result (λ ahead. ahead.block.items ≡ block_text self.now.round self.now.task.shape.kinds self.now.parts) }
         ensures end { IfOk result (λ ahead. ahead.end ≡ end_at (wanted_of self.now.task) self.now.round self.now.parts) }
-        ensures fault { IfErr result (λ why. IsBlockFault why self.now.round self.now.task.kinds self.now.parts) }
+        ensures fault { IfErr result (λ why. IsBlockFault why self.now.round self.now.task.shape.kinds self.now.parts) }
     {
         let parts = self.parts.as_slice();
-        let entries = entries_over(alloc, self.round, &self.asked.kinds, parts)?;
-        let block = written_entries(alloc, self.round, &self.asked.kinds, &entries)?;
+        let kinds = self.asked.shape.kinds.as_slice();
+        let entries = entries_over(alloc, self.round, kinds, parts)?;
+        let block = written_entries(alloc, self.round, kinds, &entries)?;
         let narrow = are_narrow(self.until.width, &entries);
         let last = is_last(self.until.rounds, self.round);
         Ok(Ahead {

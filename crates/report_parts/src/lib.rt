@@ -2,6 +2,8 @@
 #![tactic(auto)]
 
 mod averages;
+mod behind;
+mod block;
 mod blocks;
 mod closing;
 mod combination;
@@ -10,15 +12,19 @@ mod ends;
 mod entry;
 mod fault;
 mod forms;
+mod inside;
 mod laws;
 mod narrowness;
 mod near;
+mod opening;
 mod part;
 mod parts;
 mod rounds;
+mod shape;
 mod tags;
 mod values;
 
+pub use block::{Block, Section};
 pub use blocks::{written_block, written_opening};
 pub use closing::Closing;
 pub use combination::{Combination, Until};
@@ -33,7 +39,8 @@ pub use laws::{
     reports_only_grow, stands_are_combined, tellings_are_one, told_blocks_stay, written_stays,
 };
 pub use narrowness::is_narrow;
-pub use part::{Block, Part, Place};
+pub use part::{Part, Place};
 pub use parts::{Asked, Parts};
 pub use rounds::{all_have_block, have_all_ended};
+pub use shape::Shape;
 pub use tags::untagged;

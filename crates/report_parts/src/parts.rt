@@ -8,16 +8,16 @@ ghost use Rattle.report_parts.specs.Told.{Takes, Told, nothing_told};
 
 use crate::fault::{InputFault, LineFault};
 use crate::part::Part;
+use crate::shape::Shape;
 use crate::tags::read_tag;
-use query_model::ItemKind;
 use std::alloc::Global;
 use std::marker::Model;
 
-/// What all reports answer: the line of the query, and the kinds of its items.
+/// What all reports answer: the line of the query, and the shape of their blocks.
 #[derive(Drop)]
 pub struct Asked {
     pub query: Vec<u8>,
-    pub kinds: Vec<ItemKind>,
+    pub shape: Shape,
 }
 
 /// The parts of which lines came, in the order of their tags.
@@ -49,10 +49,10 @@ fn place_of(parts: &[Part], tag: &[u8]) -> Result<usize, usize>
 // A part takes a line.
 fn take_line(alloc: Global, part: &mut Part, asked: &Asked, line: &[u8]) -> Result<(), LineFault>
     ensures tag { part.new.tag ≡ part.old.tag }
-    ensures taken { OnOk result (Takes asked.now.query.items asked.now.kinds.items part.old line.now part.new) }
-    ensures refused { IfErr result (λ why. IsLineRefused why asked.now.query.items asked.now.kinds.items part.old line.now) }
+    ensures taken { OnOk result (Takes asked.now.query.items asked.now.shape part.old line.now part.new) }
+    ensures refused { IfErr result (λ why. IsLineRefused why asked.now.query.items asked.now.shape part.old line.now) }
 {
-    part.take(alloc, &asked.query, &asked.kinds, line)
+    part.take(alloc, &asked.query, &asked.shape, line)
 }
 
 // The part at that place takes a line.
@@ -66,13 +66,13 @@ fn take_at(
     requires { place < length parts.old.items }
     ensures tag { (told : Told) × (told.tag ≡ (part_at place parts.old.items).tag) × (parts.new.items ≡ set parts.old.items place told) }
     ensures taken { OnOk result ((told : Told) × (told.tag ≡ (part_at place parts.old.items).tag)
-        × Takes asked.now.query.items asked.now.kinds.items (part_at place parts.old.items) line.now told
+        × Takes asked.now.query.items asked.now.shape (part_at place parts.old.items) line.now told
         × (parts.new.items ≡ set parts.old.items place told)) }
     ensures refused { IfErr result (λ why.
-        IsLineRefused why asked.now.query.items asked.now.kinds.items (part_at place parts.old.items) line.now) }
+        IsLineRefused why asked.now.query.items asked.now.shape (part_at place parts.old.items) line.now) }
     ensures kept { IfErr result (λ why. IsKept why parts.old.items parts.new.items) }
 {
-    parts[place].take(alloc, &asked.query, &asked.kinds, line)
+    parts[place].take(alloc, &asked.query, &asked.shape, line)
 }
 
 // A part takes its first line, and then stands at that place.
@@ -86,9 +86,9 @@ fn take_first(
 ) -> Result<(), LineFault>
     requires { place ≤ length parts.old.items }
     ensures taken { OnOk result ((told : Told) × (told.tag ≡ tag.now)
-        × Takes asked.now.query.items asked.now.kinds.items (nothing_told tag.now) line.now told
+        × Takes asked.now.query.items asked.now.shape (nothing_told tag.now) line.now told
         × (parts.new.items ≡ insert parts.old.items place told)) }
-    ensures refused { IfErr result (λ why. IsLineRefused why asked.now.query.items asked.now.kinds.items (nothing_told tag.now) line.now) }
+    ensures refused { IfErr result (λ why. IsLineRefused why asked.now.query.items asked.now.shape (nothing_told tag.now) line.now) }
     ensures kept { OnErr result (parts.new.items ≡ parts.old.items) }
 {
     let mut part = Part::new(alloc, Vec::from_slice(alloc, tag)?);
@@ -141,9 +141,9 @@ impl Parts {
         most: usize,
         line: &[u8],
     ) -> Result<(), InputFault>
-        ensures taken { OnOk result (TakesTagged asked.now.query.items asked.now.kinds.items self.old line.now self.new) }
+        ensures taken { OnOk result (TakesTagged asked.now.query.items asked.now.shape self.old line.now self.new) }
         ensures few { OnOk result (length self.old ≤ most → length self.new ≤ most) }
-        ensures refused { IfErr result (λ why. IsRefused why asked.now.query.items asked.now.kinds.items most self.old line.now) }
+        ensures refused { IfErr result (λ why. IsRefused why asked.now.query.items asked.now.shape most self.old line.now) }
         ensures kept { IfErr result (λ why. AreKept why self.old self.new) }
     {
         let tagged = read_tag(line)?;

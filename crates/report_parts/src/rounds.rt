@@ -3,7 +3,7 @@
 ghost use Rattle.std.specs.Prelude.{◌≡◌, ◌<◌, ◌+◌, ◌^◌, IfOk};
 ghost use Rattle.std.specs.List.{list_all};
 ghost use Rattle.report_parts.specs.Entries.{entry_at};
-ghost use Rattle.report_parts.specs.Rounds.{block_for, entries_in, entry_in, has_block, is_ended, is_over};
+ghost use Rattle.report_parts.specs.Rounds.{entries_in, entry_in, has_block, is_ended, is_over};
 
 use crate::entry::{Entry, NO_ANSWER};
 use crate::part::{Part, Place};
@@ -79,7 +79,7 @@ fn entry_at(item: usize, block: &[Entry]) -> Entry
 fn entry_in(round: usize, item: usize, part: &Part) -> Entry
     ensures { result ≡ entry_in round item part.now }
 {
-    entry_at(item, part.block_for(round))
+    entry_at(item, part.entries_for(round))
 }
 
 // What all parts say of an item in that round.

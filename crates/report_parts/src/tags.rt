@@ -1,9 +1,9 @@
 //! A line of the input: the tag of a part, a tab, and a line of its report.
 
 ghost use Rattle.std.specs.Prelude.{◌≡◌, ◌==◌, IfErr, IfOk, IfSome, List, None, OnOk, position, ℕ};
-ghost use Rattle.query_model.specs.declared.query.ItemKind.{ItemKind};
 ghost use Rattle.report_parts.specs.Tags.{HasTab, IsRefused, IsTagged, behind_tag, tag_of};
 ghost use Rattle.report_parts.specs.Told.{Told};
+ghost use Rattle.report_parts.specs.declared.shape.Shape.{Shape};
 
 use crate::fault::InputFault;
 
@@ -43,8 +43,8 @@ pub(crate) fn read_tag(line: &[u8]) -> Result<Tagged<'_>, InputFault>
     ensures tag { IfOk result (λ tagged. tagged.tag.now ≡ tag_of line.now) }
     ensures behind { IfOk result (λ tagged. tagged.line.now ≡ behind_tag line.now) }
     ensures is_tagged { OnOk result (IsTagged line.now) }
-    ensures refused { IfErr result (λ why. (query : List ℕ) (kinds : List ItemKind) (most : ℕ) (parts : List Told)
-        → IsRefused why query kinds most parts line.now) }
+    ensures refused { IfErr result (λ why. (query : List ℕ) (shape : Shape) (most : ℕ) (parts : List Told)
+        → IsRefused why query shape most parts line.now) }
 {
     match around_tab(line) {
         None => Err(InputFault::NoTab),
@@ -62,8 +62,8 @@ pub(crate) fn read_tag(line: &[u8]) -> Result<Tagged<'_>, InputFault>
 pub fn untagged(line: &[u8]) -> Result<&[u8], InputFault>
     ensures behind { IfOk result (λ rest. rest.now ≡ behind_tag line.now) }
     ensures is_tagged { OnOk result (IsTagged line.now) }
-    ensures refused { IfErr result (λ why. (query : List ℕ) (kinds : List ItemKind) (most : ℕ) (parts : List Told)
-        → IsRefused why query kinds most parts line.now) }
+    ensures refused { IfErr result (λ why. (query : List ℕ) (shape : Shape) (most : ℕ) (parts : List Told)
+        → IsRefused why query shape most parts line.now) }
 {
     match read_tag(line) {
         Ok(tagged) => Ok(tagged.line),

@@ -6,5 +6,5 @@ use Rattle.report_parts.proofs.part.Part.take_closing.Goals as goal
 pub returns-clause-taken : goal.returns-clause-taken
 returns-clause-taken c =
     let first : c.args.self.now.closing ≡ Unknown = search rules in
-    let all : length c.args.self.now.current ≡ length c.args.kinds.now = search rules in
-    closes_ok c.close_by.result c.args.kinds.now c.args.self.now c.args.line.now c.close_by.new.self first all c.close_by.ensures.taken
+    let all : length c.args.self.now.current ≡ length c.args.shape.now.kinds = search rules in
+    closes_ok c.close_by.result c.args.shape.now c.args.self.now c.args.line.now c.close_by.new.self first all c.close_by.ensures.taken

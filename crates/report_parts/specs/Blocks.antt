@@ -1,0 +1,14 @@
+-- What a block says: of totals an entry for each item.
+use Rattle.std.specs.Prelude.{List, []}
+use Rattle.report_parts.specs.declared.block.Block.{Block}
+use Rattle.report_parts.specs.declared.block.Block.TheVariants.{Groups, Totals}
+use Rattle.report_parts.specs.declared.entry.Entry.{Entry}
+
+-- what it says of the items, where it is of totals
+abbrev pub entries_of : Block → List Entry
+entries_of (Totals entries) = entries
+entries_of (Groups sections) = []
+
+-- what stands for a block that was not told
+abbrev pub no_block : Block
+no_block = Totals []
