@@ -110,9 +110,9 @@ pub combine_done : CombinedIsCertain → CombinedAveragesAreCertain → Combined
 combine_done certain averages clips exact c input input' out out' combined = record {
   combined = combined;
   headline = record {
-    items = λ item kind tables round other there all. certain item kind combined.task.kinds combined.combines.parts tables round other there all;
-    averages = λ item tables round there all. averages item combined.task.kinds combined.combines.parts tables round there all;
-    clips = λ item kind tables round other there all. clips item kind combined.task.kinds combined.combines.parts tables round other there all;
-    exact_averages = λ item tables round there all. exact item combined.task.kinds combined.combines.parts tables round there all;
+    items = λ item kind tables round other there all. certain item kind combined.task.shape.kinds combined.combines.parts tables round other there all;
+    averages = λ item tables round there all. averages item combined.task.shape.kinds combined.combines.parts tables round there all;
+    clips = λ item kind tables round other there all. clips item kind combined.task.shape.kinds combined.combines.parts tables round other there all;
+    exact_averages = λ item tables round there all. exact item combined.task.shape.kinds combined.combines.parts tables round there all;
   };
 }

@@ -1,8 +1,8 @@
 -- The first line, and what it asks.
-use Rattle.std.proofs.Common.{◌≡◌, ℕ, ◌≤◌, true, None, List, [], ◌∷◌, refl, sym, subst, ◌∙◌, inl}
+use Rattle.std.proofs.Common.{◌≡◌, ℕ, ◌≤◌, true, None, List, [], ◌∷◌, refl, sym, ap, subst, ◌∙◌, inl}
 use Rattle.outer_world.specs.Device.{SinkState, SourceState}
 use Rattle.query_kinds.specs.Kinds.{Asks}
-use Rattle.query_model.specs.declared.query.ItemKind.{ItemKind}
+use Rattle.report_parts.specs.declared.shape.Shape.{Shape}
 use Rattle.report_parts.specs.Course.{Course, Stands, Task, opening_text}
 use Rattle.report_parts.specs.declared.combination.Until.{Until}
 use Rattle.source_lines.specs.Lines.{LinesState, behind_line, front_line, has_line, line_length, most_line}
@@ -64,24 +64,25 @@ module _ (count : ℕ) (until : Until) (input source : SourceState) (out : SinkS
   not_asked there short ReadFault p = absurd p
   not_asked there short WriteFault p = absurd p
 
-task_of : (count : ℕ) (until : Until) (first query : List ℕ) (kinds : List ItemKind) (task : Task) → IsAsked first query kinds → task.query ≡ query →
-    task.kinds ≡ kinds → task.count ≡ count → task.width ≡ until.width → task.last ≡ until.rounds → IsTask count until first task
-task_of count until first query kinds task h q k n w l = record {
+task_of : (count : ℕ) (until : Until) (first query : List ℕ) (shape : Shape) (task : Task) → IsAsked first query shape → task.query ≡ query →
+    task.shape ≡ shape → task.count ≡ count → task.width ≡ until.width → task.last ≡ until.rounds → IsTask count until first task
+task_of count until first query shape task h q k n w l = record {
   is_tag = h.is_tag;
   query = q ∙ h.is_query;
-  asks = subst (λ (own : List ItemKind). Asks task.query own) (sym k) (subst (λ (own : List ℕ). Asks own kinds) (sym q) h.asks);
+  asks = subst (λ (own : Shape). Asks task.query own.kinds) (sym k) (subst (λ (own : List ℕ). Asks own shape.kinds) (sym q) h.asks);
+  totals = ap (λ (own : Shape). own.columns) k ∙ h.totals;
   count = n;
   width = w;
   last = l;
 }
 
 pub starts : (count : ℕ) (until : Until) (input source : SourceState) (out : SinkState) (reader : LinesState) (course : Course) (text query : List ℕ)
-    (kinds : List ItemKind) → HasRead input source reader [] → has_line reader.pending ≡ true → IsAsked (front_line reader.pending) query kinds →
-    text ≡ opening_text query count → course.task.query ≡ query → course.task.kinds ≡ kinds → course.task.count ≡ count →
+    (shape : Shape) → HasRead input source reader [] → has_line reader.pending ≡ true → IsAsked (front_line reader.pending) query shape →
+    text ≡ opening_text query count → course.task.query ≡ query → course.task.shape ≡ shape → course.task.count ≡ count →
     course.task.width ≡ until.width → course.task.last ≡ until.rounds → Stands course [] [] → course.end ≡ None →
     Runs count until input source out out reader course text 0
-starts count until input source out reader course text query kinds read there asked opening q k n w l stands e =
+starts count until input source out reader course text query shape read there asked opening q k n w l stands e =
     begins count until input source out reader course text read there stands e
-    (task_of count until (front_line reader.pending) query kinds course.task asked q k n w l)
+    (task_of count until (front_line reader.pending) query shape course.task asked q k n w l)
     (subst (λ (own : List ℕ). text ≡ opening_text own course.task.count) (sym q)
     (subst (λ (parts : ℕ). text ≡ opening_text query parts) (sym n) opening))

@@ -110,7 +110,7 @@ all_short task parts [] last all h = subst AllShort (sym h) all
 all_short task parts (line ∷ lines) last all h =
     let own = told_of (tag_of line) parts in
     let taken = h.1.taken in
-    let tag = tag_stays task.query task.kinds own (behind_tag line) taken.told taken.taken ∙ tag_of_told (tag_of line) parts in
+    let tag = tag_stays task.query task.shape own (behind_tag line) taken.told taken.taken ∙ tag_of_told (tag_of line) parts in
     let short : length taken.told.tag ≤ 255 = subst (λ (t : List ℕ). length t ≤ 255) (sym tag) taken.is_tag.1 in
     all_short task h.0 lines last (subst AllShort (sym taken.put) (put_short taken.told parts short all)) h.2
 

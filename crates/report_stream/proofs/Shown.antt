@@ -4,7 +4,6 @@ use Rattle.std.proofs.lemmas.Option.{none-some}
 use Rattle.std.specs.Io.KnownBytes.{IsAtEnd}
 use Rattle.outer_world.specs.Device.{Rose, SinkState, SourceState}
 use Rattle.query_kinds.specs.Kinds.{Asks, AsksOther, IsNoQuery, KindsAreOne}
-use Rattle.query_model.specs.declared.query.ItemKind.{ItemKind}
 use Rattle.report_parts.proofs.Telling.{ended_stays, telling_one, tells_split}
 use Rattle.report_parts.specs.Course.{Combines, IsLineFault, IsStopped, TakesLine, Task, Tell}
 use Rattle.report_parts.specs.Ends.{first_open}
@@ -16,6 +15,7 @@ use Rattle.report_parts.specs.declared.fault.InputFault.TheVariants as i
 use Rattle.report_parts.specs.declared.fault.LineFault.TheVariants as l
 use Rattle.report_parts.specs.declared.part.Place.{Place}
 use Rattle.report_parts.specs.declared.part.Place.TheVariants.{Opened, Query}
+use Rattle.report_parts.specs.declared.shape.Shape.{Shape}
 use Rattle.source_lines.specs.Lines.{has_line, line_length, most_bytes, most_line}
 use Rattle.report_stream.proofs.LineTexts.{all_before, front_line, last_line, line_more, no_earlier, not_long, not_rest, plain, same_line, which_goes_on}
 use Rattle.report_stream.proofs.Taken.{asks_some, no_tab as no_tab_behind, not_refused, refuses_block, refuses_line, tell_started}
@@ -167,7 +167,7 @@ module _ (kinds : KindsAreOne) (count : ℕ) (until : Until) (bytes : List ℕ) 
     record Here (fault : StreamFault) : Type 0 where
       stuck : Stuck
       line : (line behind : List ℕ) (number : ℕ) (why : LineRefusal) (f : InputFault) → rest ≡ line ++ 10 ∷ behind → IsLine line → number ≡ length own + 1 →
-          Line number why ≡ of_input number f → IsRefused f g.task.query g.task.kinds g.task.count g.combines.parts line → Line number why ≡ fault
+          Line number why ≡ of_input number f → IsRefused f g.task.query g.task.shape g.task.count g.combines.parts line → Line number why ≡ fault
       long : (read behind : List ℕ) (number : ℕ) (why : LineRefusal) → read ++ behind ≡ rest → most_line < line_length read → number ≡ length own + 1 →
           why ≡ r.TooLong → Line number why ≡ fault
       early : (place : ℕ) (tag : List ℕ) → IsRest rest → first_open g.combines.parts ≡ Some place → tag ≡ (part_at place g.combines.parts).tag → EndsEarly tag ≡ fault
@@ -222,7 +222,7 @@ module _ (kinds : KindsAreOne) (count : ℕ) (until : Until) (bytes : List ℕ) 
           by (inl b) =
               let e = same_next h.lines h.line y is b in
               let same = next_task h.lines b.others h.line h.task e h.is_task in
-              absurd (refuses_line g.task h.lines b.others h.line g.combines.parts h.fault (asks_some g.task.query g.task.kinds g.is_task.asks) (next_told h.lines b.others h.line e)
+              absurd (refuses_line g.task h.lines b.others h.line g.combines.parts h.fault (asks_some g.task.query g.task.shape.kinds g.is_task.asks) (next_told h.lines b.others h.line e)
               (λ n. absurd (let f : Line number why ≡ NoMemory = h.is ∙ ap (of_input number) n in cc)) (subst (λ (t : Task). IsLineFault t h.lines h.line h.fault) same h.refused))
           by (inr (inl (e, f))) =
               let mine : IsTask count until (first_line (own ++ h.line ∷ [])) h.task = subst (λ (ls : List (List ℕ)). IsTask count until (first_line (ls ++ h.line ∷ [])) h.task) e h.is_task in
@@ -231,7 +231,7 @@ module _ (kinds : KindsAreOne) (count : ℕ) (until : Until) (bytes : List ℕ) 
               subst (λ (t : Task). IsLineFault t own h.line h.fault) (sym same) (subst (λ (ls : List (List ℕ)). IsLineFault h.task ls h.line h.fault) e h.refused) in
               let parts = telling_one g.task [] own g.combines.parts refused.parts g.combines.told refused.told in
               here.line h.line y number why h.fault (sym f) is (h.counted ∙ ap (λ (ls : List (List ℕ)). length ls + 1) e) h.is
-              (subst (λ (ps : List PartTold). IsRefused h.fault g.task.query g.task.kinds g.task.count ps h.line) parts refused.refused)
+              (subst (λ (ps : List PartTold). IsRefused h.fault g.task.query g.task.shape g.task.count ps h.line) parts refused.refused)
           by (inr (inr b)) = absurd (not_open here.stuck h.lines (h.line ++ 10 ∷ y) b (written_open kinds count until out out' h.lines h.written))
 
       stops_block : (number : ℕ) (why : LineRefusal) → RefusesBlock count until input input' out out' number why → ⊥
@@ -313,7 +313,7 @@ module _ (kinds : KindsAreOne) (count : ℕ) (until : Until) (bytes : List ℕ) 
       is_told = record { undone = undone; stopped = stopped }
 
 -- a part of which nothing was told takes the line of the query
-opens : (told : PartTold) (query line : List ℕ) (asked : List ItemKind) → told.place ≡ Query → line ≡ query → Takes query asked told line (at_place told Opened)
+opens : (told : PartTold) (query line : List ℕ) (asked : Shape) → told.place ≡ Query → line ≡ query → Takes query asked told line (at_place told Opened)
 opens told query line asked there same =
     subst (λ (p : Place). TakesAt p query asked told line (at_place told Opened)) (sym there) (record { is_query = sym same; opened = refl })
 
@@ -350,13 +350,13 @@ module _ (kinds : KindsAreOne) (count : ℕ) (until : Until) (bytes : List ℕ) 
   line_here : (own : List (List ℕ)) (rest line behind : List ℕ) (g : GoesRight count until bytes own rest) (fault : StreamFault) → IsNext rest line behind →
       ((next : List PartTold) → TakesLine g.task g.combines.parts line next → ⊥) →
       ((number : ℕ) (why : LineRefusal) (f : InputFault) → number ≡ length own + 1 → Line number why ≡ of_input number f →
-      IsRefused f g.task.query g.task.kinds g.task.count g.combines.parts line → Line number why ≡ fault) →
+      IsRefused f g.task.query g.task.shape g.task.count g.combines.parts line → Line number why ≡ fault) →
       Here kinds count until bytes few input input' out out' left own rest g fault
   line_here own rest line behind g fault comes none refused = record {
     stuck = λ other after next e is takes. none next (subst (λ (v : List ℕ). TakesLine g.task g.combines.parts v next) (sym (same line other behind after comes.is_line is (sym comes.split ∙ e))) takes);
     line = λ other after number why f e is counted said refuted.
         refused number why f counted said
-        (subst (λ (v : List ℕ). IsRefused f g.task.query g.task.kinds g.task.count g.combines.parts v) (sym (same line other behind after comes.is_line is (sym comes.split ∙ e))) refuted);
+        (subst (λ (v : List ℕ). IsRefused f g.task.query g.task.shape g.task.count g.combines.parts v) (sym (same line other behind after comes.is_line is (sym comes.split ∙ e))) refuted);
     long = λ read after number why e many counted said. absurd (not_long read after line behind (e ∙ comes.split) comes.is_line many);
     early = λ place tag refuted open_there tagged. absurd (not_rest rest line behind comes.split comes.is_line refuted.no_line);
     other = λ number refuted ended counted. absurd (not_rest rest line behind comes.split comes.is_line refuted.no_line);
@@ -397,13 +397,13 @@ module _ (kinds : KindsAreOne) (count : ℕ) (until : Until) (bytes : List ℕ) 
 
   -- the report of a part that has begun does not go on so
   line_told : (own : List (List ℕ)) (rest line behind : List ℕ) (g : GoesRight count until bytes own rest) (number : ℕ) → ComesNext rest line behind →
-      (told_of (tag_of line) g.combines.parts).place ≢ Query → ((next : PartTold) → Takes g.task.query g.task.kinds (told_of (tag_of line) g.combines.parts) (behind_tag line) next → ⊥) →
+      (told_of (tag_of line) g.combines.parts).place ≢ Query → ((next : PartTold) → Takes g.task.query g.task.shape (told_of (tag_of line) g.combines.parts) (behind_tag line) next → ⊥) →
       number ≡ length own + 1 → IsTold count until input input' out out' (Line number r.OtherLine)
   line_told own rest line behind g number comes begun cannot counted =
       is_told kinds count until bytes few input input' out out' left own rest g (Line number r.OtherLine)
       (line_here own rest line behind g (Line number r.OtherLine) comes.next (λ next takes. cannot takes.taken.told takes.taken.taken) only)
     where
-      only : (n : ℕ) (why : LineRefusal) (f : InputFault) → n ≡ length own + 1 → Line n why ≡ of_input n f → IsRefused f g.task.query g.task.kinds g.task.count g.combines.parts line →
+      only : (n : ℕ) (why : LineRefusal) (f : InputFault) → n ≡ length own + 1 → Line n why ≡ of_input n f → IsRefused f g.task.query g.task.shape g.task.count g.combines.parts line →
           Line n why ≡ Line number r.OtherLine
       only n why i.NoTab e said refuted = absurd (refuted comes.tagged.0)
       only n why i.NoTag e said refuted = absurd (refuted.1 comes.tagged.1)
@@ -421,16 +421,16 @@ module _ (kinds : KindsAreOne) (count : ℕ) (until : Until) (bytes : List ℕ) 
       (line_here own rest line behind g (Line number r.MoreParts) comes.next full only)
     where
       full : (next : List PartTold) → TakesLine g.task g.combines.parts line next → ⊥
-      full next takes = not_refused i.OtherPart g.task g.combines.parts line next (asks_some g.task.query g.task.kinds g.is_task.asks) (tell_started g.task [] own g.combines.parts tt g.combines.told) takes
+      full next takes = not_refused i.OtherPart g.task g.combines.parts line next (asks_some g.task.query g.task.shape.kinds g.is_task.asks) (tell_started g.task [] own g.combines.parts tt g.combines.told) takes
           (λ e. absurd cc) (comes.tagged, (subst (λ (n : ℕ). n ≤ length g.combines.parts) (sym g.is_task.count) many, new))
 
       mine : PartTold
       mine = told_of (tag_of line) g.combines.parts
 
-      can : Takes g.task.query g.task.kinds mine (behind_tag line) (at_place mine Opened)
-      can = opens mine g.task.query (behind_tag line) g.task.kinds (ap (λ (t : PartTold). t.place) new) query
+      can : Takes g.task.query g.task.shape mine (behind_tag line) (at_place mine Opened)
+      can = opens mine g.task.query (behind_tag line) g.task.shape (ap (λ (t : PartTold). t.place) new) query
 
-      only : (n : ℕ) (why : LineRefusal) (f : InputFault) → n ≡ length own + 1 → Line n why ≡ of_input n f → IsRefused f g.task.query g.task.kinds g.task.count g.combines.parts line →
+      only : (n : ℕ) (why : LineRefusal) (f : InputFault) → n ≡ length own + 1 → Line n why ≡ of_input n f → IsRefused f g.task.query g.task.shape g.task.count g.combines.parts line →
           Line n why ≡ Line number r.MoreParts
       only n why i.NoTab e said refuted = absurd (refuted comes.tagged.0)
       only n why i.NoTag e said refuted = absurd (refuted.1 comes.tagged.1)
@@ -441,12 +441,12 @@ module _ (kinds : KindsAreOne) (count : ℕ) (until : Until) (bytes : List ℕ) 
 
   -- what refuses a line that comes next
   abbrev Refuting : (line : List ℕ) (own : List (List ℕ)) (rest : List ℕ) → GoesRight count until bytes own rest → InputFault → Type 0
-  Refuting line own rest g f = IsRefused f g.task.query g.task.kinds g.task.count g.combines.parts line
+  Refuting line own rest g f = IsRefused f g.task.query g.task.shape g.task.count g.combines.parts line
 
   started : (own : List (List ℕ)) (rest : List ℕ) (g : GoesRight count until bytes own rest) (f : InputFault) (line : List ℕ) (next : List PartTold) → f ≢ i.Line l.NoMemory →
       Refuting line own rest g f → TakesLine g.task g.combines.parts line next → ⊥
   started own rest g f line next memory refused takes =
-      not_refused f g.task g.combines.parts line next (asks_some g.task.query g.task.kinds g.is_task.asks) (tell_started g.task [] own g.combines.parts tt g.combines.told) takes memory refused
+      not_refused f g.task g.combines.parts line next (asks_some g.task.query g.task.shape.kinds g.is_task.asks) (tell_started g.task [] own g.combines.parts tt g.combines.told) takes memory refused
 
   -- no tab stands in the line
   tab_told : (own : List (List ℕ)) (rest line behind : List ℕ) (g : GoesRight count until bytes own rest) (number : ℕ) → IsNext rest line behind → ¬ HasTab line →
@@ -492,8 +492,8 @@ module _ (kinds : KindsAreOne) (count : ℕ) (until : Until) (bytes : List ℕ) 
       there : mine.place ≡ Query
       there = ap (λ (t : PartTold). t.place) new
 
-      cannot : (next : PartTold) → Takes g.task.query g.task.kinds mine (behind_tag line) next → ⊥
-      cannot next takes = another (sym (subst (λ (p : Place). TakesAt p g.task.query g.task.kinds mine (behind_tag line) next) there takes).is_query)
+      cannot : (next : PartTold) → Takes g.task.query g.task.shape mine (behind_tag line) next → ⊥
+      cannot next takes = another (sym (subst (λ (p : Place). TakesAt p g.task.query g.task.shape mine (behind_tag line) next) there takes).is_query)
 
       only : (n : ℕ) (why : LineRefusal) (f : InputFault) → n ≡ length own + 1 → Line n why ≡ of_input n f → Refuting line own rest g f → Line n why ≡ Line number r.OtherQuery
       only n why i.NoTab e said refuted = absurd (refuted comes.tagged.0)
@@ -705,15 +705,15 @@ module _ (kinds : KindsAreOne) (count : ℕ) (until : Until) (bytes : List ℕ) 
   shown_told fault (other_count lines rest g number is none counted) = other_told lines rest g number is none counted
   shown_told fault (no_query first behind comes none) =
       first_told first behind comes.next
-      (λ task is. kinds.not_none (behind_tag first) task.kinds (subst (λ (q : List ℕ). Asks q task.kinds) is.query is.asks) none)
+      (λ task is. kinds.not_none (behind_tag first) task.shape.kinds (subst (λ (q : List ℕ). Asks q task.shape.kinds) is.query is.asks) none)
       (Line 1 r.NoQuery) (query_only first comes.tagged.0 comes.tagged.1 none)
   shown_told fault (no_totals first behind comes other) =
       first_told first behind comes.next
-      (λ task is. kinds.not_other (behind_tag first) task.kinds (subst (λ (q : List ℕ). Asks q task.kinds) is.query is.asks) other)
+      (λ task is. kinds.not_other (behind_tag first) task.shape.kinds (subst (λ (q : List ℕ). Asks q task.shape.kinds) is.query is.asks) other)
       (Line 1 r.NoTotals) (totals_only first comes.tagged.0 comes.tagged.1 other)
   shown_told fault (first_without_tab first behind comes none) =
       first_told first behind comes
-      (λ task is. asks_some task.query task.kinds is.asks (is.query ∙ no_tab_behind first none)) (Line 1 r.NoTab) (tab_only first none)
+      (λ task is. asks_some task.query task.shape.kinds is.asks (is.query ∙ no_tab_behind first none)) (Line 1 r.NoTab) (tab_only first none)
   shown_told fault (first_without_tag first behind comes tab none) =
       first_told first behind comes (λ task is. none is.is_tag) (Line 1 r.NoTag) (tag_only first tab none)
   shown_told fault (first_too_long far) = far_told far

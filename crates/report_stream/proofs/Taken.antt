@@ -29,6 +29,7 @@ use Rattle.report_parts.specs.declared.fault.InputFault.TheVariants as i
 use Rattle.report_parts.specs.declared.fault.LineFault.TheVariants as l
 use Rattle.report_parts.specs.declared.part.Place.{Place}
 use Rattle.report_parts.specs.declared.part.Place.TheVariants.{Query, Opened, Round, Items, Ended}
+use Rattle.report_parts.specs.declared.shape.Shape.{Shape}
 use Rattle.report_stream.specs.Accepted.{BlocksFit}
 
 -- ---- a line without a tab
@@ -65,24 +66,24 @@ none_goes_on told next (inr h) = by h.end h.is_line
     by Rounds e = absurd cc
     by Reads e = absurd cc
 
-none_rest : (kinds : List ItemKind) (told next : Told) → TakesRest kinds told [] next → ⊥
-none_rest kinds told next (inl h) = none_rows (length told.current) h.is_line
-none_rest kinds told next (inr h) = none_goes_on (closed told) next h.1.goes_on
+none_rest : (shape : Shape) (told next : Told) → TakesRest shape told [] next → ⊥
+none_rest shape told next (inl h) = none_rows (length told.current) h.is_line
+none_rest shape told next (inr h) = none_goes_on (closed told) next h.1.goes_on
 
-none_behind : (kinds : List ItemKind) (told next : Told) → TakesBehindAnswer kinds told [] next → ⊥
-none_behind kinds told next (inl h) = none_spelled (length told.current) (extra_text h.kind h.extra) h.is_next.is_line
-none_behind kinds told next (inr h) = none_rest kinds told next h.1
+none_behind : (shape : Shape) (told next : Told) → TakesBehindAnswer shape told [] next → ⊥
+none_behind shape told next (inl h) = none_spelled (length told.current) (extra_text h.kind h.extra) h.is_next.is_line
+none_behind shape told next (inr h) = none_rest shape told next h.1
 
 -- no report has an empty line
-no_empty : (place : Place) (query : List ℕ) (kinds : List ItemKind) (told next : Told) → query ≢ [] → TakesAt place query kinds told [] next → ⊥
-no_empty Query query kinds told next some h = some h.is_query
-no_empty Opened query kinds told next some (inl h) = absurd (let e = h.is_line in cc)
-no_empty Opened query kinds told next some (inr h) = absurd (let e = h.is_round.split in cc)
-no_empty Round query kinds told next some (inl h) = none_goes_on told next h
-no_empty Round query kinds told next some (inr h) = none_rows (length kinds) h.1.is_line
-no_empty Items query kinds told next some (inl h) = none_spelled (length told.current + 1) (answer_text h.answer) h.is_next.is_line
-no_empty Items query kinds told next some (inr h) = none_behind kinds told next h.1
-no_empty (Ended end) query kinds told next some h = absurd h
+no_empty : (place : Place) (query : List ℕ) (shape : Shape) (told next : Told) → query ≢ [] → TakesAt place query shape told [] next → ⊥
+no_empty Query query shape told next some h = some h.is_query
+no_empty Opened query shape told next some (inl h) = absurd (let e = h.is_line in cc)
+no_empty Opened query shape told next some (inr h) = absurd (let e = h.is_round.split in cc)
+no_empty Round query shape told next some (inl h) = none_goes_on told next h
+no_empty Round query shape told next some (inr h) = none_rows (length shape.kinds) h.1.is_line
+no_empty Items query shape told next some (inl h) = none_spelled (length told.current + 1) (answer_text h.answer) h.is_next.is_line
+no_empty Items query shape told next some (inr h) = none_behind shape told next h.1
+no_empty (Ended end) query shape told next some h = absurd h
 
 -- ---- a part more
 
@@ -106,7 +107,7 @@ tell_started task parts (line ∷ lines) last all h =
     let own = told_of (tag_of line) parts in
     let taken = h.1.taken in
     tell_started task h.0 lines last
-    (subst AllStarted (sym taken.put) (put_started taken.told parts (follows own.place task.query task.kinds own (behind_tag line) taken.told refl taken.taken).begun all)) h.2
+    (subst AllStarted (sym taken.put) (put_started taken.told parts (follows own.place task.query task.shape own (behind_tag line) taken.told refl taken.taken).begun all)) h.2
 
 -- where no part has told anything by that tag, it is one part more
 pub new_part : (told : Told) (parts : List Told) → AllStarted parts → told_of told.tag parts ≡ nothing_told told.tag → length (with_part told parts) ≡ suc (length parts)
@@ -123,17 +124,17 @@ new_part told (part ∷ parts) all none = by (against told.tag part) (new_part t
 -- ---- a line that is taken
 
 pub not_refused : (fault : InputFault) (task : Task) (parts : List Told) (line : List ℕ) (next : List Told) → task.query ≢ [] → AllStarted parts →
-    TakesLine task parts line next → fault ≢ i.Line l.NoMemory → IsRefused fault task.query task.kinds task.count parts line → ⊥
+    TakesLine task parts line next → fault ≢ i.Line l.NoMemory → IsRefused fault task.query task.shape task.count parts line → ⊥
 not_refused i.NoTab task parts line next some all h memory none =
     let own = told_of (tag_of line) parts in
-    let taken : TakesAt own.place task.query task.kinds own [] h.taken.told =
-    subst (λ (v : List ℕ). TakesAt own.place task.query task.kinds own v h.taken.told) (no_tab line none) h.taken.taken in
-    no_empty own.place task.query task.kinds own h.taken.told some taken
+    let taken : TakesAt own.place task.query task.shape own [] h.taken.told =
+    subst (λ (v : List ℕ). TakesAt own.place task.query task.shape own v h.taken.told) (no_tab line none) h.taken.taken in
+    no_empty own.place task.query task.shape own h.taken.told some taken
 not_refused i.NoTag task parts line next some all h memory (tab, none) = none h.taken.is_tag
 not_refused i.OtherPart task parts line next some all h memory (tagged, (many, none)) =
     let own = told_of (tag_of line) parts in
     let told = h.taken.told in
-    let tag : told.tag ≡ tag_of line = tag_stays task.query task.kinds own (behind_tag line) told h.taken.taken ∙ tag_of_told (tag_of line) parts in
+    let tag : told.tag ≡ tag_of line = tag_stays task.query task.shape own (behind_tag line) told h.taken.taken ∙ tag_of_told (tag_of line) parts in
     let mine : told_of told.tag parts ≡ nothing_told told.tag = subst (λ (t : List ℕ). told_of t parts ≡ nothing_told t) (sym tag) none in
     let grown = new_part told parts all mine in
     let long : length next ≡ length (with_part told parts) = ap length h.taken.put in
@@ -154,17 +155,17 @@ refuses_line task lines others line parts fault some told memory f =
     not_refused fault task f.parts line next some (tell_started task [] lines f.parts tt f.told) (subst (λ (ps : List Told). TakesLine task ps line next) same takes) memory f.refused
 
 -- a block that is not written is none that fits
-blocks_stand : (task : Task) (parts laters : List Told) (body more : List ℕ) (fault : BlockFault) → BlocksFit task laters → AllReach task.query task.kinds parts laters →
+blocks_stand : (task : Task) (parts laters : List Told) (body more : List ℕ) (fault : BlockFault) → BlocksFit task laters → AllReach task.query task.shape parts laters →
     fault ≢ b.NoMemory → StopsBy fault task parts body [] more → ⊥
 blocks_stand task parts laters body more (b.OtherDecimals item) fit reach memory s =
-    let same = same_entries task.query task.kinds s.round item parts laters reach s.has in
+    let same = same_entries task.query task.shape s.round item parts laters reach s.has in
     fit s.round (body ++ s.more) (b.OtherDecimals item) (passes_on task.query (wanted_of task) parts laters s.round (body ++ s.more) reach s.passed)
-    (all_keep task.query task.kinds s.round parts laters reach s.has) memory
+    (all_keep task.query task.shape s.round parts laters reach s.has) memory
     (λ alike. s.fault (subst AreAlikeEntries same alike))
 blocks_stand task parts laters body more (b.TooWide item) fit reach memory s =
-    let same = same_entries task.query task.kinds s.round item parts laters reach s.has in
+    let same = same_entries task.query task.shape s.round item parts laters reach s.has in
     fit s.round (body ++ s.more) (b.TooWide item) (passes_on task.query (wanted_of task) parts laters s.round (body ++ s.more) reach s.passed)
-    (all_keep task.query task.kinds s.round parts laters reach s.has) memory
+    (all_keep task.query task.shape s.round parts laters reach s.has) memory
     (record {
       kind = s.fault.kind;
       there = s.fault.there;
@@ -194,7 +195,7 @@ tell_tagged task parts [] last all h = subst AllTagged (sym h) all
 tell_tagged task parts (line ∷ lines) last all h =
     let own = told_of (tag_of line) parts in
     let taken = h.1.taken in
-    let tag = tag_stays task.query task.kinds own (behind_tag line) taken.told taken.taken ∙ tag_of_told (tag_of line) parts in
+    let tag = tag_stays task.query task.shape own (behind_tag line) taken.told taken.taken ∙ tag_of_told (tag_of line) parts in
     tell_tagged task h.0 lines last (subst AllTagged (sym taken.put) (put_tagged taken.told parts (subst IsTag (sym tag) taken.is_tag) all)) h.2
 
 tag_there : (parts : List Told) (place : ℕ) → AllTagged parts → place < length parts → IsTag (part_at place parts).tag

@@ -7,6 +7,7 @@ use Rattle.query_kinds.specs.Kinds.{Asks, KindsAreOne}
 use Rattle.query_model.specs.declared.query.ItemKind.{ItemKind}
 use Rattle.report_parts.specs.Course.{Combines, Task}
 use Rattle.report_parts.specs.declared.combination.Until.{Until}
+use Rattle.report_parts.specs.declared.shape.Shape.{Shape}
 use Rattle.report_parts.specs.Tags.{behind_tag}
 use Rattle.report_stream.proofs.Taken.{asks_some, no_tab}
 use Rattle.report_stream.specs.Streams.{HasWritten, IsFirstRefused, IsTask, first_line}
@@ -32,16 +33,20 @@ told_by (Some xs) (Some ys) bytes read e c = record { behind = ys; is_left = ref
 
 -- ---- what is asked
 
+same_shape : (a b : Shape) → a.kinds ≡ b.kinds → a.columns ≡ b.columns → a ≡ b
+same_shape a b kinds columns =
+    ap (λ (x : List ItemKind). record { kinds = x; columns = a.columns }) kinds ∙ ap (λ (n : ℕ). record { kinds = b.kinds; columns = n }) columns
+
 pub same_task : KindsAreOne → (count : ℕ) (until : Until) (first : List ℕ) (a b : Task) → IsTask count until first a → IsTask count until first b → a ≡ b
 same_task kinds count until first a b h k =
     let query = h.query ∙ sym k.query in
-    let mine : Asks b.query a.kinds = subst (λ (q : List ℕ). Asks q a.kinds) query h.asks in
-    let items = kinds.same b.query a.kinds b.kinds mine k.asks in
-    ap (λ (q : List ℕ). record { query = q; kinds = a.kinds; count = a.count; width = a.width; last = a.last }) query
-    ∙ ap (λ (x : List ItemKind). record { query = b.query; kinds = x; count = a.count; width = a.width; last = a.last }) items
-    ∙ ap (λ (n : ℕ). record { query = b.query; kinds = b.kinds; count = n; width = a.width; last = a.last }) (h.count ∙ sym k.count)
-    ∙ ap (λ (n : ℕ). record { query = b.query; kinds = b.kinds; count = b.count; width = n; last = a.last }) (h.width ∙ sym k.width)
-    ∙ ap (λ (o : Option ℕ). record { query = b.query; kinds = b.kinds; count = b.count; width = b.width; last = o }) (h.last ∙ sym k.last)
+    let mine : Asks b.query a.shape.kinds = subst (λ (q : List ℕ). Asks q a.shape.kinds) query h.asks in
+    let items = kinds.same b.query a.shape.kinds b.shape.kinds mine k.asks in
+    ap (λ (q : List ℕ). record { query = q; shape = a.shape; count = a.count; width = a.width; last = a.last }) query
+    ∙ ap (λ (x : Shape). record { query = b.query; shape = x; count = a.count; width = a.width; last = a.last }) (same_shape a.shape b.shape items (h.totals ∙ sym k.totals))
+    ∙ ap (λ (n : ℕ). record { query = b.query; shape = b.shape; count = n; width = a.width; last = a.last }) (h.count ∙ sym k.count)
+    ∙ ap (λ (n : ℕ). record { query = b.query; shape = b.shape; count = b.count; width = n; last = a.last }) (h.width ∙ sym k.width)
+    ∙ ap (λ (o : Option ℕ). record { query = b.query; shape = b.shape; count = b.count; width = b.width; last = o }) (h.last ∙ sym k.last)
 
 -- a task is that of a line
 pub some_lines : (count : ℕ) (until : Until) (lines : List (List ℕ)) (task : Task) → IsTask count until (first_line lines) task → lines ≢ []
@@ -74,10 +79,10 @@ module _ (kinds : KindsAreOne) (count : ℕ) (until : Until) where
 
   -- a line that asks is not refused as the first
   pub first_not_refused : (why : LineRefusal) (first : List ℕ) (task : Task) → IsTask count until first task → IsFirstRefused why first → ⊥
-  first_not_refused r.NoTab first task is none = asks_some task.query task.kinds is.asks (is.query ∙ no_tab first none)
+  first_not_refused r.NoTab first task is none = asks_some task.query task.shape.kinds is.asks (is.query ∙ no_tab first none)
   first_not_refused r.NoTag first task is (tab, none) = none is.is_tag
-  first_not_refused r.NoQuery first task is (tagged, none) = kinds.not_none (behind_tag first) task.kinds (subst (λ (q : List ℕ). Asks q task.kinds) is.query is.asks) none
-  first_not_refused r.NoTotals first task is (tagged, other) = kinds.not_other (behind_tag first) task.kinds (subst (λ (q : List ℕ). Asks q task.kinds) is.query is.asks) other
+  first_not_refused r.NoQuery first task is (tagged, none) = kinds.not_none (behind_tag first) task.shape.kinds (subst (λ (q : List ℕ). Asks q task.shape.kinds) is.query is.asks) none
+  first_not_refused r.NoTotals first task is (tagged, other) = kinds.not_other (behind_tag first) task.shape.kinds (subst (λ (q : List ℕ). Asks q task.shape.kinds) is.query is.asks) other
   first_not_refused r.MoreParts first task is h = absurd h
   first_not_refused r.OtherQuery first task is h = absurd h
   first_not_refused r.OtherLine first task is h = absurd h

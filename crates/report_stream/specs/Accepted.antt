@@ -21,7 +21,7 @@ use Rattle.report_stream.specs.declared.fault.StreamFault.TheVariants.{NoMemory}
 abbrev pub BlocksFit : Task → List Told → Type 0
 BlocksFit task parts =
     (round : ℕ) (before : List ℕ) (why : BlockFault) → Passes (wanted_of task) parts round before →
-    list_all (has_block round) parts ≡ true → why ≢ b.NoMemory → IsBlockFault why round task.kinds parts → ⊥
+    list_all (has_block round) parts ≡ true → why ≢ b.NoMemory → IsBlockFault why round task.shape.kinds parts → ⊥
 
 -- the bytes begin with the lines of reports of one query of totals, which are combined to their end, and this is the combined report
 pub record AreReports (count : ℕ) (until : Until) (bytes text : List ℕ) : Type 0 where

@@ -80,7 +80,7 @@ pub data ShowsFault (wanted : ℕ) (until : Until) (bytes : List ℕ) : StreamFa
   -- the report of a part that has begun does not go on so
   other_line : (lines : List (List ℕ)) (rest line behind : List ℕ) (g : GoesRight wanted until bytes lines rest) (number : ℕ) →
       ComesNext rest line behind → (told_of (tag_of line) g.combines.parts).place ≢ Query →
-      CannotTake g.task.query g.task.kinds (told_of (tag_of line) g.combines.parts) (behind_tag line) → number ≡ length lines + 1 →
+      CannotTake g.task.query g.task.shape (told_of (tag_of line) g.combines.parts) (behind_tag line) → number ≡ length lines + 1 →
       ShowsFault wanted until bytes (Line number r.OtherLine)
 
 -- the report is not written to its end, and nothing but this is told, or that memory ran out, unless a device fails

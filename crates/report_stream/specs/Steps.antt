@@ -4,7 +4,6 @@ use Rattle.std.specs.declared.option.Option.TheVariants.{Some, None}
 use Rattle.outer_world.specs.Device.{SinkState, SourceState}
 use Rattle.outer_world.specs.Whole.{Writes}
 use Rattle.query_kinds.specs.Kinds.{Asks}
-use Rattle.query_model.specs.declared.query.ItemKind.{ItemKind}
 use Rattle.report_parts.specs.Course.{Course, IsCourseFault, Stands, TakesOn}
 use Rattle.report_parts.specs.Ends.{IsEndFault, first_open}
 use Rattle.report_parts.specs.Tags.{IsTag, behind_tag, part_at, tag_of}
@@ -12,6 +11,7 @@ use Rattle.report_parts.specs.declared.fault.BlockFault.{BlockFault}
 use Rattle.report_parts.specs.declared.fault.CourseFault.TheVariants.{Block, Input}
 use Rattle.report_parts.specs.declared.fault.EndFault.TheVariants as e
 use Rattle.report_parts.specs.declared.fault.InputFault.{InputFault}
+use Rattle.report_parts.specs.declared.shape.Shape.{Shape}
 use Rattle.source_lines.specs.Lines.{LinesState, StopsLines}
 use Rattle.source_lines.specs.declared.fault.LineFault.{LineFault}
 use Rattle.report_stream.specs.Faults.{of_block, of_input, of_source}
@@ -22,11 +22,12 @@ use Rattle.report_stream.specs.declared.fault.StreamFault.TheVariants.{EndsEarly
 
 -- ---- the first line
 
--- the line has a tag, and behind it this query, of totals of these kinds
-pub record IsAsked (first query : List ℕ) (kinds : List ItemKind) : Type 0 where
+-- the line has a tag, and behind it this query, of totals, whose blocks have this shape
+pub record IsAsked (first query : List ℕ) (shape : Shape) : Type 0 where
   pub is_tag : IsTag (tag_of first)
   pub is_query : query ≡ behind_tag first
-  pub asks : Asks query kinds
+  pub asks : Asks query shape.kinds
+  pub totals : shape.columns ≡ 0
 
 abbrev pub IsFirstFault : List ℕ → StreamFault → Type 0
 IsFirstFault first (Line number why) = (number ≡ 1) × IsFirstRefused why first

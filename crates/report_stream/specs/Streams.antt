@@ -55,7 +55,8 @@ first_line (line ∷ lines) = line
 pub record IsTask (wanted : ℕ) (until : Until) (first : List ℕ) (task : Task) : Type 0 where
   pub is_tag : IsTag (tag_of first)
   pub query : task.query ≡ behind_tag first
-  pub asks : Asks task.query task.kinds
+  pub asks : Asks task.query task.shape.kinds
+  pub totals : task.shape.columns ≡ 0
   pub count : task.count ≡ wanted
   pub width : task.width ≡ until.width
   pub last : task.last ≡ until.rounds

@@ -6,10 +6,11 @@ ghost use Rattle.report_stream.specs.Streams.{Combined, StreamCause};
 ghost use Rattle.source_lines.specs.Lines.{Ends, Stands as HasRead, has_line};
 
 use crate::fault::{LineRefusal, StreamFault, Tag, of_input, of_kinds, of_source};
+use daq_table::Listed;
 use outer_world::{Sink, Source, write_whole};
 use query_kinds::query_kinds;
 use report_parts::{
-    Asked, BlockFault, Combination, CourseFault, EndFault, Until, untagged, written_opening,
+    Asked, BlockFault, Combination, CourseFault, EndFault, Shape, Until, untagged, written_opening,
 };
 use source_lines::SourceLines;
 use std::alloc::Global;
@@ -17,7 +18,7 @@ use std::alloc::Global;
 // What the first line asks of all parts.
 #[tactic(auto, using(crate::proofs::Steps::first_refused, crate::proofs::Steps::kinds_refused))]
 fn read_asked(alloc: Global, first: &[u8]) -> Result<Asked, StreamFault>
-    ensures asked { IfOk result (λ asked. IsAsked first.now asked.query.items asked.kinds.items) }
+    ensures asked { IfOk result (λ asked. IsAsked first.now asked.query.items asked.shape) }
     ensures refused { IfErr result (IsFirstFault first.now) }
 {
     let query = match untagged(first) {
@@ -30,7 +31,11 @@ fn read_asked(alloc: Global, first: &[u8]) -> Result<Asked, StreamFault>
     };
     let mut text = Vec::new(alloc);
     text.extend_from_slice(query)?;
-    Ok(Asked { query: text, kinds })
+    let shape = Shape {
+        kinds: Listed::new(kinds),
+        columns: 0,
+    };
+    Ok(Asked { query: text, shape })
 }
 
 // Reads until the line with that number stands there, or to the end of the input.

@@ -1,9 +1,10 @@
 //! The reports of a table's parts, read line by line and combined: worked out by hand.
 
+use daq_table::Listed;
 use query_model::{Bound, ItemKind, Nullity};
 use report_parts::{
     Asked, BlockFault, Combination, CombineFault, EndFault, Entry, InputFault, LineFault, Part,
-    Parts, Until, all_have_block, combine_item, end_behind, have_all_ended, is_narrow, may_end,
+    Parts, Shape, Until, all_have_block, combine_item, end_behind, have_all_ended, is_narrow, may_end,
     written_block, written_opening,
 };
 use report_text::{Answer, Form, Number, Ratio, ReportEnd, ShownAverage, ShownBound};
@@ -13,10 +14,19 @@ const QUERY: &[u8] = b"query SELECT SUM(price), COUNT(*) FROM t";
 
 const KINDS: [ItemKind; 2] = [ItemKind::Sum, ItemKind::Count];
 
+// Blocks of totals of these kinds.
+fn shape(alloc: Global) -> Result<Shape, AllocError> {
+    Ok(Shape {
+        kinds: Listed::new(Vec::from_slice(alloc, &KINDS)?),
+        columns: 0,
+    })
+}
+
 fn part_of(alloc: Global, lines: &[&[u8]]) -> Result<Part, LineFault> {
+    let shape = shape(alloc)?;
     let mut part = Part::new(alloc, Vec::new(alloc));
     for line in lines {
-        part.take(alloc, QUERY, &KINDS, line)?;
+        part.take(alloc, QUERY, &shape, line)?;
     }
     Ok(part)
 }
@@ -200,7 +210,7 @@ fn an_answer_is_narrow_by_its_width(rt: HostRuntime) {
 fn asked(alloc: Global) -> Result<Asked, AllocError> {
     Ok(Asked {
         query: Vec::from_slice(alloc, QUERY)?,
-        kinds: Vec::from_slice(alloc, &KINDS)?,
+        shape: shape(alloc)?,
     })
 }
 

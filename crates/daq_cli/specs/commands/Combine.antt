@@ -55,7 +55,7 @@ pub record AreCertainTogether (kinds : List ItemKind) (parts : List Told) : Type
 -- the combined report of the lines that were read was written to its end. Each interval in it is certain, where those of the parts are
 pub record CombinesReports (c : Combine) (input input' : SourceState) (out out' : SinkState) : Type 0 where
   pub combined : Combined c.parts (until_of c) input input' out out'
-  pub headline : AreCertainTogether combined.task.kinds combined.combines.parts
+  pub headline : AreCertainTogether combined.task.shape.kinds combined.combines.parts
 
 -- why a `combine` stops, and with that what was read and written
 pub record CombineCause (c : Combine) (input input' : SourceState) (out out' : SinkState) (why : Refusal) : Type 0 where

@@ -73,14 +73,14 @@ lines-init g c =
     let state = g.S.Source.state in
     let came : Stands c.new-reader.result c.read_line.new.reader (state c.args.input.now) (state c.read_line.new.input) =
     search (rules, c.in_ok-read_line.ensures.line, c.if-not-branch.false) in
-    let asked = subst (λ (line : List ℕ). IsAsked line c.in_ok-asked.asked.query.items c.in_ok-asked.asked.kinds.items) c.line.ensures
+    let asked = subst (λ (line : List ℕ). IsAsked line c.in_ok-asked.asked.query.items c.in_ok-asked.asked.shape) c.line.ensures
     c.in_ok-asked.ensures.asked in
     let opening = subst (λ (query : List ℕ). c.in_ok-text.text.items ≡ opening_text query c.args.count) c.deref.ensures.value c.in_ok-text.ensures in
     starts c.args.count c.args.until (state c.args.input.now) (state c.read_line.new.input) (g.K.Sink.state c.args.out.now) c.read_line.new.reader
-    c.new-combination.result c.in_ok-text.text.items c.in_ok-asked.asked.query.items c.in_ok-asked.asked.kinds.items
+    c.new-combination.result c.in_ok-text.text.items c.in_ok-asked.asked.query.items c.in_ok-asked.asked.shape
     (first_read (state c.args.input.now) (state c.read_line.new.input) c.new-reader.result c.read_line.new.reader c.new-reader.ensures came
     c.in_ok-read_line.ensures.faults)
-    came.line asked opening c.new-combination.ensures.query c.new-combination.ensures.kinds c.new-combination.ensures.count
+    came.line asked opening c.new-combination.ensures.query c.new-combination.ensures.shape c.new-combination.ensures.count
     c.new-combination.ensures.width c.new-combination.ensures.last c.new-combination.ensures.stands c.new-combination.ensures.open
 
 -- ---- a line more
