@@ -22,6 +22,7 @@ is_same (Some u) (Some v) = is_some_and is_eq (compare u v)
 
 -- ---- the rows that count
 
+-- the columns of GROUP BY
 abbrev pub grouping : Ending → List Name
 grouping Nothing = []
 grouping (Grouped names) = names

@@ -81,12 +81,12 @@ IsNeverNegative head e =
     (row : Row) → AllByRecursion (λ n. (v : Value) × (row n.name ≡ Some v) × IsDeclared head n v) (names_in_expr e) →
     (v : Value) → value e row ≡ Some v → IsFalse (is_after (whole 0) v)
 
--- two expressions have equally many decimals, or neither is ever negative
+-- two sides are level: they have equally many decimals, or neither is ever negative
 abbrev pub AreLevel : Head → Expr → Expr → Type 0
 AreLevel head a b = (scale_of head.columns a ≡ scale_of head.columns b) ⊎ (IsNeverNegative head a × IsNeverNegative head b)
 
--- let each column move one way, up or down. Then the expression moves up, or down: a sum where both sides do, a difference where the first
--- side does and the second moves the other way, and a product where both sides do and are never negative
+-- let each column move one way, up or down. Then the expression moves up, or down: a sum of level sides that both do, a difference of level
+-- sides of which the second moves the other way, and a product of sides that both do and are never negative
 abbrev pub Moves : Head → (List ℕ → Bool) → Bool → Expr → Type 0
 Moves head ways up (Column n) = ways n.name ≡ up
 Moves head ways up (Number v) = ⊤
