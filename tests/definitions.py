@@ -2,9 +2,13 @@
 """Lists the definitions on which the headline of `run` in the words of SQL rests, and checks that docs/proof/definitions.md lists them.
 
 From *IsHeadline*, which the clause `done` of `run` gives (crates/run_headline), it follows the names through the files of specs/: from a
-definition to those that its text names, as the file's `use` lines lead. Types of the program that a definition names stand in src/. What std defines is not listed.
+definition to those that its text names, as the file's `use` lines lead. Types of the program that a definition names stand in src/. What std
+defines is not listed. A second list has what *IsAnsweredAsAsked* adds to these: which query, and which table, the words of a run ask for.
 
 definitions.py prints a line where the page is stale, and ends with 0 only where it is not; definitions.py --write brings the page up to date.
+definitions.py --aloud prints how many words of each file a reader speaks who reads a list aloud. Spoken are the words of the comment of a
+definition, and in its code each name of three letters and more, a name with dots as one word; not the type that stands above equations, nor
+the words of the language, shorter names, numbers of one or two digits, and signs.
 """
 import os
 import re
@@ -13,13 +17,20 @@ import sys
 TOP = os.path.dirname(os.path.dirname(os.path.abspath(__file__)))
 PAGE = "docs/proof/definitions.md"
 HEADLINE = ("crates/run_headline/specs/Headline.antt", "IsHeadline")
-# The crates that say what is claimed; the others say which table is asked, and which tree a text is.
+ASKED = ("crates/run_headline/specs/Asked.antt", "IsAnsweredAsAsked")
+# The crates that say what is claimed; the others say which table is asked, and how a query is printed.
 CLAIM = ("run_headline", "sql_headline", "sql_meaning")
-BEGIN, END = "<!-- The list, by tests/definitions.py --write -->", "<!-- The end of the list -->"
+BEGIN, END = "<!-- The list of %s, by tests/definitions.py --write -->", "<!-- The end of the list of %s -->"
 
 HEAD = re.compile(r"^( *)(?:abbrev |unfoldable |pub )*(?:(record|data) )?([^\s(:]+)")
 DECLARED = r"^ *(?:pub(?:\([a-z]+\))? )?(?:struct|enum|const) %s\b"
 NAME = re.compile(r"[A-Za-z_][A-Za-z0-9_']*(?:\.[A-Za-z_][A-Za-z0-9_']*)*|◌[^\s{}()]+◌")
+
+# Of what is read aloud: the names in code, of which so many letters are spoken, the words of the language, and words in a minute.
+SPOKEN = re.compile(r"[A-Za-z_][\w']*(?:\.[A-Za-z_][\w']*)*|\d+")
+SHORTEST = 3
+LANGUAGE = {"pub", "abbrev", "unfoldable", "record", "data", "where", "Type", "let", "then", "else"}
+IN_A_MINUTE = 180
 
 
 def read(path):
@@ -27,11 +38,17 @@ def read(path):
         return file.read()
 
 
-class Definition:
-    """A definition of a file: its lines of code, the names in them, and the constructors or fields that it declares."""
+def words_aloud(code, comments):
+    """How many words are spoken of some lines of code, and of their comments."""
+    names = [word for word in SPOKEN.findall("\n".join(code)) if len(word) >= SHORTEST and word not in LANGUAGE]
+    return len(names) + sum(len(line.split()) for line in comments)
 
-    def __init__(self, lines, kind, name):
-        self.lines, self.kind, self.name = lines, kind, name
+
+class Definition:
+    """A definition of a file: its lines of code and its comments, the names in them, and the constructors or fields that it declares."""
+
+    def __init__(self, lines, comments, kind, name):
+        self.lines, self.comments, self.kind, self.name = lines, comments, kind, name
         text = re.sub(r'"[^"]*"', '""', "\n".join(lines))
         inner = [found[1] for found in re.finditer(r"^ +(?:pub )?([A-Za-z_][\w']*) : ", text, re.M)] if kind else []
         self.constructors = inner if kind == "data" else []
@@ -43,13 +60,17 @@ class Definition:
             bound |= {word for word in re.findall(r"[a-z_]\w*'?", left)}
         self.names = {word for word in NAME.findall(text) if word.split(".")[0] not in bound - {name}} - {name}
 
+    def aloud(self):
+        equations = [n for n, line in enumerate(self.lines) if n > 0 and re.match(r" *%s(?: |$)" % re.escape(self.name), line)]
+        return words_aloud(self.lines[equations[0] :] if equations and not self.kind else self.lines, self.comments)
+
 
 class File:
     """A file of specs/: what its `use` lines bring in, and its definitions."""
 
     def __init__(self, path):
         self.path, self.used, self.modules, self.definitions = path, {}, {}, {}
-        lines = [line for line in read(path).split("\n") if line.strip() and not line.strip().startswith("--")]
+        lines, self.comments = self.read_lines()
         for line in lines:
             found = re.match(r"(?:pub )?use Rattle\.([\w.]+?)(?:\.\{(.*)\}| as (\w+))$", line)
             if found and found[3]:
@@ -57,8 +78,23 @@ class File:
             elif found:
                 for name in found[2].split(", "):
                     self.used[name.split(" as ")[-1]] = (found[1], name.split(" as ")[0])
-        self.read_definitions([line for line in lines if not re.match(r"(?:pub )?use ", line)])
+        used = {n for n, line in enumerate(lines) if re.match(r"(?:pub )?use ", line)}
+        self.comments = [above for n, above in enumerate(self.comments) if n not in used]
+        self.read_definitions([line for n, line in enumerate(lines) if n not in used])
         self.constructors = {name: one.name for one in self.definitions.values() for name in one.constructors}
+
+    def read_lines(self):
+        """The lines of code, and for each the comments right above it."""
+        lines, comments, above = [], [], []
+        for line in read(self.path).split("\n"):
+            if line.strip().startswith("--"):
+                above.append(line.strip()[2:].strip())
+                continue
+            if line.strip():
+                lines.append(line)
+                comments.append(above)
+            above = []
+        return lines, comments
 
     def read_definitions(self, lines):
         within = 0
@@ -78,7 +114,7 @@ class File:
             end = place + 1
             while end < len(lines) and self.goes_on(lines[end], depth, kind, name):
                 end += 1
-            self.definitions[name] = Definition(lines[place:end], kind, name)
+            self.definitions[name] = Definition(lines[place:end], sum(self.comments[place:end], []), kind, name)
             place = end
 
     @staticmethod
@@ -141,29 +177,58 @@ class Specs:
             elif front in file.modules and rest:
                 yield self.find(file.modules[front], rest.split(".")[0])
 
-    def lines_of(self, path, name):
+    def measured(self, path, name):
+        """The lines of a definition, and how many words of it are read aloud."""
         if not path.endswith(".rt"):
-            return len(self.file(path).definitions[name].lines)
-        body = re.search(DECLARED % name + r".*?(?:;|^ *\})$", read(path), re.M | re.S)[0]
-        return sum(1 for line in body.split("\n") if line.strip() and not line.strip().startswith("//"))
+            one = self.file(path).definitions[name]
+            return len(one.lines), one.aloud()
+        code, comments = source_of(path, name)
+        return len(code), words_aloud(code, comments)
 
     def reached(self, path, name):
         found, waiting = {}, [(path, name)]
         while waiting:
             place = waiting.pop()
             if place and place not in found:
-                found[place] = self.lines_of(*place)
+                found[place] = self.measured(*place)
                 waiting += list(self.named_by(*place))
         return found
 
 
-def listed():
-    found = Specs().reached(*HEADLINE)
+def source_of(path, name):
+    """The lines of a type of the program, and of its comments, before it and in it."""
+    text = read(path)
+    body = re.search(DECLARED % name + r".*?(?:;|^ *\})$", text, re.M | re.S)
+    above = re.search(r"((?:^ *(?://|#\[).*\n)*)\Z", text[: body.start()], re.M)[1]
+    lines = [line.strip() for line in (above + body[0]).split("\n")]
+    code = [line for line in lines if line and not line.startswith(("//", "#["))]
+    return code, [line.lstrip("/ ") for line in lines if line.startswith("//")]
+
+
+def lists():
+    """The definitions of the headline, and those that are added to them by what is asked for, each with its lines and its words."""
+    specs = Specs()
+    headline = specs.reached(*HEADLINE)
+    added = {place: sizes for place, sizes in specs.reached(*ASKED).items() if place not in headline}
+    return {HEADLINE[1]: headline, ASKED[1]: added}
+
+
+def total(found, part, places=None):
+    return sum(found[place][part] for place in (found if places is None else places))
+
+
+def minutes(words):
+    return round(words / IN_A_MINUTE)
+
+
+def listed(root, found):
     paths = sorted({path for path, _ in found})
     claim = [place for place in found if place[0].split("/")[1] in CLAIM]
+    words = total(found, 1)
     rows = [
-        "%d definitions, %d lines, in %d files;" % (len(found), sum(found.values()), len(paths)),
-        "%d of them, %d lines, are those of `%s`." % (len(claim), sum(map(found.get, claim)), "`, `".join(CLAIM)),
+        "%d definitions, %d lines, in %d files: %s words, %d minutes read aloud;"
+        % (len(found), total(found, 0), len(paths), format(words, ","), minutes(words)),
+        "%d of them, %d lines, are those of `%s`." % (len(claim), total(found, 0, claim), "`, `".join(CLAIM)),
         "",
         "| File | Definitions | Lines |",
         "|---|---|---|",
@@ -171,29 +236,45 @@ def listed():
     for path in paths:
         names = sorted(name for at, name in found if at == path)
         shown = ", ".join("*%s*" % name for name in names)
-        rows.append("| `%s` | %s | %d |" % (path, shown, sum(found[path, name] for name in names)))
+        rows.append("| `%s` | %s | %d |" % (path, shown, total(found, 0, [(path, name) for name in names])))
     return "\n".join(rows)
 
 
 def stale():
-    """A line where the page does not list what the headline rests on."""
+    """A line for each list of the page that is not what is found."""
     page = read(PAGE)
-    if BEGIN not in page or END not in page or page.split(BEGIN)[1].split(END)[0].strip() != listed():
-        yield "%s: its list is stale; tests/definitions.py --write brings it up to date" % PAGE
+    for root, found in lists().items():
+        begin, end = BEGIN % root, END % root
+        if begin not in page or end not in page or page.split(begin)[1].split(end)[0].strip() != listed(root, found):
+            yield "%s: its list of %s is stale; tests/definitions.py --write brings it up to date" % (PAGE, root)
 
 
 def write():
     page = read(PAGE)
-    front, rest = page.split(BEGIN)
+    for root, found in lists().items():
+        front, rest = page.split(BEGIN % root)
+        page = front + BEGIN % root + "\n\n" + listed(root, found) + "\n\n" + END % root + rest.split(END % root)[1]
     with open(os.path.join(TOP, PAGE), "w", encoding="utf-8") as file:
-        file.write(front + BEGIN + "\n\n" + listed() + "\n\n" + END + rest.split(END)[1])
+        file.write(page)
+
+
+def read_aloud():
+    """For each list a line of its words, and one for each of its files."""
+    for root, found in lists().items():
+        words = total(found, 1)
+        yield "%s: %d words, %d minutes" % (root, words, minutes(words))
+        for path in sorted({path for path, _ in found}):
+            yield "%6d  %s" % (total(found, 1, [place for place in found if place[0] == path]), path)
 
 
 def main():
+    if "--aloud" in sys.argv[1:]:
+        print("\n".join(read_aloud()))
+        return
     if "--write" in sys.argv[1:]:
         write()
     faults = list(stale())
-    print("\n".join(faults) or "ok: the list of definitions is that of the headline")
+    print("\n".join(faults) or "ok: the lists of definitions are those of the headline")
     sys.exit(bool(faults))
 
 

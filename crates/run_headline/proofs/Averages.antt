@@ -80,7 +80,7 @@ module _ (law : Laws) (q : tree.Query) (head : Head) (bits : Planes) (options : 
       subst (λ o. IsTrue (is_same (Some (Number (record { digits = end.num; behind = scale }))) o)) sum.same meant.0 in
       record {
         world = occurs.0;
-        is_world = rounds.world_back law q head bits options ran round occurs.0 (world_of occurs.0 occurs.1);
+        is_world = rounds.world_back law q head bits options ran round h occurs.0 (world_of occurs.0 occurs.1);
         found = found;
         is = ap (option_map (λ v. record { total = v; count = length (values_in occurs.0) })) sum.same ∙ ap (λ (n : ℕ). Some (record { total = Number sum.decimal; count = n })) (sym meant.1);
         same = subst (λ s. IsSameShare (share_of s end) found) places (total_is, refl);
@@ -99,4 +99,4 @@ module _ (law : Laws) (q : tree.Query) (head : Head) (bits : Planes) (options : 
       }
     where
       none_reached : Occurs Agrees summed None → (world : Cells) × IsWorld (rounds.reading law q head bits options ran) round world × (average (values_in world) ≡ None)
-      none_reached occurs = (occurs.0, rounds.world_back law q head bits options ran round occurs.0 (world_of occurs.0 occurs.1), ap average (meant_there None occurs))
+      none_reached occurs = (occurs.0, rounds.world_back law q head bits options ran round h occurs.0 (world_of occurs.0 occurs.1), ap average (meant_there None occurs))

@@ -44,7 +44,9 @@ one_first c (suc n) (x ∷ xs) =
 pub world_before : (reading : Reading) (round : ℕ) (world : Cells) → IsWorld reading (round + 1) world → IsWorld reading round world
 world_before reading round world is =
     let next : suc round ≡ round + 1 = omega arith in
+    let in_time = is.within in
     record {
+      within = omega (arith, in_time);
       table = is.table;
       same = λ column number lt.
           let few : count_read reading round column ≤ count_read reading (round + 1) column = subst (λ n. count_read reading round column ≤ count_read reading n column) next (one_first column round reading.columns) in
@@ -70,51 +72,51 @@ module _ (law : Laws) (q : tree.Query) (head : Head) (bits : Planes) (options : 
   world_is : (round : ℕ) (world : Cells) → IsWorld reading round world → held.IsWorld run round world
   world_is round world is = rounds.world_is law q head bits options ran round world is
 
-  each_tight : (round : ℕ) (one : Row) (spans : List Span) (items : List Item) → AllZip (λ span item. AttainsEnds head q item → IsSpanReached run round item one span) spans items
+  each_tight : (round : ℕ) → round ≤ length ran.reads → (one : Row) (spans : List Span) (items : List Item) → AllZip (λ span item. AttainsEnds head q item → IsSpanReached run round item one span) spans items
       → AllZip (λ span item. AttainsEnds head q item → IsTightSpan reading round item one span) spans items
-  each_tight round one [] [] h = tt
-  each_tight round one [] (item ∷ items) h = absurd h
-  each_tight round one (span ∷ spans) [] h = absurd h
-  each_tight round one (span ∷ spans) (item ∷ items) h = ((λ attains. tight law q head bits options ran round item one span (h.0 attains)), each_tight round one spans items h.1)
+  each_tight round h one [] [] each = tt
+  each_tight round h one [] (item ∷ items) each = absurd each
+  each_tight round h one (span ∷ spans) [] each = absurd each
+  each_tight round h one (span ∷ spans) (item ∷ items) each = ((λ attains. tight law q head bits options ran round h item one span (each.0 attains)), each_tight round h one spans items each.1)
 
   holds : HoldsGroups reading sections
   holds = record {
-    each = λ round h world row is_world counts.
-        let found = grouping.each law run ran.plan (rounds.sure law q head bits options ran) names grouped round (within round h) world (world_is round world is_world) row counts.within counts.counts in
+    each = λ round world row is_world counts.
+        let found = grouping.each law run ran.plan (rounds.sure law q head bits options ran) names grouped round (within round is_world.within) world (world_is round world is_world) row counts.within counts.counts in
         (found.0, record { within = counts.within; there = found.1; key = found.2 });
-    present = λ round h section has is_present world is_world.
-        let found = grouping.present law run ran.plan (rounds.sure law q head bits options ran) names grouped round (within round h) world (world_is round world is_world) section has is_present in
+    present = λ round section has is_present world is_world.
+        let found = grouping.present law run ran.plan (rounds.sure law q head bits options ran) names grouped round (within round is_world.within) world (world_is round world is_world) section has is_present in
         (found.0, record { within = found.1; counts = found.2 }, record { within = found.1; there = has; key = found.3 });
-    possible = λ round h world row is_world section for word once texts.
-        let two = left_open law run ran.plan (rounds.sure law q head bits options ran) names grouped round (within round h) world (world_is round world is_world) row for.within texts once section for.there for.key word in (
+    possible = λ round world row is_world section for word once texts.
+        let two = left_open law run ran.plan (rounds.sure law q head bits options ran) names grouped round (within round is_world.within) world (world_is round world is_world) row for.within texts once section for.there for.key word in (
           (
             two.0.0,
-            rounds.world_back law q head bits options ran round two.0.0 two.0.1,
+            rounds.world_back law q head bits options ran round (within round is_world.within) two.0.0 two.0.1,
             record { row = two.0.2.row; in_result = record { within = two.0.2.within; counts = two.0.2.counts }; same = two.0.2.same },
           ),
           (
             two.1.0,
-            rounds.world_back law q head bits options ran round two.1.0 two.1.1,
+            rounds.world_back law q head bits options ran round (within round is_world.within) two.1.0 two.1.1,
             λ has. two.1.2 (record { row = has.row; within = has.in_result.within; counts = has.in_result.counts; same = has.same }),
           ),
         );
-    lies = λ round h world row is_world section for.
-        grouping.holds law run ran.plan (rounds.sure law q head bits options ran) names grouped round (within round h) world (world_is round world is_world) row for.within section for.there for.key;
-    tight = λ round h world row is_world section for texts.
-        each_tight round (row_at head world row) section.spans (asked q.head)
-        (grouping.tight law run ran.plan (rounds.sure law q head bits options ran) names grouped round (within round h) world (world_is round world is_world) row for.within texts section for.there for.key);
-    narrows = λ round h world row is_world old new for_old for_new.
-        let before : round < length ran.reads = subst (λ n. round < n) (rounds.as_long law q head bits options ran) h in
+    lies = λ round world row is_world section for.
+        grouping.holds law run ran.plan (rounds.sure law q head bits options ran) names grouped round (within round is_world.within) world (world_is round world is_world) row for.within section for.there for.key;
+    tight = λ round world row is_world section for texts.
+        each_tight round (within round is_world.within) (row_at head world row) section.spans (asked q.head)
+        (grouping.tight law run ran.plan (rounds.sure law q head bits options ran) names grouped round (within round is_world.within) world (world_is round world is_world) row for.within texts section for.there for.key);
+    narrows = λ round world row is_world old new for_old for_new.
+        let before : round < length ran.reads = subst (λ n. round < n) (rounds.as_long law q head bits options ran) (let in_time = is_world.within in omega (arith, in_time)) in
         let old_world = world_is round world (world_before reading round world is_world) in
         let new_world = world_is (round + 1) world is_world in (
           grouping.parts_narrow law run ran.plan (rounds.sure law q head bits options ran) names grouped round before world old_world new_world row for_old.within old new for_old.there for_new.there for_old.key for_new.key,
           grouping.narrows law run ran.plan (rounds.sure law q head bits options ran) names grouped round before world old_world new_world row for_old.within old new for_old.there for_new.there for_old.key for_new.key,
         );
-    exact = λ round h all world row is_world section for.
+    exact = λ round all world row is_world section for.
         let done = rounds.done_is law q head bits options ran round all in
-        let is = grouping.is_it law run ran.plan (rounds.sure law q head bits options ran) names grouped round (within round h) world (world_is round world is_world) row for.within done section for.there for.key in (
+        let is = grouping.is_it law run ran.plan (rounds.sure law q head bits options ran) names grouped round (within round is_world.within) world (world_is round world is_world) row for.within done section for.there for.key in (
           is.0,
-          grouping.parts_alone law run ran.plan (rounds.sure law q head bits options ran) names grouped round (within round h) world (world_is round world is_world) row for.within done section for.there for.key,
+          grouping.parts_alone law run ran.plan (rounds.sure law q head bits options ran) names grouped round (within round is_world.within) world (world_is round world is_world) row for.within done section for.there for.key,
           is.1,
         );
   }
@@ -129,4 +131,4 @@ module _ (law : Laws) (q : tree.Query) (head : Head) (bits : Planes) (options : 
       }
 
   pub told : HoldsSections reading (rounds.block law q head bits options ran)
-  told = record { sections = sections; shown = λ round h. has_sections round; holds = holds }
+  told = record { sections = sections; shown = has_sections; holds = holds }

@@ -1,5 +1,6 @@
 pub mod Counts
 pub mod Ran
+pub mod Stands
 pub mod Tight
 pub mod Averages
 pub mod Totals

@@ -1,8 +1,9 @@
 -- A query that was answered round by round: the worlds of its rounds, and the lines and blocks of its report.
-use Rattle.std.proofs.Common.{◌≡◌, ℕ, zero, suc, ◌<◌, ◌≤◌, ◌==◌, cond, List, ◌++◌, length, map, take, get_or, Option, Some, None, IsSome, refl, sym, ap, subst, ◌∙◌, arith, slice_get, count_by}
+use Rattle.std.proofs.Common.{◌≡◌, ℕ, zero, suc, ◌<◌, ◌≤◌, ◌==◌, cond, List, [], ◌∷◌, ◌++◌, length, map, take, get_or, Option, Some, None, IfSome, IsSome, refl, sym, ap, subst, ◌∙◌, arith, slice_get, count_by}
 use Rattle.std.proofs.lemmas.List.{get_or_default, length-map, take-map}
 use Rattle.std.proofs.lemmas.List.Sums.{sum_by-take-le}
 use Rattle.std.proofs.lemmas.Option.{get_or_from_slice_get, none-some, slice_get-get_or, slice_get-map, slice_get_within}
+use Rattle.std.specs.List.{AllByRecursion}
 use Rattle.std.specs.Option.{option_map}
 use Rattle.std.specs.Prelude.{codes, decimal}
 use Rattle.command_line.specs.Commands.{Options}
@@ -11,6 +12,7 @@ use Rattle.daq_cli.specs.Questions.{extras_of}
 use Rattle.daq_report.specs.Intervals.{name_of}
 use Rattle.daq_report.specs.Blocks.{block_text, planes_text, round_line}
 use Rattle.daq_table.specs.Tables.{Cells, Frame, ends_at, frame_of, planes}
+use Rattle.daq_table.specs.declared.head.ColumnHead.{ColumnHead}
 use Rattle.daq_table.specs.declared.table_head.Head.{Head}
 use Rattle.multi_session.proofs.Keeping.{stands_once}
 use Rattle.plane_schedule.specs.declared.policy.Ending.{Ending}
@@ -21,11 +23,15 @@ use Rattle.query_model.specs.Worlds.{NamesColumns}
 use Rattle.sql_headline.specs.Worlds as held
 use Rattle.sql_headline.specs.Worlds.{Run, stage_at}
 use Rattle.sql_headline.proofs.Begun.{IsSure, Laws}
+use Rattle.sql_print.specs.Printed.{printed}
 use Rattle.sql_text.specs.Tree as tree
+use Rattle.sql_typing.proofs.Distinct.{seen_all}
+use Rattle.sql_typing.specs.Names.{mentions, names_in, place_of}
 use Rattle.sql_typing.specs.Refusals.{IsTyped}
 use Rattle.sql_typing.specs.Typing.{columns_of}
 use Rattle.table_rounds.proofs.Counts.{count_of, count_there}
 use Rattle.table_rounds.proofs.Going.{take_all}
+use Rattle.table_rounds.proofs.Lists.{all_there}
 use Rattle.table_rounds.proofs.OfTables.{same_rounds, same_stages}
 use Rattle.table_rounds.proofs.Reached.{chosen_column, columns_of_part, ends_there, part_of, read_there}
 use Rattle.table_rounds.specs.Headline.{AreCertain}
@@ -45,6 +51,12 @@ pub same_before : (block : List ℕ → ℕ → List ℕ) (reads : List ℕ) (n 
 unfolding blocks_below
 same_before block reads zero = refl
 same_before block reads (suc n) = ap (λ l. l ++ block reads n) (same_before block reads n)
+
+-- what holds of the column of each name holds of each that is mentioned
+all_mentioned : (P : ℕ → Type 0) (table : List ColumnHead) (ns : List tree.Name) → AllByRecursion (λ n. IfSome (place_of table n.name) P) ns →
+    AllByRecursion (λ m. IfSome m.column P) (mentions table ns)
+all_mentioned P table [] h = tt
+all_mentioned P table (n ∷ ns) h = (h.0, all_mentioned P table ns h.1)
 
 -- the query is typed so, and these are all rounds of a plan of the options over planes, which a table has
 pub record IsRan (q : tree.Query) (head : Head) (bits : Planes) (options : Options) : Type 0 where
@@ -126,16 +138,24 @@ module _ (law : Laws) (q : tree.Query) (head : Head) (bits : Planes) (options : 
       (first_below (length query.columns) round reads (chosen_column ran.plan query frame bits reads ran.rounds.rounds))
       ∙ ap (count_by (λ p. p == place c)) (sym (take-map place round reads))
 
+  all_read : (round : ℕ) → IsAllRead reading round → (number column : ℕ) → slice_get (columns_of head.columns q) number ≡ Some column →
+      count_read reading round column ≡ planes (ends_at frame column)
+  all_read round all number column there =
+      all_there (λ c. count_read reading round c ≡ planes (ends_at frame c)) (columns_of head.columns q) number column
+      (seen_all (λ c. count_read reading round c ≡ planes (ends_at frame c)) [] (mentions head.columns (names_in q)) tt
+      (all_mentioned (λ c. count_read reading round c ≡ planes (ends_at frame c)) head.columns (names_in q) all)) there
+
   pub done_is : (round : ℕ) → IsAllRead reading round → held.IsDone run round
   done_is round all c h =
       let inside : c < length query.columns = subst (λ n. c < n) (columns_of_part query frame) h in
       let own : slice_get (columns_of head.columns q) c ≡ Some (place c) = ap (λ (w : Query). slice_get w.columns c) (sym ran.typed.same) ∙ slice_get-get_or query.columns c 0 inside in
       read_there query frame (plane_of frame ran.cells) (counts_after query reads round) c h ∙ count_there query reads round c 0 inside ∙ counts_are round c inside
-      ∙ all c (place c) own ∙ ap planes (ends_there query frame c inside)
+      ∙ all_read round all c (place c) own ∙ ap planes (ends_there query frame c inside)
 
   -- a world of the run is one of the reading
-  pub world_back : (round : ℕ) (world : Cells) → held.IsWorld run round world → IsWorld reading round world
-  world_back round world is = record {
+  pub world_back : (round : ℕ) → round ≤ length reads → (world : Cells) → held.IsWorld run round world → IsWorld reading round world
+  world_back round h world is = record {
+    within = subst (λ n. round ≤ n) (sym as_long) h;
     table = is.has_planes.table;
     same = λ column number lt.
         let at = counted_in place column number (take round reads) (subst (λ l. number < count_by (λ p. p == column) l) (take-map place round reads) lt) in
@@ -190,13 +210,12 @@ module _ (law : Laws) (q : tree.Query) (head : Head) (bits : Planes) (options : 
   pub line_is : (round : ℕ) → round_line head (stage_at run round) round (column_read reads round) ≡ first_line round (column_read columns round)
   line_is round = by_last round (column_read reads round) refl ∙ ap (first_line round) (sym (last_there round))
 
-  pub has_blocks : (sql text : List ℕ) → text ≡ query_line sql ++ rounds_text (shown_rounds head ran.plan query bits) reads → HasBlocks block (length columns) text
-  has_blocks sql text e =
+  pub has_blocks : (text : List ℕ) → text ≡ query_line (printed q) ++ rounds_text (shown_rounds head ran.plan query bits) reads → HasBlocks q block (length columns) text
+  has_blocks text e =
       let end = end_is _ ran.rounds.ended in
       record {
-        query = sql;
         ending = end.0;
-        is = subst (λ n. text ≡ query_line sql ++ (blocks_before block n ++ (block n ++ ending_line end.0))) (sym as_long)
-            (e ∙ ap (λ l. query_line sql ++ (l ++ (block (length reads) ++ end_line ((shown_rounds head ran.plan query bits).course.ending reads (length reads))))) (same_before (block_of head ran.plan query bits) reads (length reads))
-            ∙ ap (λ l. query_line sql ++ (blocks_before block (length reads) ++ (block (length reads) ++ l))) end.1);
+        is = subst (λ n. text ≡ query_line (printed q) ++ (blocks_before block n ++ (block n ++ ending_line end.0))) (sym as_long)
+            (e ∙ ap (λ l. query_line (printed q) ++ (l ++ (block (length reads) ++ end_line ((shown_rounds head ran.plan query bits).course.ending reads (length reads))))) (same_before (block_of head ran.plan query bits) reads (length reads))
+            ∙ ap (λ l. query_line (printed q) ++ (blocks_before block (length reads) ++ (block (length reads) ++ l))) end.1);
       }

@@ -49,17 +49,17 @@ module _ (law : Laws) (q : tree.Query) (head : Head) (bits : Planes) (options : 
 
   holds : HoldsRows reading key down limit places
   holds = record {
-    certain = λ round row h row_in word world is_world. (row_told row row_in).certain round (within round h) word world (rounds.world_is law q head bits options ran round world is_world);
-    excluded = λ round row h row_in word world is_world. (row_told row row_in).excluded round (within round h) word world (rounds.world_is law q head bits options ran round world is_world);
+    certain = λ round row row_in word world is_world. (row_told row row_in).certain round (within round is_world.within) word world (rounds.world_is law q head bits options ran round world is_world);
+    excluded = λ round row row_in word world is_world. (row_told row row_in).excluded round (within round is_world.within) word world (rounds.world_is law q head bits options ran round world is_world);
     stays = λ round row h row_in.
         ranked.stays law run ran.plan (rounds.sure law q head bits options ran) key down limit ordered round row (subst (λ n. round < n) (rounds.as_long law q head bits options ran) h) row_in;
-    lies = λ round row h row_in world is_world.
-        ranked.lies_there law run ran.plan (rounds.sure law q head bits options ran) key down limit ordered round row (within round h) row_in world
+    lies = λ round row row_in world is_world.
+        ranked.lies_there law run ran.plan (rounds.sure law q head bits options ran) key down limit ordered round row (within round is_world.within) row_in world
         (rounds.world_is law q head bits options ran round world is_world);
     narrows = λ round row h row_in.
         ranked.narrows law run ran.plan (rounds.sure law q head bits options ran) key down limit ordered round row (subst (λ n. round < n) (rounds.as_long law q head bits options ran) h) row_in;
-    alone = λ round row h row_in all world is_world.
-        ranked.alone_there law run ran.plan (rounds.sure law q head bits options ran) key down limit ordered round row (within round h) row_in (rounds.done_is law q head bits options ran round all) world
+    alone = λ round row row_in all world is_world.
+        ranked.alone_there law run ran.plan (rounds.sure law q head bits options ran) key down limit ordered round row (within round is_world.within) row_in (rounds.done_is law q head bits options ran round all) world
         (rounds.world_is law q head bits options ran round world is_world);
     exact = λ round row h row_in all. (row_told row row_in).exact round (within round h) (rounds.done_is law q head bits options ran round all);
   }
@@ -83,6 +83,6 @@ module _ (law : Laws) (q : tree.Query) (head : Head) (bits : Planes) (options : 
   pub told : HoldsRanking reading options.list key down limit (rounds.block law q head bits options ran)
   told = record {
     places = places;
-    shown = λ round h. subst (λ list. HasRows reading list limit round (places round) (rounds.block law q head bits options ran round)) ran.list (has_rows round);
+    shown = λ round. subst (λ list. HasRows reading list limit round (places round) (rounds.block law q head bits options ran round)) ran.list (has_rows round);
     holds = holds;
   }

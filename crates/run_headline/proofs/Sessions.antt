@@ -1,7 +1,8 @@
 -- A report of a session holds what its queries ask for.
-use Rattle.std.proofs.Common.{◌≡◌, ℕ, zero, suc, ◌+◌, Bool, true, false, if◌then◌else◌, List, [], ◌∷◌, ◌++◌, length, map, Option, Some, None, IsSome, refl, sym, ap, subst, ◌∙◌, slice_get}
+use Rattle.std.proofs.Common.{◌≡◌, ℕ, zero, suc, ◌+◌, Bool, true, false, if◌then◌else◌, List, [], ◌∷◌, ◌++◌, length, map, slice_index_or, unwrap_or, Option, Some, None, IsSome, refl, sym, ap, subst, ◌∙◌, slice_get}
 use Rattle.std.proofs.lemmas.List.{length-map}
 use Rattle.std.proofs.lemmas.Option.{none-some, same_Some}
+use Rattle.std.proofs.lemmas.Simd.{map-map}
 use Rattle.std.specs.List.{AllZip}
 use Rattle.command_line.specs.Commands.{Options}
 use Rattle.command_line.specs.Commands as line
@@ -24,13 +25,15 @@ use Rattle.plane_schedule.specs.declared.policy.Plan.{Plan}
 use Rattle.query_model.specs.Queries.{Query}
 use Rattle.session_script.specs.Lines.{Line}
 use Rattle.sql_headline.proofs.Begun.{Laws}
+use Rattle.sql_print.specs.Printed.{printed}
 use Rattle.sql_text.specs.Answer.{IsText}
 use Rattle.sql_text.specs.Tree as tree
 use Rattle.sql_typing.specs.Refusals.{IsTyped}
 use Rattle.table_rounds.specs.Rounds.{Planes}
 use Rattle.table_rounds.specs.Steps.{is_moved, own_reads, places_read, plan_alone}
 use Rattle.run_headline.specs.Printed.{blocks_before}
-use Rattle.run_headline.specs.Sessions.{AreAnswered, HasScript, HasSteps, IsShownOf, piece, pieces, shown_at, shown_or_none}
+use Rattle.run_headline.specs.Asked.{HasScript, wanted_by}
+use Rattle.run_headline.specs.Sessions.{AreAnswered, HasSteps, IsShownOf, piece}
 use Rattle.run_headline.proofs.Ran.{IsRan, as_long, block, columns, end_is, same_before}
 use Rattle.run_headline.proofs.Told.{told}
 
@@ -45,6 +48,9 @@ all_texts [] [] h = tt
 all_texts [] (query ∷ queries) h = absurd h
 all_texts (one ∷ lines) [] h = absurd h
 all_texts (one ∷ lines) (query ∷ queries) h = (h.0.is_text, all_texts lines queries h.1)
+
+abbrev queries_in : List Scripted → List tree.Query
+queries_in queries = map (λ (one : Scripted). one.query) queries
 
 -- the query at a place is typed
 pub record IsTypedAt (head : Head) (typed : List Query) (place : ℕ) (query : tree.Query) : Type 0 where
@@ -83,18 +89,18 @@ module _ (head : Head) (plan : Plan) (bits : Planes) (places : List ℕ) where
   piece_by true step number own = refl
   piece_by false step number own = refl
 
-  pieces_are : (step number : ℕ) (queries : List Query) → numbered (block_at head plan bits places step) number queries ≡ pieces step number (all_shown queries step)
+  pieces_are : (step number : ℕ) (queries : List Query) → numbered (block_at head plan bits places step) number queries ≡ numbered (piece step) number (all_shown queries step)
   pieces_are step number [] = refl
   pieces_are step number (query ∷ queries) =
       ap (λ l. l ++ numbered (block_at head plan bits places step) (number + 1) queries)
       (piece_by (is_moved plan.width (frame_of head) bits places query step) step number (own_block head plan bits places query step))
       ∙ ap (λ l. piece step number (block_shown step query) ++ l) (pieces_are step (number + 1) queries)
 
-  shown_by : (b : Bool) (own : List ℕ) → shown_or_none (if b then Some own else None) ≡ (if b then own else [])
+  shown_by : (b : Bool) (own : List ℕ) → unwrap_or (if b then Some own else None) [] ≡ (if b then own else [])
   shown_by true own = refl
   shown_by false own = refl
 
-  shown_is : (queries : List Query) (place : ℕ) (query : Query) → slice_get queries place ≡ Some query → (step : ℕ) → shown_at (all_shown queries step) place ≡ shown_of head plan bits query places step
+  shown_is : (queries : List Query) (place : ℕ) (query : Query) → slice_get queries place ≡ Some query → (step : ℕ) → unwrap_or (slice_index_or (all_shown queries step) place None) [] ≡ shown_of head plan bits query places step
   shown_is [] place query e step = absurd (none-some query e)
   shown_is (first ∷ queries) zero query e step =
       shown_by (is_moved plan.width (frame_of head) bits places first step) (own_block head plan bits places first step)
@@ -111,18 +117,19 @@ module _ (head : Head) (plan : Plan) (bits : Planes) (typed : List Query) (reads
   shown = all_shown head plan bits places typed
 
   -- the text of the steps, by what is shown of the queries
-  has_steps : (forms : List (List ℕ)) (o : Option Ending) → IsSome o →
-      HasSteps shown (length reads) (queries_lines forms ++ (blocks_below (blocks_at head plan typed bits) reads (length reads) ++ (blocks_at head plan typed bits reads (length reads) ++ end_line o)))
-  has_steps forms o some =
+  has_steps : (queries : List Scripted) (o : Option Ending) → IsSome o →
+      HasSteps (queries_in queries) shown (length reads) (queries_lines (printed_forms queries) ++ (blocks_below (blocks_at head plan typed bits) reads (length reads) ++ (blocks_at head plan typed bits reads (length reads) ++ end_line o)))
+  has_steps queries o some =
       let end = end_is o some in
       let last = length reads in
+      let forms = map printed (queries_in queries) in
       record {
-        queries = forms;
         ending = end.0;
-        is = ap (λ l. queries_lines forms ++ (l ++ (blocks_at head plan typed bits reads last ++ end_line o)))
-            (same_before (blocks_at head plan typed bits) reads last ∙ same_blocks (blocks_at head plan typed bits reads) (λ step. pieces step 1 (shown step)) (λ step. pieces_are head plan bits places step 1 typed) last)
-            ∙ ap (λ l. queries_lines forms ++ (blocks_before (λ step. pieces step 1 (shown step)) last ++ (l ++ end_line o))) (pieces_are head plan bits places last 1 typed)
-            ∙ ap (λ l. queries_lines forms ++ (blocks_before (λ step. pieces step 1 (shown step)) last ++ (pieces last 1 (shown last) ++ l))) end.1;
+        is = ap (λ l. queries_lines l ++ (blocks_below (blocks_at head plan typed bits) reads last ++ (blocks_at head plan typed bits reads last ++ end_line o))) (sym (map-map printed (λ (one : Scripted). one.query) queries))
+            ∙ ap (λ l. queries_lines forms ++ (l ++ (blocks_at head plan typed bits reads last ++ end_line o)))
+            (same_before (blocks_at head plan typed bits) reads last ∙ same_blocks (blocks_at head plan typed bits reads) (λ step. numbered (piece step) 1 (shown step)) (λ step. pieces_are head plan bits places step 1 typed) last)
+            ∙ ap (λ l. queries_lines forms ++ (blocks_before (λ step. numbered (piece step) 1 (shown step)) last ++ (l ++ end_line o))) (pieces_are head plan bits places last 1 typed)
+            ∙ ap (λ l. queries_lines forms ++ (blocks_before (λ step. numbered (piece step) 1 (shown step)) last ++ (numbered (piece last) 1 (shown last) ++ l))) end.1;
       }
 
 module _ (law : Laws) (head : Head) (plan : Plan) (bytes : List ℕ) (typed : List Query) (reads : List ℕ) (options : Options) (list : plan.list ≡ options.list) (extras : plan.extras ≡ extras_of options)
@@ -154,11 +161,11 @@ module _ (law : Laws) (head : Head) (plan : Plan) (bytes : List ℕ) (typed : Li
       extras = extras;
     }
 
-    shown_alone : IsShownOf options head bits (all_shown head plan bits (places_read typed reads) typed) (length reads) place query
+    shown_alone : IsShownOf (wanted_by options) head bits (all_shown head plan bits (places_read typed reads) typed) (length reads) place query
     shown_alone = record {
       columns = columns law query head bits options ran;
       block = block law query head bits options ran;
-      same = same_blocks (λ step. shown_at (all_shown head plan bits (places_read typed reads) typed step) place) (shown_of head plan bits is.typed_query (places_read typed reads))
+      same = same_blocks (λ step. unwrap_or (slice_index_or (all_shown head plan bits (places_read typed reads) typed step) place None) []) (shown_of head plan bits is.typed_query (places_read typed reads))
           (shown_is head plan bits (places_read typed reads) typed place is.typed_query is.there) (suc (length reads))
           ∙ sym (same_before (shown_of head plan bits is.typed_query) (places_read typed reads) (suc (length reads)))
           ∙ alone.blocks ∙ same_before (block_of head (plan_alone plan own) is.typed_query bits) own (suc (length own))
@@ -166,23 +173,19 @@ module _ (law : Laws) (head : Head) (plan : Plan) (bytes : List ℕ) (typed : Li
       told = told law query head bits options ran;
     }
 
-pub session_answered : (law : Laws) (s : line.Session) (bytes : List ℕ) (side side' : SourceState) (planes planes' : StoreState) (out out' : SinkState) → planes.held ≡ Some bytes → Sessions s side side' planes planes' out out' →
-    (version : ℕ) × (head : Head) × IsFileHead bytes version head × (queries : List tree.Query) × HasScript side side' queries × AreAnswered queries s.options head (bits_at head bytes) out out'
-session_answered law s bytes side side' planes planes' out out' held does =
+pub session_answered : (law : Laws) (s : line.Session) (side side' : SourceState) (planes planes' : StoreState) (out out' : SinkState) → Sessions s side side' planes planes' out out' →
+    (queries : List tree.Query) × HasScript side side' queries × ((bytes : List ℕ) → planes.held ≡ Some bytes →
+    (version : ℕ) × (head : Head) × IsFileHead bytes version head × AreAnswered queries (wanted_by s.options) head (bits_at head bytes) out out')
+session_answered law s side side' planes planes' out out' does =
     let begun = does.begun in
     let head = begun.file.head in
-    let completed = if_told (λ b. Completed (report_of s side side' planes does.opened begun) does.opened planes' out out' b) planes.held bytes held does.reported.completed in
-    let reads = completed.rounds.reads in
     let typed = begun.typed in
     let script = begun.has_opened.read in
     let accepted = begun.accepted in
     let same : accepted.0 ≡ typed = ap (λ (a : AskedTogether). a.typed) (sym accepted.2.same) in
     let all_typed : AllZip (λ (one : Scripted) (query : Query). IsTyped one.query head query) begun.queries typed =
     subst (λ l. AllZip (λ (one : Scripted) (query : Query). IsTyped one.query head query) begun.queries l) same (each_all (typing_step head) begun.queries accepted.0 accepted.1) in (
-      begun.file.version,
-      head,
-      opened_told planes does.opened bytes held begun.file begun.has_opened.opens,
-      map (λ (one : Scripted). one.query) begun.queries,
+      queries_in begun.queries,
       record {
         script = script.script;
         lines = script.accepted.0;
@@ -190,16 +193,23 @@ session_answered law s bytes side side' planes planes' out out' held does =
         is_script = script.accepted.1;
         texts = all_texts script.accepted.0 begun.queries (each_all line_step script.accepted.0 begun.queries script.accepted.2);
       },
-      record {
-        text = _;
-        written = completed.rounds.written.done;
-        last = length reads;
-        shown = all_shown head begun.plan (bits_at head bytes) (places_read typed reads) typed;
-        as_many = λ step.
-            length-map typed (block_shown head begun.plan (bits_at head bytes) (places_read typed reads) step) ∙ as_many_typed head begun.queries typed all_typed
-            ∙ sym (length-map begun.queries (λ (one : Scripted). one.query));
-        steps = has_steps head begun.plan (bits_at head bytes) typed reads (printed_forms begun.queries) _ completed.rounds.rounds.ended;
-        each = λ place query e.
-            shown_alone law head begun.plan bytes typed reads s.options begun.planned.list begun.planned.extras completed.headline completed.tables place query (typed_at head begun.queries typed all_typed place query e);
-      },
+      λ bytes held.
+          let completed = if_told (λ b. Completed (report_of s side side' planes does.opened begun) does.opened planes' out out' b) planes.held bytes held does.reported.completed in
+          let reads = completed.rounds.reads in (
+            begun.file.version,
+            head,
+            opened_told planes does.opened bytes held begun.file begun.has_opened.opens,
+            record {
+              text = _;
+              written = completed.rounds.written.done;
+              last = length reads;
+              shown = all_shown head begun.plan (bits_at head bytes) (places_read typed reads) typed;
+              as_many = λ step.
+                  length-map typed (block_shown head begun.plan (bits_at head bytes) (places_read typed reads) step) ∙ as_many_typed head begun.queries typed all_typed
+                  ∙ sym (length-map begun.queries (λ (one : Scripted). one.query));
+              steps = has_steps head begun.plan (bits_at head bytes) typed reads begun.queries _ completed.rounds.rounds.ended;
+              each = λ place query e.
+                  shown_alone law head begun.plan bytes typed reads s.options begun.planned.list begun.planned.extras completed.headline completed.tables place query (typed_at head begun.queries typed all_typed place query e);
+            },
+          ),
     )

@@ -48,6 +48,7 @@ use Rattle.sql_text.specs.Tree.{Call, CountAll, Expr, Item}
 use Rattle.sql_typing.specs.Typing.{columns_of, typed_ending, typed_head, typed_items}
 use Rattle.table_rounds.specs.Headline.{IsKeyOn}
 use Rattle.table_rounds.specs.Rounds.{Planes, column_read}
+use Rattle.run_headline.specs.Asked.{wanted_by}
 use Rattle.run_headline.specs.Answers.{HasNone, Holds, HoldsAgain, IsBehind, IsTightAverage, IsTightSpan}
 use Rattle.run_headline.specs.Printed.{HoldsTotals, line_of_round}
 use Rattle.run_headline.proofs.Averages.{averages_reached}
@@ -107,8 +108,8 @@ module _ (law : Laws) (q : tree.Query) (head : Head) (bits : Planes) (options : 
   }
 
   -- what is reached over all rows of the table is tight, whichever row is named
-  span_tight : (round : ℕ) (item : Item) (one : Row) (span : Span) → IsSpanReached run round item (row_at head run.cells 0) span → IsTightSpan (rounds.reading law q head bits options ran) round item one span
-  span_tight round item one span ends = tight law q head bits options ran round item one span (span_for_row round item (row_at head run.cells 0) one span ends)
+  span_tight : (round : ℕ) → round ≤ length ran.reads → (item : Item) (one : Row) (span : Span) → IsSpanReached run round item (row_at head run.cells 0) span → IsTightSpan (rounds.reading law q head bits options ran) round item one span
+  span_tight round h item one span ends = tight law q head bits options ran round h item one span (span_for_row round item (row_at head run.cells 0) one span ends)
 
   sure : IsSure run ran.plan
   sure = rounds.sure law q head bits options ran
@@ -127,12 +128,12 @@ module _ (law : Laws) (q : tree.Query) (head : Head) (bits : Planes) (options : 
       record {
         spans = span_for run t.0 [];
         shown = λ round h text e. (let told = (lined round).1.shown place t.0 text there e in own.shown round (within round h) text told.0 told.1);
-        lies = λ round h world one is_world. own.lies round (within round h) world one (rounds.world_is law q head bits options ran round world is_world) (group_is world one);
+        lies = λ round world one is_world. own.lies round (within round is_world.within) world one (rounds.world_is law q head bits options ran round world is_world) (group_is world one);
         narrows = λ round h. own.narrows round (subst (λ n. round < n) (rounds.as_long law q head bits options ran) h);
-        exact = λ round h all world one is_world.
-            own.is_it round (within round h) (rounds.done_is law q head bits options ran round all) world one (rounds.world_is law q head bits options ran round world is_world) (group_is world one);
+        exact = λ round all world one is_world.
+            own.is_it round (within round is_world.within) (rounds.done_is law q head bits options ran round all) world one (rounds.world_is law q head bits options ran round world is_world) (group_is world one);
         tight = λ round h attains texts one.
-            span_tight round item one (span_for run t.0 [] round) (reached law run ran.plan sure item t.0 t.1 [] on run.cells (own_values texts round (within round h)) 0 (group_is run.cells 0) texts round (within round h) attains);
+            span_tight round (within round h) item one (span_for run t.0 [] round) (reached law run ran.plan sure item t.0 t.1 [] on run.cells (own_values texts round (within round h)) 0 (group_is run.cells 0) texts round (within round h) attains);
       }
 
   -- ---- what stands behind
@@ -150,15 +151,15 @@ module _ (law : Laws) (q : tree.Query) (head : Head) (bits : Planes) (options : 
       → HoldsAgain (rounds.reading law q head bits options ran) item (span_for run t []) front rows behind
   holds_again item t spans texts told ends front rows behind line = record {
     texts = texts;
-    line = λ round h. line round;
+    line = line;
     holds = record {
       spans = spans;
       shown = λ round h text e. subst (IsShown (spans round)) (same_Some (texts round) text e) (told.shown round);
-      lies = λ round h world one is_world. told.lies round (within round h) world one (rounds.world_is law q head bits options ran round world is_world) (group_is world one);
+      lies = λ round world one is_world. told.lies round (within round is_world.within) world one (rounds.world_is law q head bits options ran round world is_world) (group_is world one);
       narrows = λ round h. told.narrows round (subst (λ n. round < n) (rounds.as_long law q head bits options ran) h);
-      exact = λ round h all world one is_world.
-          told.is_it round (within round h) (rounds.done_is law q head bits options ran round all) world one (rounds.world_is law q head bits options ran round world is_world) (group_is world one);
-      tight = λ round h attains some one. span_tight round item one (spans round) (ends round (within round h) attains some);
+      exact = λ round all world one is_world.
+          told.is_it round (within round is_world.within) (rounds.done_is law q head bits options ran round all) world one (rounds.world_is law q head bits options ran round world is_world) (group_is world one);
+      tight = λ round h attains some one. span_tight round (within round h) item one (spans round) (ends round (within round h) attains some);
     };
     within = λ round h. told.within round (within round h);
   }
@@ -182,11 +183,11 @@ module _ (law : Laws) (q : tree.Query) (head : Head) (bits : Planes) (options : 
         ∙ ap (λ k. Some (chosen k ran.plan.extras.exact ran.plan.extras.clip (exact_part round) (clip_part round))) e
         ∙ ap (λ (x : Extras). Some (chosen average x.exact x.clip (exact_part round) (clip_part round))) ran.extras
 
-    no_exact : is_average t.kind ≡ true → options.exact ≡ false → HasNone (rounds.reading law q head bits options ran) behind
-    no_exact e off round h = by_options true e round ∙ ap (λ x. Some (chosen true x options.clip (exact_part round) (clip_part round))) off
+    no_exact : is_average t.kind ≡ true → options.exact ≡ false → HasNone behind
+    no_exact e off round = by_options true e round ∙ ap (λ x. Some (chosen true x options.clip (exact_part round) (clip_part round))) off
 
-    no_clip : is_average t.kind ≡ false → options.clip ≡ false → HasNone (rounds.reading law q head bits options ran) behind
-    no_clip e off round h = by_options false e round ∙ ap (λ x. Some (chosen false options.exact x (exact_part round) (clip_part round))) off
+    no_clip : is_average t.kind ≡ false → options.clip ≡ false → HasNone behind
+    no_clip e off round = by_options false e round ∙ ap (λ x. Some (chosen false options.exact x (exact_part round) (clip_part round))) off
 
     told_exact : (e : Expr) → IsAsked q ran.query (Call calls.Avg e) t → is_average t.kind ≡ true → options.exact ≡ true
         → (rows : ℕ → List ℕ) × (told : HoldsAgain (rounds.reading law q head bits options ran) (Call calls.Avg e) (span_for run t []) (decimal (place + 1) ++ codes " exact ") rows behind)
@@ -205,9 +206,9 @@ module _ (law : Laws) (q : tree.Query) (head : Head) (bits : Planes) (options : 
     -- the item has a clip, or none
     told_clip : (item : Item) → IsAsked q ran.query item t → text.is_average item ≡ false → ((rows : List Row) → answered item rows ≡ of_value (answer item rows)) → is_average t.kind ≡ false → options.clip ≡ true
         → (clip : Option Clip) → clip_of ran.query t ≡ clip
-        → HasNone (rounds.reading law q head bits options ran) behind ⊎ HoldsAgain (rounds.reading law q head bits options ran) item (span_for run t []) (decimal (place + 1) ++ codes " clip ") (λ round. []) behind
+        → HasNone behind ⊎ HoldsAgain (rounds.reading law q head bits options ran) item (span_for run t []) (decimal (place + 1) ++ codes " clip ") (λ round. []) behind
     told_clip item asked other same plain on_clip None e =
-        inl (λ round h. by_options false plain round ∙ ap (λ x. Some (chosen false options.exact x (exact_part round) (clip_part round))) on_clip
+        inl (λ round. by_options false plain round ∙ ap (λ x. Some (chosen false options.exact x (exact_part round) (clip_part round))) on_clip
         ∙ ap (λ c. Some (clip_line head run.query (place + 1) t.face (option_map (clipped_in (stage_at run round) t) c))) e)
     told_clip item asked other same plain on_clip (Some clip) e =
         let front : List ℕ = decimal (place + 1) ++ codes " clip " in
@@ -218,14 +219,14 @@ module _ (law : Laws) (q : tree.Query) (head : Head) (bits : Planes) (options : 
         ∙ ap (λ l. Some (front ++ (clip_text run t clip round ++ l))) (sym (append-nil (codes "\n")))))
 
     of_value_item : (item : Item) → IsAsked q ran.query item t → text.is_average item ≡ false → ((rows : List Row) → answered item rows ≡ of_value (answer item rows))
-        → (options.clip ≡ false → HasNone (rounds.reading law q head bits options ran) behind)
-        × (options.clip ≡ true → HasNone (rounds.reading law q head bits options ran) behind
+        → (options.clip ≡ false → HasNone behind)
+        × (options.clip ≡ true → HasNone behind
         ⊎ HoldsAgain (rounds.reading law q head bits options ran) item (span_for run t []) (decimal (place + 1) ++ codes " clip ") (λ round. []) behind)
     of_value_item item asked other same =
         let plain : is_average t.kind ≡ false = no_average t.kind (typed_kind head.columns ran.query.columns item t (typed_as q head ran.query item t ran.typed asked) other) in
         (no_clip plain, λ on_clip. told_clip item asked other same plain on_clip (clip_of ran.query t) refl)
 
-    behind_item : (item : Item) → IsAsked q ran.query item t → IsBehind (rounds.reading law q head bits options ran) options place item (span_for run t []) behind
+    behind_item : (item : Item) → IsAsked q ran.query item t → IsBehind (rounds.reading law q head bits options ran) (wanted_by options) place item (span_for run t []) behind
     behind_item (tree.Plain n) asked = of_value_item (tree.Plain n) asked refl (λ rows. refl)
     behind_item CountAll asked = of_value_item CountAll asked refl (λ rows. refl)
     behind_item (Call calls.Count e) asked = of_value_item (Call calls.Count e) asked refl (λ rows. refl)
@@ -236,18 +237,18 @@ module _ (law : Laws) (q : tree.Query) (head : Head) (bits : Planes) (options : 
         let average : is_average t.kind ≡ true = ap is_average (kind_is law run ran.plan sure e t [] asked on) in
         (no_exact average, told_exact e asked average)
 
-  behind_of : (place : ℕ) (item : Item) (found : slice_get (asked q.head) place ≡ Some item) → IsBehind (rounds.reading law q head bits options ran) options place item (holds place item found).spans (λ round. slice_get (besides round) place)
+  behind_of : (place : ℕ) (item : Item) (found : slice_get (asked q.head) place ≡ Some item) → IsBehind (rounds.reading law q head bits options ran) (wanted_by options) place item (holds place item found).spans (λ round. slice_get (besides round) place)
   unfolding holds
   behind_of place item found =
       let t = items.is_typed q head ran.query ran.typed whole place item found in
       behind_item place t.0 (subst (λ k. slice_get ran.query.items k ≡ Some t.0) t.2 t.1.in_query) item t.1
 
-  pub told : HoldsTotals (rounds.reading law q head bits options ran) options (rounds.block law q head bits options ran)
+  pub told : HoldsTotals (rounds.reading law q head bits options ran) (wanted_by options) (rounds.block law q head bits options ran)
   told = record {
     texts = texts;
     besides = besides;
-    lines = λ round h. lines_are round;
-    as_many = λ round h. (lined round).1.as_many ∙ items.as_many q head ran.query ran.typed whole;
+    lines = lines_are;
+    as_many = λ round. (lined round).1.as_many ∙ items.as_many q head ran.query ran.typed whole;
     holds = holds;
     behind = behind_of;
   }

@@ -1,5 +1,5 @@
 -- The report of groups: in each round a block of sections, and what these say of the groups of each world.
-use Rattle.std.specs.Prelude.{◌≡◌, ℕ, ◌+◌, ◌<◌, ◌≤◌, true, false, IsTrue, List, ◌++◌}
+use Rattle.std.specs.Prelude.{◌≡◌, ℕ, ◌+◌, ◌<◌, true, false, IsTrue, List, ◌++◌}
 use Rattle.std.specs.List.{AllZip, Contains}
 use Rattle.daq_table.specs.Tables.{Cells}
 use Rattle.query_model.specs.Meaning.{is_sql_true}
@@ -12,56 +12,55 @@ use Rattle.sql_meaning.specs.Conditions.{Row, truth_of_where}
 use Rattle.sql_meaning.specs.Rows.{row_at}
 use Rattle.run_headline.specs.Answers.{IsTightSpan}
 use Rattle.run_headline.specs.Printed.{line_of_round}
-use Rattle.run_headline.specs.Readings.{IsAllRead, IsWorld, Reading, last_round, rows_in}
+use Rattle.run_headline.specs.Readings.{IsAllRead, IsWorld, Reading, rows_in}
 
 -- the condition is true at a row of a world: the group of the row is in the result
 pub record IsInResult (reading : Reading) (world : Cells) (row : ℕ) : Type 0 where
   pub within : row < reading.head.rows
   pub counts : IsTrue (is_sql_true (truth_of_where reading.text.pred (row_at reading.head world row)))
 
--- of these sections this is one for the group of a row: the values of the row in the columns of GROUP BY lie where it says
+-- one of these sections is for the group of a row: the values of the row in the columns of GROUP BY lie where it says
 pub record IsFor (reading : Reading) (sections : List Section) (world : Cells) (row : ℕ) (section : Section) : Type 0 where
   pub within : row < reading.head.rows
   pub there : Contains sections section
   pub key : IsKeyOf section reading.text (row_at reading.head world row)
 
--- a group of the result of a world has the values of a row in the columns of GROUP BY
+-- a group of the result of a world has these values in the columns of GROUP BY
 pub record HasGroup (reading : Reading) (world : Cells) (values : Row) : Type 0 where
   pub row : ℕ
   pub in_result : IsInResult reading world row
   pub same : IsTrue (is_same_key reading.text (row_at reading.head world row) values)
 
 pub record HoldsGroups (reading : Reading) (sections : ℕ → List Section) : Type 0 where
-  -- each group of the result of a world has a section. So a key without a section is in none
-  pub each : (round : ℕ) → round ≤ last_round reading → (world : Cells) (row : ℕ) → IsWorld reading round world →
+  -- each group of the result of a world has a section, so a key without one is in no result
+  pub each : (round : ℕ) (world : Cells) (row : ℕ) → IsWorld reading round world →
       IsInResult reading world row → (section : Section) × IsFor reading (sections round) world row section
   -- in each world a section of present keys is for a group of the result
-  pub present : (round : ℕ) → round ≤ last_round reading → (section : Section) → Contains (sections round) section →
+  pub present : (round : ℕ) (section : Section) → Contains (sections round) section →
       section.present ≡ true → (world : Cells) → IsWorld reading round world →
       (row : ℕ) × IsInResult reading world row × IsFor reading (sections round) world row section
-  -- where WHERE and GROUP BY name no column twice, but for ranges that meet, and each column of texts has a text, keys that are only
-  -- possible are in the result of one world and missing in that of another
-  pub possible : (round : ℕ) → round ≤ last_round reading → (world : Cells) (row : ℕ) → IsWorld reading round world →
+  -- where the query attains its keys, and each column of texts has a text, keys that are only possible are in the result of one world and
+  -- missing in that of another
+  pub possible : (round : ℕ) (world : Cells) (row : ℕ) → IsWorld reading round world →
       (section : Section) → IsFor reading (sections round) world row section → section.present ≡ false →
       AttainsKeys reading.head reading.text → HasTexts reading.head →
       ((other : Cells) × IsWorld reading round other × HasGroup reading other (row_at reading.head world row))
       × ((other : Cells) × IsWorld reading round other × ¬ HasGroup reading other (row_at reading.head world row))
-  -- of each section that is for a group: the answers over the rows of the group lie in its spans
-  pub lies : (round : ℕ) → round ≤ last_round reading → (world : Cells) (row : ℕ) → IsWorld reading round world →
+  -- the answers over the rows of a group lie in the spans of its section
+  pub lies : (round : ℕ) (world : Cells) (row : ℕ) → IsWorld reading round world →
       (section : Section) → IsFor reading (sections round) world row section →
       AllZip (λ span item. LiesIn span (answered item (rows_in reading world row))) section.spans (asked reading.text.head)
-  -- where the query attains the ends of an item, and each column of texts has a text, no end of these is farther out than it must be: it
-  -- is the answer over the rows of the group in some world. There may be no such row, so that COUNT is 0
-  pub tight : (round : ℕ) → round ≤ last_round reading → (world : Cells) (row : ℕ) → IsWorld reading round world →
+  -- where the query attains the ends of an item, each is the answer over the rows of the group in some world, in which there may be none
+  pub tight : (round : ℕ) (world : Cells) (row : ℕ) → IsWorld reading round world →
       (section : Section) → IsFor reading (sections round) world row section → HasTexts reading.head →
       AllZip (λ span item. AttainsEnds reading.head reading.text item → IsTightSpan reading round item (row_at reading.head world row) span)
       section.spans (asked reading.text.head)
   -- parts and spans lie inside those of the round before
-  pub narrows : (round : ℕ) → round < last_round reading → (world : Cells) (row : ℕ) → IsWorld reading (round + 1) world →
+  pub narrows : (round : ℕ) (world : Cells) (row : ℕ) → IsWorld reading (round + 1) world →
       (old new : Section) → IsFor reading (sections round) world row old → IsFor reading (sections (round + 1)) world row new →
       AllZip LiesInside old.parts new.parts × AllZip Narrows old.spans new.spans
-  -- with all planes read its keys are present, its parts are the values of the row alone, and its spans the answers alone
-  pub exact : (round : ℕ) → round ≤ last_round reading → IsAllRead reading round → (world : Cells) (row : ℕ) →
+  -- with all planes read its keys are present, and its parts and spans are the values of the row and the answers alone
+  pub exact : (round : ℕ) → IsAllRead reading round → (world : Cells) (row : ℕ) →
       IsWorld reading round world → (section : Section) → IsFor reading (sections round) world row section →
       (section.present ≡ true) × IsKeyAlone section reading.text (row_at reading.head world row)
       × AllZip (λ span item. IsIt span (answered item (rows_in reading world row))) section.spans (asked reading.text.head)
@@ -75,5 +74,5 @@ pub record HasSections (reading : Reading) (round : ℕ) (sections : List Sectio
 -- these are the blocks of a query with GROUP BY: their sections hold the groups
 pub record HoldsSections (reading : Reading) (block : ℕ → List ℕ) : Type 0 where
   pub sections : ℕ → List Section
-  pub shown : (round : ℕ) → round ≤ last_round reading → HasSections reading round (sections round) (block round)
+  pub shown : (round : ℕ) → HasSections reading round (sections round) (block round)
   pub holds : HoldsGroups reading sections

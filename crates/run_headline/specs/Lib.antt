@@ -1,10 +1,12 @@
 pub mod Readings
 pub mod Answers
+pub mod Asked
 pub mod Printed
 pub mod Groups
 pub mod Rankings
 pub mod Told
 pub mod Sessions
+pub mod Csv
 pub mod Headline
 pub mod Added
 pub mod TwoRuns

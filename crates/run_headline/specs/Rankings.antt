@@ -56,21 +56,21 @@ is_first reading key down limit world row =
 
 pub record HoldsRows (reading : Reading) (key : Name) (down : Bool) (limit : Num) (places : ℕ → ℕ → Place) : Type 0 where
   -- a row that is certain is among the first in each world, and one that is excluded in none
-  pub certain : (round row : ℕ) → round ≤ last_round reading → row < reading.head.rows → (places round row).standing ≡ Certain →
+  pub certain : (round row : ℕ) → row < reading.head.rows → (places round row).standing ≡ Certain →
       (world : Cells) → IsWorld reading round world → IsTrue (is_first reading key down limit world row)
-  pub excluded : (round row : ℕ) → round ≤ last_round reading → row < reading.head.rows → (places round row).standing ≡ Excluded →
+  pub excluded : (round row : ℕ) → row < reading.head.rows → (places round row).standing ≡ Excluded →
       (world : Cells) → IsWorld reading round world → IsFalse (is_first reading key down limit world row)
   -- it stays so
   pub stays : (round row : ℕ) → round < last_round reading → row < reading.head.rows →
       StandingKept (places round row).standing (places (round + 1) row).standing
   -- its value lies where it is shown, in each world
-  pub lies : (round row : ℕ) → round ≤ last_round reading → row < reading.head.rows → (world : Cells) → IsWorld reading round world →
+  pub lies : (round row : ℕ) → row < reading.head.rows → (world : Cells) → IsWorld reading round world →
       Encloses (places round row).key (row_at reading.head world row key.name)
   -- and inside where it lay before
   pub narrows : (round row : ℕ) → round < last_round reading → row < reading.head.rows →
       LiesInside (places round row).key (places (round + 1) row).key
   -- with all planes read it is that value alone, and no row is possible and no more
-  pub alone : (round row : ℕ) → round ≤ last_round reading → row < reading.head.rows → IsAllRead reading round → (world : Cells) →
+  pub alone : (round row : ℕ) → row < reading.head.rows → IsAllRead reading round → (world : Cells) →
       IsWorld reading round world → IsAlone (places round row).key (row_at reading.head world row key.name)
   pub exact : (round row : ℕ) → round ≤ last_round reading → row < reading.head.rows → IsAllRead reading round →
       (places round row).standing ≢ Possible
@@ -78,5 +78,5 @@ pub record HoldsRows (reading : Reading) (key : Name) (down : Bool) (limit : Num
 -- these are the blocks of a query with ORDER BY: their lines hold the first rows
 pub record HoldsRanking (reading : Reading) (list : Bool) (key : Name) (down : Bool) (limit : Num) (block : ℕ → List ℕ) : Type 0 where
   pub places : ℕ → ℕ → Place
-  pub shown : (round : ℕ) → round ≤ last_round reading → HasRows reading list limit round (places round) (block round)
+  pub shown : (round : ℕ) → HasRows reading list limit round (places round) (block round)
   pub holds : HoldsRows reading key down limit places

@@ -4,7 +4,7 @@
 mod laws;
 mod two_runs;
 
-pub use laws::runs_hold_answers;
+pub use laws::{printed_forms_are_of_one_query, runs_hold_answers};
 pub use two_runs::{
     equal_planes_give_equal_reports, extras_add_lines, last_rounds_cut_reports, runs_have_rounds,
     runs_inquire,
