@@ -10,7 +10,8 @@ use Rattle.sql_headline.specs.Intervals.{Encloses, Interval, IsAlone, ShowsBy}
 use Rattle.sql_headline.specs.Lined.{lines_of}
 use Rattle.sql_headline.specs.Spans.{IsShown, Span}
 
--- what a section says: where its keys lie, part by part; whether they are in the result, or may be; and where the answers of the items lie
+-- a key is the values of a group in the columns of GROUP BY, its parts. What a section says of some keys: where they lie, part by part;
+-- whether they are in the result, or may be; and where the answers of the items lie
 pub record Section : Type 0 where
   pub parts : List Interval
   pub present : Bool
