@@ -31,6 +31,7 @@ pub record HasGroup (reading : Reading) (world : Cells) (values : Row) : Type 0 
   pub in_result : IsInResult reading world row
   pub same : IsTrue (is_same_key reading.text (row_at reading.head world row) values)
 
+-- what the sections of each round say of the groups is so
 pub record HoldsGroups (reading : Reading) (sections : ℕ → List Section) : Type 0 where
   -- each group of the result of a world has a section, so a key without one is in no result
   pub each : (round : ℕ) (world : Cells) (row : ℕ) → IsWorld reading round world →

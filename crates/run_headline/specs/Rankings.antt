@@ -54,6 +54,7 @@ is_first reading key down limit world row =
     let order : Order = record { pred = reading.text.pred; key = key; down = down; limit = limit } in
     is_among_first order (row_at reading.head world) reading.head.rows row
 
+-- what each round says of the rows is so
 pub record HoldsRows (reading : Reading) (key : Name) (down : Bool) (limit : Num) (places : ℕ → ℕ → Place) : Type 0 where
   -- a row that is certain is among the first in each world, and one that is excluded in none
   pub certain : (round row : ℕ) → row < reading.head.rows → (places round row).standing ≡ Certain →

@@ -12,7 +12,7 @@ use Rattle.sql_text.specs.Tree.{Query}
 use Rattle.sql_typing.specs.Names.{names_in, place_of}
 use Rattle.table_rounds.specs.Rounds.{Planes}
 
--- which lines are wanted besides: those of rows that are only possible, by `--list`, and more of an item, by `--clip` and `--exact-avg`
+-- which lines are wanted besides: by `--list` those of rows that may be among the first, and by `--clip` and `--exact-avg` more of an item
 pub record Wanted : Type 0 where
   pub list : Bool
   pub clip : Bool
