@@ -22,10 +22,10 @@ moved false a b m n h k = k
 both : (b : Bool) (low high few many : ℤ) (fewest most : ℕ) → values_at few ≡ fewest → values_at many ≡ most →
     divided (cond b Never Possibly) (record { null = cond b Never Possibly; lo = low; hi = high }) (record { null = Never; lo = few; hi = many })
     ≡ record {
-        null = cond b Never Possibly;
-        lo = record { num = low; den = if int_le (pos 0) low then most else fewest };
-        hi = record { num = high; den = if int_le (pos 0) high then fewest else most };
-      }
+      null = cond b Never Possibly;
+      lo = record { num = low; den = if int_le (pos 0) low then most else fewest };
+      hi = record { num = high; den = if int_le (pos 0) high then fewest else most };
+    }
 both b low high few many fewest most h k =
     ap (λ d. record { null = cond b Never Possibly; lo = record { num = low; den = d }; hi = record { num = high; den = values_at (if int_le (pos 0) high then few else many) } })
     (moved (int_le (pos 0) low) many few most fewest k h)

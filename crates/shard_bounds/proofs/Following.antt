@@ -136,12 +136,13 @@ nests sum count new_sum new_count p q some =
 same_ends : (w : Nullity) (sum count : Bound) (s : ℤ) (n : ℕ) → 0 < n → w ≡ Never → sum.lo ≡ s → sum.hi ≡ s → count.lo ≡ pos n → count.hi ≡ pos n →
     TellsAverage (average_by w sum count) (Some (s, n))
 same_ends Never sum count s n some e low high few enough =
-    let at : (b : ℤ) → b ≡ pos n → values_at b ≡ n = λ b h. ap values_at h ∙ own n some in
-    (refl,
-    ap (λ z. record { num = z; den = values_at (if int_le (pos 0) sum.lo then count.hi else count.lo) }) low
-    ∙ ap (λ d. record { num = s; den = d }) (cond_both (int_le (pos 0) sum.lo) count.hi count.lo (λ b. values_at b ≡ n) (λ t. at count.hi enough) (λ f. at count.lo few)),
-    ap (λ z. record { num = z; den = values_at (if int_le (pos 0) sum.hi then count.lo else count.hi) }) high
-    ∙ ap (λ d. record { num = s; den = d }) (cond_both (int_le (pos 0) sum.hi) count.lo count.hi (λ b. values_at b ≡ n) (λ t. at count.lo few) (λ f. at count.hi enough)))
+    let at : (b : ℤ) → b ≡ pos n → values_at b ≡ n = λ b h. ap values_at h ∙ own n some in (
+      refl,
+      ap (λ z. record { num = z; den = values_at (if int_le (pos 0) sum.lo then count.hi else count.lo) }) low
+          ∙ ap (λ d. record { num = s; den = d }) (cond_both (int_le (pos 0) sum.lo) count.hi count.lo (λ b. values_at b ≡ n) (λ t. at count.hi enough) (λ f. at count.lo few)),
+      ap (λ z. record { num = z; den = values_at (if int_le (pos 0) sum.hi then count.lo else count.hi) }) high
+          ∙ ap (λ d. record { num = s; den = d }) (cond_both (int_le (pos 0) sum.hi) count.lo count.hi (λ b. values_at b ≡ n) (λ t. at count.lo few) (λ f. at count.hi enough)),
+    )
 same_ends Possibly sum count s n some e low high few enough = absurd (cc)
 same_ends Always sum count s n some e low high few enough = absurd (cc)
 

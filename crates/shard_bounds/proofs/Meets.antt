@@ -98,20 +98,28 @@ in_both Always w a b c e f p q = p
 in_both Never Always a b c e f p q = q
 in_both Possibly Always a b c e f p q = q
 in_both Never Never a b c e f p q = record {
-  null = λ n. absurd (p.null n e); full = λ n. λ z. cc;
-  lo = λ n. low_of a.lo b.lo c.lo (p.lo n) (q.lo n); hi = λ n. high_of a.hi b.hi c.hi (p.hi n) (q.hi n);
+  null = λ n. absurd (p.null n e);
+  full = λ n. λ z. cc;
+  lo = λ n. low_of a.lo b.lo c.lo (p.lo n) (q.lo n);
+  hi = λ n. high_of a.hi b.hi c.hi (p.hi n) (q.hi n);
 }
 in_both Never Possibly a b c e f p q = record {
-  null = λ n. absurd (p.null n e); full = λ n. λ z. cc;
-  lo = λ n. low_of a.lo b.lo c.lo (p.lo n) (q.lo n); hi = λ n. high_of a.hi b.hi c.hi (p.hi n) (q.hi n);
+  null = λ n. absurd (p.null n e);
+  full = λ n. λ z. cc;
+  lo = λ n. low_of a.lo b.lo c.lo (p.lo n) (q.lo n);
+  hi = λ n. high_of a.hi b.hi c.hi (p.hi n) (q.hi n);
 }
 in_both Possibly Never a b c e f p q = record {
-  null = λ n. absurd (q.null n f); full = λ n. λ z. cc;
-  lo = λ n. low_of a.lo b.lo c.lo (p.lo n) (q.lo n); hi = λ n. high_of a.hi b.hi c.hi (p.hi n) (q.hi n);
+  null = λ n. absurd (q.null n f);
+  full = λ n. λ z. cc;
+  lo = λ n. low_of a.lo b.lo c.lo (p.lo n) (q.lo n);
+  hi = λ n. high_of a.hi b.hi c.hi (p.hi n) (q.hi n);
 }
 in_both Possibly Possibly a b c e f p q = record {
-  null = λ n. λ z. cc; full = λ n. λ z. cc;
-  lo = λ n. low_of a.lo b.lo c.lo (p.lo n) (q.lo n); hi = λ n. high_of a.hi b.hi c.hi (p.hi n) (q.hi n);
+  null = λ n. λ z. cc;
+  full = λ n. λ z. cc;
+  lo = λ n. low_of a.lo b.lo c.lo (p.lo n) (q.lo n);
+  hi = λ n. high_of a.hi b.hi c.hi (p.hi n) (q.hi n);
 }
 
 nests : (a b new other : AverageBound) (x : Option (ℤ × ℕ)) → AreDivisible (new ∷ other ∷ []) → IsNestedAverage a new → IsNestedAverage b other →

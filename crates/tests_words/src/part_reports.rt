@@ -4,8 +4,8 @@ use daq_table::Listed;
 use query_model::{Bound, ItemKind, Nullity};
 use report_parts::{
     Asked, BlockFault, Combination, CombineFault, EndFault, Entry, InputFault, LineFault, Part,
-    Parts, Shape, Until, all_have_block, combine_item, end_behind, have_all_ended, is_narrow, may_end,
-    written_block, written_opening,
+    Parts, Shape, Until, all_have_block, combine_item, end_behind, have_all_ended, is_narrow,
+    may_end, written_block, written_opening,
 };
 use report_text::{Answer, Form, Number, Ratio, ReportEnd, ShownAverage, ShownBound};
 use std::alloc::{AllocError, Global};
