@@ -3,6 +3,7 @@ use Rattle.std.specs.Prelude.{◌≡◌, Ok, Err}
 use Rattle.std.specs.declared.result.Result.{Result}
 use Rattle.outer_world.specs.Device.{SourceState, StoreState, SinkState}
 
+-- the input, the script of a session, the plane file, the file that is made, and the streams of output and errors
 pub record WorldState : Type 0 where
   pub input : SourceState
   pub side : SourceState

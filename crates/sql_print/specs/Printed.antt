@@ -15,10 +15,11 @@ use Rattle.sql_text.specs.Tree.{OneOf, IsNull, Negation, Both, Either, Ending, N
 
 -- ---- names, numbers and values
 
--- quoted exactly where it is not of the unquoted form
+-- as it is, or in double quotes where it would not read as a name: where it has other bytes, or is a keyword
 abbrev pub name_text : List ℕ → List ℕ
 name_text s = if is_plain_name s then s else 34 ∷ (s ++ (34 ∷ []))
 
+-- in single quotes, each of its own written twice
 abbrev pub string_text : List ℕ → List ℕ
 string_text s = 39 ∷ (doubled s ++ (39 ∷ []))
 
@@ -75,6 +76,7 @@ wraps_tight Right = true
 
 -- ---- expressions and items
 
+-- on this side of the sign around it, with as few parentheses as keep its parts together
 abbrev pub expr_text : Side → Expr → List ℕ
 expr_text side (Column n) = name_text n.name
 expr_text side (Number n) = num_text n
@@ -142,6 +144,7 @@ negated_text (OneOf c vs) w = members_text true c vs
 negated_text (IsNull c) w = null_text true c
 negated_text _ w = codes "NOT " ++ w
 
+-- a condition, in the same way
 abbrev pub pred_text : Side → Pred → List ℕ
 pred_text side (Compare c op v) = name_text c.name ++ (cmp_text op ++ operand_text v)
 pred_text side (Columns c op d) = name_text c.name ++ (cmp_text op ++ name_text d.name)
@@ -171,6 +174,7 @@ ending_text Nothing = []
 ending_text (Grouped ns) = codes " GROUP BY " ++ listed_text (λ n. name_text n.name) [] ns
 ending_text (Ordered key down limit) = codes " ORDER BY " ++ (name_text key.name ++ (direction_text down ++ num_text limit))
 
+-- the printed form of a query: words in capitals, one blank between them
 abbrev pub printed : Query → List ℕ
 printed q =
     codes "SELECT " ++ (head_text q.head

@@ -18,10 +18,12 @@ use Rattle.sql_text.specs.declared.tree.Ending as tree
 use Rattle.sql_text.specs.declared.tree.Ending.TheVariants as endings
 use Rattle.sql_text.specs.declared.tree.Tree.{Tree}
 
+-- a name, or the text of a string, and its place in the SQL text
 pub record Name : Type 0 where
   pub at : ℕ
   pub name : List ℕ
 
+-- what is computed of a row; a product has the place of its sign
 pub data Expr : Type 0 where
   Column : Name → Expr
   Number : Num → Expr
@@ -29,20 +31,24 @@ pub data Expr : Type 0 where
   Sub : Expr → Expr → Expr
   Mul : (at : ℕ) → Expr → Expr → Expr
 
+-- what stands in a list behind SELECT: a name, COUNT(*), or an aggregate of an expression
 pub data Item : Type 0 where
   Plain : Name → Item
   CountAll : Item
   Call : CallKind → Expr → Item
 
+-- what stands behind SELECT: such a list, or a star
 pub data Head : Type 0 where
   Items : List Item → Head
   Star : Head
 
+-- with what a column is compared: a number, a string, or the string of a day
 pub data Operand : Type 0 where
   Numeric : Num → Operand
   Str : Name → Operand
   Day : Name → Operand
 
+-- a condition. Both stands for AND, Either for OR, Negation for NOT, OneOf for IN
 pub data Pred : Type 0 where
   Compare : Name → Comparison → Operand → Pred
   Columns : Name → Comparison → Name → Pred
@@ -53,11 +59,13 @@ pub data Pred : Type 0 where
   Both : Pred → Pred → Pred
   Either : Pred → Pred → Pred
 
+-- nothing, GROUP BY some names, or ORDER BY a name, falling or not, with the number of LIMIT
 pub data Ending : Type 0 where
   Nothing : Ending
   Grouped : List Name → Ending
   Ordered : Name → (down : Bool) → Num → Ending
 
+-- a query: what is asked for, the name of the table, the condition of WHERE, and how it ends
 pub record Query : Type 0 where
   pub head : Head
   pub table : Name

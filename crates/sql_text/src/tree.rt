@@ -31,6 +31,7 @@ pub enum ExprTree {
     },
 }
 
+/// Which aggregate is asked for.
 #[derive(Clone, Copy, Debug, PartialEq, Eq)]
 pub enum CallKind {
     Count,
@@ -54,6 +55,7 @@ pub enum Select {
     Star,
 }
 
+/// How two values are compared: by =, <>, <, <=, > or >=.
 #[derive(Clone, Copy, Debug, PartialEq, Eq)]
 pub enum Comparison {
     Eq,

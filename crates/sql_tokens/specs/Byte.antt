@@ -4,9 +4,11 @@ use Rattle.std.specs.Prelude.{nat_eq, nat_lt, ◌&&◌, ◌||◌, not, if◌then
 use Rattle.sql_tokens.specs.declared.byte.Class.{Class}
 use Rattle.sql_tokens.specs.declared.byte.Class.TheVariants.{Blank, Letter, Digit, Quote, Apostrophe, Other}
 
+-- the byte is one of those from low to high
 abbrev pub within : ℕ → ℕ → ℕ → Bool
 within low high b = not (nat_lt b low) && not (nat_lt high b)
 
+-- blanks, letters and the underscore, digits, the quotes of names, those of strings, and all others
 unfoldable pub class_of : ℕ → Class
 class_of b =
     if nat_eq b 32 || nat_eq b 9 || nat_eq b 10 || nat_eq b 13 then Blank
@@ -16,6 +18,7 @@ class_of b =
     else if nat_eq b 39 then Apostrophe
     else Other
 
+-- a letter or a digit goes on with a word
 abbrev pub joins_word : Class → Bool
 joins_word Letter = true
 joins_word Digit = true
@@ -46,6 +49,7 @@ is_zero b = nat_eq b 48
 abbrev pub in_quotes : ℕ → Bool
 in_quotes b = within 32 126 b && not (nat_eq b 34)
 
+-- a small letter as its capital
 abbrev pub capital : ℕ → ℕ
 capital b = if within 97 122 b then b - 32 else b
 

@@ -6,6 +6,7 @@ use Rattle.sql_tokens.specs.declared.token.Fixed.TheVariants.{And, Or, Not, Betw
 use Rattle.sql_tokens.specs.declared.token.Fixed.TheVariants.{Is, Null, Open, Close, Comma, Star, Plus, Minus, Semicolon}
 use Rattle.sql_tokens.specs.declared.token.Fixed.TheVariants.{Equal, NotEqual, Less, LessEqual, Greater, GreaterEqual}
 
+-- the bytes of a keyword, in capitals, or of a sign
 abbrev pub spelling : Fixed → List ℕ
 spelling Select = codes "SELECT"
 spelling From = codes "FROM"

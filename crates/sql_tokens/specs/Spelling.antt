@@ -13,6 +13,7 @@ use Rattle.sql_tokens.specs.Byte.{class_of, is_letter, in_word, in_number, in_qu
 
 -- ---- words
 
+-- these are the same bytes
 abbrev pub same_bytes : List ℕ → List ℕ → Bool
 same_bytes [] [] = true
 same_bytes (a ∷ s) (b ∷ t) = nat_eq a b && same_bytes s t

@@ -3,6 +3,7 @@
 ghost use Rattle.std.specs.Prelude.{◌≡◌};
 ghost use Rattle.sql_tokens.specs.Byte.{class_of, is_blank, in_word, in_number, in_quotes};
 
+/// What a byte can begin.
 #[derive(Clone, Copy, Debug, PartialEq, Eq)]
 pub enum Class {
     Blank,

@@ -12,6 +12,7 @@ use Rattle.sql_typing.specs.declared.names.Mention.{Mention}
 
 -- ---- names in the order of the text
 
+-- in an expression, and so in each part of a query
 abbrev pub names_in_expr : Expr → List Name
 names_in_expr (Column n) = n ∷ []
 names_in_expr (Number v) = []
@@ -93,7 +94,7 @@ number_at columns (Some c) = unwrap_or (position (λ i. i == c) columns) 0
 abbrev pub number_of : List ColumnHead → List ℕ → List ℕ → ℕ
 number_of table columns name = number_at columns (place_of table name)
 
--- the kind and the dictionary of the column of that name; where there is none, that of a column of whole numbers
+-- the kind of a column; where there is none of that place, whole numbers
 abbrev pub kind_at : List ColumnHead → Option ℕ → Kind
 kind_at table None = Int
 kind_at table (Some c) = slice_index_or (map (λ h. h.kind) table) c Int

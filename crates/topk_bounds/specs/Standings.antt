@@ -61,11 +61,13 @@ pub record Kept : Type 0 where
   pub must : Search
   pub may : Search
 
+-- among the first rows on every table that agrees
 abbrev pub is_certain : Standing → Bool
 is_certain Certain = true
 is_certain Possible = false
 is_certain Excluded = false
 
+-- among them on some, as far as is known
 abbrev pub is_possible : Standing → Bool
 is_possible Certain = false
 is_possible Possible = true
