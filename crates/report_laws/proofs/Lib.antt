@@ -1,1 +1,4 @@
+pub mod Cells
+pub mod Keys
+pub mod Names
 pub mod Shown

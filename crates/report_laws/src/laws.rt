@@ -1,7 +1,11 @@
 //! What reports show is what is read back.
 
+ghost use Rattle.report_laws.specs.Groups.{GroupsAreShown, KeysAreShown};
 ghost use Rattle.report_laws.specs.Laws.{AveragesAreShown, AveragesCanBeRead, BoundsAreShown, BoundsCanBeRead};
 ghost use Rattle.report_laws.specs.Laws.{ClipsAreShown, ExactAveragesAreShown, RowsAreShown};
+
+use query_model::illegal_cells_are_empty;
+use row_groups::cells_tell_keys;
 
 /// Where the ends of an answer are numbers or dates, the text that a report shows of its bound is the one that is read back.
 pub fn bounds_are_shown()
@@ -37,3 +41,16 @@ pub fn exact_averages_are_shown()
 pub fn rows_are_shown()
     ensures { RowsAreShown }
 {}
+
+/// The text of the keys of a group is the one that is read back.
+pub fn keys_are_shown()
+    ensures { KeysAreShown }
+{}
+
+/// So is the line of each cell of a query by groups of which something is shown. The lines of its items stand behind it.
+pub fn groups_are_shown()
+    ensures { GroupsAreShown }
+{
+    illegal_cells_are_empty();
+    cells_tell_keys();
+}
