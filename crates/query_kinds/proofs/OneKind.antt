@@ -50,7 +50,7 @@ kinds_same query a b of_a of_b =
     of_a.each ∙ ap (map kind_of) items ∙ sym of_b.each
 
 module _ (one_query : (text : List ℕ) (p q : Query) → IsText text p → IsText text q → p ≡ q) where
-  lines_same : (line : List ℕ) (p q : Query) → IsQueryLine line p → IsQueryLine line q → p ≡ q
+  pub lines_same : (line : List ℕ) (p q : Query) → IsQueryLine line p → IsQueryLine line q → p ≡ q
   lines_same line p q of_p of_q =
       let texts : codes "query " ++ of_p.text ≡ codes "query " ++ of_q.text = sym of_p.spelled ∙ of_q.spelled in
       let same : of_p.text ≡ of_q.text = cc in

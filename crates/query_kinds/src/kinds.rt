@@ -69,7 +69,7 @@ fn kinds_of(alloc: Global, items: &[ItemTree]) -> Result<Vec<ItemKind>, AllocErr
 
 // The aggregates of a query of totals.
 #[tactic(auto, using(crate::proofs::OneKind::not_alone, crate::proofs::OneKind::not_items, crate::proofs::OneKind::not_all))]
-fn totals_of(tree: &Tree) -> Option<&[ItemTree]>
+pub(crate) fn totals_of(tree: &Tree) -> Option<&[ItemTree]>
     ensures { MatchOption result (IsNoTotals (query_of tree.now)) (λ items. IsTotals (query_of tree.now) (map item_of items.now)) }
 {
     match &tree.ending {
@@ -111,7 +111,7 @@ fn fault_of(fault: SqlFault) -> KindsFault
 }
 
 // The query of the line.
-fn read_line(alloc: Global, line: &[u8]) -> Result<Tree, KindsFault>
+pub(crate) fn read_line(alloc: Global, line: &[u8]) -> Result<Tree, KindsFault>
     ensures query { IfOk result (λ tree. IsQueryLine line.now (query_of tree)) }
     ensures fault { IfErr result (IsKindsFault line.now) }
 {

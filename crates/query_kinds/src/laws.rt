@@ -1,5 +1,6 @@
 //! What holds of the lines of queries. Each law stands on a function that does nothing.
 
+ghost use Rattle.query_kinds.specs.Beside.{BesidesAreOne};
 ghost use Rattle.query_kinds.specs.Kinds.{KindsAreOne};
 
 use sql_text::one_answer;
@@ -7,6 +8,13 @@ use sql_text::one_answer;
 /// A line asks for items of one list of kinds at most, and then has no fault but want of memory.
 pub fn kinds_are_one()
     ensures { KindsAreOne }
+{
+    one_answer();
+}
+
+/// What stands beside its items is one list at most, with a place for each item.
+pub fn besides_are_one()
+    ensures { BesidesAreOne }
 {
     one_answer();
 }
