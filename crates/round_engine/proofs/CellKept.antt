@@ -24,11 +24,11 @@ use Rattle.query_model.specs.Queries.{Aggregate, Query}
 use Rattle.query_model.specs.Truths.{Range, and_of, truth_of}
 use Rattle.query_model.specs.Validity.{no_repeats}
 use Rattle.row_groups.specs.Partition.{AreCells, OpeningStands, OthersLeaveCells, RefiningStands, RowCells, has_unread, is_group, part_under, refined, unread_cells}
-use Rattle.product_sums.specs.declared.kept_product.KeptProduct.{KeptProduct}
 use Rattle.round_engine.specs.declared.groups.Groups.{Groups}
 use Rattle.round_engine.specs.CellAnswers.{AreGroups, HoldGroups, HasRoom, HaveCells, IsParted, StandForCells, StandForEach, StandForOthers, TellSingle, moves_rows, most_cells}
 use Rattle.round_engine.specs.Cells.{cells_in}
-use Rattle.round_engine.specs.KeptProducts.{AreKeptProducts}
+use Rattle.round_engine.specs.declared.kept_cells.KeptParts.{KeptParts}
+use Rattle.round_engine.specs.KeptCells.{HaveKeptParts}
 use Rattle.round_engine.specs.KeptSums.{columns_of as columns_at}
 use Rattle.round_engine.specs.Moves.{AreMoved, is_moved}
 use Rattle.round_engine.specs.OneCell.{HoldMasks}
@@ -299,15 +299,15 @@ written new rest n same = ap (λ k. take k (new ++ rest)) (sym same) ∙ take-ap
 
 -- parted further, with room for the rest
 pub parted_holds : (before stage : Stage) (c : ℕ) (bits : List Bool) (groups : Groups) (parted : Groups) → stage ≡ stepped before c bits → AreGroups before groups →
-    IsParted (stepped before c bits) parted.cells parted.single.items → parted.presence ≡ groups.presence → parted.runnings ≡ groups.runnings → parted.masks ≡ groups.masks → parted.products ≡ groups.products →
-    AreKeptProducts (columns_at (stepped before c bits)) before.query.items groups.products.items → HoldGroups stage parted
-parted_holds before stage c bits groups parted read are is presence runnings masks same products = subst (λ (s : Stage). HoldGroups s parted) (sym read) (record {
+    IsParted (stepped before c bits) parted.cells parted.single.items → parted.presence ≡ groups.presence → parted.runnings ≡ groups.runnings → parted.masks ≡ groups.masks → parted.kept ≡ groups.kept →
+    HaveKeptParts (columns_at (stepped before c bits)) before.query.items groups.kept.items → HoldGroups stage parted
+parted_holds before stage c bits groups parted read are is presence runnings masks same kept = subst (λ (s : Stage). HoldGroups s parted) (sym read) (record {
   grouped = are.grouped;
   parted = is;
   presence = subst (HasRoom (stepped before c bits) every_row) (sym presence) (record { kind = are.presence.has_room.kind; room = are.presence.has_room.room });
   items = subst (λ (v : Vec Tallies Global). HaveCells before.query.items (most_cells before) v.items) (sym runnings) (room_of before groups.runnings.items are.items);
   masks = subst (HoldMasks before.frame.rows) (sym masks) are.masks;
-  products = subst (λ (v : Vec (Option KeptProduct) Global). AreKeptProducts (columns_at (stepped before c bits)) before.query.items v.items) (sym same) products;
+  kept = subst (λ (v : Vec KeptParts Global). HaveKeptParts (columns_at (stepped before c bits)) before.query.items v.items) (sym same) kept;
 })
 
 -- a column that moves no rows is no group column

@@ -16,36 +16,39 @@ use Rattle.round_engine.specs.Engines.{AreAnswers, StoodBefore}
 use Rattle.round_engine.specs.KeptProducts.{AreKeptProducts}
 use Rattle.round_engine.specs.KeptSums.{columns_of}
 use Rattle.round_engine.specs.Stages.{IsOpenItem, IsOpenStage, Stage, stepped}
+use Rattle.round_engine.specs.Totals.{AreEach}
 use Rattle.round_engine.proofs.Openings.{agree_push}
+
+pub each_more : {X : Type 0} (R : Aggregate → X → Type 0) (items : List Aggregate) (i : ℕ) (item : Aggregate) (xs : List X) (x : X) → i < length items → item ≡ get_or items i item →
+    AreEach (λ j it y. R it y) (take i items) xs → R item x → AreEach (λ j it y. R it y) (take (i + 1) items) (xs ++ x ∷ [])
+each_more R items i item xs x within there opened room =
+    let more : take (i + 1) items ≡ take i items ++ item ∷ [] = take_more items i item within ∙ ap (λ y. take i items ++ y ∷ []) (sym there) in
+    let count : length (xs ++ x ∷ []) ≡ length (take i items ++ item ∷ []) = simp length-append (omega (arith, opened.count)) in
+    subst (λ ys. AreEach (λ j it y. R it y) ys (xs ++ x ∷ [])) (sym more) (record { count = count; each = agree_push R (take i items) xs item x opened.count opened.each room })
 
 pub products_more : (columns : KnownTable) (items : List Aggregate) (i : ℕ) (item : Aggregate) (kept : List (Option KeptProduct)) (one : Option KeptProduct) → i < length items → item ≡ get_or items i item →
     AreKeptProducts columns (take i items) kept → IfSome one (IsKeptProduct columns item.arg) → AreKeptProducts columns (take (i + 1) items) (kept ++ one ∷ [])
-products_more columns items i item kept one within there opened room =
-    let more : take (i + 1) items ≡ take i items ++ item ∷ [] = take_more items i item within ∙ ap (λ x. take i items ++ x ∷ []) (sym there) in
-    let count : length (kept ++ one ∷ []) ≡ length (take i items ++ item ∷ []) = simp length-append (omega (arith, opened.count)) in
-    subst (λ xs. AreKeptProducts columns xs (kept ++ one ∷ [])) (sym more) (record {
-      count = count;
-      each = agree_push (λ (it : Aggregate) (k : Option KeptProduct). IfSome k (IsKeptProduct columns it.arg)) (take i items) kept item one opened.count opened.each room;
-    })
+products_more columns items i item kept one within there opened room = each_more (λ (it : Aggregate) (k : Option KeptProduct). IfSome k (IsKeptProduct columns it.arg)) items i item kept one within there opened room
 
 known_stage : (stage : Stage) → IsOpenStage stage → IsKnownTable (columns_of stage)
 known_stage stage is = record { few_rows = is.open_query.few_rows; knowledge = is.knowledge }
+
+pub product_stay : (before : Stage) (column : ℕ) (bits : List Bool) → IsOpenStage before → IsOpenStage (stepped before column bits) → length bits ≡ before.frame.rows → (i : ℕ) (item : Aggregate) (product : Option KeptProduct) →
+    slice_get before.query.items i ≡ Some item → IfSome product (IsKeptProduct (columns_of before) item.arg) → IfSome product (IsKeptProduct (columns_of (stepped before column bits)) item.arg)
+product_stay before column bits is next long i item None at kept = tt
+product_stay before column bits is next long i item (Some p) at kept =
+    let items = before.query.items in
+    let within : i < length items = slice_get_within items i item at in
+    let all = All-from_recursion (IsOpenItem before.frame) items is.open_query.items in
+    let here : IsOpenItem before.frame item = subst (IsOpenItem before.frame) (get_or_from_slice_get items i item item at) (all i item within) in
+    product_stays (columns_of before) (known_stage before is) column bits long (known_stage (stepped before column bits) next) item.arg p here.columns kept
 
 pub products_stay : (before : Stage) (column : ℕ) (bits : List Bool) (kept : List (Option KeptProduct)) → IsOpenStage before → IsOpenStage (stepped before column bits) → length bits ≡ before.frame.rows →
     AreKeptProducts (columns_of before) before.query.items kept → AreKeptProducts (columns_of (stepped before column bits)) before.query.items kept
 products_stay before column bits kept is next long are = record {
   count = are.count;
-  each = λ i item product at_item at_product. told i item product at_item (are.each i item product at_item at_product);
+  each = λ i item product at_item at_product. product_stay before column bits is next long i item product at_item (are.each i item product at_item at_product);
 }
-  where
-    told : (i : ℕ) (item : Aggregate) (product : Option KeptProduct) → slice_get before.query.items i ≡ Some item → IfSome product (IsKeptProduct (columns_of before) item.arg) → IfSome product (IsKeptProduct (columns_of (stepped before column bits)) item.arg)
-    told i item None at kept = tt
-    told i item (Some p) at kept =
-        let items = before.query.items in
-        let within : i < length items = slice_get_within items i item at in
-        let all = All-from_recursion (IsOpenItem before.frame) items is.open_query.items in
-        let here : IsOpenItem before.frame item = subst (IsOpenItem before.frame) (get_or_from_slice_get items i item item at) (all i item within) in
-        product_stays (columns_of before) (known_stage before is) column bits long (known_stage (stepped before column bits) next) item.arg p here.columns kept
 
 pub products_stood : (stage : Stage) (column : ℕ) (bits : List Bool) (answers : Answers) (totals : declared.Totals) → IsOpenStage stage → StoodBefore stage column bits answers → answers ≡ Totals totals →
     AreKeptProducts (columns_of stage) stage.query.items totals.products.items

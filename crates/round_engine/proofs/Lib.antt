@@ -16,6 +16,7 @@ pub mod PresenceCounts
 pub mod Unmoved
 pub mod Covers
 pub mod Walks
+pub mod KeptCells
 pub mod KeptItems
 pub mod KeptSums
 pub mod KeptProducts

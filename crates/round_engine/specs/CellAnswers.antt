@@ -18,7 +18,7 @@ use Rattle.row_groups.specs.declared.part.GroupPart.{GroupPart}
 use Rattle.row_groups.specs.Partition.{AreCells, RowCells, digits_of, is_group, is_legal_cell, ranges_of_cell}
 use Rattle.round_engine.specs.declared.groups.Groups.{Groups}
 use Rattle.round_engine.specs.Cells.{cells_in}
-use Rattle.round_engine.specs.KeptProducts.{AreKeptProducts}
+use Rattle.round_engine.specs.KeptCells.{HaveKeptParts}
 use Rattle.round_engine.specs.KeptSums.{columns_of}
 use Rattle.round_engine.specs.Moves.{is_marked}
 use Rattle.round_engine.specs.Narrowness.{FitsNarrow}
@@ -94,15 +94,14 @@ HaveCells items most runnings = AreEach (λ i item running. (running.kind ≡ it
 
 -- ---- the answers
 
--- the rows are parted, the count of rows and each item stand for the pairs of each cell, and what is kept of products is that of these
--- columns
+-- the rows are parted, the count of rows and each item stand for the pairs of each cell, and what is kept is that of these columns
 pub record AreGroups (stage : Stage) (groups : Groups) : Type 0 where
   pub grouped : IsGrouped stage.query.shape
   pub parted : IsParted stage groups.cells groups.single.items
   pub presence : StandForCells stage every_row groups.presence
   pub items : StandForEach stage groups.runnings.items
   pub masks : HoldMasks stage.frame.rows groups.masks
-  pub products : AreKeptProducts (columns_of stage) stage.query.items groups.products.items
+  pub kept : HaveKeptParts (columns_of stage) stage.query.items groups.kept.items
 
 -- the rows are parted, and there is room for all else
 pub record HoldGroups (stage : Stage) (groups : Groups) : Type 0 where
@@ -111,7 +110,7 @@ pub record HoldGroups (stage : Stage) (groups : Groups) : Type 0 where
   pub presence : HasRoom stage every_row groups.presence
   pub items : HaveCells stage.query.items (most_cells stage) groups.runnings.items
   pub masks : HoldMasks stage.frame.rows groups.masks
-  pub products : AreKeptProducts (columns_of stage) stage.query.items groups.products.items
+  pub kept : HaveKeptParts (columns_of stage) stage.query.items groups.kept.items
 
 -- they were the answers before the next plane of a column was read
 pub record WereGroups (stage : Stage) (column : ℕ) (bits : List Bool) (groups : Groups) : Type 0 where

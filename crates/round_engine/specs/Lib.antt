@@ -10,6 +10,7 @@ pub mod Selected
 pub mod SumEnds
 pub mod CountedSums
 pub mod Totals
+pub mod KeptCells
 pub mod KeptItems
 pub mod KeptSums
 pub mod KeptProducts

@@ -1,16 +1,18 @@
 //! What an item of a cell keeps of a column's rows, told by masks and planes.
 
-ghost use Rattle.std.specs.Prelude.{◌≡◌, length, map};
+ghost use Rattle.std.specs.Prelude.{◌≡◌, length, map, IfSome};
 ghost use Rattle.aggregates.specs.Selections.{ends_in, IsSmallSum};
 ghost use Rattle.aggregates.specs.Tallies.{tally_of};
 ghost use Rattle.known_column.specs.Columns.{KnownColumn, rows_of_column};
 ghost use Rattle.query_model.specs.Answers.{total};
 ghost use Rattle.query_model.specs.declared.query.ItemKind.TheVariants.{Count, Max, Min, Sum};
+ghost use Rattle.round_engine.specs.KeptCells.{AreCellSums};
 ghost use Rattle.round_engine.specs.Selected.{IsSelection, pairs_in};
 ghost use Rattle.round_engine.specs.SumEnds.{share_at};
 
+use crate::kept_cells::{KeptCells, ends_of_cell};
 use crate::selection::Selected;
-use aggregates::{End, Tally, greatest_ends, least_ends, sum_ends};
+use aggregates::{End, Tally, greatest_ends, least_ends};
 use known_column::Known;
 use plane_kernels::Mask;
 use query_model::ItemKind;
@@ -45,15 +47,23 @@ impl Selected<'_> {
         }
     }
 
-    // Of a sum.
-    fn sum_tally(&self, known: &Known, added: &mut Mask) -> Tally
+    // Of a sum in this cell.
+    fn sum_tally(
+        &self,
+        known: &Known,
+        cell: u32,
+        kept: &mut Option<KeptCells>,
+        added: &mut Mask,
+    ) -> Tally
         requires selection { IsSelection known.now self.now }
         requires room { length added.old ≡ rows_of_column known.now }
+        requires kept { IfSome kept.old (AreCellSums known.now) }
+        ensures kept { IfSome kept.new (AreCellSums known.now) }
         ensures room { length added.new ≡ rows_of_column known.now }
         ensures tally { result ≡ tally_of Sum (pairs_in known.now self.now) }
     {
         let counts = self.count_tally();
-        let sums = sum_ends(known, self.must);
+        let sums = ends_of_cell(kept, cell, known, self.must);
         Tally {
             least_low: self.end_if_none(End::Low, known, counts.certain),
             greatest_high: self.end_if_none(End::High, known, counts.certain),
@@ -79,16 +89,25 @@ impl Selected<'_> {
         }
     }
 
-    // Of an item of this kind.
-    pub(crate) fn tally(&self, kind: ItemKind, known: &Known, added: &mut Mask) -> Tally
+    // Of an item of this kind in this cell.
+    pub(crate) fn tally(
+        &self,
+        kind: ItemKind,
+        known: &Known,
+        cell: u32,
+        kept: &mut Option<KeptCells>,
+        added: &mut Mask,
+    ) -> Tally
         requires selection { IsSelection known.now self.now }
         requires room { length added.old ≡ rows_of_column known.now }
+        requires kept { IfSome kept.old (AreCellSums known.now) }
+        ensures kept { IfSome kept.new (AreCellSums known.now) }
         ensures room { length added.new ≡ rows_of_column known.now }
         ensures tally { result ≡ tally_of kind (pairs_in known.now self.now) }
     {
         match kind {
             ItemKind::Count => self.count_tally(),
-            ItemKind::Sum | ItemKind::Avg => self.sum_tally(known, added),
+            ItemKind::Sum | ItemKind::Avg => self.sum_tally(known, cell, kept, added),
             ItemKind::Min | ItemKind::Max => self.end_tally(known),
         }
     }

@@ -10,10 +10,12 @@ ghost use Rattle.row_groups.specs.Partition.{digits_of};
 ghost use Rattle.round_engine.specs.CellAnswers.{HasRoom, IsParted, StandForCells};
 ghost use Rattle.round_engine.specs.Counts.{is_counted};
 ghost use Rattle.round_engine.specs.Engines.{stage_of};
+ghost use Rattle.round_engine.specs.KeptCells.{AreSumsOf};
 ghost use Rattle.round_engine.specs.OneCell.{HoldMasks, IsPart};
 ghost use Rattle.round_engine.specs.Selected.{is_by_masks};
 ghost use Rattle.round_engine.specs.Stages.{IsOpenItem, IsOpenStage};
 
+use crate::kept_cells::KeptCells;
 use crate::one_cell::CellMasks;
 use crate::selection::{leaves_out, select_part};
 use aggregates::{Running, Tally};
@@ -71,6 +73,7 @@ impl CellMasks {
         cell: u32,
         within: &Mask,
         certain: bool,
+        kept: &mut Option<KeptCells>,
     ) -> Tally
         requires open_stage { IsOpenStage (stage_of query.now columns.now) }
         requires open_item { IsOpenItem columns.now.frame item.now }
@@ -79,6 +82,8 @@ impl CellMasks {
         requires column { item.now.arg ≡ Column column }
         requires part { IsPart (stage_of query.now columns.now) cell certain within.now }
         requires masks { HoldMasks columns.now.frame.rows self.old }
+        requires kept { AreSumsOf columns.now item.now kept.old }
+        ensures kept { AreSumsOf columns.now item.now kept.new }
         ensures masks { HoldMasks columns.now.frame.rows self.new }
         ensures tally { result ≡ tally_of item.now.kind (pairs_in_cell query.now item.now cell columns.now.frame columns.now.known) }
     {
@@ -88,11 +93,11 @@ impl CellMasks {
             self.selection
                 .lend()
                 .certain_if(certain, &self.none)
-                .tally(item.kind, known, &mut self.added)
+                .tally(item.kind, known, cell, kept, &mut self.added)
         } else {
             select_part(within, filter, known)
                 .certain_if(certain, &self.none)
-                .tally(item.kind, known, &mut self.added)
+                .tally(item.kind, known, cell, kept, &mut self.added)
         }
     }
 
@@ -106,6 +111,7 @@ impl CellMasks {
         cells: &Cells,
         single: &[bool],
         running: &mut Running,
+        kept: &mut Option<KeptCells>,
     )
         requires open_stage { IsOpenStage (stage_of query.now columns.now) }
         requires open_item { IsOpenItem columns.now.frame item.now }
@@ -115,6 +121,8 @@ impl CellMasks {
         requires parted { IsParted (stage_of query.now columns.now) cells.now single.now }
         requires masks { HoldMasks columns.now.frame.rows self.old }
         requires room { HasRoom (stage_of query.now columns.now) item.now running.old }
+        requires kept { AreSumsOf columns.now item.now kept.old }
+        ensures kept { AreSumsOf columns.now item.now kept.new }
         ensures masks { HoldMasks columns.now.frame.rows self.new }
         ensures stand { StandForCells (stage_of query.now columns.now) item.now running.new }
     {
@@ -125,7 +133,7 @@ impl CellMasks {
             let certain = single[cell as usize];
             let tally = match &item.arg {
                 Expr::Column(column) => self.column_part(
-                    query, item, *column, columns, filter, cell, within, certain,
+                    query, item, *column, columns, filter, cell, within, certain, kept,
                 ),
                 _ => self.count_part(query, item, columns, filter, cell, within, certain),
             };

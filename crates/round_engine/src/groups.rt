@@ -4,7 +4,6 @@ ghost use Rattle.std.specs.Prelude.{◌≡◌, ◌≢◌, ◌<◌, length, slice
 ghost use Rattle.kleene_filter.specs.Filters.{truths_under};
 ghost use Rattle.known_column.specs.KnownTables.{unread_table};
 ghost use Rattle.query_model.specs.declared.query.ItemKind.TheVariants.{Avg};
-ghost use Rattle.product_sums.specs.KeptProducts.{IsKeptProduct};
 ghost use Rattle.query_model.specs.Answers.{every_row};
 ghost use Rattle.query_model.specs.Bounds.{fractions_of};
 ghost use Rattle.round_engine.specs.CellAnswers.{AreGroups, HasCell, HasItem, HasRoom, HaveCells, HoldGroups, most_cells};
@@ -12,14 +11,14 @@ ghost use Rattle.round_engine.specs.CellAnswers.{IsParted, StandForCells, StandF
 ghost use Rattle.row_groups.specs.Partition.{is_legal_cell, ranges_in, ranges_of_cell};
 ghost use Rattle.round_engine.specs.Cells.{absence_in_cell, average_in_cell, bound_in_cell, cells_in, parts_in};
 ghost use Rattle.round_engine.specs.Engines.{stage_of};
-ghost use Rattle.round_engine.specs.KeptProducts.{AreKeptProducts};
+ghost use Rattle.round_engine.specs.KeptCells.{AreKeptParts, HaveKeptParts};
 ghost use Rattle.round_engine.specs.OneCell.{HoldMasks};
 ghost use Rattle.round_engine.specs.Stages.{IsGrouped, IsOpenItem, IsOpenStage, Stage};
 
 use crate::cell_filling::fill_cells;
 use crate::cell_room::{every_row, most_cells, open_cells, open_each};
 use crate::group_columns::{is_group, part_cells};
-use crate::kept_products::open_products;
+use crate::kept_cells::{KeptParts, open_parts};
 use crate::moved::{moved_items, moves_rows};
 use crate::one_cell::CellMasks;
 use crate::one_key::tell_single;
@@ -29,7 +28,6 @@ use aggregates::Running;
 use kleene_filter::Filter;
 use known_column::{LentColumns, RowBlock};
 use plane_kernels::Plane;
-use product_sums::KeptProduct;
 use query_model::{AverageBound, Bound, Item, ItemKind, Nullity, TypedQuery};
 use row_groups::{
     CellKeys, Cells, FEW_CELLS, cells_tell_keys, opening_stands, others_leave_cells,
@@ -37,8 +35,8 @@ use row_groups::{
 };
 use std::alloc::{AllocError, Global};
 
-// Which cell each row is in, which cells hold one key, and what is added up of each cell: its rows, and each item's values. Of sums of
-// products what planes gave is kept cell by cell, where there are few.
+// Which cell each row is in, which cells hold one key, and what is added up of each cell: its rows, and each item's values. Of sums
+// what planes gave is kept cell by cell, where there are few.
 #[derive(Drop)]
 pub(crate) struct Groups {
     cells: Cells,
@@ -46,7 +44,7 @@ pub(crate) struct Groups {
     presence: Running,
     pub(crate) runnings: Vec<Running>,
     masks: CellMasks,
-    products: Vec<Option<KeptProduct>>,
+    kept: Vec<KeptParts>,
 }
 
 // Adds all rows to an item: by masks where these tell it of one cell that has all rows, or of each of few, by counts of rows where these
@@ -61,7 +59,7 @@ fn fill_item(
     single: &[bool],
     masks: &mut CellMasks,
     running: &mut Running,
-    kept: &mut Option<KeptProduct>,
+    kept: &mut KeptParts,
 )
     requires open_stage { IsOpenStage (stage_of query.now columns.now) }
     requires open_item { IsOpenItem columns.now.frame item.now }
@@ -70,23 +68,84 @@ fn fill_item(
     requires parted { IsParted (stage_of query.now columns.now) cells.now single.now }
     requires masks { HoldMasks columns.now.frame.rows masks.old }
     requires room { HasRoom (stage_of query.now columns.now) item.now running.old }
-    requires kept { IfSome kept.old (IsKeptProduct columns.now item.now.arg) }
-    ensures kept { IfSome kept.new (IsKeptProduct columns.now item.now.arg) }
+    requires kept { AreKeptParts columns.now item.now kept.old }
+    ensures kept { AreKeptParts columns.now item.now kept.new }
     ensures same { block.new.frame.columns ≡ columns.now.frame.columns }
     ensures masks { HoldMasks columns.now.frame.rows masks.new }
     ensures stand { StandForCells (stage_of query.now columns.now) item.now running.new }
 {
     cells_tell_keys();
     if cells.count() == 1 && is_by_masks(item, columns) {
-        masks.fill(query, item, columns, filter, single[0], running);
+        masks.fill(
+            query,
+            item,
+            columns,
+            filter,
+            single[0],
+            running,
+            &mut kept.sums,
+        );
     } else if cells.count() <= FEW_CELLS && is_by_masks(item, columns) {
-        masks.fill_parts(query, item, columns, filter, cells, single, running);
-    } else if !masks.fill_counted(query, item, columns, filter, cells, single, running, kept)
-        && !masks.fill_digits(query, item, columns, filter, cells, single, running)
+        masks.fill_parts(
+            query,
+            item,
+            columns,
+            filter,
+            cells,
+            single,
+            running,
+            &mut kept.sums,
+        );
+    } else if !masks.fill_counted(
+        query,
+        item,
+        columns,
+        filter,
+        cells,
+        single,
+        running,
+        &mut kept.product,
+    ) && !masks.fill_digits(query, item, columns, filter, cells, single, running)
         && !masks.fill_compact(query, item, columns, filter, cells, single, running)
     {
         fill_cells(query, item, columns, filter, block, cells, single, running);
     }
+}
+
+// Adds all rows to the count of each cell's rows, of which nothing is kept.
+fn fill_presence(
+    query: &TypedQuery,
+    columns: &LentColumns<'_>,
+    filter: &Filter,
+    block: &mut RowBlock,
+    cells: &Cells,
+    single: &[bool],
+    masks: &mut CellMasks,
+    presence: &mut Running,
+)
+    requires open_stage { IsOpenStage (stage_of query.now columns.now) }
+    requires judged { filter.now.truths ≡ truths_under query.now.pred columns.now }
+    requires same { block.old.frame.columns ≡ columns.now.frame.columns }
+    requires parted { IsParted (stage_of query.now columns.now) cells.now single.now }
+    requires masks { HoldMasks columns.now.frame.rows masks.old }
+    requires room { HasRoom (stage_of query.now columns.now) every_row presence.old }
+    ensures same { block.new.frame.columns ≡ columns.now.frame.columns }
+    ensures masks { HoldMasks columns.now.frame.rows masks.new }
+    ensures stand { StandForCells (stage_of query.now columns.now) every_row presence.new }
+{
+    let mut kept = KeptParts::none();
+    fill_item(
+        query,
+        &every_row(),
+        columns,
+        filter,
+        block,
+        cells,
+        single,
+        masks,
+        presence,
+        &mut kept,
+    );
 }
 
 // Adds all rows of each marked item anew.
@@ -100,7 +159,7 @@ fn fill_each(
     marks: &[bool; 16],
     masks: &mut CellMasks,
     runnings: &mut [Running],
-    products: &mut [Option<KeptProduct>],
+    kept: &mut [KeptParts],
 )
     requires open_stage { IsOpenStage (stage_of query.now columns.now) }
     requires judged { filter.now.truths ≡ truths_under query.now.pred columns.now }
@@ -108,8 +167,8 @@ fn fill_each(
     requires parted { IsParted (stage_of query.now columns.now) cells.now single.now }
     requires masks { HoldMasks columns.now.frame.rows masks.old }
     requires others { StandForOthers (stage_of query.now columns.now) marks.now runnings.old }
-    requires products { AreKeptProducts columns.now query.now.items products.old }
-    ensures products { AreKeptProducts columns.now query.now.items products.new }
+    requires kept { HaveKeptParts columns.now query.now.items kept.old }
+    ensures kept { HaveKeptParts columns.now query.now.items kept.new }
     ensures same { block.new.frame.columns ≡ columns.now.frame.columns }
     ensures masks { HoldMasks columns.now.frame.rows masks.new }
     ensures stand { StandForEach (stage_of query.now columns.now) runnings.new }
@@ -127,7 +186,7 @@ fn fill_each(
                 single,
                 masks,
                 &mut runnings[i],
-                &mut products[i],
+                &mut kept[i],
             );
         }
     }
@@ -144,7 +203,7 @@ fn fill_all(
     presence: &Running,
     masks: &mut CellMasks,
     runnings: &mut [Running],
-    products: &mut [Option<KeptProduct>],
+    kept: &mut [KeptParts],
 )
     requires open_stage { IsOpenStage (stage_of query.now columns.now) }
     requires judged { filter.now.truths ≡ truths_under query.now.pred columns.now }
@@ -153,15 +212,15 @@ fn fill_all(
     requires presence { StandForCells (stage_of query.now columns.now) every_row presence.now }
     requires masks { HoldMasks columns.now.frame.rows masks.old }
     requires room { HaveCells query.now.items (most_cells (stage_of query.now columns.now)) runnings.old }
-    requires products { AreKeptProducts columns.now query.now.items products.old }
-    ensures products { AreKeptProducts columns.now query.now.items products.new }
+    requires kept { HaveKeptParts columns.now query.now.items kept.old }
+    ensures kept { HaveKeptParts columns.now query.now.items kept.new }
     ensures same { block.new.frame.columns ≡ columns.now.frame.columns }
     ensures masks { HoldMasks columns.now.frame.rows masks.new }
     ensures stand { StandForEach (stage_of query.now columns.now) runnings.new }
 {
     let others = copy_each(query, columns, cells, presence, runnings);
     fill_each(
-        query, columns, filter, block, cells, single, &others, masks, runnings, products,
+        query, columns, filter, block, cells, single, &others, masks, runnings, kept,
     );
 }
 
@@ -186,14 +245,14 @@ impl Groups {
         let presence = Running::open(alloc, ItemKind::Count, most)?;
         let runnings = open_each(alloc, query, most)?;
         let masks = CellMasks::open(alloc, columns.rows(), most)?;
-        let products = open_products(alloc, query, columns, most.min(FEW_CELLS as usize))?;
+        let kept = open_parts(alloc, query, columns, most.min(FEW_CELLS as usize))?;
         Ok(Groups {
             cells,
             single,
             presence,
             runnings,
             masks,
-            products,
+            kept,
         })
     }
 
@@ -212,9 +271,8 @@ impl Groups {
         ensures same { block.new.frame.columns ≡ columns.now.frame.columns }
         ensures answers { AreGroups (stage_of query.now columns.now) self.new }
     {
-        fill_item(
+        fill_presence(
             query,
-            &every_row(),
             columns,
             filter,
             block,
@@ -222,7 +280,6 @@ impl Groups {
             &self.single,
             &mut self.masks,
             &mut self.presence,
-            &mut None,
         );
         fill_all(
             query,
@@ -234,7 +291,7 @@ impl Groups {
             &self.presence,
             &mut self.masks,
             &mut self.runnings,
-            &mut self.products,
+            &mut self.kept,
         );
     }
 
@@ -294,7 +351,7 @@ impl Groups {
                 &moved,
                 &mut self.masks,
                 &mut self.runnings,
-                &mut self.products,
+                &mut self.kept,
             );
         }
     }

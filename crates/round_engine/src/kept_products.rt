@@ -13,7 +13,7 @@ use query_model::{Item, TypedQuery};
 use std::alloc::{AllocError, Global};
 
 // Room for the ends of an item's argument in so many cells, where counts of rows may tell the item.
-fn open_product(
+pub(crate) fn open_product(
     alloc: Global,
     item: &Item,
     columns: &LentColumns<'_>,

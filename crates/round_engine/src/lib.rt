@@ -21,6 +21,7 @@ mod follower;
 mod group_columns;
 mod groups;
 mod item_bound;
+mod kept_cells;
 mod kept_extremes;
 mod kept_items;
 mod kept_products;

@@ -8,10 +8,12 @@ ghost use Rattle.query_model.specs.Queries.{Column};
 ghost use Rattle.round_engine.specs.CellAnswers.{HasRoom, StandForCells};
 ghost use Rattle.round_engine.specs.Counts.{is_counted};
 ghost use Rattle.round_engine.specs.Engines.{stage_of};
+ghost use Rattle.round_engine.specs.KeptCells.{AreSumsOf};
 ghost use Rattle.round_engine.specs.OneCell.{HoldMasks, IsAlone};
 ghost use Rattle.round_engine.specs.Selected.{is_by_masks};
 ghost use Rattle.round_engine.specs.Stages.{IsOpenItem, IsOpenStage};
 
+use crate::kept_cells::KeptCells;
 use crate::selection::{Selected, Selection, select_all};
 use aggregates::{CellCounts, CellSums, Running, Tally};
 use digit_sums::DigitSums;
@@ -98,6 +100,7 @@ impl CellMasks {
         columns: &LentColumns<'_>,
         filter: &Filter,
         certain: bool,
+        kept: &mut Option<KeptCells>,
     ) -> Tally
         requires open_stage { IsOpenStage (stage_of query.now columns.now) }
         requires open_item { IsOpenItem columns.now.frame item.now }
@@ -105,6 +108,8 @@ impl CellMasks {
         requires column { item.now.arg ≡ Column column }
         requires alone { IsAlone (stage_of query.now columns.now) certain }
         requires masks { HoldMasks columns.now.frame.rows self.old }
+        requires kept { AreSumsOf columns.now item.now kept.old }
+        ensures kept { AreSumsOf columns.now item.now kept.new }
         ensures masks { HoldMasks columns.now.frame.rows self.new }
         ensures tally { result ≡ tally_of item.now.kind (pairs_in_cell query.now item.now 0 columns.now.frame columns.now.known) }
     {
@@ -114,11 +119,11 @@ impl CellMasks {
             self.selection
                 .lend()
                 .certain_if(certain, &self.none)
-                .tally(item.kind, known, &mut self.added)
+                .tally(item.kind, known, 0, kept, &mut self.added)
         } else {
             select_all(filter, known)
                 .certain_if(certain, &self.none)
-                .tally(item.kind, known, &mut self.added)
+                .tally(item.kind, known, 0, kept, &mut self.added)
         }
     }
 
@@ -131,6 +136,7 @@ impl CellMasks {
         filter: &Filter,
         certain: bool,
         running: &mut Running,
+        kept: &mut Option<KeptCells>,
     )
         requires open_stage { IsOpenStage (stage_of query.now columns.now) }
         requires open_item { IsOpenItem columns.now.frame item.now }
@@ -139,13 +145,15 @@ impl CellMasks {
         requires alone { IsAlone (stage_of query.now columns.now) certain }
         requires masks { HoldMasks columns.now.frame.rows self.old }
         requires room { HasRoom (stage_of query.now columns.now) item.now running.old }
+        requires kept { AreSumsOf columns.now item.now kept.old }
+        ensures kept { AreSumsOf columns.now item.now kept.new }
         ensures masks { HoldMasks columns.now.frame.rows self.new }
         ensures stand { StandForCells (stage_of query.now columns.now) item.now running.new }
     {
         running.begin(1);
         let tally = match &item.arg {
             Expr::Column(column) => {
-                self.tally_column(query, item, *column, columns, filter, certain)
+                self.tally_column(query, item, *column, columns, filter, certain, kept)
             }
             _ => count_rows(query, item, columns, filter, certain),
         };

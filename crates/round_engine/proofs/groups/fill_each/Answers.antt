@@ -8,18 +8,18 @@ use Rattle.round_engine.proofs.groups.fill_each.Goals as goal
 use Rattle.round_engine.proofs.groups.fill_each.Goals.{then-marks-i, else-marks-i}
 
 pub loop-i-init : goal.loop-i-init
-loop-i-init c = record { same = c.requires.same; masks = c.requires.masks; walk = walk_start _ _ c.args.query.now.items c.args.runnings.now c.requires.others; products = walk_start _ _ c.args.query.now.items c.args.products.now c.requires.products }
+loop-i-init c = record { same = c.requires.same; masks = c.requires.masks; walk = walk_start _ _ c.args.query.now.items c.args.runnings.now c.requires.others; kept = walk_start _ _ c.args.query.now.items c.args.kept.now c.requires.kept }
 
 pub fill_item-requires-clause-kept : goal.fill_item-requires-clause-kept
 fill_item-requires-clause-kept c =
     let walk = c.loop-i.invariant.walk in
-    let kept = c.loop-i.invariant.products in
+    let kept = c.loop-i.invariant.kept in
     let i = c.loop-i.i in
     let items = c.args.query.now.items in
     let item = c.index-as_slice-i.result in
     let inside : i < length items = omega (arith, walk.count, c.requires.others.count) in
     let there : slice_get items i ≡ Some item = read_there items c.as_slice.result.now i item inside (c.as_slice.ensures ∙ ap (λ (q : Query). q.items) c.query.view_is) c.index-as_slice-i.is in
-    kept.rest i item _ (omega arith) there (slice_get-get_or c.loop-i.products i c.index-products-i.result (omega (arith, kept.count, inside)))
+    kept.rest i item _ (omega arith) there (slice_get-get_or c.loop-i.kept i c.index-kept-i.result (omega (arith, kept.count, inside)))
 
 pub fill_item-requires-clause-room : goal.fill_item-requires-clause-room
 fill_item-requires-clause-room c =
@@ -41,23 +41,23 @@ loop-i-preserved c =
           (let item = w.index-as_slice-i.result in
           let inside : i < length items = omega (arith, walk.count, c.requires.others.count) in
           let there : slice_get items i ≡ Some item = read_there items w.as_slice.result.now i item inside (w.as_slice.ensures ∙ ap (λ (q : Query). q.items) c.query.view_is) w.index-as_slice-i.is in
-          rw (w.runnings-is, w.masks-is, w.block-is, w.products-is) (record {
+          rw (w.runnings-is, w.masks-is, w.block-is, w.kept-is) (record {
             same = w.fill_item.ensures.same;
             masks = w.fill_item.ensures.masks;
             walk = walk_set _ _ items c.loop-i.runnings i item w.fill_item.new.running there w.fill_item.ensures.stand walk;
-            products = walk_set _ _ items c.loop-i.products i item w.fill_item.new.kept there w.fill_item.ensures.kept c.loop-i.invariant.products;
+            kept = walk_set _ _ items c.loop-i.kept i item w.fill_item.new.kept there w.fill_item.ensures.kept c.loop-i.invariant.kept;
           }))
       | else-marks-i w ↦
-          rw (w.runnings-is, w.masks-is, w.block-is, w.products-is) (record {
+          rw (w.runnings-is, w.masks-is, w.block-is, w.kept-is) (record {
             same = c.loop-i.invariant.same;
             masks = c.loop-i.invariant.masks;
             walk = walk_keep _ _ items c.loop-i.runnings i (λ item running at before. before.stands (λ marked. false≢true (sym w.if-marks-i.false ∙ marked))) walk;
-            products = walk_keep _ _ items c.loop-i.products i (λ item product at there. there) c.loop-i.invariant.products;
+            kept = walk_keep _ _ items c.loop-i.kept i (λ item parts at there. there) c.loop-i.invariant.kept;
           })
     ]
 
 pub returns-clause-stand : goal.returns-clause-stand
 returns-clause-stand c = walk_end _ _ c.args.query.now.items c.loop-i.runnings c.loop-i.i (omega (arith, c.loop-i.invariant.walk.count, c.requires.others.count)) c.loop-i.invariant.walk
 
-pub returns-clause-products : goal.returns-clause-products
-returns-clause-products c = walk_end _ _ c.args.query.now.items c.loop-i.products c.loop-i.i (omega (arith, c.loop-i.invariant.walk.count, c.requires.others.count)) c.loop-i.invariant.products
+pub returns-clause-kept : goal.returns-clause-kept
+returns-clause-kept c = walk_end _ _ c.args.query.now.items c.loop-i.kept c.loop-i.i (omega (arith, c.loop-i.invariant.walk.count, c.requires.others.count)) c.loop-i.invariant.kept

@@ -1,8 +1,7 @@
 use Rattle.std.proofs.Common.{◌≡◌}
-use Rattle.std.specs.Prelude.{IfSome}
-use Rattle.product_sums.specs.KeptProducts.{IsKeptProduct}
 use Rattle.round_engine.specs.CellAnswers.{StandBeside, StandForCells}
 use Rattle.round_engine.specs.Engines.{stage_of}
+use Rattle.round_engine.specs.KeptCells.{AreKeptParts}
 use Rattle.round_engine.specs.Moves.{is_marked}
 use Rattle.round_engine.specs.OneCell.{HoldMasks}
 use Rattle.round_engine.proofs.Walks.{Walks}
@@ -16,5 +15,5 @@ invariant-loop-i l = record {
       Walks (λ i item running. StandBeside (is_marked l.marks i) (stage_of l.query l.columns) item running)
       (λ i item running. StandForCells (stage_of l.query l.columns) item running)
       l.query.items l.runnings l.i;
-  products : Walks (λ i item product. IfSome product (IsKeptProduct l.columns item.arg)) (λ i item product. IfSome product (IsKeptProduct l.columns item.arg)) l.query.items l.products l.i;
+  kept : Walks (λ i item parts. AreKeptParts l.columns item parts) (λ i item parts. AreKeptParts l.columns item parts) l.query.items l.kept l.i;
 }

@@ -40,5 +40,5 @@ returns c =
       presence = record { kind = c.in_ok-presence.ensures.kind_is; room = c.in_ok-presence.ensures.room_is ∙ most };
       items = subst (λ n. HaveCells c.args.query.now.items n c.in_ok-runnings.runnings.items) most c.in_ok-runnings.ensures;
       masks = subst (λ n. HoldMasks n c.in_ok-masks.masks) c.rows.ensures.rows c.in_ok-masks.ensures;
-      products = c.in_ok-products.ensures;
+      kept = c.in_ok-kept.ensures;
     }

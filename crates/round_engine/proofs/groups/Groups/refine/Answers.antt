@@ -5,7 +5,7 @@ use Rattle.round_engine.specs.CellAnswers.{IsParted, TellSingle}
 use Rattle.round_engine.specs.Stages.{IsOpenStage, Stage, stepped}
 use Rattle.round_engine.proofs.CellKept.{cells_more, group_below, group_unread, parted_holds, parted_more, parted_rows, parted_still, written}
 use Rattle.round_engine.proofs.CellRows.{cells_fit, groups_within}
-use Rattle.round_engine.proofs.KeptProducts.{products_stay}
+use Rattle.round_engine.proofs.KeptCells.{parts_stay}
 use Rattle.round_engine.proofs.groups.Groups.refine.Goals as goal
 
 pub overflow_cast-column : goal.overflow_cast-column
@@ -55,7 +55,7 @@ returns-then-is_group c =
     (parted_more stood.before c.args.column c.args.plane.now stood.open_stage c.refining_stands.ensures c.args.self.now.cells single.items c.tell_single.new.single stood.answered.parted long is
     (subst (λ (cells : RowCells). TellSingle cells.parts c.tell_single.new.single) c.part_cells.ensures c.tell_single.ensures.told) (omega (arith, value, room)))))
     refl refl refl refl
-    (products_stay stood.before c.args.column c.args.plane.now c.args.self.now.products.items stood.open_stage (subst IsOpenStage stood.read c.requires.open_stage) (c.requires.rows ∙ ap (λ (s : Stage). s.frame.rows) stood.read) stood.answered.products)
+    (parts_stay stood.before c.args.column c.args.plane.now c.args.self.now.kept.items stood.open_stage (subst IsOpenStage stood.read c.requires.open_stage) (c.requires.rows ∙ ap (λ (s : Stage). s.frame.rows) stood.read) stood.answered.kept)
 
 pub returns-else-is_group : goal.returns-else-is_group
 returns-else-is_group c =
@@ -64,4 +64,4 @@ returns-else-is_group c =
     parted_holds stood.before _ c.args.column c.args.plane.now c.args.self.now c.args.self.now stood.read stood.answered
     (parted_still stood.before c.args.column c.args.plane.now stood.open_stage c.others_leave_cells.ensures c.args.self.now.cells c.args.self.now.single.items stood.answered.parted other)
     refl refl refl refl
-    (products_stay stood.before c.args.column c.args.plane.now c.args.self.now.products.items stood.open_stage (subst IsOpenStage stood.read c.requires.open_stage) (c.requires.rows ∙ ap (λ (s : Stage). s.frame.rows) stood.read) stood.answered.products)
+    (parts_stay stood.before c.args.column c.args.plane.now c.args.self.now.kept.items stood.open_stage (subst IsOpenStage stood.read c.requires.open_stage) (c.requires.rows ∙ ap (λ (s : Stage). s.frame.rows) stood.read) stood.answered.kept)

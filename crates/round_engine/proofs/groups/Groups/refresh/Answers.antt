@@ -2,12 +2,12 @@ use Rattle.std.proofs.Common.{◌≡◌, false, length, drop, refl, ap, sym, sub
 use Rattle.query_model.specs.Answers.{every_row}
 use Rattle.round_engine.specs.CellAnswers.{IsParted, StandForCells, StandForEach, StandForOthers, moves_rows}
 use Rattle.round_engine.specs.Engines.{stage_of}
-use Rattle.round_engine.specs.KeptProducts.{AreKeptProducts}
+use Rattle.round_engine.specs.KeptCells.{HaveKeptParts}
 use Rattle.round_engine.specs.KeptSums.{columns_of}
 use Rattle.round_engine.specs.Moves.{AreMoved}
 use Rattle.round_engine.specs.Stages.{IsGrouped, IsOpenStage, Stage}
 use Rattle.round_engine.proofs.CellKept.{moved_for_others, parted_still, rows_stay, stand_still, written}
-use Rattle.round_engine.proofs.KeptProducts.{products_stay}
+use Rattle.round_engine.proofs.KeptCells.{parts_stay}
 use Rattle.round_engine.proofs.groups.Groups.refresh.Goals as goal
 
 pub fill_each-requires-clause-parted : goal.fill_each-requires-clause-parted
@@ -27,12 +27,12 @@ fill_each-requires-clause-others c =
     (subst (λ (s : Stage). StandForOthers s c.moved_items-moved.result c.args.self.now.runnings.items) (sym stood.read)
     (moved_for_others stood.before c.args.column c.args.plane.now c.moved_items-moved.result c.args.self.now.runnings.items stay moved stood.answered.items))
 
-pub fill_each-requires-clause-products : goal.fill_each-requires-clause-products
-fill_each-requires-clause-products c =
+pub fill_each-requires-clause-kept : goal.fill_each-requires-clause-kept
+fill_each-requires-clause-kept c =
     let stood = c.requires.before in
-    subst (AreKeptProducts c.args.columns.now c.args.query.now.items) (sym c.deref_mut-else-moves_rows.ensures.value)
-    (subst (λ (s : Stage). AreKeptProducts (columns_of s) s.query.items c.args.self.now.products.items) (sym stood.read)
-    (products_stay stood.before c.args.column c.args.plane.now c.args.self.now.products.items stood.open_stage (subst IsOpenStage stood.read c.requires.open_stage) (c.requires.rows ∙ ap (λ (s : Stage). s.frame.rows) stood.read) stood.answered.products))
+    subst (HaveKeptParts c.args.columns.now c.args.query.now.items) (sym c.deref_mut-else-moves_rows.ensures.value)
+    (subst (λ (s : Stage). HaveKeptParts (columns_of s) s.query.items c.args.self.now.kept.items) (sym stood.read)
+    (parts_stay stood.before c.args.column c.args.plane.now c.args.self.now.kept.items stood.open_stage (subst IsOpenStage stood.read c.requires.open_stage) (c.requires.rows ∙ ap (λ (s : Stage). s.frame.rows) stood.read) stood.answered.kept))
 
 pub returns-else-moves_rows-clause-answers : goal.returns-else-moves_rows-clause-answers
 returns-else-moves_rows-clause-answers c =
@@ -42,9 +42,9 @@ returns-else-moves_rows-clause-answers c =
     let old = c.args.self.now.runnings in
     let was = ap (λ (s : Stage). length s.query.items) stood.read in
     let same = written new (drop (length new) old.items) old.len (omega (arith, old.ok.0, c.fill_each.ensures.stand.count, stood.answered.items.count, was)) in
-    let new_products = c.fill_each.new.products in
-    let old_products = c.args.self.now.products in
-    let same_products = written new_products (drop (length new_products) old_products.items) old_products.len (omega (arith, old_products.ok.0, c.fill_each.ensures.products.count, stood.answered.products.count, was)) in
+    let new_kept = c.fill_each.new.kept in
+    let old_kept = c.args.self.now.kept in
+    let same_kept = written new_kept (drop (length new_kept) old_kept.items) old_kept.len (omega (arith, old_kept.ok.0, c.fill_each.ensures.kept.count, stood.answered.kept.count, was)) in
     record {
       grouped = subst (λ (s : Stage). IsGrouped s.query.shape) (sym stood.read) stood.answered.grouped;
       parted = subst (λ (s : Stage). IsParted s c.args.self.now.cells c.args.self.now.single.items) (sym stood.read)
@@ -53,5 +53,5 @@ returns-else-moves_rows-clause-answers c =
           (stand_still stood.before c.args.column c.args.plane.now every_row c.args.self.now.presence stay refl stood.answered.presence);
       items = subst (StandForEach (stage_of c.args.query.now c.args.columns.now)) (sym same) c.fill_each.ensures.stand;
       masks = c.fill_each.ensures.masks;
-      products = subst (AreKeptProducts c.args.columns.now c.args.query.now.items) (sym same_products) c.fill_each.ensures.products;
+      kept = subst (HaveKeptParts c.args.columns.now c.args.query.now.items) (sym same_kept) c.fill_each.ensures.kept;
     }

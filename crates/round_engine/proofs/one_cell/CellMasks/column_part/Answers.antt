@@ -3,6 +3,7 @@ use Rattle.aggregates.specs.Tallies.{tally_of}
 use Rattle.query_model.specs.Queries.{Aggregate}
 use Rattle.round_engine.specs.Selected.{pairs_in}
 use Rattle.round_engine.proofs.FewCells.{part_rows, selected_part, selection_part}
+use Rattle.round_engine.proofs.KeptCells.{sums_at, sums_of}
 use Rattle.round_engine.proofs.OneCell.{must_if}
 use Rattle.round_engine.proofs.one_cell.CellMasks.column_part.Goals as goal
 
@@ -46,3 +47,18 @@ returns-else-leaves_out-clause-tally c =
     (c.certain_if-else-leaves_out.ensures.may ∙ c.select_part.ensures.may)
     (must_if c.args.certain _ _ _ _ _ c.certain_if-else-leaves_out.ensures.must c.select_part.ensures.must c.requires.masks.none) in
     c.tally-else-leaves_out.ensures.tally ∙ ap (λ (i : Aggregate). tally_of i.kind (pairs_in c.column-known.result.now c.certain_if-else-leaves_out.result)) c.item.view_is ∙ ap (tally_of c.args.item.now.kind) (sym same)
+
+-- ---- what is kept
+
+pub tally-requires-clause-kept : goal.tally-requires-clause-kept
+tally-requires-clause-kept c = sums_at c.args.columns.now c.args.item.now c.args.kept.now c.args.column c.column-known.result.now c.requires.column c.column-known.ensures.column c.requires.kept
+
+pub tally-requires-else-leaves_out-clause-kept : goal.tally-requires-else-leaves_out-clause-kept
+tally-requires-else-leaves_out-clause-kept c = sums_at c.args.columns.now c.args.item.now c.args.kept.now c.args.column c.column-known.result.now c.requires.column c.column-known.ensures.column c.requires.kept
+
+pub returns-then-leaves_out-clause-kept : goal.returns-then-leaves_out-clause-kept
+returns-then-leaves_out-clause-kept c = sums_of c.args.columns.now c.args.item.now c.tally.new.kept c.args.column c.column-known.result.now c.requires.column c.column-known.ensures.column c.tally.ensures.kept
+
+pub returns-else-leaves_out-clause-kept : goal.returns-else-leaves_out-clause-kept
+returns-else-leaves_out-clause-kept c =
+    sums_of c.args.columns.now c.args.item.now c.tally-else-leaves_out.new.kept c.args.column c.column-known.result.now c.requires.column c.column-known.ensures.column c.tally-else-leaves_out.ensures.kept

@@ -42,6 +42,10 @@ loop-cell-preserved c =
         | in-Column w ↦ rw w.self-is w.column_part-tally.ensures.masks
         | in_default w ↦ rw w.self-is c.loop-cell.invariant.masks
       ];
+      kept = elim c.match-item.branch [
+        | in-Column w ↦ rw w.kept-is w.column_part-tally.ensures.kept
+        | in_default w ↦ rw w.kept-is c.loop-cell.invariant.kept
+      ];
       parts =
           part_more c.args.query.now c.args.item.now c.args.columns.now c.loop-cell.cell c.loop-cell.running c.set.new.self _ c.requires.open_stage.knowledge c.loop-cell.invariant.parts c.set.ensures
           (elim c.match-item.branch [

@@ -5,6 +5,7 @@ use Rattle.kleene_filter.specs.Filters.{truth_at}
 use Rattle.query_model.specs.Meaning.{ReadsBelow}
 use Rattle.query_model.specs.Queries.{Aggregate}
 use Rattle.round_engine.specs.Selected.{HasRows, pairs_in}
+use Rattle.round_engine.proofs.KeptCells.{sums_at, sums_of}
 use Rattle.round_engine.proofs.OneCell.{must_if, selected_alone, selected_rows, selection_alone}
 use Rattle.round_engine.proofs.one_cell.CellMasks.tally_column.Goals as goal
 
@@ -61,3 +62,18 @@ returns-else-nullable-clause-tally c =
     (c.certain_if-else-nullable.ensures.may ∙ c.select_all.ensures.may)
     (must_if c.args.certain _ _ _ _ _ c.certain_if-else-nullable.ensures.must c.select_all.ensures.must c.requires.masks.none) in
     c.tally-else-nullable.ensures.tally ∙ ap (λ (i : Aggregate). tally_of i.kind (pairs_in c.column-known.result.now c.certain_if-else-nullable.result)) c.item.view_is ∙ ap (tally_of c.args.item.now.kind) (sym same)
+
+-- ---- what is kept
+
+pub tally-requires-clause-kept : goal.tally-requires-clause-kept
+tally-requires-clause-kept c = sums_at c.args.columns.now c.args.item.now c.args.kept.now c.args.column c.column-known.result.now c.requires.column c.column-known.ensures.column c.requires.kept
+
+pub tally-requires-else-nullable-clause-kept : goal.tally-requires-else-nullable-clause-kept
+tally-requires-else-nullable-clause-kept c = sums_at c.args.columns.now c.args.item.now c.args.kept.now c.args.column c.column-known.result.now c.requires.column c.column-known.ensures.column c.requires.kept
+
+pub returns-then-nullable-clause-kept : goal.returns-then-nullable-clause-kept
+returns-then-nullable-clause-kept c = sums_of c.args.columns.now c.args.item.now c.tally.new.kept c.args.column c.column-known.result.now c.requires.column c.column-known.ensures.column c.tally.ensures.kept
+
+pub returns-else-nullable-clause-kept : goal.returns-else-nullable-clause-kept
+returns-else-nullable-clause-kept c =
+    sums_of c.args.columns.now c.args.item.now c.tally-else-nullable.new.kept c.args.column c.column-known.result.now c.requires.column c.column-known.ensures.column c.tally-else-nullable.ensures.kept

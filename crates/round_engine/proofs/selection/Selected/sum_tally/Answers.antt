@@ -11,18 +11,18 @@ use Rattle.round_engine.specs.Selected.{pairs_in}
 use Rattle.round_engine.proofs.SelectedBounds.{must_values}
 use Rattle.round_engine.proofs.selection.Selected.sum_tally.Goals as goal
 
-pub sum_ends-sums-requires-clause-values : goal.sum_ends-sums-requires-clause-values
-sum_ends-sums-requires-clause-values c = subst (λ s. MayHaveValues c.args.known.now s.must) (sym c.self.view_is) (must_values c.args.known.now c.args.self.now c.requires.selection)
+pub ends_of_cell-sums-requires-clause-values : goal.ends_of_cell-sums-requires-clause-values
+ends_of_cell-sums-requires-clause-values c = subst (λ s. MayHaveValues c.args.known.now s.must) (sym c.self.view_is) (must_values c.args.known.now c.args.self.now c.requires.selection)
 
 pub share-requires-clause-certain : goal.share-requires-clause-certain
 share-requires-clause-certain c =
-    let same : to_z w128 (of_z w128 c.sum_ends-sums.result.low) ≡ c.sum_ends-sums.result.low = omega (arith, ints, c.sum_ends-sums.ensures.few.0) in
-    same ∙ c.sum_ends-sums.ensures.low ∙ ap (λ s. total (lows_in c.args.known.now s.must)) c.self.view_is
+    let same : to_z w128 (of_z w128 c.ends_of_cell-sums.result.low) ≡ c.ends_of_cell-sums.result.low = omega (arith, ints, c.ends_of_cell-sums.ensures.few.0) in
+    same ∙ c.ends_of_cell-sums.ensures.low ∙ ap (λ s. total (lows_in c.args.known.now s.must)) c.self.view_is
 
 pub share-requires-2-clause-certain : goal.share-requires-2-clause-certain
 share-requires-2-clause-certain c =
-    let same : to_z w128 (of_z w128 c.sum_ends-sums.result.high) ≡ c.sum_ends-sums.result.high = omega (arith, ints, c.sum_ends-sums.ensures.few.1) in
-    same ∙ c.sum_ends-sums.ensures.high ∙ ap (λ s. total (highs_in c.args.known.now s.must)) c.self.view_is
+    let same : to_z w128 (of_z w128 c.ends_of_cell-sums.result.high) ≡ c.ends_of_cell-sums.result.high = omega (arith, ints, c.ends_of_cell-sums.ensures.few.1) in
+    same ∙ c.ends_of_cell-sums.ensures.high ∙ ap (λ s. total (highs_in c.args.known.now s.must)) c.self.view_is
 
 pub returns-clause-tally : goal.returns-clause-tally
 returns-clause-tally c =
