@@ -1,0 +1,5 @@
+pub mod Cells
+pub mod Combined
+pub mod Faults
+pub mod Forms
+pub mod Shown

@@ -1,0 +1,16 @@
+//! Reports by groups of the parts of a table: what their lines say as cells, and the lines of the report over all parts.
+#![tactic(auto)]
+
+mod answers;
+mod cells;
+mod combined;
+mod fault;
+mod forms;
+mod group;
+mod keys;
+
+pub use cells::cell_of;
+pub use combined::combine;
+pub use fault::CombineFault;
+pub use forms::EndsForm;
+pub use group::{Group, Groups};
