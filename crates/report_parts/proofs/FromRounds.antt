@@ -1,5 +1,5 @@
 -- That a part of which the passed blocks are forgotten goes on as the whole report does, and says the same in each round behind them.
-use Rattle.std.proofs.Common.{◌≡◌, ◌⊎◌, ℕ, zero, suc, ◌+◌, ◌-◌, ◌<◌, ◌≤◌, min, Bool, true, false, Some, None, slice_get, List, [], ◌∷◌, ◌++◌, length, map, set, remove, get_or, if◌then◌else◌, refl, sym, ap, subst, ◌∙◌, inl, inr, arith, replicate, length-append, take, drop}
+use Rattle.std.proofs.Common.{◌≡◌, ◌⊎◌, ℕ, zero, suc, ◌+◌, ◌-◌, ◌<◌, ◌≤◌, min, Bool, true, false, Option, Some, None, slice_get, List, [], ◌∷◌, ◌++◌, length, map, set, remove, get_or, if◌then◌else◌, refl, sym, ap, subst, ◌∙◌, inl, inr, arith, replicate, length-append, take, drop}
 use Rattle.std.proofs.Math.Seq.{get_or-append_seam, take-append_seam}
 use Rattle.std.proofs.Math.ListN.{get_or-eq_default}
 use Rattle.std.proofs.lemmas.List.{get_or-append_right, get_or-replicate, get_or_append_left, length-replicate}
@@ -13,6 +13,7 @@ use Rattle.query_model.specs.declared.query.ItemKind.{ItemKind}
 use Rattle.query_model.specs.declared.query.ItemKind.TheVariants.{Avg}
 use Rattle.report_text.specs.Extras.{IsRowsLine, extra_line}
 use Rattle.report_text.specs.Lines.{IsRoundLine, item_line}
+use Rattle.report_text.specs.declared.groups.GroupLine.{GroupLine}
 use Rattle.report_parts.specs.Ends.{end_of_all, ends_narrow}
 use Rattle.report_parts.specs.Passed.{AllTellFrom, TellsFrom}
 use Rattle.report_parts.specs.Blocks.{entries_of, no_block}
@@ -21,9 +22,10 @@ use Rattle.report_parts.specs.Entries.{ends_with_extra, last_entry, no_entry}
 use Rattle.report_parts.specs.Reports.{IsBlockFault, entries_over}
 use Rattle.report_parts.specs.Rounds.{entries_in, entry_in, has_block, is_over}
 use Rattle.report_parts.specs.Tags.{AreInOrder, CannotTake, IsLineRefused, IsRefused, TakesTagged, against, behind_tag, by_order, tag_of, told_of, with_part}
-use Rattle.report_parts.specs.Told.{Answers, Closes, Extends, GoesOn, OrElse, PassesBehind, PassesInside, Takes, TakesAt, TakesBehind, TakesBehindAnswer, TakesInside, TakesRest, Told, at_place, closed, is_whole, nothing_told, settled, with_answer, with_current, with_extra}
+use Rattle.report_parts.specs.Told.{Answers, BeginsGroup, Closes, Extends, GoesOn, GroupsGoOn, OrElse, PassesBehind, PassesBehindSection, PassesInside, Takes, TakesAt, TakesBehind, TakesBehindAnswer, TakesBetween, TakesInside, TakesRest, Told, at_place, block_done, closed, closed_by, completed, completed_by, is_whole, nothing_told, opened_by, settled, with_answer, with_current, with_extra, with_group}
 use Rattle.report_parts.specs.declared.block.Block.{Block}
-use Rattle.report_parts.specs.declared.block.Block.TheVariants.{Totals}
+use Rattle.report_parts.specs.declared.block.Block.TheVariants.{Groups, Totals}
+use Rattle.report_parts.specs.declared.block.Section.{Section}
 use Rattle.report_parts.specs.declared.closing.Closing.{Closing}
 use Rattle.report_parts.specs.declared.closing.Closing.TheVariants.{Unknown}
 use Rattle.report_parts.specs.declared.entry.Entry.{Entry}
@@ -34,22 +36,33 @@ use Rattle.report_parts.specs.declared.fault.InputFault.TheVariants.{Line, NoTab
 use Rattle.report_parts.specs.declared.fault.LineFault.{LineFault}
 use Rattle.report_parts.specs.declared.fault.LineFault.TheVariants.{NoMemory, OtherLine, OtherQuery}
 use Rattle.report_parts.specs.declared.part.Place.{Place}
-use Rattle.report_parts.specs.declared.part.Place.TheVariants.{Query, Opened, Round, Items, Ended}
+use Rattle.report_parts.specs.declared.part.Place.TheVariants.{Query, Opened, Round, Group, Items, Ended}
 use Rattle.report_parts.specs.declared.shape.Shape.{Shape}
 
 -- ---- the same from a round on
 
 pub tells_here : (round : ℕ) (told : Told) → TellsFrom round told told
-tells_here round told = record { tag = refl; closing = refl; current = refl; place = refl; count = refl; same = λ later from. refl }
+tells_here round told = record { tag = refl; closing = refl; sections = refl; group = refl; current = refl; place = refl; count = refl; same = λ later from. refl }
 
 pub tells_back : (round : ℕ) (whole told : Told) → TellsFrom round whole told → TellsFrom round told whole
 tells_back round whole told h =
-    record { tag = sym h.tag; closing = sym h.closing; current = sym h.current; place = sym h.place; count = sym h.count; same = λ later from. sym (h.same later from) }
+    record {
+      tag = sym h.tag;
+      closing = sym h.closing;
+      sections = sym h.sections;
+      group = sym h.group;
+      current = sym h.current;
+      place = sym h.place;
+      count = sym h.count;
+      same = λ later from. sym (h.same later from);
+    }
 
 pub tells_both : (from to : ℕ) (whole told next : Told) → from ≤ to → TellsFrom from whole told → TellsFrom to told next → TellsFrom to whole next
 tells_both from to whole told next le h k = record {
   tag = k.tag ∙ h.tag;
   closing = k.closing ∙ h.closing;
+  sections = k.sections ∙ h.sections;
+  group = k.group ∙ h.group;
   current = k.current ∙ h.current;
   place = k.place ∙ h.place;
   count = k.count ∙ h.count;
@@ -121,7 +134,7 @@ moved_too : (round : ℕ) (whole told next : Told) (place : Place) → TellsFrom
     TellsFrom round (at_place whole place) next
 moved_too round whole told next place h e =
     subst (λ (t : Told). TellsFrom round (at_place whole place) t) (sym e)
-    (record { tag = h.tag; closing = h.closing; current = h.current; place = refl; count = h.count; same = h.same })
+    (record { tag = h.tag; closing = h.closing; sections = h.sections; group = h.group; current = h.current; place = refl; count = h.count; same = h.same })
 
 pub cases_lt : (a b : ℕ) → (a < b) ⊎ (b ≤ a)
 cases_lt a b = grind arith
@@ -155,24 +168,93 @@ last_or round later whole told block count le same =
           ∙ sym (ap (λ (k : ℕ). get_or (whole ++ block ∷ []) k no_block) b)
     ]
 
-abbrev closed_with : Told → List Entry → Told
-closed_with told current = closed (with_current told current)
+one_more : (whole told : List Block) (block : Block) → length told ≡ length whole → length (told ++ block ∷ []) ≡ length (whole ++ block ∷ [])
+one_more whole told block e = length-append told (block ∷ []) ∙ ap (λ (n : ℕ). n + 1) e ∙ sym (length-append whole (block ∷ []))
 
--- the block that was begun is whole
-closed_too : (round : ℕ) (whole told : Told) → TellsFrom round whole told → TellsFrom round (closed whole) (closed told)
-closed_too round whole told h =
-    subst (λ (current : List Entry). TellsFrom round (closed_with whole current) (closed_with told told.current)) h.current (record {
+-- so is what they tell once a block or a section is whole
+abbrev Keeps : ℕ → (Told → Told) → Type 0
+Keeps round next = (whole told : Told) → TellsFrom round whole told → TellsFrom round (next whole) (next told)
+
+-- the block or the section that was begun
+closed_by_too : (group : Option GroupLine) (round : ℕ) (current : List Entry) (whole told : Told) → TellsFrom round whole told →
+    TellsFrom round (closed_by group (with_current whole current)) (closed_by group (with_current told current))
+closed_by_too None round current whole told h = record {
+  tag = h.tag;
+  closing = refl;
+  sections = h.sections;
+  group = refl;
+  current = refl;
+  place = refl;
+  count = one_more whole.blocks told.blocks (Totals current) h.count;
+  same = λ later le. last_or round later whole.blocks told.blocks (Totals current) h.count le h.same;
+}
+closed_by_too (Some group) round current whole told h = record {
+  tag = h.tag;
+  closing = refl;
+  sections = ap (λ (sections : List Section). sections ++ record { group = group; entries = current } ∷ []) h.sections;
+  group = refl;
+  current = refl;
+  place = refl;
+  count = h.count;
+  same = h.same;
+}
+
+abbrev with_sections : Told → List Section → Told
+with_sections told sections = record {
+  tag = told.tag;
+  blocks = told.blocks;
+  closing = told.closing;
+  sections = sections;
+  group = told.group;
+  current = told.current;
+  place = told.place;
+}
+
+-- the block of sections
+block_done_too : (round : ℕ) → Keeps round block_done
+block_done_too round whole told h =
+    subst (λ (sections : List Section). TellsFrom round (block_done (with_sections whole sections)) (block_done told)) h.sections (record {
       tag = h.tag;
-      closing = refl;
-      current = refl;
+      closing = h.closing;
+      sections = refl;
+      group = h.group;
+      current = h.current;
       place = refl;
-      count = length-append told.blocks (Totals told.current ∷ []) ∙ ap (λ (n : ℕ). n + 1) h.count ∙ sym (length-append whole.blocks (Totals told.current ∷ []));
-      same = λ later le. last_or round later whole.blocks told.blocks (Totals told.current) h.count le h.same;
+      count = one_more whole.blocks told.blocks (Groups told.sections) h.count;
+      same = λ later le. last_or round later whole.blocks told.blocks (Groups told.sections) h.count le h.same;
     })
+
+completed_by_too : (group : Option GroupLine) (round : ℕ) (current : List Entry) (whole told : Told) → TellsFrom round whole told →
+    TellsFrom round (completed_by group (with_current whole current)) (completed_by group (with_current told current))
+completed_by_too None round current whole told h = closed_by_too None round current whole told h
+completed_by_too (Some group) round current whole told h =
+    block_done_too round (closed_by (Some group) (with_current whole current)) (closed_by (Some group) (with_current told current))
+    (closed_by_too (Some group) round current whole told h)
+
+closed_too : (round : ℕ) → Keeps round closed
+closed_too round whole told h =
+    subst (λ (group : Option GroupLine). TellsFrom round (closed_by group whole) (closed told)) h.group
+    (subst (λ (current : List Entry). TellsFrom round (closed_by told.group (with_current whole current)) (closed told)) h.current
+    (closed_by_too told.group round told.current whole told h))
+
+completed_too : (round : ℕ) → Keeps round completed
+completed_too round whole told h =
+    subst (λ (group : Option GroupLine). TellsFrom round (completed_by group whole) (completed told)) h.group
+    (subst (λ (current : List Entry). TellsFrom round (completed_by told.group (with_current whole current)) (completed told)) h.current
+    (completed_by_too told.group round told.current whole told h))
 
 with_current_too : (round : ℕ) (whole told : Told) (current : List Entry) → TellsFrom round whole told →
     TellsFrom round (with_current whole current) (with_current told current)
-with_current_too round whole told current h = record { tag = h.tag; closing = h.closing; current = refl; place = h.place; count = h.count; same = h.same }
+with_current_too round whole told current h = record {
+  tag = h.tag;
+  closing = h.closing;
+  sections = h.sections;
+  group = h.group;
+  current = refl;
+  place = h.place;
+  count = h.count;
+  same = h.same;
+}
 
 settled_by : (b : Bool) (round : ℕ) (whole told : Told) → TellsFrom round whole told →
     TellsFrom round (if b then closed whole else at_place whole Items) (if b then closed told else at_place told Items)
@@ -215,17 +297,42 @@ or_else round First Second one two whole told next h (inr k) =
       tells = g.tells;
     }
 
-goes_on : (round : ℕ) (line : List ℕ) → IsTaken round (λ told next. GoesOn told line next)
-goes_on round line whole told next h (inl k) = record {
-  wholly = at_place whole Items;
+goes_on : (round columns : ℕ) (line : List ℕ) → IsTaken round (λ told next. GoesOn columns told line next)
+goes_on round columns line whole told next h (inl k) = record {
+  wholly = at_place whole (opened_by columns);
   taken = inl (record { is_round = subst (λ (n : ℕ). IsRoundLine n line) h.count k.is_round; begun = refl });
-  tells = moved_too round whole told next Items h k.begun;
+  tells = moved_too round whole told next (opened_by columns) h k.begun;
 }
-goes_on round line whole told next h (inr k) = record {
+goes_on round columns line whole told next h (inr k) = record {
   wholly = at_place whole (Ended k.end);
   taken = inr (record { end = k.end; some = subst (λ (n : ℕ). 0 < n) h.count k.some; is_line = k.is_line; ended = refl });
   tells = moved_too round whole told next (Ended k.end) h k.ended;
 }
+
+begins_group : (round columns : ℕ) (line : List ℕ) → IsTaken round (λ told next. BeginsGroup columns told line next)
+begins_group round columns line whole told next h k = record {
+  wholly = with_group whole k.group;
+  taken = record { group = k.group; shown = k.shown; each = k.each; is_line = k.is_line; begun = refl };
+  tells = subst (λ (t : Told). TellsFrom round (with_group whole k.group) t) (sym k.begun) (record {
+    tag = h.tag;
+    closing = h.closing;
+    sections = h.sections;
+    group = refl;
+    current = h.current;
+    place = refl;
+    count = h.count;
+    same = h.same;
+  });
+}
+
+groups_go_on : (round columns : ℕ) (line : List ℕ) (near far : Told → Told) → Keeps round near → Keeps round far →
+    IsTaken round (λ told next. GroupsGoOn columns (near told) (far told) line next)
+groups_go_on round columns line near far one two whole told next h (inl k) =
+    let g = begins_group round columns line (near whole) (near told) next (one whole told h) k in
+    record { wholly = g.wholly; taken = inl g.taken; tells = g.tells }
+groups_go_on round columns line near far one two whole told next h (inr k) =
+    let g = goes_on round columns line (far whole) (far told) next (two whole told h) k in
+    record { wholly = g.wholly; taken = inr g.taken; tells = g.tells }
 
 answers : (round : ℕ) (kinds : List ItemKind) (line : List ℕ) → IsTaken round (λ told next. Answers kinds told line next)
 answers round kinds line whole told next h k = record {
@@ -284,7 +391,7 @@ passes_behind round kinds line whole told next h k = record {
 
 closes : (round : ℕ) (shape : Shape) (line : List ℕ) → IsTaken round (λ told next. Closes shape told line next)
 closes round shape line whole told next h k =
-    let g = goes_on round line (closed whole) (closed told) next (closed_too round whole told h) k.goes_on in
+    let g = groups_go_on round shape.columns line closed completed (closed_too round) (completed_too round) whole told next h k.goes_on in
     record {
       wholly = g.wholly;
       taken = record {
@@ -312,8 +419,22 @@ inside round shape line =
 
 behind : (round : ℕ) (shape : Shape) (line : List ℕ) → IsTaken round (λ told next. TakesBehind shape told line next)
 behind round shape line =
-    or_else round (λ told next. GoesOn told line next) (λ told next. PassesBehind shape.kinds told line next)
-    (goes_on round line) (passes_behind round shape.kinds line)
+    or_else round (λ told next. GoesOn shape.columns told line next) (λ told next. PassesBehind shape.kinds told line next)
+    (goes_on round shape.columns line) (passes_behind round shape.kinds line)
+
+passes_behind_section : (round : ℕ) (kinds : List ItemKind) (line : List ℕ) → IsTaken round (λ told next. PassesBehindSection kinds told line next)
+passes_behind_section round kinds line whole told next h k =
+    let g = passes_behind round kinds line whole told next h k.passes in
+    record {
+      wholly = g.wholly;
+      taken = record { some = subst (λ (sections : List Section). 0 < length sections) h.sections k.some; passes = g.taken };
+      tells = g.tells;
+    }
+
+between : (round : ℕ) (shape : Shape) (line : List ℕ) → IsTaken round (λ told next. TakesBetween shape told line next)
+between round shape line =
+    or_else round (λ told next. GroupsGoOn shape.columns told (block_done told) line next) (λ told next. PassesBehindSection shape.kinds told line next)
+    (groups_go_on round shape.columns line (λ told. told) block_done (λ whole told h. h) (block_done_too round)) (passes_behind_section round shape.kinds line)
 
 -- the whole report takes the line, and tells the same from the round on
 abbrev pub TakesToo : Place → List ℕ → Shape → ℕ → Told → List ℕ → Told → Type 0
@@ -332,11 +453,12 @@ takes_at Opened query shape round whole told line next h (inl k) = record {
   tells = moved_too round whole told next Round h k.passed;
 }
 takes_at Opened query shape round whole told line next h (inr k) = record {
-  wholly = at_place whole Items;
+  wholly = at_place whole (opened_by shape.columns);
   taken = inr (record { is_round = subst (λ (n : ℕ). IsRoundLine n line) h.count k.is_round; begun = refl });
-  tells = moved_too round whole told next Items h k.begun;
+  tells = moved_too round whole told next (opened_by shape.columns) h k.begun;
 }
 takes_at Round query shape round whole told line next h k = behind round shape line whole told next h k
+takes_at Group query shape round whole told line next h k = between round shape line whole told next h k
 takes_at Items query shape round whole told line next h k = inside round shape line whole told next h k
 takes_at (Ended end) query shape round whole told line next h k = absurd k
 
@@ -407,11 +529,13 @@ forgotten n block blocks i le =
     ∙ sym (get_or-append_right (replicate n no_block) (block ∷ blocks) n i no_block (length-replicate n no_block) (omega (arith, le)))
 
 -- where it is before the round, and not the last
-pub passed_on : (tag : List ℕ) (n round : ℕ) (blocks : List Block) (closing : Closing) (current : List Entry) (place : Place) → n < round → 1 < length blocks →
-    TellsFrom round (record { tag = tag; blocks = replicate n no_block ++ blocks; closing = closing; current = current; place = place })
-    (record { tag = tag; blocks = replicate (n + 1) no_block ++ remove blocks 0; closing = closing; current = current; place = place })
-passed_on tag n round [] closing current place less some = absurd (omega (arith, some))
-passed_on tag n round (block ∷ blocks) closing current place less some =
+pub passed_on : (tag : List ℕ) (n round : ℕ) (blocks : List Block) (closing : Closing) (sections : List Section) (group : Option GroupLine) (current : List Entry) (place : Place) →
+    n < round → 1 < length blocks →
+    TellsFrom round
+    (record { tag = tag; blocks = replicate n no_block ++ blocks; closing = closing; sections = sections; group = group; current = current; place = place })
+    (record { tag = tag; blocks = replicate (n + 1) no_block ++ remove blocks 0; closing = closing; sections = sections; group = group; current = current; place = place })
+passed_on tag n round [] closing sections group current place less some = absurd (omega (arith, some))
+passed_on tag n round (block ∷ blocks) closing sections group current place less some =
     let before : length (replicate n no_block ++ block ∷ blocks) ≡ n + suc (length blocks) =
     length-append (replicate n no_block) (block ∷ blocks) ∙ ap (λ (k : ℕ). k + suc (length blocks)) (length-replicate n no_block) in
     let behind : length (replicate (n + 1) no_block ++ blocks) ≡ n + 1 + length blocks =
@@ -419,6 +543,8 @@ passed_on tag n round (block ∷ blocks) closing current place less some =
     record {
       tag = refl;
       closing = refl;
+      sections = refl;
+      group = refl;
       current = refl;
       place = refl;
       count = omega (arith, before, behind);
@@ -459,11 +585,13 @@ empty_list (block ∷ blocks) e = absurd (omega (arith, e))
 -- a part that has told nothing
 nothing_is : (round : ℕ) (tag : List ℕ) (whole : Told) → TellsFrom round whole (nothing_told tag) → whole ≡ nothing_told tag
 nothing_is round tag whole h =
-    subst (λ (t : List ℕ). whole ≡ record { tag = t; blocks = []; closing = Unknown; current = []; place = Query }) (sym h.tag)
-    (subst (λ (b : List Block). whole ≡ record { tag = whole.tag; blocks = b; closing = Unknown; current = []; place = Query }) (empty_list whole.blocks h.count)
-    (subst (λ (c : Closing). whole ≡ record { tag = whole.tag; blocks = whole.blocks; closing = c; current = []; place = Query }) (sym h.closing)
-    (subst (λ (c : List Entry). whole ≡ record { tag = whole.tag; blocks = whole.blocks; closing = whole.closing; current = c; place = Query }) (sym h.current)
-    (subst (λ (p : Place). whole ≡ record { tag = whole.tag; blocks = whole.blocks; closing = whole.closing; current = whole.current; place = p }) (sym h.place) refl))))
+    subst (λ (t : List ℕ). whole ≡ record { tag = t; blocks = []; closing = Unknown; sections = []; group = None; current = []; place = Query }) (sym h.tag)
+    (subst (λ (b : List Block). whole ≡ record { tag = whole.tag; blocks = b; closing = Unknown; sections = []; group = None; current = []; place = Query }) (empty_list whole.blocks h.count)
+    (subst (λ (c : Closing). whole ≡ record { tag = whole.tag; blocks = whole.blocks; closing = c; sections = []; group = None; current = []; place = Query }) (sym h.closing)
+    (subst (λ (s : List Section). whole ≡ record { tag = whole.tag; blocks = whole.blocks; closing = whole.closing; sections = s; group = None; current = []; place = Query }) (sym h.sections)
+    (subst (λ (g : Option GroupLine). whole ≡ record { tag = whole.tag; blocks = whole.blocks; closing = whole.closing; sections = whole.sections; group = g; current = []; place = Query }) (sym h.group)
+    (subst (λ (c : List Entry). whole ≡ record { tag = whole.tag; blocks = whole.blocks; closing = whole.closing; sections = whole.sections; group = whole.group; current = c; place = Query }) (sym h.current)
+    (subst (λ (p : Place). whole ≡ record { tag = whole.tag; blocks = whole.blocks; closing = whole.closing; sections = whole.sections; group = whole.group; current = whole.current; place = p }) (sym h.place) refl))))))
 
 cannot_too : (query : List ℕ) (shape : Shape) (round : ℕ) (whole told : Told) (line : List ℕ) → TellsFrom round whole told →
     CannotTake query shape told line → CannotTake query shape whole line

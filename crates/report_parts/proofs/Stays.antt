@@ -1,17 +1,18 @@
 -- That a line takes nothing back of what a part has told.
-use Rattle.std.proofs.Common.{◌≡◌, ◌≢◌, ℕ, ◌+◌, ◌-◌, ◌<◌, min, Bool, true, false, ◌||◌, Some, None, List, [], ◌∷◌, ◌++◌, length, set, get_or, if◌then◌else◌, refl, sym, ap, ◌∙◌, inl, inr, arith, length-append, append-nil}
+use Rattle.std.proofs.Common.{◌≡◌, ◌≢◌, ℕ, zero, suc, ◌+◌, ◌-◌, ◌<◌, min, Bool, true, false, ◌||◌, Option, Some, None, List, [], ◌∷◌, ◌++◌, length, set, get_or, if◌then◌else◌, refl, sym, ap, ◌∙◌, inl, inr, arith, length-append, append-nil}
 use Rattle.std.proofs.lemmas.Bool.{false≢true, lt-ltb, ltb-true}
-use Rattle.std.proofs.lemmas.List.{get_or_append_left}
+use Rattle.std.proofs.lemmas.List.{append_assoc, get_or_append_left}
+use Rattle.report_text.specs.declared.groups.GroupLine.{GroupLine}
 use Rattle.report_parts.specs.Blocks.{no_block}
 use Rattle.report_parts.specs.Entries.{last_entry}
 use Rattle.report_parts.specs.Laws.{GoesBehind, KeepsBlock, LinesOnlyAdd, ToldBlocksStay}
 use Rattle.report_parts.specs.Rounds.{is_ended}
-use Rattle.report_parts.specs.Told.{GoesOn, TakesAt, TakesBehindAnswer, TakesInside, TakesRest, Told, at_place, closed, is_whole, with_current}
+use Rattle.report_parts.specs.Told.{BeginsGroup, GoesOn, GroupsGoOn, TakesAt, TakesBehindAnswer, TakesInside, TakesRest, Told, at_place, block_done, closed, closed_by, completed, completed_by, is_whole, opened_by, with_current}
 use Rattle.report_parts.specs.declared.block.Block.{Block}
-use Rattle.report_parts.specs.declared.block.Block.TheVariants.{Totals}
+use Rattle.report_parts.specs.declared.block.Block.TheVariants.{Groups, Totals}
 use Rattle.report_parts.specs.declared.entry.Entry.{Entry}
 use Rattle.report_parts.specs.declared.part.Place.{Place}
-use Rattle.report_parts.specs.declared.part.Place.TheVariants.{Query, Opened, Round, Items, Ended}
+use Rattle.report_parts.specs.declared.part.Place.TheVariants.{Query, Opened, Round, Group, Items, Ended}
 use Rattle.report_parts.specs.declared.shape.Shape.{Shape}
 
 -- what holds behind each line that is taken: the tag stays, the report has begun, and no block is taken back
@@ -28,13 +29,6 @@ moved told next place other e = record {
 }
 
 -- once the block that was begun is whole
-moved_behind : (told next : Told) (place : Place) → place ≢ Query → next ≡ at_place (closed told) place → Follows told next
-moved_behind told next place other e = record {
-  tag = ap (λ (t : Told). t.tag) e;
-  begun = λ f. other (sym (ap (λ (t : Told). t.place) e) ∙ f);
-  behind = record { more = Totals told.current ∷ []; blocks = ap (λ (t : Told). t.blocks) e };
-}
-
 rests : (told next : Told) → told.place ≢ Query → next ≡ told → Follows told next
 rests told next other e = record {
   tag = ap (λ (t : Told). t.tag) e;
@@ -42,33 +36,81 @@ rests told next other e = record {
   behind = record { more = []; blocks = ap (λ (t : Told). t.blocks) e ∙ sym (append-nil told.blocks) };
 }
 
-put_in : (whole : Bool) (told next : Told) (current : List Entry) →
-    next ≡ (if whole then closed (with_current told current) else at_place (with_current told current) Items) → Follows told next
-put_in true told next current e = record {
+-- what holds behind a line, seen from before some blocks were whole
+from_before : (told mid next : Told) → mid.tag ≡ told.tag → GoesBehind told mid → Follows mid next → Follows told next
+from_before told mid next e g h = record {
+  tag = h.tag ∙ e;
+  begun = h.begun;
+  behind = record {
+    more = g.more ++ h.behind.more;
+    blocks = h.behind.blocks ∙ ap (λ (xs : List Block). xs ++ h.behind.more) g.blocks ∙ append_assoc told.blocks g.more h.behind.more;
+  };
+}
+
+-- the block or the section that was begun is whole
+closed_follows : (group : Option GroupLine) (told next : Told) → next ≡ closed_by group told → Follows told next
+closed_follows None told next e = record {
   tag = ap (λ (t : Told). t.tag) e;
   begun = λ f. absurd (let g : Round ≡ Query = sym (ap (λ (t : Told). t.place) e) ∙ f in cc);
-  behind = record { more = Totals current ∷ []; blocks = ap (λ (t : Told). t.blocks) e };
+  behind = record { more = Totals told.current ∷ []; blocks = ap (λ (t : Told). t.blocks) e };
 }
+closed_follows (Some group) told next e = record {
+  tag = ap (λ (t : Told). t.tag) e;
+  begun = λ f. absurd (let g : Group ≡ Query = sym (ap (λ (t : Told). t.place) e) ∙ f in cc);
+  behind = record { more = []; blocks = ap (λ (t : Told). t.blocks) e ∙ sym (append-nil told.blocks) };
+}
+
+-- the block is whole, with what was begun
+completed_follows : (group : Option GroupLine) (told : Told) → Follows told (completed_by group told)
+completed_follows None told = closed_follows None told (closed_by None told) refl
+completed_follows (Some group) told = record {
+  tag = refl;
+  begun = λ f. absurd (let g : Round ≡ Query = f in cc);
+  behind = record { more = Groups (told.sections ++ record { group = group; entries = told.current } ∷ []) ∷ []; blocks = refl };
+}
+
+put_in : (whole : Bool) (told next : Told) (current : List Entry) →
+    next ≡ (if whole then closed (with_current told current) else at_place (with_current told current) Items) → Follows told next
+put_in true told next current e =
+    let h = closed_follows told.group (with_current told current) next e in
+    record { tag = h.tag; begun = h.begun; behind = record { more = h.behind.more; blocks = h.behind.blocks } }
 put_in false told next current e = record {
   tag = ap (λ (t : Told). t.tag) e;
   begun = λ f. absurd (let g : Items ≡ Query = sym (ap (λ (t : Told). t.place) e) ∙ f in cc);
   behind = record { more = []; blocks = ap (λ (t : Told). t.blocks) e ∙ sym (append-nil told.blocks) };
 }
 
-is_begun : Items ≢ Query
-is_begun e = absurd cc
+opened_other : (columns : ℕ) → opened_by columns ≢ Query
+opened_other zero e = absurd cc
+opened_other (suc columns) e = absurd cc
 
-goes_on : (told next : Told) (line : List ℕ) → GoesOn told line next → Follows told next
-goes_on told next line (inl h) = moved told next Items is_begun h.begun
-goes_on told next line (inr h) = moved told next (Ended h.end) (λ e. absurd cc) h.ended
+goes_on : (columns : ℕ) (told next : Told) (line : List ℕ) → GoesOn columns told line next → Follows told next
+goes_on columns told next line (inl h) = moved told next (opened_by columns) (opened_other columns) h.begun
+goes_on columns told next line (inr h) = moved told next (Ended h.end) (λ e. absurd cc) h.ended
 
-closes : (told next : Told) (line : List ℕ) → GoesOn (closed told) line next → Follows told next
-closes told next line (inl h) = moved_behind told next Items is_begun h.begun
-closes told next line (inr h) = moved_behind told next (Ended h.end) (λ e. absurd cc) h.ended
+begins_group : (columns : ℕ) (told next : Told) (line : List ℕ) → BeginsGroup columns told line next → Follows told next
+begins_group columns told next line h = record {
+  tag = ap (λ (t : Told). t.tag) h.begun;
+  begun = λ f. absurd (let g : Items ≡ Query = sym (ap (λ (t : Told). t.place) h.begun) ∙ f in cc);
+  behind = record { more = []; blocks = ap (λ (t : Told). t.blocks) h.begun ∙ sym (append-nil told.blocks) };
+}
+
+closes : (columns : ℕ) (told next : Told) (line : List ℕ) → GroupsGoOn columns (closed told) (completed told) line next → Follows told next
+closes columns told next line (inl h) =
+    let g = closed_follows told.group told (closed told) refl in
+    from_before told (closed told) next g.tag g.behind (begins_group columns (closed told) next line h)
+closes columns told next line (inr h) =
+    let g = completed_follows told.group told in
+    from_before told (completed told) next g.tag g.behind (goes_on columns (completed told) next line h)
+
+between : (columns : ℕ) (told next : Told) (line : List ℕ) → GroupsGoOn columns told (block_done told) line next → Follows told next
+between columns told next line (inl h) = begins_group columns told next line h
+between columns told next line (inr h) =
+    from_before told (block_done told) next refl (record { more = Groups told.sections ∷ []; blocks = refl }) (goes_on columns (block_done told) next line h)
 
 rest : (shape : Shape) (told : Told) (line : List ℕ) (next : Told) → told.place ≢ Query → TakesRest shape told line next → Follows told next
 rest shape told line next other (inl h) = rests told next other h.same
-rest shape told line next other (inr h) = closes told next line h.1.goes_on
+rest shape told line next other (inr h) = closes shape.columns told next line h.1.goes_on
 
 behind_answer : (shape : Shape) (told : Told) (line : List ℕ) (next : Told) → told.place ≢ Query → TakesBehindAnswer shape told line next → Follows told next
 behind_answer shape told line next other (inl h) =
@@ -86,10 +128,12 @@ pub follows : (place : Place) (query : List ℕ) (shape : Shape) (told : Told) (
     TakesAt place query shape told line next → Follows told next
 follows Query query shape told line next e h = moved told next Opened (λ f. absurd cc) h.opened
 follows Opened query shape told line next e (inl h) = moved told next Round (λ f. absurd cc) h.passed
-follows Opened query shape told line next e (inr h) = moved told next Items is_begun h.begun
-follows Round query shape told line next e (inl h) = goes_on told next line h
+follows Opened query shape told line next e (inr h) = goes_on shape.columns told next line (inl h)
+follows Round query shape told line next e (inl h) = goes_on shape.columns told next line h
 follows Round query shape told line next e (inr h) = rests told next (λ f. absurd (let g : Round ≡ Query = sym e ∙ f in cc)) h.1.same
-follows Items query shape told line next e h = inside shape told line next (λ f. is_begun (sym e ∙ f)) h
+follows Group query shape told line next e (inl h) = between shape.columns told next line h
+follows Group query shape told line next e (inr h) = rests told next (λ f. absurd (let g : Group ≡ Query = sym e ∙ f in cc)) h.1.passes.same
+follows Items query shape told line next e h = inside shape told line next (λ f. absurd (let g : Items ≡ Query = sym e ∙ f in cc)) h
 follows (Ended end) query shape told line next e h = absurd h
 
 pub only_add : LinesOnlyAdd
@@ -102,6 +146,7 @@ pub none_behind : (place : Place) (query : List ℕ) (shape : Shape) (told : Tol
 none_behind Query query shape told line next h = refl
 none_behind Opened query shape told line next h = refl
 none_behind Round query shape told line next h = refl
+none_behind Group query shape told line next h = refl
 none_behind Items query shape told line next h = refl
 none_behind (Ended end) query shape told line next h = absurd h
 

@@ -5,10 +5,14 @@ use Rattle.std.proofs.lemmas.Option.{none-some, same_Some}
 use Rattle.std.specs.List.{list_all}
 use Rattle.query_model.specs.declared.query.ItemKind.{ItemKind}
 use Rattle.report_text.proofs.OneAnswer.{extras_say_one, lines_say_one}
+use Rattle.report_text.proofs.OneGroup.{groups_say_one}
 use Rattle.report_text.specs.Answers.{IsAnswerOf}
 use Rattle.report_text.specs.Extras.{IsExtraOf, extra_line}
+use Rattle.report_text.specs.Groups.{presence_text}
+use Rattle.report_text.specs.Keys.{keys_text}
 use Rattle.report_text.specs.Lines.{end_line}
 use Rattle.report_text.specs.declared.answers.Answer.{Answer}
+use Rattle.report_text.specs.declared.groups.GroupLine.{GroupLine}
 use Rattle.report_text.specs.declared.lines.ReportEnd.{ReportEnd}
 use Rattle.report_text.specs.declared.lines.ReportEnd.TheVariants.{Narrow, Reads, Rounds}
 use Rattle.report_parts.proofs.Courses.{all_reach, few_told, longer}
@@ -21,11 +25,11 @@ use Rattle.report_parts.specs.Reports.{block_text}
 use Rattle.report_parts.specs.Rounds.{has_block, is_over}
 use Rattle.report_parts.specs.Tags.{TakesTagged, behind_tag, tag_of, told_of, with_part}
 use Rattle.report_parts.specs.Telling.{EndedStays, TellingIsOne}
-use Rattle.report_parts.specs.Told.{Answers, BeginsRound, Closes, Ends, Extends, GoesOn, OrElse, PassesBehind, PassesInside, TakesAt, TakesBehindAnswer, TakesInside, TakesRest, TellsParts, Told, at_place, closed, with_answer, with_extra}
+use Rattle.report_parts.specs.Told.{Answers, BeginsGroup, BeginsRound, Closes, Ends, Extends, GoesOn, GroupsGoOn, OrElse, PassesBehind, PassesBehindSection, PassesInside, TakesAt, TakesBehindAnswer, TakesInside, TakesRest, TellsParts, Told, at_place, block_done, closed, completed, with_answer, with_extra, with_group}
 use Rattle.report_parts.specs.Written.{Wanted, Writes, end_text, is_narrow_at}
 use Rattle.report_parts.specs.Written.Writes.{ends, goes, waits}
 use Rattle.report_parts.specs.declared.part.Place.{Place}
-use Rattle.report_parts.specs.declared.part.Place.TheVariants.{Query, Opened, Round, Items, Ended}
+use Rattle.report_parts.specs.declared.part.Place.TheVariants.{Query, Opened, Round, Group, Items, Ended}
 use Rattle.report_parts.specs.declared.shape.Shape.{Shape}
 
 -- ---- a line
@@ -34,17 +38,30 @@ use Rattle.report_parts.specs.declared.shape.Shape.{Shape}
 other_byte : {P : Type 0} (x y : ℕ) (xs ys : List ℕ) → x ∷ xs ≡ y ∷ ys → (x ≡ y → ⊥) → P
 other_byte x y xs ys e apart = absurd (let same : x ≡ y = cc in apart same)
 
-parts_or_round : {P : Type 0} (told : Told) (line : List ℕ) (a b : Told) → TellsParts told line a → BeginsRound told line b → P
-parts_or_round told line a b h k =
+parts_or_round : {P : Type 0} (columns : ℕ) (told : Told) (line : List ℕ) (a b : Told) → TellsParts told line a → BeginsRound columns told line b → P
+parts_or_round columns told line a b h k =
     other_byte 112 114 (codes "arts " ++ decimal h.parts) (codes "ound " ++ (decimal (length told.blocks) ++ k.is_round.named)) (h.is_line ∙ k.is_round.split) (λ e. omega (arith, e))
 
-round_or_end : {P : Type 0} (told : Told) (line : List ℕ) (a b : Told) → BeginsRound told line a → Ends told line b → P
-round_or_end told line a b h k = by k.end k.is_line
+round_or_end : {P : Type 0} (columns : ℕ) (told : Told) (line : List ℕ) (a b : Told) → BeginsRound columns told line a → Ends told line b → P
+round_or_end columns told line a b h k = by k.end k.is_line
   where
     by : {P : Type 0} (end : ReportEnd) → end_line end ≡ line → P
     by Narrow e = other_byte 101 114 (codes "nd narrow") (codes "ound " ++ (decimal (length told.blocks) ++ h.is_round.named)) (e ∙ h.is_round.split) (λ f. omega (arith, f))
     by Rounds e = other_byte 101 114 (codes "nd rounds") (codes "ound " ++ (decimal (length told.blocks) ++ h.is_round.named)) (e ∙ h.is_round.split) (λ f. omega (arith, f))
     by Reads e = other_byte 101 114 (codes "nd reads") (codes "ound " ++ (decimal (length told.blocks) ++ h.is_round.named)) (e ∙ h.is_round.split) (λ f. omega (arith, f))
+
+abbrev behind_word : GroupLine → List ℕ
+behind_word group = codes "roup " ++ (keys_text group.keys ++ presence_text group.present)
+
+group_or_next : {P : Type 0} (columns : ℕ) (told whole : Told) (line : List ℕ) (a b : Told) → BeginsGroup columns told line a → GoesOn columns whole line b → P
+group_or_next columns told whole line a b h (inl k) =
+    other_byte 103 114 (behind_word h.group) (codes "ound " ++ (decimal (length whole.blocks) ++ k.is_round.named)) (h.is_line ∙ k.is_round.split) (λ e. omega (arith, e))
+group_or_next columns told whole line a b h (inr k) = by k.end k.is_line
+  where
+    by : {P : Type 0} (end : ReportEnd) → end_line end ≡ line → P
+    by Narrow e = other_byte 101 103 (codes "nd narrow") (behind_word h.group) (e ∙ sym h.is_line) (λ f. omega (arith, f))
+    by Rounds e = other_byte 101 103 (codes "nd rounds") (behind_word h.group) (e ∙ sym h.is_line) (λ f. omega (arith, f))
+    by Reads e = other_byte 101 103 (codes "nd reads") (behind_word h.group) (e ∙ sym h.is_line) (λ f. omega (arith, f))
 
 -- the sixth byte tells them apart
 apart : {P : Type 0} (x y : List ℕ) → x ≡ y → (get_or x 5 0 ≡ get_or y 5 0 → ⊥) → P
@@ -71,12 +88,19 @@ or_else First Second one two a b (inl h) (inr k) = absurd (k.0 a h)
 or_else First Second one two a b (inr h) (inl k) = absurd (h.0 b k)
 or_else First Second one two a b (inr h) (inr k) = two a b h.1 k.1
 
-goes_on : (told : Told) (line : List ℕ) → IsOneWay (GoesOn told line)
-goes_on told line a b (inl h) (inl k) = k.begun ∙ sym h.begun
-goes_on told line a b (inl h) (inr k) = round_or_end told line a b h k
-goes_on told line a b (inr h) (inl k) = round_or_end told line b a k h
-goes_on told line a b (inr h) (inr k) =
+goes_on : (columns : ℕ) (told : Told) (line : List ℕ) → IsOneWay (GoesOn columns told line)
+goes_on columns told line a b (inl h) (inl k) = k.begun ∙ sym h.begun
+goes_on columns told line a b (inl h) (inr k) = round_or_end columns told line a b h k
+goes_on columns told line a b (inr h) (inl k) = round_or_end columns told line b a k h
+goes_on columns told line a b (inr h) (inr k) =
     k.ended ∙ ap (λ (end : ReportEnd). at_place told (Ended end)) (end_one h.end k.end (h.is_line ∙ sym k.is_line)) ∙ sym h.ended
+
+groups_go_on : (columns : ℕ) (told whole : Told) (line : List ℕ) → IsOneWay (GroupsGoOn columns told whole line)
+groups_go_on columns told whole line a b (inl h) (inl k) =
+    k.begun ∙ ap (λ (group : GroupLine). with_group told group) (sym (groups_say_one h.group k.group h.shown k.shown (h.is_line ∙ sym k.is_line))) ∙ sym h.begun
+groups_go_on columns told whole line a b (inl h) (inr k) = group_or_next columns told whole line a b h k
+groups_go_on columns told whole line a b (inr h) (inl k) = group_or_next columns told whole line b a k h
+groups_go_on columns told whole line a b (inr h) (inr k) = goes_on columns whole line a b h k
 
 answers : (kinds : List ItemKind) (told : Told) (line : List ℕ) → IsOneWay (Answers kinds told line)
 answers kinds told line a b h k =
@@ -96,7 +120,7 @@ extends kinds told line a b h k =
 
 rest : (shape : Shape) (told : Told) (line : List ℕ) → IsOneWay (TakesRest shape told line)
 rest shape told line =
-    or_else (PassesInside shape.kinds told line) (Closes shape told line) (λ a b h k. k.same ∙ sym h.same) (λ a b h k. goes_on (closed told) line a b h.goes_on k.goes_on)
+    or_else (PassesInside shape.kinds told line) (Closes shape told line) (λ a b h k. k.same ∙ sym h.same) (λ a b h k. groups_go_on shape.columns (closed told) (completed told) line a b h.goes_on k.goes_on)
 
 inside : (shape : Shape) (told : Told) (line : List ℕ) → IsOneWay (TakesInside shape told line)
 inside shape told line =
@@ -107,11 +131,14 @@ takes_one : (place : Place) (query : List ℕ) (shape : Shape) (told : Told) (li
     TakesAt place query shape told line a → TakesAt place query shape told line b → b ≡ a
 takes_one Query query shape told line a b h k = k.opened ∙ sym h.opened
 takes_one Opened query shape told line a b (inl h) (inl k) = k.passed ∙ sym h.passed
-takes_one Opened query shape told line a b (inl h) (inr k) = parts_or_round told line a b h k
-takes_one Opened query shape told line a b (inr h) (inl k) = parts_or_round told line b a k h
+takes_one Opened query shape told line a b (inl h) (inr k) = parts_or_round shape.columns told line a b h k
+takes_one Opened query shape told line a b (inr h) (inl k) = parts_or_round shape.columns told line b a k h
 takes_one Opened query shape told line a b (inr h) (inr k) = k.begun ∙ sym h.begun
 takes_one Round query shape told line a b h k =
-    or_else (GoesOn told line) (PassesBehind shape.kinds told line) (goes_on told line) (λ x y f g. g.same ∙ sym f.same) a b h k
+    or_else (GoesOn shape.columns told line) (PassesBehind shape.kinds told line) (goes_on shape.columns told line) (λ x y f g. g.same ∙ sym f.same) a b h k
+takes_one Group query shape told line a b h k =
+    or_else (GroupsGoOn shape.columns told (block_done told) line) (PassesBehindSection shape.kinds told line) (groups_go_on shape.columns told (block_done told) line)
+    (λ x y f g. g.passes.same ∙ sym f.passes.same) a b h k
 takes_one Items query shape told line a b h k = inside shape told line a b h k
 takes_one (Ended end) query shape told line a b h k = absurd h
 

@@ -1,7 +1,10 @@
 -- That of several ways in which a line may be taken the first is taken that it goes.
-use Rattle.std.proofs.Common.{◌≡◌, ℕ, List, length, Bool, true, false, Result, Ok, Err, IfOk, refl, sym, subst, ◌∙◌, inl, inr, ◌⊎◌, MatchBool}
+use Rattle.std.proofs.Common.{◌≡◌, ◌≢◌, ℕ, ◌+◌, Option, Some, None, List, [], ◌∷◌, ◌++◌, length, Bool, true, false, Result, Ok, Err, IfOk, refl, sym, ap, subst, ◌∙◌, inl, inr, ◌⊎◌, MatchBool, MatchOption, length-append}
 use Rattle.std.proofs.lemmas.Bool.{false≢true}
-use Rattle.report_parts.specs.Told.{Closes, GoesOn, OrElse, Refuses, Told, closed}
+use Rattle.std.proofs.lemmas.Option.{none-some}
+use Rattle.report_text.specs.declared.groups.GroupLine.{GroupLine}
+use Rattle.report_parts.specs.Told.{Closes, GroupsGoOn, OrElse, Refuses, Told, block_done, closed, completed, completed_by}
+use Rattle.report_parts.specs.declared.block.Block.TheVariants.{Groups, Totals}
 use Rattle.report_parts.specs.declared.closing.Closing.TheVariants.{Unknown}
 use Rattle.report_parts.specs.declared.shape.Shape.{Shape}
 
@@ -42,15 +45,32 @@ pub refused_when : (A B : Type 0) (b : Bool) → b ≡ false → MatchBool b A B
 refused_when A B true e h = absurd (false≢true (sym e))
 refused_when A B false e h = h
 
+pub none_given : {X : Type 0} (o : Option X) (A : Type 0) (B : X → Type 0) → o ≡ None → MatchOption o A B → A
+none_given None A B e h = h
+none_given (Some x) A B e h = absurd (none-some x (sym e))
+
 -- where nothing changes in either case
 pub unchanged : (r : Bool) (Way : Told → Type 0) (told : Told) → MatchBool r (Way told) ((next : Told) → Way next → ⊥) → MatchBool r (Way told) (Refuses Way told told)
 unchanged true Way told h = h
 unchanged false Way told h = (refl, h)
 
--- what ends the first block
+-- what ends the first block, or the first section
 pub closes_ok : {E : Type 0} (r : Result Bool E) (shape : Shape) (told : Told) (line : List ℕ) (next : Told) → told.closing ≡ Unknown → length told.current ≡ length shape.kinds →
-    IfOk r (λ taken. MatchBool taken (GoesOn (closed told) line next) (Refuses (GoesOn (closed told) line) told next)) →
+    IfOk r (λ taken. MatchBool taken (GroupsGoOn shape.columns (closed told) (completed told) line next) (Refuses (GroupsGoOn shape.columns (closed told) (completed told) line) told next)) →
     IfOk r (λ taken. MatchBool taken (Closes shape told line next) (Refuses (Closes shape told line) told next))
 closes_ok (Ok true) shape told line next first all h = record { first = first; all = all; goes_on = h }
 closes_ok (Ok false) shape told line next first all h = (h.0, λ after k. h.1 after k.goes_on)
 closes_ok (Err e) shape told line next first all h = tt
+
+-- ---- how many blocks there are
+
+completed_more : (group : Option GroupLine) (told : Told) → length (completed_by group told).blocks ≡ length told.blocks + 1
+completed_more None told = length-append told.blocks (Totals told.current ∷ [])
+completed_more (Some group) told = length-append told.blocks (Groups (told.sections ++ record { group = group; entries = told.current } ∷ []) ∷ [])
+
+-- there is one block more
+pub completed_count : (told : Told) (count : ℕ) → count ≡ length told.blocks → length (completed told).blocks ≡ count + 1
+completed_count told count e = completed_more told.group told ∙ ap (λ (n : ℕ). n + 1) (sym e)
+
+pub done_count : (told : Told) (count : ℕ) → count ≡ length told.blocks → length (block_done told).blocks ≡ count + 1
+done_count told count e = length-append told.blocks (Groups told.sections ∷ []) ∙ ap (λ (n : ℕ). n + 1) (sym e)

@@ -7,6 +7,8 @@ use Rattle.report_parts.specs.Told.{Told}
 pub record TellsFrom (round : ℕ) (whole told : Told) : Type 0 where
   pub tag : told.tag ≡ whole.tag
   pub closing : told.closing ≡ whole.closing
+  pub sections : told.sections ≡ whole.sections
+  pub group : told.group ≡ whole.group
   pub current : told.current ≡ whole.current
   pub place : told.place ≡ whole.place
   pub count : length told.blocks ≡ length whole.blocks

@@ -7,12 +7,13 @@ use Rattle.report_parts.specs.Told.{Told}
 use Rattle.report_parts.specs.declared.block.Block.{Block}
 use Rattle.report_parts.specs.declared.entry.Entry.{Entry}
 use Rattle.report_parts.specs.declared.part.Place.{Place}
-use Rattle.report_parts.specs.declared.part.Place.TheVariants.{Query, Opened, Round, Items, Ended}
+use Rattle.report_parts.specs.declared.part.Place.TheVariants.{Query, Opened, Round, Group, Items, Ended}
 
 abbrev pub is_ended : Place → Bool
 is_ended Query = false
 is_ended Opened = false
 is_ended Round = false
+is_ended Group = false
 is_ended Items = false
 is_ended (Ended end) = true
 

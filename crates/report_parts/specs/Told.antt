@@ -1,43 +1,56 @@
 -- What the lines of a part's report have told so far, and which line comes next.
-use Rattle.std.specs.Prelude.{◌≡◌, ◌⊎◌, ℕ, ◌+◌, ◌-◌, ◌<◌, ◌^◌, ◌==◌, Bool, true, false, ◌&&◌, List, [], ◌∷◌, ◌++◌, length, set, slice_get}
-use Rattle.std.specs.Prelude.{if◌then◌else◌}
+use Rattle.std.specs.Prelude.{◌≡◌, ◌⊎◌, ℕ, zero, suc, ◌+◌, ◌-◌, ◌<◌, ◌^◌, ◌==◌, Bool, true, false, ◌&&◌, List, [], ◌∷◌, ◌++◌}
+use Rattle.std.specs.Prelude.{length, set, slice_get, if◌then◌else◌}
 use Rattle.std.specs.declared.option.Option.{Option}
 use Rattle.std.specs.declared.option.Option.TheVariants.{Some, None}
 use Rattle.query_model.specs.declared.query.ItemKind.{ItemKind}
 use Rattle.query_model.specs.declared.query.ItemKind.TheVariants.{Count, Sum, Min, Max, Avg}
 use Rattle.report_text.specs.Answers.{IsAnswerOf}
 use Rattle.report_text.specs.Extras.{IsExtraOf, IsRowsLine, extra_line}
+use Rattle.report_text.specs.Groups.{IsShownGroup, group_line}
 use Rattle.report_text.specs.Lines.{IsRoundLine, end_line, item_line, parts_line}
 use Rattle.report_text.specs.declared.answers.Answer.{Answer}
+use Rattle.report_text.specs.declared.groups.GroupLine.{GroupLine}
 use Rattle.report_text.specs.declared.lines.ReportEnd.{ReportEnd}
 use Rattle.report_parts.specs.Entries.{ends_with_extra, last_entry}
 use Rattle.report_parts.specs.declared.block.Block.{Block}
-use Rattle.report_parts.specs.declared.block.Block.TheVariants.{Totals}
+use Rattle.report_parts.specs.declared.block.Block.TheVariants.{Groups, Totals}
+use Rattle.report_parts.specs.declared.block.Section.{Section}
 use Rattle.report_parts.specs.declared.entry.Entry.{Entry}
 use Rattle.report_parts.specs.declared.closing.Closing.{Closing}
 use Rattle.report_parts.specs.declared.closing.Closing.TheVariants.{Unknown, Item, Extra}
 use Rattle.report_parts.specs.declared.part.Place.{Place}
-use Rattle.report_parts.specs.declared.part.Place.TheVariants.{Query, Opened, Round, Items, Ended}
+use Rattle.report_parts.specs.declared.part.Place.TheVariants.{Query, Opened, Round, Group, Items, Ended}
 use Rattle.report_parts.specs.declared.shape.Shape.{Shape}
 
--- the tag of the part; the whole blocks; the line that is the last of a block; the entries of a block
--- that is not whole yet; and what comes next
+-- the tag of the part; the whole blocks; the line with which entries end; of the block that is not whole yet the whole sections, the group
+-- of the section that is not, and its entries, and of totals the entries alone; and what comes next
 pub record Told : Type 0 where
   pub tag : List ℕ
   pub blocks : List Block
   pub closing : Closing
+  pub sections : List Section
+  pub group : Option GroupLine
   pub current : List Entry
   pub place : Place
 
 -- before the first line
 abbrev pub nothing_told : List ℕ → Told
-nothing_told tag = record { tag = tag; blocks = []; closing = Unknown; current = []; place = Query }
+nothing_told tag =
+    record { tag = tag; blocks = []; closing = Unknown; sections = []; group = None; current = []; place = Query }
 
 abbrev pub at_place : Told → Place → Told
-at_place told place =
-    record { tag = told.tag; blocks = told.blocks; closing = told.closing; current = told.current; place = place }
+at_place told place = record {
+  tag = told.tag;
+  blocks = told.blocks;
+  closing = told.closing;
+  sections = told.sections;
+  group = told.group;
+  current = told.current;
+  place = place;
+}
 
--- ---- which line is the last of a block
+-- ---- which line is the last of the entries of a block, or of a section
 
 abbrev pub last_kind : List ItemKind → Option ItemKind
 last_kind kinds = slice_get kinds (length kinds - 1)
@@ -63,23 +76,64 @@ is_whole kinds closing block = (length block == length kinds) && is_closed closi
 abbrev pub closing_of : List Entry → Closing
 closing_of block = if ends_with_extra block then Extra else Item
 
--- the block is whole
-abbrev pub closed : Told → Told
-closed told = record {
+-- the block of totals is whole, or the section of the group
+abbrev pub closed_by : Option GroupLine → Told → Told
+closed_by None told = record {
   tag = told.tag;
   blocks = told.blocks ++ Totals told.current ∷ [];
   closing = closing_of told.current;
+  sections = told.sections;
+  group = None;
   current = [];
   place = Round;
 }
+closed_by (Some group) told = record {
+  tag = told.tag;
+  blocks = told.blocks;
+  closing = closing_of told.current;
+  sections = told.sections ++ record { group = group; entries = told.current } ∷ [];
+  group = None;
+  current = [];
+  place = Group;
+}
 
--- the block goes on, if it is not whole
+abbrev pub closed : Told → Told
+closed told = closed_by told.group told
+
+-- the block of these sections is whole
+abbrev pub block_done : Told → Told
+block_done told = record {
+  tag = told.tag;
+  blocks = told.blocks ++ Groups told.sections ∷ [];
+  closing = told.closing;
+  sections = [];
+  group = told.group;
+  current = told.current;
+  place = Round;
+}
+
+-- the block is whole, with what was begun of it
+abbrev pub completed_by : Option GroupLine → Told → Told
+completed_by None told = closed_by None told
+completed_by (Some group) told = block_done (closed_by (Some group) told)
+
+abbrev pub completed : Told → Told
+completed told = completed_by told.group told
+
+-- what was begun goes on, if it is not whole
 abbrev pub settled : List ItemKind → Told → Told
 settled kinds told = if is_whole kinds told.closing told.current then closed told else at_place told Items
 
 abbrev pub with_current : Told → List Entry → Told
-with_current told current =
-    record { tag = told.tag; blocks = told.blocks; closing = told.closing; current = current; place = told.place }
+with_current told current = record {
+  tag = told.tag;
+  blocks = told.blocks;
+  closing = told.closing;
+  sections = told.sections;
+  group = told.group;
+  current = current;
+  place = told.place;
+}
 
 -- with one answer more
 abbrev pub with_answer : List ItemKind → Told → Answer → Told
@@ -104,10 +158,34 @@ pub record TellsParts (told : Told) (line : List ℕ) (next : Told) : Type 0 whe
   pub is_line : parts_line parts ≡ line
   pub passed : next ≡ at_place told Round
 
+-- behind the line of a round comes the first item, or, where there are group columns, the first group
+abbrev pub opened_by : ℕ → Place
+opened_by zero = Items
+opened_by (suc columns) = Group
+
 -- the next round
-pub record BeginsRound (told : Told) (line : List ℕ) (next : Told) : Type 0 where
+pub record BeginsRound (columns : ℕ) (told : Told) (line : List ℕ) (next : Told) : Type 0 where
   pub is_round : IsRoundLine (length told.blocks) line
-  pub begun : next ≡ at_place told Items
+  pub begun : next ≡ at_place told (opened_by columns)
+
+abbrev pub with_group : Told → GroupLine → Told
+with_group told group = record {
+  tag = told.tag;
+  blocks = told.blocks;
+  closing = told.closing;
+  sections = told.sections;
+  group = Some group;
+  current = told.current;
+  place = Items;
+}
+
+-- the next group, with a key for each group column
+pub record BeginsGroup (columns : ℕ) (told : Told) (line : List ℕ) (next : Told) : Type 0 where
+  pub group : GroupLine
+  pub shown : IsShownGroup group
+  pub each : length group.keys ≡ columns
+  pub is_line : group_line group ≡ line
+  pub begun : next ≡ with_group told group
 
 -- the answer of the next item
 pub record IsNextAnswer (kinds : List ItemKind) (told : Told) (line : List ℕ) (kind : ItemKind) (answer : Answer) : Type 0 where
@@ -142,12 +220,17 @@ pub record PassesInside (kinds : List ItemKind) (told : Told) (line : List ℕ) 
   pub is_line : IsRowsLine (length told.current) line
   pub same : next ≡ told
 
--- so it is behind a block that ends with an exact average
+-- so it is behind entries that end with an exact average
 pub record PassesBehind (kinds : List ItemKind) (told : Told) (line : List ℕ) (next : Told) : Type 0 where
   pub average : last_kind kinds ≡ Some Avg
   pub exact : told.closing ≡ Extra
   pub is_line : IsRowsLine (length kinds) line
   pub same : next ≡ told
+
+-- and behind those of a section
+pub record PassesBehindSection (kinds : List ItemKind) (told : Told) (line : List ℕ) (next : Told) : Type 0 where
+  pub some : 0 < length told.sections
+  pub passes : PassesBehind kinds told line next
 
 -- the end, behind a block at least
 pub record Ends (told : Told) (line : List ℕ) (next : Told) : Type 0 where
@@ -156,24 +239,32 @@ pub record Ends (told : Told) (line : List ℕ) (next : Told) : Type 0 where
   pub is_line : end_line end ≡ line
   pub ended : next ≡ at_place told (Ended end)
 
-abbrev pub IsOpened : Told → List ℕ → Told → Type 0
-IsOpened told line next = TellsParts told line next ⊎ BeginsRound told line next
+abbrev pub IsOpened : ℕ → Told → List ℕ → Told → Type 0
+IsOpened columns told line next = TellsParts told line next ⊎ BeginsRound columns told line next
 
-abbrev pub GoesOn : Told → List ℕ → Told → Type 0
-GoesOn told line next = BeginsRound told line next ⊎ Ends told line next
+abbrev pub GoesOn : ℕ → Told → List ℕ → Told → Type 0
+GoesOn columns told line next = BeginsRound columns told line next ⊎ Ends told line next
 
--- the first block ends with the line before this one
+-- another group of the block, or what comes behind the block once it is whole
+abbrev pub GroupsGoOn : ℕ → Told → Told → List ℕ → Told → Type 0
+GroupsGoOn columns told whole line next = BeginsGroup columns told line next ⊎ GoesOn columns whole line next
+
+-- the first block, or the first section, ends with the line before this one
 pub record Closes (shape : Shape) (told : Told) (line : List ℕ) (next : Told) : Type 0 where
   pub first : told.closing ≡ Unknown
   pub all : length told.current ≡ length shape.kinds
-  pub goes_on : GoesOn (closed told) line next
+  pub goes_on : GroupsGoOn shape.columns (closed told) (completed told) line next
 
 -- the one, or else the other
 abbrev pub OrElse : (Told → Type 0) → (Told → Type 0) → Told → Type 0
 OrElse First Second next = First next ⊎ (((other : Told) → First other → ⊥) × Second next)
 
 abbrev pub TakesBehind : Shape → Told → List ℕ → Told → Type 0
-TakesBehind shape told line = OrElse (GoesOn told line) (PassesBehind shape.kinds told line)
+TakesBehind shape told line = OrElse (GoesOn shape.columns told line) (PassesBehind shape.kinds told line)
+
+abbrev pub TakesBetween : Shape → Told → List ℕ → Told → Type 0
+TakesBetween shape told line =
+    OrElse (GroupsGoOn shape.columns told (block_done told) line) (PassesBehindSection shape.kinds told line)
 
 abbrev pub TakesRest : Shape → Told → List ℕ → Told → Type 0
 TakesRest shape told line = OrElse (PassesInside shape.kinds told line) (Closes shape told line)
@@ -186,8 +277,9 @@ TakesInside shape told line = OrElse (Answers shape.kinds told line) (TakesBehin
 
 abbrev pub TakesAt : Place → List ℕ → Shape → Told → List ℕ → Told → Type 0
 TakesAt Query query shape told line next = Opens query told line next
-TakesAt Opened query shape told line next = IsOpened told line next
+TakesAt Opened query shape told line next = IsOpened shape.columns told line next
 TakesAt Round query shape told line next = TakesBehind shape told line next
+TakesAt Group query shape told line next = TakesBetween shape told line next
 TakesAt Items query shape told line next = TakesInside shape told line next
 TakesAt (Ended end) query shape told line next = ⊥
 

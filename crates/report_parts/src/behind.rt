@@ -1,54 +1,52 @@
-//! The lines behind a block: the next round's, the end, and the rows of an exact average.
+//! What stands behind a block: the next round, the end, or the rows of an exact average.
 
-ghost use Rattle.std.specs.Prelude.{◌≡◌, IfOk, MatchBool, OnOk};
-ghost use Rattle.report_parts.specs.Told.{BeginsRound, Ends, GoesOn, PassesBehind, Refuses, TakesBehind, Told, closed};
+ghost use Rattle.std.specs.Prelude.{◌≡◌, MatchBool, MatchOption, length};
+ghost use Rattle.report_parts.specs.Told.{GoesOn, PassesBehind, Refuses, TakesBehind, Told, at_place};
 
-use crate::block::Block;
-use crate::closing::{closing_of, is_extra, last_kind};
+use crate::closing::{is_extra, last_kind};
+use crate::opening::opened_by;
 use crate::part::{Part, Place};
 use crate::shape::{Shape, is_average};
-use daq_table::Listed;
 use query_model::ItemKind;
 use report_text::{is_round_line, is_rows_line, read_end};
-use std::alloc::{AllocError, Global};
-use std::mem;
+
+// What comes behind a line that begins the next round, or ends the report, once so many blocks are told.
+pub(crate) fn place_behind(count: usize, columns: usize, line: &[u8]) -> Option<Place>
+    ensures { MatchOption result
+        ((told next : Told) → length told.blocks ≡ count → GoesOn columns told line.now next → ⊥)
+        (λ place. (told : Told) → length told.blocks ≡ count → GoesOn columns told line.now (at_place told place)) }
+{
+    if is_round_line(count as u64, line) {
+        return Some(opened_by(columns));
+    }
+    if count == 0 {
+        return None;
+    }
+    match read_end(line) {
+        Some(end) => Some(Place::Ended(end)),
+        None => None,
+    }
+}
 
 impl Part {
-    // Takes the end.
-    fn take_end(&mut self, line: &[u8]) -> bool
+    // Takes the next round, or the end.
+    fn take_next(&mut self, columns: usize, line: &[u8]) -> bool
         ensures tag { self.new.tag ≡ self.old.tag }
         ensures taken { MatchBool result
-            (Ends self.old line.now self.new)
-            (Refuses (Ends self.old line.now) self.old self.new) }
+            (GoesOn columns self.old line.now self.new)
+            (Refuses (GoesOn columns self.old line.now) self.old self.new) }
     {
-        if self.count() == 0 {
-            return false;
-        }
-        match read_end(line) {
-            Some(end) => {
-                self.go(Place::Ended(end));
+        match place_behind(self.count(), columns, line) {
+            Some(place) => {
+                self.go(place);
                 true
             }
             None => false,
         }
     }
 
-    // Takes the next round, or the end.
-    fn take_next(&mut self, line: &[u8]) -> bool
-        ensures tag { self.new.tag ≡ self.old.tag }
-        ensures taken { MatchBool result
-            (GoesOn self.old line.now self.new)
-            (Refuses (GoesOn self.old line.now) self.old self.new) }
-    {
-        if self.take_round(line) {
-            true
-        } else {
-            self.take_end(line)
-        }
-    }
-
     // Whether the line tells the rows of the exact average with which blocks end.
-    fn passes_behind(&self, kinds: &[ItemKind], line: &[u8]) -> bool
+    pub(crate) fn passes_behind(&self, kinds: &[ItemKind], line: &[u8]) -> bool
         ensures { MatchBool result
             (PassesBehind kinds.now self.now line.now self.now)
             ((next : Told) → PassesBehind kinds.now self.now line.now next → ⊥) }
@@ -65,65 +63,9 @@ impl Part {
             (TakesBehind shape.now self.old line.now self.new)
             (Refuses (TakesBehind shape.now self.old line.now) self.old self.new) }
     {
-        if self.take_next(line) {
+        if self.take_next(shape.columns, line) {
             return true;
         }
         self.passes_behind(shape.kinds.as_slice(), line)
-    }
-
-    // The block that was begun is whole.
-    pub(crate) fn close(&mut self, alloc: Global) -> Result<(), AllocError>
-        ensures tag { self.new.tag ≡ self.old.tag }
-        ensures closed { OnOk result (self.new ≡ closed self.old) }
-    {
-        let closing = closing_of(&self.current);
-        let whole = mem::replace(&mut self.current, Vec::new(alloc));
-        self.blocks.push(Block::Totals(Listed::new(whole)))?;
-        self.closing = closing;
-        self.place = Place::Round;
-        Ok(())
-    }
-
-    // Takes the line of the next round, behind a block that is whole by it.
-    fn close_by_round(&mut self, alloc: Global, line: &[u8]) -> Result<bool, AllocError>
-        ensures tag { self.new.tag ≡ self.old.tag }
-        ensures taken { IfOk result (λ taken. MatchBool taken
-            (BeginsRound (closed self.old) line.now self.new)
-            (Refuses (BeginsRound (closed self.old) line.now) self.old self.new)) }
-    {
-        if !is_round_line(self.count() as u64 + 1, line) {
-            return Ok(false);
-        }
-        self.close(alloc)?;
-        self.go(Place::Items);
-        Ok(true)
-    }
-
-    // Takes the end, behind a block that is whole by it.
-    fn close_by_end(&mut self, alloc: Global, line: &[u8]) -> Result<bool, AllocError>
-        ensures tag { self.new.tag ≡ self.old.tag }
-        ensures taken { IfOk result (λ taken. MatchBool taken
-            (Ends (closed self.old) line.now self.new)
-            (Refuses (Ends (closed self.old) line.now) self.old self.new)) }
-    {
-        let Some(end) = read_end(line) else {
-            return Ok(false);
-        };
-        self.close(alloc)?;
-        self.go(Place::Ended(end));
-        Ok(true)
-    }
-
-    // Takes the next round or the end, behind a block that is whole by it.
-    pub(crate) fn close_by(&mut self, alloc: Global, line: &[u8]) -> Result<bool, AllocError>
-        ensures tag { self.new.tag ≡ self.old.tag }
-        ensures taken { IfOk result (λ taken. MatchBool taken
-            (GoesOn (closed self.old) line.now self.new)
-            (Refuses (GoesOn (closed self.old) line.now) self.old self.new)) }
-    {
-        if self.close_by_round(alloc, line)? {
-            return Ok(true);
-        }
-        self.close_by_end(alloc, line)
     }
 }

@@ -136,7 +136,7 @@ impl Part {
             && is_rows_line(count as u64, line)
     }
 
-    // Takes the line behind the first block.
+    // Takes the line behind the first block, or the first section.
     fn take_closing(
         &mut self,
         alloc: Global,
@@ -151,7 +151,7 @@ impl Part {
         if !is_unknown(self.closing) || self.current.len() != shape.kinds.as_slice().len() {
             return Ok(false);
         }
-        self.close_by(alloc, line)
+        self.close_by(alloc, shape.columns, line)
     }
 
     // Takes a line behind what is told of an item, but for the next answer.

@@ -3,11 +3,13 @@
 
 mod averages;
 mod behind;
+mod between;
 mod block;
 mod blocks;
 mod closing;
 mod combination;
 mod combined;
+mod completing;
 mod ends;
 mod entry;
 mod fault;

@@ -1,11 +1,22 @@
 //! The first lines of a part's report: the query's, how many parts it is of, and the first round's.
 
-ghost use Rattle.std.specs.Prelude.{◌≡◌, ◌≢◌, Err, MatchBool, OnOk, length};
-ghost use Rattle.report_parts.specs.Told.{BeginsRound, IsOpened, Opens, Refuses, TellsParts};
+ghost use Rattle.std.specs.Prelude.{◌≡◌, ◌≢◌, Err, MatchBool, OnOk};
+ghost use Rattle.report_parts.specs.Told.{BeginsRound, IsOpened, Opens, Refuses, TellsParts, opened_by};
 
 use crate::fault::LineFault;
 use crate::part::{Part, Place};
 use report_text::{is_round_line, read_parts};
+
+// What comes behind the line of a round.
+pub(crate) fn opened_by(columns: usize) -> Place
+    ensures { result ≡ opened_by columns }
+{
+    if columns == 0 {
+        Place::Items
+    } else {
+        Place::Group
+    }
+}
 
 impl Part {
     // Takes the line of the query.
@@ -51,30 +62,30 @@ impl Part {
     }
 
     // Takes the line of the next round.
-    pub(crate) fn take_round(&mut self, line: &[u8]) -> bool
+    fn take_round(&mut self, columns: usize, line: &[u8]) -> bool
         ensures tag { self.new.tag ≡ self.old.tag }
         ensures taken { MatchBool result
-            (BeginsRound self.old line.now self.new)
-            (Refuses (BeginsRound self.old line.now) self.old self.new) }
+            (BeginsRound columns self.old line.now self.new)
+            (Refuses (BeginsRound columns self.old line.now) self.old self.new) }
     {
         if !is_round_line(self.count() as u64, line) {
             return false;
         }
-        self.go(Place::Items);
+        self.go(opened_by(columns));
         true
     }
 
     // Takes how many parts a combined report is of, or the first round.
-    pub(crate) fn take_opened(&mut self, line: &[u8]) -> bool
+    pub(crate) fn take_opened(&mut self, columns: usize, line: &[u8]) -> bool
         ensures tag { self.new.tag ≡ self.old.tag }
         ensures taken { MatchBool result
-            (IsOpened self.old line.now self.new)
-            (Refuses (IsOpened self.old line.now) self.old self.new) }
+            (IsOpened columns self.old line.now self.new)
+            (Refuses (IsOpened columns self.old line.now) self.old self.new) }
     {
         if self.take_parts(line) {
             true
         } else {
-            self.take_round(line)
+            self.take_round(columns, line)
         }
     }
 }

@@ -7,12 +7,12 @@ ghost use Rattle.report_parts.specs.Rounds.{block_for};
 ghost use Rattle.report_parts.specs.Told.{Refuses, Takes, TakesInside, at_place, nothing_told};
 ghost use Rattle.report_parts.specs.declared.part.Place.TheVariants.{Query};
 
-use crate::block::Block;
+use crate::block::{Block, Section};
 use crate::closing::Closing;
 use crate::entry::Entry;
 use crate::fault::LineFault;
 use crate::shape::Shape;
-use report_text::ReportEnd;
+use report_text::{GroupLine, ReportEnd};
 use std::alloc::Global;
 use std::marker::Model;
 
@@ -25,20 +25,25 @@ pub enum Place {
     Opened,
     /// The next round, or, behind a block, the end.
     Round,
+    /// The next group, or, behind a block, the next round or the end.
+    Group,
     /// The answer of the next item.
     Items,
     /// Nothing.
     Ended(ReportEnd),
 }
 
-/// The report of a part, as far as it was read: the blocks behind so many that were forgotten, which line is the last of a block, the
-/// entries of a block that is not whole yet, and what comes next.
+/// The report of a part, as far as it was read: the blocks behind so many that were forgotten; which line is the last of an item's; of the
+/// block that is not whole yet the whole sections, the group of the one that is not, and its entries, or, of totals, the entries; and what
+/// comes next.
 #[derive(Drop)]
 pub struct Part {
     pub(crate) tag: Vec<u8>,
     pub(crate) passed: usize,
     pub(crate) blocks: Vec<Block>,
     pub(crate) closing: Closing,
+    pub(crate) sections: Vec<Section>,
+    pub(crate) group: Option<GroupLine>,
     pub(crate) current: Vec<Entry>,
     pub(crate) place: Place,
 }
@@ -54,6 +59,8 @@ impl Model for Part {
       tag = p.tag.items;
       blocks = replicate p.passed no_block ++ p.blocks.items;
       closing = p.closing;
+      sections = p.sections.items;
+      group = p.group;
       current = p.current.items;
       place = p.place;
     } };
@@ -74,6 +81,8 @@ impl Part {
             passed: 0,
             blocks: Vec::new(alloc),
             closing: Closing::Unknown,
+            sections: Vec::new(alloc),
+            group: None,
             current: Vec::new(alloc),
             place: Place::Query,
         }
@@ -171,8 +180,9 @@ impl Part {
     {
         let taken = match self.place {
             Place::Query => return self.take_opening(query, line),
-            Place::Opened => self.take_opened(line),
+            Place::Opened => self.take_opened(shape.columns, line),
             Place::Round => self.take_behind(shape, line),
+            Place::Group => return self.take_line_between(alloc, shape, line),
             Place::Items => return self.take_line_inside(alloc, shape, line),
             Place::Ended(_) => false,
         };

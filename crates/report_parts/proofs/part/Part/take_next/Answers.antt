@@ -1,8 +1,5 @@
-use Rattle.report_parts.proofs.Turns.{second_decides}
-use Rattle.report_parts.specs.Told.{BeginsRound, Ends}
+use Rattle.std.proofs.Common.{refl, sym}
 use Rattle.report_parts.proofs.part.Part.take_next.Goals as goal
 
-pub returns-else-take_round-clause-taken : goal.returns-else-take_round-clause-taken
-returns-else-take_round-clause-taken c =
-    second_decides c.take_end.result (λ told next. BeginsRound told c.args.line.now next) (λ told next. Ends told c.args.line.now next)
-    c.args.self.now c.take_round.new.self c.take_end.new.self c.if-take_round.ensures.taken c.take_end.ensures.taken
+pub returns-in-None-clause-taken : goal.returns-in-None-clause-taken
+returns-in-None-clause-taken c = (refl, λ next h. c.in-None.ensures c.args.self.now next (sym c.count.ensures.count) h)
