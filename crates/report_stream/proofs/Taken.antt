@@ -20,7 +20,7 @@ use Rattle.report_parts.specs.Combined.{AreAlikeEntries, FitEntries}
 use Rattle.report_parts.specs.Course.{IsLineFault, IsStopped, StopsBy, TakesLine, Task, Tell, wanted_of}
 use Rattle.report_parts.specs.Laws.{AllReach}
 use Rattle.report_parts.specs.Tags.{HasTab, IsRefused, IsTag, against, behind_tag, by_order, part_at, tag_of, told_of, with_part}
-use Rattle.report_parts.specs.Told.{GoesOn, TakesAt, TakesBehindAnswer, TakesRest, Told, closed, nothing_told}
+use Rattle.report_parts.specs.Told.{GoesOn, GroupsGoOn, TakesAt, TakesBehindAnswer, TakesRest, Told, block_done, closed, completed, nothing_told}
 use Rattle.report_parts.specs.declared.entry.Entry.{Entry}
 use Rattle.report_parts.specs.declared.fault.BlockFault.{BlockFault}
 use Rattle.report_parts.specs.declared.fault.BlockFault.TheVariants as b
@@ -28,7 +28,7 @@ use Rattle.report_parts.specs.declared.fault.InputFault.{InputFault}
 use Rattle.report_parts.specs.declared.fault.InputFault.TheVariants as i
 use Rattle.report_parts.specs.declared.fault.LineFault.TheVariants as l
 use Rattle.report_parts.specs.declared.part.Place.{Place}
-use Rattle.report_parts.specs.declared.part.Place.TheVariants.{Query, Opened, Round, Items, Ended}
+use Rattle.report_parts.specs.declared.part.Place.TheVariants.{Query, Opened, Round, Group, Items, Ended}
 use Rattle.report_parts.specs.declared.shape.Shape.{Shape}
 use Rattle.report_stream.specs.Accepted.{BlocksFit}
 
@@ -57,18 +57,22 @@ none_spelled number text e =
 none_rows : (number : ℕ) → IsRowsLine number [] → ⊥
 none_rows number h = none_spelled number h.text (sym h.split)
 
-none_goes_on : (told next : Told) → GoesOn told [] next → ⊥
-none_goes_on told next (inl h) = absurd (let e = h.is_round.split in cc)
-none_goes_on told next (inr h) = by h.end h.is_line
+none_goes_on : (columns : ℕ) (told next : Told) → GoesOn columns told [] next → ⊥
+none_goes_on columns told next (inl h) = absurd (let e = h.is_round.split in cc)
+none_goes_on columns told next (inr h) = by h.end h.is_line
   where
     by : (end : ReportEnd) → end_line end ≡ [] → ⊥
     by Narrow e = absurd cc
     by Rounds e = absurd cc
     by Reads e = absurd cc
 
+none_groups : (columns : ℕ) (told whole next : Told) → GroupsGoOn columns told whole [] next → ⊥
+none_groups columns told whole next (inl h) = absurd (let e = h.is_line in cc)
+none_groups columns told whole next (inr h) = none_goes_on columns whole next h
+
 none_rest : (shape : Shape) (told next : Told) → TakesRest shape told [] next → ⊥
 none_rest shape told next (inl h) = none_rows (length told.current) h.is_line
-none_rest shape told next (inr h) = none_goes_on (closed told) next h.1.goes_on
+none_rest shape told next (inr h) = none_groups shape.columns (closed told) (completed told) next h.1.goes_on
 
 none_behind : (shape : Shape) (told next : Told) → TakesBehindAnswer shape told [] next → ⊥
 none_behind shape told next (inl h) = none_spelled (length told.current) (extra_text h.kind h.extra) h.is_next.is_line
@@ -79,8 +83,10 @@ no_empty : (place : Place) (query : List ℕ) (shape : Shape) (told next : Told)
 no_empty Query query shape told next some h = some h.is_query
 no_empty Opened query shape told next some (inl h) = absurd (let e = h.is_line in cc)
 no_empty Opened query shape told next some (inr h) = absurd (let e = h.is_round.split in cc)
-no_empty Round query shape told next some (inl h) = none_goes_on told next h
+no_empty Round query shape told next some (inl h) = none_goes_on shape.columns told next h
 no_empty Round query shape told next some (inr h) = none_rows (length shape.kinds) h.1.is_line
+no_empty Group query shape told next some (inl h) = none_groups shape.columns told (block_done told) next h
+no_empty Group query shape told next some (inr h) = none_rows (length shape.kinds) h.1.passes.is_line
 no_empty Items query shape told next some (inl h) = none_spelled (length told.current + 1) (answer_text h.answer) h.is_next.is_line
 no_empty Items query shape told next some (inr h) = none_behind shape told next h.1
 no_empty (Ended end) query shape told next some h = absurd h

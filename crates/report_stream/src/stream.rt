@@ -1,6 +1,6 @@
 //! Reads line by line, writes each block as soon as the lines tell it, and reads no further behind the end.
 
-ghost use Rattle.std.specs.Prelude.{◌≡◌, ◌<◌, ◌≤◌, [], None, Ok, IfErr, IfOk, List, OnOk, false, length, true, ℕ};
+ghost use Rattle.std.specs.Prelude.{◌≡◌, ◌<◌, ◌≤◌, None, Ok, IfErr, IfOk, OnOk, false, length, true};
 ghost use Rattle.report_stream.specs.Steps.{IsAsked, IsEarly, IsEnd, IsFirstFault, IsOpen, PutsOut, RefusesBlocks, StopsAt, StopsTake};
 ghost use Rattle.report_stream.specs.Streams.{Combined, StreamCause};
 ghost use Rattle.source_lines.specs.Lines.{Ends, Stands as HasRead, has_line};

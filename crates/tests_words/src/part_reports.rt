@@ -14,21 +14,26 @@ const QUERY: &[u8] = b"query SELECT SUM(price), COUNT(*) FROM t";
 
 const KINDS: [ItemKind; 2] = [ItemKind::Sum, ItemKind::Count];
 
-// Blocks of totals of these kinds.
-fn shape(alloc: Global) -> Result<Shape, AllocError> {
+// Blocks of items of these kinds, by so many group columns.
+fn shape(alloc: Global, columns: usize) -> Result<Shape, AllocError> {
     Ok(Shape {
         kinds: Listed::new(Vec::from_slice(alloc, &KINDS)?),
-        columns: 0,
+        columns,
     })
 }
 
-fn part_of(alloc: Global, lines: &[&[u8]]) -> Result<Part, LineFault> {
-    let shape = shape(alloc)?;
+// The report of these lines, by so many group columns.
+fn part_by(alloc: Global, columns: usize, lines: &[&[u8]]) -> Result<Part, LineFault> {
+    let shape = shape(alloc, columns)?;
     let mut part = Part::new(alloc, Vec::new(alloc));
     for line in lines {
         part.take(alloc, QUERY, &shape, line)?;
     }
     Ok(part)
+}
+
+fn part_of(alloc: Global, lines: &[&[u8]]) -> Result<Part, LineFault> {
+    part_by(alloc, 0, lines)
 }
 
 fn value_within(null: Nullity, lo: i128, hi: i128) -> Answer {
@@ -141,6 +146,64 @@ fn lines_out_of_place_are_refused(rt: HostRuntime) {
 }
 
 #[test]
+fn a_report_by_groups_is_taken(rt: HostRuntime) {
+    let alloc = rt.alloc();
+    let lines: [&[u8]; 13] = [
+        QUERY,
+        b"parts 2",
+        b"round 0",
+        b"group 'Bern'..'Rome', 3 or null possible",
+        b"1 [3, 24] or null",
+        b"2 [0, 2]",
+        b"group null, 4..7 present",
+        b"1 7",
+        b"2 1",
+        b"round 1 city 1/2",
+        b"round 2 city 2/2",
+        b"group 'a, b', 3 present",
+        b"1 7",
+    ];
+    let Ok(part) = part_by(alloc, 2, &lines) else {
+        panic!(rt; "a line is refused");
+    };
+    assert_eq!(rt; part.count(), 2);
+    assert!(rt; part_by(alloc, 2, &[QUERY, b"round 0", b"end rounds"]).is_ok());
+}
+
+#[test]
+fn lines_of_groups_out_of_place_are_refused(rt: HostRuntime) {
+    let alloc = rt.alloc();
+    let wrong: [&[&[u8]]; 6] = [
+        &[QUERY, b"round 0", b"1 3"],
+        &[QUERY, b"parts 2", b"group 'Rome' present"],
+        &[QUERY, b"round 0", b"group 'Rome', 3 present"],
+        &[QUERY, b"round 0", b"group 'Rome' present", b"round 1"],
+        &[
+            QUERY,
+            b"round 0",
+            b"group 'Rome' present",
+            b"1 7",
+            b"2 1",
+            b"round 2",
+        ],
+        &[
+            QUERY,
+            b"round 0",
+            b"group 'Rome' present",
+            b"1 7",
+            b"2 1",
+            b"3 1",
+        ],
+    ];
+    for lines in wrong {
+        assert!(rt; part_by(alloc, 1, lines).is_err());
+    }
+    let grouped: [&[u8]; 3] = [QUERY, b"round 0", b"group 'Rome' present"];
+    assert!(rt; part_of(alloc, &grouped).is_err());
+    assert!(rt; part_by(alloc, 1, &grouped).is_ok());
+}
+
+#[test]
 fn other_decimals_are_refused(rt: HostRuntime) {
     let alloc = rt.alloc();
     let whole = part_of(alloc, &[QUERY, b"round 0", b"1 3", b"2 1"]);
@@ -210,7 +273,7 @@ fn an_answer_is_narrow_by_its_width(rt: HostRuntime) {
 fn asked(alloc: Global) -> Result<Asked, AllocError> {
     Ok(Asked {
         query: Vec::from_slice(alloc, QUERY)?,
-        shape: shape(alloc)?,
+        shape: shape(alloc, 0)?,
     })
 }
 
