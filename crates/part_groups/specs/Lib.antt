@@ -2,4 +2,5 @@ pub mod Cells
 pub mod Combined
 pub mod Faults
 pub mod Forms
+pub mod Laws
 pub mod Shown

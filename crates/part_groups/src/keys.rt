@@ -5,7 +5,8 @@ ghost use Rattle.std.specs.Cmp.Lexicographic.{slice_cmp};
 ghost use Rattle.std.specs.List.{All};
 ghost use Rattle.std.specs.Ordering.{is_le, nat_cmp};
 ghost use Rattle.report_text.specs.Keys.{AreShownEnds, IsShownSpan};
-ghost use Rattle.part_groups.specs.Shown.{are_written, ends_between, or_dash, shown_ends, shown_from, shown_span, span_at, texts_between, values_between};
+ghost use Rattle.part_groups.specs.Shown.{are_written, ends_between, or_dash, shown_ends, shown_from};
+ghost use Rattle.part_groups.specs.Shown.{shown_span, span_at, texts_between, values_between};
 
 use crate::cells::copied;
 use crate::forms::EndsForm;

@@ -8,9 +8,11 @@ mod fault;
 mod forms;
 mod group;
 mod keys;
+mod laws;
 
 pub use cells::cell_of;
 pub use combined::combine;
 pub use fault::CombineFault;
 pub use forms::EndsForm;
 pub use group::{Group, Groups};
+pub use laws::{groups_contain, groups_tell_keys};

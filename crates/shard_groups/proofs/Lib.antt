@@ -16,7 +16,7 @@ mod Pairs
 mod Places
 mod Present
 mod Reorders
-mod Spans
+pub mod Spans
 mod Steps
 mod Uncertain
-mod ValueOrder
+pub mod ValueOrder

@@ -170,10 +170,10 @@ span_meets_back a b p =
     (λ t. let n = both a.null b.null t in meet_by_null b a n.1 n.0)
     (λ t. meet_by_ends b a (meet_back a.ends b.ends t)) p
 
-span_hull_left : (a b : Span) → IsTrue (related_spans Within a (span_hull a b))
+pub span_hull_left : (a b : Span) → IsTrue (related_spans Within a (span_hull a b))
 span_hull_left a b = within_from a (span_hull a b) (null_by a.null (a.null || b.null) (λ t. left_null a.null b.null t)) (hull_left a.ends b.ends)
 
-span_hull_right : (a b : Span) → IsTrue (related_spans Within b (span_hull a b))
+pub span_hull_right : (a b : Span) → IsTrue (related_spans Within b (span_hull a b))
 span_hull_right a b = within_from b (span_hull a b) (null_by b.null (a.null || b.null) (λ t. right_null a.null b.null t)) (hull_right a.ends b.ends)
 
 span_hull_least : (a b c : Span) → IsTrue (related_spans Within a c) → IsTrue (related_spans Within b c) → IsTrue (related_spans Within (span_hull a b) c)

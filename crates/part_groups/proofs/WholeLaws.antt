@@ -1,0 +1,88 @@
+-- The laws of the lines over all parts, of the groups that show them.
+use Rattle.std.proofs.Common.{◌≡◌, ◌∙◌, ℕ, List, ◌∷◌, [], sym, ap, subst, inl, inr}
+use Rattle.query_model.specs.Bounds.{Admits}
+use Rattle.query_model.specs.declared.bounds.Bound.{Bound}
+use Rattle.query_model.specs.declared.query.ItemKind.{ItemKind}
+use Rattle.shard_bounds.specs.Combined.{answer_over}
+use Rattle.shard_groups.specs.declared.cells.Cell.{Cell}
+use Rattle.shard_groups.specs.Groups.{AreLinesOver, all_keys, is_present, keys_in}
+use Rattle.shard_groups.specs.Keys.{Key, holds}
+use Rattle.shard_groups.specs.Laws.{IsCellOf, LinesContain, LinesTellKeys}
+use Rattle.part_groups.specs.Cells.{told}
+use Rattle.part_groups.specs.Combined.{IsCombinedReport}
+use Rattle.part_groups.specs.Laws.{AreAllOf, GroupsContain, GroupsTellKeys, IsGroupOf, bound_in, keys_by}
+use Rattle.part_groups.specs.Shown.{group_in}
+use Rattle.part_groups.specs.declared.group.Group.{Group}
+use Rattle.part_groups.proofs.Carried.{certain, counted, group_of, line_of, line_with, one_of, shown_bound, shown_same, within_of}
+use Rattle.part_groups.proofs.Hulls.{AreWithin, lines_within}
+use Rattle.part_groups.proofs.PartKeys.{cells_in}
+
+-- ---- the line that a group shows
+
+are_within : (count : ℕ) (kinds : List ItemKind) (parts : List (List Group)) (groups : List Group) → AreAllOf count parts →
+    (report : IsCombinedReport count kinds parts groups) → AreWithin report.columns (keys_in report.lines)
+are_within count kinds parts groups are report =
+    lines_within report.columns (all_keys report.are_lines.cells) (keys_in report.lines) report.are_lines.combined.lines
+    (cells_in report.columns count parts report.are_lines.cells report.are_lines.tell are report.forms.columns_shared)
+
+-- a line of the combined report, which the group shows
+record IsOfLine (count : ℕ) (kinds : List ItemKind) (parts : List (List Group)) (groups : List Group) (report : IsCombinedReport count kinds parts groups)
+    (group : Group) : Type 0 where
+  line : Cell
+  is : IsCellOf line report.lines
+  shown : group ≡ group_in report.columns report.items (told line)
+  keys : (key : Key) → holds (keys_by group) key ≡ holds line.keys key
+
+of_line : (count : ℕ) (kinds : List ItemKind) (parts : List (List Group)) (groups : List Group) → AreAllOf count parts →
+    (report : IsCombinedReport count kinds parts groups) → (group : Group) → IsGroupOf group groups → IsOfLine count kinds parts groups report group
+of_line count kinds parts groups are report group is =
+    let there = line_of report.columns report.items report.lines group (subst (IsGroupOf group) report.shown is) in
+    let within = within_of report.columns report.lines there.line there.is (are_within count kinds parts groups are report) in
+    record {
+      line = there.line;
+      is = there.is;
+      shown = there.shown;
+      keys = λ key. ap (λ (g : Group). holds (keys_by g) key) there.shown ∙ shown_same report.columns there.line.keys key within;
+    }
+
+present_of : (kinds : List ItemKind) (shards : List (List Cell)) (lines : List Cell) (line : Cell) → IsCellOf line lines → AreLinesOver kinds shards lines →
+    line.present ≡ is_present line.keys shards
+present_of kinds shards [] line is over = absurd is
+present_of kinds shards (other ∷ lines) line (inl e) over =
+    subst (λ (c : Cell). c.present ≡ is_present c.keys shards) (sym e) over.0.present
+present_of kinds shards (other ∷ lines) line (inr is) over = present_of kinds shards lines line is over.1
+
+-- ---- the laws
+
+pub groups_contain : LinesContain → GroupsContain
+groups_contain law count kinds parts groups kind item key tables group are report at no_average sure is has =
+    let there = of_line count kinds parts groups are report group is in
+    let cells = report.are_lines.cells in
+    let combined = report.are_lines.combined in
+    let admits = law kind item key cells tables (keys_in report.lines) there.line.keys no_average combined.lines (one_of report.lines there.line there.is)
+    (sym (there.keys key) ∙ has) (certain kind item key cells parts tables report.are_lines.tell sure) in
+    let same = ap (bound_in item) there.shown
+    ∙ shown_bound report.columns report.items kinds cells report.lines there.line kind item there.is combined.each at no_average in
+    subst (λ (b : Bound). Admits b (answer_over kind tables)) (sym same) admits
+
+pub groups_tell_keys : LinesTellKeys → GroupsTellKeys
+groups_tell_keys law count kinds parts groups key counts are report sure =
+    let cells = report.are_lines.cells in
+    let combined = report.are_lines.combined in
+    let tells = law key cells counts (keys_in report.lines) combined.lines (counted key cells parts counts report.are_lines.tell sure) in
+    record {
+      found = λ some.
+          let found = tells.found some in
+          let there = line_with report.lines found.0 key found.1 found.2 in
+          let group = group_in report.columns report.items (told there.line) in
+          let within = within_of report.columns report.lines there.line there.is (are_within count kinds parts groups are report) in
+          record {
+            group = group;
+            is = subst (IsGroupOf group) (sym report.shown) (group_of report.columns report.items report.lines there.line there.is);
+            has = shown_same report.columns there.line.keys key within ∙ there.has;
+          };
+      present = λ group is has present.
+          let there = of_line count kinds parts groups are report group is in
+          tells.present there.line.keys (one_of report.lines there.line there.is) (sym (there.keys key) ∙ has)
+          (sym (present_of kinds cells report.lines there.line there.is combined.each) ∙ sym (ap (λ (g : Group). g.line.present) there.shown) ∙ present);
+    }

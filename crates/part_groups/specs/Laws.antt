@@ -1,0 +1,119 @@
+-- What holds of the report by groups over all parts, as statements. A public function with an empty body has each as its contract.
+use Rattle.std.specs.Prelude.{◌≡◌, ◌≢◌, ◌⊎◌, ℕ, ◌<◌, ℤ, List, [], ◌∷◌, IsTrue, IsFalse, Bool, length, map, slice_get}
+use Rattle.std.specs.List.{list_any}
+use Rattle.std.specs.declared.option.Option.{Option}
+use Rattle.std.specs.declared.option.Option.TheVariants.{Some, None}
+use Rattle.query_model.specs.declared.bounds.Bound.{Bound}
+use Rattle.query_model.specs.declared.query.ItemKind.{ItemKind}
+use Rattle.query_model.specs.declared.query.ItemKind.TheVariants.{Sum, Avg}
+use Rattle.query_model.specs.Answers.{answer}
+use Rattle.query_model.specs.Bounds.{Admits}
+use Rattle.report_text.specs.Groups.{IsShownGroup}
+use Rattle.shard_bounds.specs.Combined.{answer_over}
+use Rattle.shard_groups.specs.declared.keys.Span.{Span}
+use Rattle.shard_groups.specs.Groups.{Average, Said, Value, no_rows}
+use Rattle.shard_groups.specs.Keys.{Key, holds}
+use Rattle.shard_groups.specs.Laws.{all_rows}
+use Rattle.part_groups.specs.Cells.{keys_of, said_by}
+use Rattle.part_groups.specs.Combined.{IsCombinedReport}
+use Rattle.part_groups.specs.declared.group.Group.{Group}
+
+-- ---- groups of reports
+
+-- a group that a report of a query with so many group columns shows
+pub record IsOf (count : ℕ) (group : Group) : Type 0 where
+  pub shown : IsShownGroup group.line
+  pub columns : length group.line.keys ≡ count
+
+abbrev pub AreOf : ℕ → List Group → Type 0
+AreOf count [] = Unit {0}
+AreOf count (group ∷ groups) = IsOf count group × AreOf count groups
+
+abbrev pub AreAllOf : ℕ → List (List Group) → Type 0
+AreAllOf count [] = Unit {0}
+AreAllOf count (groups ∷ parts) = AreOf count groups × AreAllOf count parts
+
+abbrev pub IsGroupOf : Group → List Group → Type 0
+IsGroupOf group [] = ⊥
+IsGroupOf group (other ∷ others) = (group ≡ other) ⊎ IsGroupOf group others
+
+-- the keys that a group shows
+abbrev pub keys_by : Group → List Span
+keys_by group = keys_of group.line.keys
+
+abbrev pub bound_by : Option Said → Bound
+bound_by None = no_rows Sum
+bound_by (Some (Value bound)) = bound
+bound_by (Some (Average bound)) = no_rows Sum
+
+-- what a group says of an item
+abbrev pub bound_in : ℕ → Group → Bound
+bound_in item group = bound_by (slice_get (map said_by group.answers) item)
+
+abbrev pub has_key : Key → List Group → Bool
+has_key key groups = list_any (λ group. holds (keys_by group) key) groups
+
+-- ---- contains
+
+-- each group that has the key admits the answer over these values
+abbrev pub AreAdmittedIn : ItemKind → ℕ → Key → List Group → List ℤ → Type 0
+AreAdmittedIn kind item key [] values = Unit {0}
+AreAdmittedIn kind item key (group ∷ groups) values =
+    (IsTrue (holds (keys_by group) key) → Admits (bound_in item group) (answer kind values)) × AreAdmittedIn kind item key groups values
+
+-- the report of a part is certain of the key, to which the part's rows give these values: a key without a group has none
+pub record IsCertainIn (kind : ItemKind) (item : ℕ) (key : Key) (groups : List Group) (values : List ℤ) : Type 0 where
+  pub admits : AreAdmittedIn kind item key groups values
+  pub missing : IsFalse (has_key key groups) → values ≡ []
+
+abbrev pub AreCertainIn : ItemKind → ℕ → Key → List (List Group) → List (List ℤ) → Type 0
+AreCertainIn kind item key [] [] = Unit {0}
+AreCertainIn kind item key [] (values ∷ tables) = ⊥
+AreCertainIn kind item key (groups ∷ parts) [] = ⊥
+AreCertainIn kind item key (groups ∷ parts) (values ∷ tables) =
+    IsCertainIn kind item key groups values × AreCertainIn kind item key parts tables
+
+-- a group of the combined report that has the key contains its answer over the rows of all parts
+abbrev pub GroupsContain : Type 0
+GroupsContain =
+    (count : ℕ) (kinds : List ItemKind) (parts : List (List Group)) (groups : List Group) (kind : ItemKind) (item : ℕ) (key : Key)
+    (tables : List (List ℤ)) (group : Group) →
+    AreAllOf count parts → IsCombinedReport count kinds parts groups → slice_get kinds item ≡ Some kind → kind ≢ Avg →
+    AreCertainIn kind item key parts tables → IsGroupOf group groups → IsTrue (holds (keys_by group) key) →
+    Admits (bound_in item group) (answer_over kind tables)
+
+-- ---- which keys are in the result
+
+-- so many rows of a part count for a key: some for each group that has it and is present
+abbrev pub ArePresentIn : Key → List Group → ℕ → Type 0
+ArePresentIn key [] rows = Unit {0}
+ArePresentIn key (group ∷ groups) rows =
+    (IsTrue group.line.present → IsTrue (holds (keys_by group) key) → 0 < rows) × ArePresentIn key groups rows
+
+-- the report of a part is right about that: a key without a group has no row
+pub record IsCountedIn (key : Key) (groups : List Group) (rows : ℕ) : Type 0 where
+  pub present : ArePresentIn key groups rows
+  pub missing : IsFalse (has_key key groups) → rows ≡ 0
+
+abbrev pub AreCountedIn : Key → List (List Group) → List ℕ → Type 0
+AreCountedIn key [] [] = Unit {0}
+AreCountedIn key [] (rows ∷ counts) = ⊥
+AreCountedIn key (groups ∷ parts) [] = ⊥
+AreCountedIn key (groups ∷ parts) (rows ∷ counts) = IsCountedIn key groups rows × AreCountedIn key parts counts
+
+-- some group has the key
+pub record HasKey (key : Key) (groups : List Group) : Type 0 where
+  pub group : Group
+  pub is : IsGroupOf group groups
+  pub has : IsTrue (holds (keys_by group) key)
+
+-- a key of the whole result is in a group, and each key of a present group is in the result
+pub record AreKeysShown (key : Key) (counts : List ℕ) (groups : List Group) : Type 0 where
+  pub found : 0 < all_rows counts → HasKey key groups
+  pub present : (group : Group) → IsGroupOf group groups → IsTrue (holds (keys_by group) key) → IsTrue group.line.present →
+      0 < all_rows counts
+
+abbrev pub GroupsTellKeys : Type 0
+GroupsTellKeys =
+    (count : ℕ) (kinds : List ItemKind) (parts : List (List Group)) (groups : List Group) (key : Key) (counts : List ℕ) →
+    AreAllOf count parts → IsCombinedReport count kinds parts groups → AreCountedIn key parts counts → AreKeysShown key counts groups
