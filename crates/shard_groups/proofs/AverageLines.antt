@@ -24,7 +24,7 @@ use Rattle.shard_groups.proofs.Spans.{holds_more}
 
 -- ---- loosened bounds
 
-loose_null : (w : Nullity) → loose_word w ≢ Never
+pub loose_null : (w : Nullity) → loose_word w ≢ Never
 loose_null Never = λ e. cc
 loose_null Possibly = λ e. cc
 loose_null Always = λ e. cc
@@ -62,7 +62,7 @@ loosened_divides (b ∷ bounds) d = (record { lo = d.0.lo; hi = d.0.hi }, loosen
 
 -- ---- several loosened bounds
 
-uncertain_null : (bounds : List AverageBound) → (uncertain_average bounds).null ≢ Never
+pub uncertain_null : (bounds : List AverageBound) → (uncertain_average bounds).null ≢ Never
 uncertain_null [] = λ e. cc
 uncertain_null (b ∷ bounds) =
     let rest = uncertain_average bounds in
@@ -125,11 +125,11 @@ divide_more : (t : Bool) (item : ℕ) (cell : Cell) (rest : List Cell) → IsDiv
 divide_more true item cell rest h k = (h, k)
 divide_more false item cell rest h k = k
 
-kept_divide : (item : ℕ) (line : List Span) (cells : List Cell) → AreCellsDivisible item cells → AreCellsDivisible item (cells_within line cells)
+pub kept_divide : (item : ℕ) (line : List Span) (cells : List Cell) → AreCellsDivisible item cells → AreCellsDivisible item (cells_within line cells)
 kept_divide item line [] h = tt
 kept_divide item line (cell ∷ cells) h = divide_more (is_within cell.keys line) item cell (cells_within line cells) h.0 (kept_divide item line cells h.1)
 
-all_divide : (item : ℕ) (cells : List Cell) → AreCellsDivisible item cells → AreDivisible (map (average_at item) cells)
+pub all_divide : (item : ℕ) (cells : List Cell) → AreCellsDivisible item cells → AreDivisible (map (average_at item) cells)
 all_divide item [] h = tt
 all_divide item (cell ∷ cells) h = (h.0, all_divide item cells h.1)
 
@@ -186,7 +186,7 @@ share_reports item key line cells values k within certain =
     (spread item key line cells values within certain))
 
 -- no denominator is 0
-uncertain_divides : (bounds : List AverageBound) → AreDivisible bounds → IsDivisible (uncertain_average bounds)
+pub uncertain_divides : (bounds : List AverageBound) → AreDivisible bounds → IsDivisible (uncertain_average bounds)
 uncertain_divides bounds d = hulls_divide (map loosened bounds) (loosened_divides bounds d)
 
 divides_if : (t : Bool) (item : ℕ) (cell : Cell) → IsDivisible (average_at item cell) → IsDivisible (uncertain_average (average_at item cell ∷ [])) →
@@ -194,7 +194,7 @@ divides_if : (t : Bool) (item : ℕ) (cell : Cell) → IsDivisible (average_at i
 divides_if true item cell p q = p
 divides_if false item cell p q = q
 
-share_divides : (item : ℕ) (line : List Span) (found : List Cell) → AreCellsDivisible item found → IsDivisible (average_share_by item (only line found) found)
+pub share_divides : (item : ℕ) (line : List Span) (found : List Cell) → AreCellsDivisible item found → IsDivisible (average_share_by item (only line found) found)
 share_divides item line [] d = uncertain_divides [] tt
 share_divides item line (cell ∷ []) d = divides_if (is_within line cell.keys) item cell d.0 (uncertain_divides (average_at item cell ∷ []) (d.0, tt))
 share_divides item line (cell ∷ next ∷ cells) d =

@@ -34,7 +34,7 @@ apart_covers m cell (l ∷ lines) apart (inl w) t = both_ways (meets m l) apart.
 apart_covers m cell (l ∷ lines) apart (inr covered) t = apart_covers m cell lines apart.1 covered t
 
 -- a cell that meets a line lies within it
-meets_line : (cell line : List Span) (lines : List (List Span)) → AreApart lines → IsCovered cell lines → IsOneOf line lines →
+pub meets_line : (cell line : List Span) (lines : List (List Span)) → AreApart lines → IsCovered cell lines → IsOneOf line lines →
     IsTrue (meets cell line) → IsTrue (is_within cell line)
 meets_line cell line [] apart covered one t = absurd one
 meets_line cell line (m ∷ lines) apart (inl w) (inl e) t = subst (λ (x : List Span). IsTrue (is_within cell x)) (sym e) w
@@ -67,7 +67,7 @@ later_covered kind item (olds ∷ before) (cells ∷ shards) lines covered later
     (all_from item cells olds lines (covered_front (keys_in olds) (all_keys before) lines covered) later.0.from)
     (later_covered kind item before shards lines (covered_back (keys_in olds) (all_keys before) lines covered) later.1)
 
-one_covered : (line : List Span) (lines others : List (List Span)) → IsOneOf line lines → AreCovered lines others → IsCovered line others
+pub one_covered : (line : List Span) (lines others : List (List Span)) → IsOneOf line lines → AreCovered lines others → IsCovered line others
 one_covered line [] others one covered = absurd one
 one_covered line (l ∷ lines) others (inl e) covered = subst (λ (x : List Span). IsCovered x others) (sym e) covered.0
 one_covered line (l ∷ lines) others (inr one) covered = one_covered line lines others one covered.1
@@ -316,7 +316,7 @@ all_nest kind item key (first ∷ before) (cells ∷ shards) olds lines old line
     )
 
 -- the line of the key lies within its line before
-line_within : (key : Key) (line old : List Span) (olds : List (List Span)) → AreApart olds → IsCovered line olds → IsOneOf old olds →
+pub line_within : (key : Key) (line old : List Span) (olds : List (List Span)) → AreApart olds → IsCovered line olds → IsOneOf old olds →
     IsTrue (holds line key) → IsTrue (holds old key) → IsTrue (is_within line old)
 line_within key line old olds apart covered one k h = within_line line old olds key apart covered one k h
 

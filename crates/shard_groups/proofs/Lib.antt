@@ -9,6 +9,7 @@ mod Found
 mod Later
 mod LineSets
 mod Narrow
+mod NestedAverages
 mod Nests
 mod One
 mod OneOrder

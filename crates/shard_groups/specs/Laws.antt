@@ -6,15 +6,15 @@ use Rattle.std.specs.declared.option.Option.TheVariants.{Some, None}
 use Rattle.std.specs.List.{list_all, list_any}
 use Rattle.std.specs.Option.{is_some}
 use Rattle.query_model.specs.declared.bounds.Bound.{Bound}
-use Rattle.query_model.specs.declared.bounds.Nullity.TheVariants.{Never}
+use Rattle.query_model.specs.declared.bounds.Nullity.TheVariants.{Never, Always}
 use Rattle.query_model.specs.declared.query.ItemKind.{ItemKind}
 use Rattle.query_model.specs.declared.query.ItemKind.TheVariants.{Count, Sum, Min, Max, Avg}
 use Rattle.query_model.specs.Answers.{answer, average}
-use Rattle.query_model.specs.Bounds.{Admits, IsNested, AdmitsAverage}
+use Rattle.query_model.specs.Bounds.{Admits, IsNested, AdmitsAverage, AverageBound, IsNestedAverage}
 use Rattle.shard_bounds.specs.Combined as answers
 use Rattle.shard_bounds.specs.Combined.{answer_over, IsBoundOf, Reordered}
-use Rattle.shard_bounds.specs.Laws.{Tells}
-use Rattle.shard_bounds.specs.Averages.{IsDivisible, ReportsAverage, TellsAverage}
+use Rattle.shard_bounds.specs.Laws.{IsNestedReport, Tells}
+use Rattle.shard_bounds.specs.Averages.{IsDivisible, ReportsAverage, TellsAverage, no_average}
 use Rattle.shard_groups.specs.declared.cells.Cell.{Cell}
 use Rattle.shard_groups.specs.declared.keys.Ends.{Ends}
 use Rattle.shard_groups.specs.declared.keys.Span.{Span}
@@ -310,3 +310,61 @@ LinesTellAverages =
     (lines : List (List Span)) (line : List Span) →
     AreLines (all_keys shards) lines → IsOneOf line lines → IsTrue (holds line key) →
     AreAllAveragesToldAt item key shards tables → TellsAverage (average_over item line shards) (answers.average_over tables)
+
+-- no denominator is 0, and where there is no average both ends are 0
+pub record IsCellAverage (bound : AverageBound) : Type 0 where
+  pub divisible : IsDivisible bound
+  pub none : bound.null ≡ Always → bound ≡ no_average
+
+abbrev pub AreCellAverages : ℕ → List Cell → Type 0
+AreCellAverages item [] = Unit {0}
+AreCellAverages item (cell ∷ cells) = IsCellAverage (average_at item cell) × AreCellAverages item cells
+
+-- the cell lies within one of these, and so does its average
+abbrev pub IsAverageFrom : ℕ → Cell → List Cell → Type 0
+IsAverageFrom item cell [] = ⊥
+IsAverageFrom item cell (old ∷ olds) =
+    (IsTrue (is_within cell.keys old.keys) × IsNestedAverage (average_at item old) (average_at item cell)) ⊎ IsAverageFrom item cell olds
+
+abbrev pub AreAveragesFrom : ℕ → List Cell → List Cell → Type 0
+AreAveragesFrom item olds [] = Unit {0}
+AreAveragesFrom item olds (cell ∷ cells) = IsAverageFrom item cell olds × AreAveragesFrom item olds cells
+
+-- one of these has all keys of the cell, and a report of its average within the cell's
+abbrev pub HasAverageAgain : ℕ → Cell → List Cell → Type 0
+HasAverageAgain item old [] = ⊥
+HasAverageAgain item old (cell ∷ cells) =
+    (IsTrue (is_within old.keys cell.keys) × IsNestedReport (average_at item old) (average_at item cell)) ⊎ HasAverageAgain item old cells
+
+abbrev pub AreAveragesKept : ℕ → List Cell → List Cell → Type 0
+AreAveragesKept item [] cells = Unit {0}
+AreAveragesKept item (old ∷ olds) cells =
+    ((average_at item old).null ≢ Never ⊎ HasAverageAgain item old cells) × AreAveragesKept item olds cells
+
+-- a later report of a shard: its cells and averages lie within those before, and a cell that was certain of an average is there again
+pub record IsLaterAverage (item : ℕ) (olds cells : List Cell) : Type 0 where
+  pub before : AreCellAverages item olds
+  pub now : AreCellAverages item cells
+  pub some : AreSome cells
+  pub apart : AreApart (keys_in cells)
+  pub from : AreAveragesFrom item olds cells
+  pub kept : AreAveragesKept item olds cells
+
+abbrev pub AreLaterAverages : ℕ → List (List Cell) → List (List Cell) → Type 0
+AreLaterAverages item [] [] = Unit {0}
+AreLaterAverages item [] (cells ∷ shards) = ⊥
+AreLaterAverages item (olds ∷ before) [] = ⊥
+AreLaterAverages item (olds ∷ before) (cells ∷ shards) = IsLaterAverage item olds cells × AreLaterAverages item before shards
+
+pub record IsNestedAverageLine (item : ℕ) (before shards : List (List Cell)) (old line : List Span) : Type 0 where
+  pub keys : IsTrue (is_within line old)
+  pub average : IsNestedAverage (average_over item old before) (average_over item line shards)
+
+-- with later reports of the shards, the line of a key and its average lie within those before
+abbrev pub LinesNestAverages : Type 0
+LinesNestAverages =
+    (item : ℕ) (key : Key) (before shards : List (List Cell))
+    (olds lines : List (List Span)) (old line : List Span) →
+    AreLines (all_keys before) olds → AreLines (all_keys shards) lines → AreLaterAverages item before shards →
+    IsOneOf old olds → IsOneOf line lines → IsTrue (holds old key) → IsTrue (holds line key) →
+    IsNestedAverageLine item before shards old line

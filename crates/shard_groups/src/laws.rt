@@ -1,7 +1,7 @@
 //! The laws of combined reports by groups. Each stands on a function that does nothing.
 
 ghost use Rattle.shard_groups.specs.Found.{CombinedIsFound, LinesAreFound};
-ghost use Rattle.shard_groups.specs.Laws.{LinesAreOne, LinesContain, LinesContainAverages, LinesNest};
+ghost use Rattle.shard_groups.specs.Laws.{LinesAreOne, LinesContain, LinesContainAverages, LinesNest, LinesNestAverages};
 ghost use Rattle.shard_groups.specs.Laws.{LinesTell, LinesTellAverages, LinesTellKeys, OneShardIsAll, OrderIsFree};
 
 /// Where the shards' reports are certain of a key, a line that has it contains its answer over the rows of all shards.
@@ -57,4 +57,9 @@ pub fn lines_contain_averages()
 /// Where the shards' reports are exact, the line of a key says the sum and the number of its values in all shards.
 pub fn lines_tell_averages()
     ensures { LinesTellAverages }
+{}
+
+/// With later reports of the shards, the line of a key and its average lie within those before.
+pub fn lines_nest_averages()
+    ensures { LinesNestAverages }
 {}
