@@ -42,7 +42,7 @@ total-reordered f xs ys r = folded (λ xs. total (map f xs)) (λ x a. f x +ℤ a
 length-reordered : {X : Type 0} (xs ys : List X) → Reordered xs ys → length xs ≡ length ys
 length-reordered xs ys r = folded length (λ x n. suc n) (λ x xs. refl) (λ x y a. refl) xs ys r
 
-map-reordered : {X Y : Type 0} (f : X → Y) (xs ys : List X) → Reordered xs ys → Reordered (map f xs) (map f ys)
+pub map-reordered : {X Y : Type 0} (f : X → Y) (xs ys : List X) → Reordered xs ys → Reordered (map f xs) (map f ys)
 map-reordered f xs ys (same zs) = same (map f zs)
 map-reordered f xs ys (swapped x y zs) = swapped (f x) (f y) (map f zs)
 map-reordered f xs ys (farther x us vs r) = farther (f x) (map f us) (map f vs) (map-reordered f us vs r)

@@ -17,6 +17,7 @@ mod Pairs
 mod Places
 mod Present
 mod Reorders
+mod SameAverages
 pub mod Spans
 mod Steps
 mod Uncertain

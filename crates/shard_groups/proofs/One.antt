@@ -24,7 +24,7 @@ apart_of cell own (other ∷ cells) apart (inl e) = subst (λ (c : Cell). IsFals
 apart_of cell own (other ∷ cells) apart (inr one) = apart_of cell own cells apart.1 one
 
 -- within a cell of the shard is this cell alone
-alone : (cell : Cell) (cells : List Cell) → AreSome cells → AreApart (keys_in cells) → IsCellOf cell cells → cells_within cell.keys cells ≡ cell ∷ []
+pub alone : (cell : Cell) (cells : List Cell) → AreSome cells → AreApart (keys_in cells) → IsCellOf cell cells → cells_within cell.keys cells ≡ cell ∷ []
 alone cell [] some apart one = absurd one
 alone cell (other ∷ cells) some apart (inl e) =
     subst (λ (c : Cell). cells_within c.keys (other ∷ cells) ≡ c ∷ []) (sym e)
@@ -39,7 +39,7 @@ whole_if : (t : Bool) (cell : Cell) → IsTrue t → ◌≡◌ {A = Option Cell}
 whole_if true cell t = refl
 whole_if false cell t = absurd (both_ways false refl t)
 
-only_own : (cell : Cell) → only cell.keys (cell ∷ []) ≡ Some cell
+pub only_own : (cell : Cell) → only cell.keys (cell ∷ []) ≡ Some cell
 only_own cell = whole_if (is_within cell.keys cell.keys) cell (within_itself cell.keys)
 
 bound_of_cell : (kind : ItemKind) (item : ℕ) (cell : Cell) (cells : List Cell) → AreCellBounds kind item cells → IsCellOf cell cells → IsBoundOf kind (bound_at item cell)

@@ -1,25 +1,14 @@
 -- The order of the shards makes no difference.
-use Rattle.std.proofs.Common.{◌≡◌, ℕ, Bool, true, false, ◌||◌, List, ◌++◌, refl, ap, ◌∙◌, inl, inr}
-use Rattle.query_model.specs.declared.query.ItemKind.{ItemKind}
+use Rattle.std.proofs.Common.{◌≡◌, Bool, true, false, ◌||◌, List, ◌++◌, refl, ap, ◌∙◌, inl, inr}
 use Rattle.shard_bounds.specs.Combined.{Reordered}
 use Rattle.shard_bounds.specs.Combined.Reordered.{same, swapped, farther, both}
-use Rattle.shard_bounds.proofs.Orders.{order_is_free as orders}
+use Rattle.shard_bounds.proofs.Orders.{map-reordered, order_is_free as orders}
 use Rattle.shard_groups.specs.declared.cells.Cell.{Cell}
 use Rattle.shard_groups.specs.declared.keys.Span.{Span}
 use Rattle.shard_groups.specs.Groups.{all_keys, is_present, is_present_in, keys_in, share, shares}
 use Rattle.shard_groups.specs.Laws.{LinesAreOne, OrderIsFree}
 use Rattle.shard_groups.specs.Lines.{AreCovered, AreLines, IsUsed}
 use Rattle.shard_groups.proofs.LineSets.{all_used, covered_append, covered_back, covered_front, used_cases, used_left, used_right}
-
-shares_reordered : (kind : ItemKind) (item : ℕ) (line : List Span) (shards others : List (List Cell)) → Reordered shards others →
-    Reordered (shares kind item line shards) (shares kind item line others)
-shares_reordered kind item line xs ys (same zs) = same (shares kind item line zs)
-shares_reordered kind item line xs ys (swapped x y zs) = swapped (share kind item line x) (share kind item line y) (shares kind item line zs)
-shares_reordered kind item line xs ys (farther x us vs r) =
-    farther (share kind item line x) (shares kind item line us) (shares kind item line vs) (shares_reordered kind item line us vs r)
-shares_reordered kind item line xs ys (both us vs ws r s) =
-    both (shares kind item line us) (shares kind item line vs) (shares kind item line ws)
-    (shares_reordered kind item line us vs r) (shares_reordered kind item line vs ws s)
 
 either_way : (a b c : Bool) → (a || (b || c)) ≡ (b || (a || c))
 either_way true true c = refl
@@ -81,7 +70,8 @@ lines_reordered shards others lines r are = record {
 pub order_is_free : OrderIsFree
 order_is_free kind item shards others lines r = record {
   same = λ are. lines_reordered shards others lines r are;
-  bound = λ line. orders kind (shares kind item line shards) (shares kind item line others) (shares_reordered kind item line shards others r);
+  bound = λ line. orders kind (shares kind item line shards) (shares kind item line others)
+      (map-reordered (share kind item line) shards others r);
   present = λ line. present_reordered line shards others r;
 }
 

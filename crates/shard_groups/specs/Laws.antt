@@ -368,3 +368,16 @@ LinesNestAverages =
     AreLines (all_keys before) olds → AreLines (all_keys shards) lines → AreLaterAverages item before shards →
     IsOneOf old olds → IsOneOf line lines → IsTrue (holds old key) → IsTrue (holds line key) →
     IsNestedAverageLine item before shards old line
+
+abbrev pub AreAllDivisible : ℕ → List (List Cell) → Type 0
+AreAllDivisible item [] = Unit {0}
+AreAllDivisible item (cells ∷ shards) = AreCellsDivisible item cells × AreAllDivisible item shards
+
+pub record AveragesAreOne : Type 0 where
+  -- in another order of the shards a line says the same average: each lies within the other
+  pub order : (item : ℕ) (shards others : List (List Cell)) (line : List Span) → AreAllDivisible item shards → Reordered shards others →
+      IsNestedAverage (average_over item line shards) (average_over item line others)
+      × IsNestedAverage (average_over item line others) (average_over item line shards)
+  -- and that over one shard is what its cell says
+  pub single : (item : ℕ) (cells : List Cell) (cell : Cell) → AreSome cells → AreApart (keys_in cells) → AreCellAverages item cells →
+      IsCellOf cell cells → average_over item cell.keys (cells ∷ []) ≡ average_at item cell

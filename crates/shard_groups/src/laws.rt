@@ -1,7 +1,7 @@
 //! The laws of combined reports by groups. Each stands on a function that does nothing.
 
 ghost use Rattle.shard_groups.specs.Found.{CombinedIsFound, LinesAreFound};
-ghost use Rattle.shard_groups.specs.Laws.{LinesAreOne, LinesContain, LinesContainAverages, LinesNest, LinesNestAverages};
+ghost use Rattle.shard_groups.specs.Laws.{AveragesAreOne, LinesAreOne, LinesContain, LinesContainAverages, LinesNest, LinesNestAverages};
 ghost use Rattle.shard_groups.specs.Laws.{LinesTell, LinesTellAverages, LinesTellKeys, OneShardIsAll, OrderIsFree};
 
 /// Where the shards' reports are certain of a key, a line that has it contains its answer over the rows of all shards.
@@ -62,4 +62,9 @@ pub fn lines_tell_averages()
 /// With later reports of the shards, the line of a key and its average lie within those before.
 pub fn lines_nest_averages()
     ensures { LinesNestAverages }
+{}
+
+/// The order of the shards makes no difference to what an average says, and that over one shard is its cell's.
+pub fn averages_are_one()
+    ensures { AveragesAreOne }
 {}
