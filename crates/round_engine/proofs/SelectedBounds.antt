@@ -1,5 +1,5 @@
 -- Counts, ends and sums of a selection's pairs, by masks.
-use Rattle.std.proofs.Common.{◌≡◌, ℕ, ◌+◌, ◌<◌, ◌≤◌, ℤ, pos, ◌+ℤ◌, Bool, true, false, not, ◌&&◌, ◌||◌, List, length, map, filter, get_or, count_by, refl, sym, ap, ◌∙◌, arith}
+use Rattle.std.proofs.Common.{◌≡◌, ℕ, ◌+◌, ◌<◌, ◌≤◌, ℤ, pos, ◌≤ℤ◌, ◌+ℤ◌, Bool, true, false, not, ◌&&◌, ◌||◌, List, [], ◌∷◌, length, map, filter, get_or, count_by, refl, sym, ap, ◌∙◌, arith}
 use Rattle.std.specs.declared.option.Option.{Option}
 use Rattle.std.specs.Option.{option_or, unwrap_or}
 use Rattle.std.specs.Simd.Lanes.{zip2}
@@ -15,6 +15,7 @@ use Rattle.aggregates.specs.declared.ends.End.TheVariants.{Low, High}
 use Rattle.aggregates.specs.Selections.{IsPartOf, MayHaveValues, end_at, ends_in, has_row, highs_in, lows_in, rows_in, those_of}
 use Rattle.aggregates.proofs.BlockWords.{row_within}
 use Rattle.aggregates.proofs.MaskSums.{count_apart, total_apart}
+use Rattle.aggregates.proofs.Widening.{never_any}
 use Rattle.aggregates.proofs.BoundFacts.{greatest_or_zero, high_of_least_is, least_or_zero, low_of_greatest_is}
 use Rattle.known_column.specs.Columns.{KnownColumn, numbers_at, rows_of_column}
 use Rattle.query_model.specs.declared.bounds.Bound.{Bound}
@@ -26,7 +27,7 @@ use Rattle.round_engine.specs.declared.selection.Selection.{Selection}
 use Rattle.round_engine.specs.Selected.{IsSelection, pair_in, pairs_in}
 use Rattle.round_engine.specs.SumEnds.{ends_of, inner_end, innermost, outermost, share_at, sum_at, widening_rows}
 use Rattle.round_engine.proofs.Rows.{certain_numbers_of, certain_of, count_rows, narrowed, no_element}
-use Rattle.round_engine.proofs.SumEnds.{adds, alone, outermost_or_zero, shares, stands}
+use Rattle.round_engine.proofs.SumEnds.{adds, alone, high_stays, outermost_or_zero, shares, stands}
 
 -- rows of one mask among those of another
 among : (a b : Bool) → (b ≡ true → a ≡ true) → b ≡ (a && b)
@@ -187,3 +188,22 @@ module _ (column : KnownColumn) (selection : Selection) (is : IsSelection column
       let few : length (filter adding rows) ≤ length rows = omega (arith, length-filter adding rows, count_by-le-length adding rows) in
       let none : count_by (λ b. b) others ≡ 0 = omega (arith, adding_count e others refl, few, certain_is, all_is, all, count_rows selection.may) in
       with_nothing _ _ (total_of_none (end_at e column) others none) ∙ shares_are e others refl
+
+  -- ---- a column without a number below 0
+
+  -- of the rows that need not count none widens the low end
+  pub lows_share : pos 0 ≤ℤ column.ends.base → total (ends_in Low column selection.must) ≡ total (map (share_at Low) (pairs_in column selection))
+  lows_share above =
+      let others = widening_rows Low column selection in
+      let none = never_any Low column selection.may selection.must (is.rows.must ∙ sym is.rows.may) above in
+      with_nothing _ _ (total_of_none (end_at Low column) others none) ∙ shares_are Low others refl
+
+  -- and each adds its number to the high end
+  pub highs_share : pos 0 ≤ℤ column.ends.base → total (highs_in column selection.may) ≡ total (map (share_at High) (pairs_in column selection))
+  highs_share above = each (rows_in selection.may)
+    where
+      each : (rs : List ℕ) → total (map (end_at High column) rs) ≡ total (map (share_at High) (map (pair_in column selection.must) rs))
+      each [] = refl
+      each (r ∷ rs) =
+          ap (λ z. z +ℤ total (map (end_at High column) rs)) (sym (high_stays (has_row selection.must r) (numbers_at column r).low column.ends.base _ above))
+          ∙ ap (λ z. share_at High (pair_in column selection.must r) +ℤ z) (each rs)

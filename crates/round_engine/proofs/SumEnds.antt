@@ -1,5 +1,5 @@
 -- What rows add to an end of a sum: each lemma holds for the least sum and for the greatest.
-use Rattle.std.proofs.Common.{◌≡◌, ℕ, ◌<◌, ℤ, pos, ◌+ℤ◌, int_le, int_lt, Bool, true, false, ◌||◌, cond, List, [], ◌∷◌, length, map, filter, inl, inr, refl, sym, ap, ◌∙◌, arith}
+use Rattle.std.proofs.Common.{◌≡◌, ℕ, ◌<◌, ℤ, pos, ◌≤ℤ◌, ◌+ℤ◌, int_le, int_lt, Bool, true, false, ◌||◌, cond, List, [], ◌∷◌, length, map, filter, inl, inr, refl, sym, ap, ◌∙◌, arith}
 use Rattle.std.specs.Int.{int_max, int_min}
 use Rattle.std.specs.List.{list_any}
 use Rattle.std.specs.Option.{unwrap_or}
@@ -31,6 +31,11 @@ share_is Low true i = elim (cases_Bool (int_lt i.low (pos 0))) [ inl t ↦ rw t 
 share_is Low false i = elim (cases_Bool (int_lt i.low (pos 0))) [ inl t ↦ rw t (omega (arith, ints, clamps, t)) | inr f ↦ rw f (omega (arith, ints, clamps, f)) ]
 share_is High true i = elim (cases_Bool (int_lt (pos 0) i.high)) [ inl t ↦ rw t refl | inr f ↦ rw f refl ]
 share_is High false i = elim (cases_Bool (int_lt (pos 0) i.high)) [ inl t ↦ rw t (omega (arith, ints, clamps, t)) | inr f ↦ rw f (omega (arith, ints, clamps, f)) ]
+
+-- a number that is not below 0 is what it adds to the high end
+pub high_stays : (m : Bool) (low base : ℤ) (n : ℕ) → pos 0 ≤ℤ base → share_at High (record { certain = m; low = low; high = base +ℤ pos n }) ≡ base +ℤ pos n
+high_stays true low base n above = refl
+high_stays false low base n above = omega (arith, ints, clamps, above)
 
 -- where some pair keeps the shares, their sum stands
 abbrev pub keeps : End → Pair → Bool

@@ -1,6 +1,6 @@
 //! What an item of a cell keeps of a column's rows, told by masks and planes.
 
-ghost use Rattle.std.specs.Prelude.{◌≡◌, length, map, IfSome};
+ghost use Rattle.std.specs.Prelude.{◌≡◌, ◌≤ℤ◌, pos, length, map, IfSome};
 ghost use Rattle.aggregates.specs.Selections.{ends_in, IsSmallSum};
 ghost use Rattle.aggregates.specs.Tallies.{tally_of};
 ghost use Rattle.known_column.specs.Columns.{KnownColumn, rows_of_column};
@@ -12,7 +12,7 @@ ghost use Rattle.round_engine.specs.SumEnds.{share_at};
 
 use crate::kept_cells::{KeptCells, ends_of_cell};
 use crate::selection::Selected;
-use aggregates::{End, Tally, greatest_ends, least_ends};
+use aggregates::{End, Tally, greatest_ends, least_ends, sum_highs};
 use known_column::Known;
 use plane_kernels::Mask;
 use query_model::ItemKind;
@@ -29,6 +29,21 @@ impl Selected<'_> {
         }
     }
 
+    // What the rows add to this end of the sum, in a column without a number below 0: there each number that may count widens the high end
+    // by itself, and none the low end.
+    fn share_above(&self, end: End, known: &Known, certain: i128) -> i128
+        requires selection { IsSelection known.now self.now }
+        requires above { pos 0 ≤ℤ known.now.ends.base }
+        requires certain { certain ≡ total (ends_in end known.now self.now.must) }
+        requires small { IsSmallSum certain }
+        ensures { result ≡ total (map (share_at end) (pairs_in known.now self.now)) }
+    {
+        match end {
+            End::Low => certain,
+            End::High => sum_highs(known, self.may),
+        }
+    }
+
     // What the rows add to this end of the sum, where those that surely count come to this and they are so many. Where these are all rows,
     // no other is looked for.
     fn share(&self, end: End, known: &Known, certain: i128, counts: Tally, added: &mut Mask) -> i128
@@ -42,6 +57,8 @@ impl Selected<'_> {
     {
         if counts.certain == counts.all {
             certain
+        } else if known.base() >= 0 {
+            self.share_above(end, known, certain)
         } else {
             self.shares(end, known, certain, added)
         }
