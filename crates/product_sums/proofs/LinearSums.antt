@@ -1,5 +1,5 @@
 -- Ends of an expression that adds and takes off numbers and one column, each times a number of its row, added up over a mask's rows.
-use Rattle.std.proofs.Common.{◌≡◌, ℕ, ◌<◌, ℤ, pos, ◌+ℤ◌, ◌-ℤ◌, ◌*ℤ◌, Bool, ◌&&◌, List, length, ap, ◌∙◌, arith}
+use Rattle.std.proofs.Common.{◌≡◌, ℕ, ◌<◌, ℤ, pos, ◌+ℤ◌, ◌-ℤ◌, ◌*ℤ◌, Bool, true, false, ◌&&◌, ◌||◌, List, length, IsTrue, refl, ap, ◌∙◌, arith}
 use Rattle.std.specs.Simd.Lanes.{zip2}
 use Rattle.std.proofs.Math.IntN.{zero-*ℤ}
 use Rattle.std.proofs.lemmas.Int.{ints}
@@ -10,8 +10,9 @@ use Rattle.known_column.specs.KnownTables.{IsKnownTable, KnownTable, column_at}
 use Rattle.query_model.specs.Knowledge.{known_at, ranges_of}
 use Rattle.query_model.specs.Queries.{Term, Column, Literal, Add, Sub}
 use Rattle.query_model.specs.Truths.{span_of}
+use Rattle.product_sums.specs.declared.linear_sums.ColumnSums.{ColumnSums}
 use Rattle.product_sums.specs.ColumnEnds.{weight_of_all, weight_of_digits}
-use Rattle.product_sums.specs.KeptProducts.{first_number}
+use Rattle.product_sums.specs.KeptProducts.{first_number, AreColumnSums}
 use Rattle.product_sums.specs.Products.{HasValues, other_end, sum_over, term_end}
 use Rattle.product_sums.proofs.Distributing.{difference_times, sum_times}
 use Rattle.product_sums.proofs.Firsts.{only_end}
@@ -55,3 +56,16 @@ module _ (table : KnownTable) (mask : List Bool) (f : ℕ → ℤ) where
     where
       whole : (z : ℤ) → z -ℤ pos 0 ≡ z
       whole z = omega (arith, ints)
+
+-- ---- what is wanted
+
+pub or_left : (a b : Bool) → IsTrue a → IsTrue (a || b)
+or_left a b is = ap (λ x. x || b) is
+
+pub or_right : (a b : Bool) → IsTrue b → IsTrue (a || b)
+or_right true b is = refl
+or_right false b is = is
+
+-- where less is wanted the sums serve too
+pub fewer_wanted : (table : KnownTable) (mask : List Bool) (c : ℕ) (f : ℕ → ℤ) (wanted less : Bool) (sums : ColumnSums) → (IsTrue less → IsTrue wanted) → AreColumnSums table mask c f wanted sums → AreColumnSums table mask c f less sums
+fewer_wanted table mask c f wanted less sums weaker are = record { rows = are.rows; all = are.all; numbers = are.numbers; clipped = λ is. are.clipped (weaker is) }

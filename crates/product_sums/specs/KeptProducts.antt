@@ -1,12 +1,13 @@
 -- Sums of products that are kept from one plane to the next.
 use Rattle.std.specs.Prelude.{◌≡◌, ℕ, ◌+◌, ◌-◌, ◌*◌, ◌/◌, ◌^◌, ◌≤◌, ◌<◌, ◌==◌, ◌&&◌, ◌||◌}
-use Rattle.std.specs.Prelude.{ℤ, pos, ◌*ℤ◌, Bool, false, cond, List, length, IsTrue, IfSome, None, Some, get_or}
+use Rattle.std.specs.Prelude.{ℤ, pos, ◌*ℤ◌, Bool, true, false, cond, List, length, IsTrue, IfSome, None, Some, get_or}
 use Rattle.std.specs.declared.option.Option.{Option}
 use Rattle.std.specs.Int.{int_wrap, w128}
 use Rattle.std.specs.List.{All}
 use Rattle.std.specs.Simd.Lanes.{zip2}
 use Rattle.daq_table.specs.Tables.{ends_at, planes}
-use Rattle.aggregates.specs.declared.ends.End.TheVariants.{High}
+use Rattle.aggregates.specs.declared.ends.End.{End}
+use Rattle.aggregates.specs.declared.ends.End.TheVariants.{Low, High}
 use Rattle.aggregates.specs.ExtremeRows.{number_at}
 use Rattle.known_column.specs.Columns.{is_at_top, rows_where}
 use Rattle.known_column.specs.KnownTables.{KnownTable, column_at}
@@ -26,7 +27,7 @@ use Rattle.product_sums.specs.declared.pair_sums.Pair.{Pair}
 use Rattle.product_sums.specs.declared.pair_sums.PairSums.{PairSums}
 use Rattle.product_sums.specs.ColumnEnds.{weight_of_top}
 use Rattle.product_sums.specs.Fetched.{first_digit, ones_of}
-use Rattle.product_sums.specs.Products.{sum_over, term_end, HasValues, IsProductSum}
+use Rattle.product_sums.specs.Products.{other_end, sum_over, term_end, HasValues, IsProductSum}
 
 -- ---- a product of a column and another part
 
@@ -176,12 +177,26 @@ turned_sums sums = record {
 
 -- ---- ends by what planes give
 
--- the sums are those of a number of each row of a mask, and of a column's number times that
-pub record AreColumnSums (table : KnownTable) (mask : List Bool) (c : ℕ) (f : ℕ → ℤ) (sums : ColumnSums) : Type 0 where
+-- the high end
+abbrev pub is_high : End → Bool
+is_high Low = false
+is_high High = true
+
+-- an end of an expression takes the high end of a column, which may be clipped at its top
+abbrev pub is_clipped : End → Term → Bool
+is_clipped e (Column k) = is_high e
+is_clipped e (Literal n) = false
+is_clipped e (Add a b) = is_clipped e a || is_clipped e b
+is_clipped e (Sub a b) = is_clipped e a || is_clipped (other_end e) b
+is_clipped e (Mul a b) = is_clipped e a || is_clipped e b
+
+-- the sums are those of a number of each row of a mask, and of a column's number times that; and, where this is wanted, of what that number
+-- is less at the column's high end
+pub record AreColumnSums (table : KnownTable) (mask : List Bool) (c : ℕ) (f : ℕ → ℤ) (wanted : Bool) (sums : ColumnSums) : Type 0 where
   pub rows : length mask ≡ table.frame.rows
   pub all : sums.all ≡ int_wrap w128 (sum_over mask f)
   pub numbers : sums.numbers ≡ int_wrap w128 (sum_over mask (λ r. pos (first_number table c (known_at table.known c).read r) *ℤ f r))
-  pub clipped : sums.clipped ≡ int_wrap w128 (weight_of_top High (column_at table c)
+  pub clipped : IsTrue wanted → sums.clipped ≡ int_wrap w128 (weight_of_top High (column_at table c)
       *ℤ sum_over (zip2 (λ a b. a && b) mask (rows_where is_at_top (column_at table c))) f)
 
 -- what the rows at the prefix of the second column's top give less, of a mask

@@ -18,7 +18,7 @@ use crate::even_masks::has_all_rows;
 use crate::factors::{Factor, PartEnds};
 use crate::kept_column::{KeptColumns, Third};
 use crate::kept_pair::{KeptPair, follow_sums};
-use crate::linear_sums::{ColumnSums, sum_linear};
+use crate::linear_sums::{ColumnSums, is_clipped, sum_linear};
 use crate::pair_ends::PairRows;
 use crate::pair_sums::{Pair, PairSums, doubled};
 use crate::some_rows::PartRows;
@@ -43,11 +43,12 @@ pub(crate) struct ProductEnds<'a> {
     pub(crate) outer: Option<Factor<'a>>,
 }
 
-// The rows of a mask, and what all of them give.
+// The rows of a mask, what all of them give, and whether it is wanted what those at a top give less.
 #[derive(Clone, Copy)]
 struct WholeRows<'a> {
     mask: &'a Mask,
     sum: i128,
+    is_clipped: bool,
 }
 
 // How many planes the third column has, if there is one.
@@ -175,10 +176,13 @@ impl Kept {
         ensures planes { self.new.planes ≡ self.old.planes }
         ensures top { IsKeptPair columns.now inner.entry.pair self.new.top }
         ensures room { length room.new ≡ columns.now.frame.rows }
-        ensures sum { result ≡ int_wrap w128 (weight_of_top High (column_at columns.now third)
+        ensures sum { IsTrue rows.entry.is_clipped → result ≡ int_wrap w128 (weight_of_top High (column_at columns.now third)
             *ℤ sum_over (zip2 (λ a b. a && b) rows.entry.mask.now (rows_where is_at_top (column_at columns.now third)))
             (inner_end columns.now inner.entry.pair.first inner.entry.parts)) }
     {
+        if !rows.is_clipped {
+            return 0;
+        }
         let known = columns.column(usize::from(third));
         let weight = weight_of_top(End::High, known);
         if weight == 0 {
@@ -229,13 +233,12 @@ impl Kept {
         };
         let numbers = self.sum_numbered(columns, inner, third.column, mask, stay);
         let all = self.whole.sum(columns, chosen.pair, ends.parts, mask, stay);
-        let clipped = self.sum_top(
-            columns,
-            inner,
-            third.column,
-            WholeRows { mask, sum: all },
-            room,
-        );
+        let whole = WholeRows {
+            mask,
+            sum: all,
+            is_clipped: is_clipped(outer.term, outer.end),
+        };
+        let clipped = self.sum_top(columns, inner, third.column, whole, room);
         let sums = ColumnSums {
             all,
             numbers,

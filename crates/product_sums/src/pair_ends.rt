@@ -1,18 +1,18 @@
 //! Ends of a product of a column and a part that is linear in another column, added up by what the planes of both columns gave.
 
-ghost use Rattle.std.specs.Prelude.{◌≡◌, ◌*ℤ◌, pos};
+ghost use Rattle.std.specs.Prelude.{◌≡◌, ◌*ℤ◌, pos, IsTrue};
 ghost use Rattle.std.specs.Int.{int_wrap, w128};
 ghost use Rattle.query_model.specs.Knowledge.{known_at};
 ghost use Rattle.query_model.specs.Queries.{term_of, Column};
-ghost use Rattle.product_sums.specs.KeptProducts.{factor_end, first_number, inner_end, AreClipped, AreReadOn, CanFollowPair};
-ghost use Rattle.product_sums.specs.KeptProducts.{IsLinear, IsPair};
+ghost use Rattle.product_sums.specs.KeptProducts.{factor_end, first_number, inner_end, is_clipped, AreClipped, AreReadOn};
+ghost use Rattle.product_sums.specs.KeptProducts.{CanFollowPair, IsLinear, IsPair};
 ghost use Rattle.product_sums.specs.Products.{sum_over, HasValues};
 
 use crate::column_ends::{weight_of_all, weight_of_digits, weight_of_top};
 use crate::even_masks::has_all_rows;
 use crate::factors::{Factor, PartEnds};
 use crate::first_numbers::sum_first;
-use crate::linear_sums::{ColumnSums, sum_linear};
+use crate::linear_sums::{ColumnSums, is_clipped, sum_linear};
 use crate::pair_sums::{Pair, PairSums};
 use crate::some_rows::{PartRows, SomeRows};
 use crate::top_sums::sum_clipped;
@@ -65,11 +65,29 @@ impl<'b> PairRows<'b> {
         }
     }
 
+    // The same, where an end of the other part takes that high end.
+    fn clip_where<'a>(&self, columns: &LentColumns<'_>, other: Factor<'a>) -> Clipped
+        requires pair { IsPair columns.now self.now.pair }
+        requires sums { AreReadOn columns.now self.now.rows.now self.now.pair self.now.sums }
+        ensures { IsTrue (is_clipped other.entry.end (term_of other.entry.term.now))
+            → AreClipped columns.now self.now.rows.now self.now.pair result }
+    {
+        if is_clipped(other.term, other.end) {
+            self.clip(columns)
+        } else {
+            Clipped {
+                rows: 0,
+                numbers: 0,
+            }
+        }
+    }
+
     // An end of the other part at the rows, added up.
     fn sum_alone<'a>(&self, columns: &LentColumns<'_>, clipped: &Clipped, other: Factor<'a>) -> i128
         requires pair { IsPair columns.now self.now.pair }
         requires sums { AreReadOn columns.now self.now.rows.now self.now.pair self.now.sums }
-        requires clipped { AreClipped columns.now self.now.rows.now self.now.pair clipped.now }
+        requires clipped { IsTrue (is_clipped other.end (term_of other.term.now))
+            → AreClipped columns.now self.now.rows.now self.now.pair clipped.now }
         requires linear { IsLinear self.now.pair.second (term_of other.term.now) }
         requires values { HasValues columns.now (term_of other.term.now) self.now.rows.now }
         ensures { result ≡ int_wrap w128 (sum_over self.now.rows.now (factor_end columns.now other.entry)) }
@@ -92,7 +110,8 @@ impl<'b> PairRows<'b> {
     ) -> i128
         requires pair { IsPair columns.now self.now.pair }
         requires sums { AreReadOn columns.now self.now.rows.now self.now.pair self.now.sums }
-        requires clipped { AreClipped columns.now self.now.rows.now self.now.pair clipped.now }
+        requires clipped { IsTrue (is_clipped other.end (term_of other.term.now))
+            → AreClipped columns.now self.now.rows.now self.now.pair clipped.now }
         requires linear { IsLinear self.now.pair.second (term_of other.term.now) }
         requires values { HasValues columns.now (term_of other.term.now) self.now.rows.now }
         ensures { result ≡ int_wrap w128 (sum_over self.now.rows.now
@@ -116,7 +135,7 @@ impl<'b> PairRows<'b> {
         ensures { result ≡ int_wrap w128 (sum_over self.now.rows.now (inner_end columns.now self.now.pair.first parts.entry)) }
     {
         let _rows = columns.rows();
-        let clipped = self.clip(columns);
+        let clipped = self.clip_where(columns, parts.other);
         let known = columns.column(usize::from(self.pair.first));
         let digits = times(
             weight_of_digits(known),

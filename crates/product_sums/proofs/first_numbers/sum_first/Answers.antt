@@ -1,4 +1,4 @@
-use Rattle.std.proofs.Common.{◌≡◌, ◌≤◌, ◌*◌, ℕ, ℤ, pos, length, to_z, of_z, ap, sym, ◌∙◌, arith}
+use Rattle.std.proofs.Common.{◌≤◌, ◌*◌, ℕ, ℤ, pos, length, to_z, ap, sym, ◌∙◌, arith}
 use Rattle.std.specs.Int.{int_wrap, w128}
 use Rattle.std.proofs.lemmas.Int.{ints}
 use Rattle.product_sums.specs.KeptProducts.{first_number}

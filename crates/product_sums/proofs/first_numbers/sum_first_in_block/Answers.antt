@@ -1,4 +1,4 @@
-use Rattle.std.proofs.Common.{◌≡◌, ◌+◌, ◌*◌, ℕ, ℤ, pos, FitsSigned, length, count_by, to_z, of_z, ap, sym, ◌∙◌, arith}
+use Rattle.std.proofs.Common.{◌≡◌, ◌+◌, ◌*◌, pos, FitsSigned, length, count_by, to_z, of_z, ap, sym, ◌∙◌, arith}
 use Rattle.std.specs.Int.{int_wrap, w128}
 use Rattle.std.proofs.lemmas.Int.{ints, int_wrap_fits}
 use Rattle.aggregates.specs.Selections.{block_of}

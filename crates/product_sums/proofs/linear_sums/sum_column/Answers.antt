@@ -5,6 +5,7 @@ use Rattle.aggregates.specs.declared.ends.End.TheVariants.{High, Low}
 use Rattle.known_column.specs.KnownTables.{column_at}
 use Rattle.query_model.specs.Queries.{Column}
 use Rattle.product_sums.specs.ColumnEnds.{weight_of_all, weight_of_digits}
+use Rattle.product_sums.specs.KeptProducts.{is_high}
 use Rattle.product_sums.proofs.KeptProducts.{kept_end}
 use Rattle.product_sums.proofs.LinearSums.{low_times, times_end}
 use Rattle.product_sums.proofs.Residues.{minus_is, plus_is, times_is, wrapped}
@@ -38,6 +39,6 @@ returns-in-High c = λ mask f are values.
     let all = times_is c.times-all.result (weight_of_all High (column_at table column)) sums.all _ (c.times-all.ensures ∙ ap (λ z. wrapped (z *ℤ to_z w128 (of_z w128 sums.all))) all_weigh) (omega (arith, ints)) are.all in
     whole
     ∙ minus_is c.minus.result c.plus-in-High.result sums.clipped _ _ c.minus.ensures (omega (arith, ints)) (omega (arith, ints))
-    (plus_is c.plus-in-High.result c.times-digits.result c.times-all.result _ _ c.plus-in-High.ensures (omega (arith, ints)) (omega (arith, ints)) digits all) are.clipped
+    (plus_is c.plus-in-High.result c.times-digits.result c.times-all.result _ _ c.plus-in-High.ensures (omega (arith, ints)) (omega (arith, ints)) digits all) (are.clipped (ap is_high c.in-High.is))
     ∙ ap wrapped (sym (kept_end table c.rows-rows.ensures.known mask are.rows column c.requires.column f High values))
     ∙ ap (λ e. wrapped (times_end table mask f e (Column column))) (sym c.in-High.is)

@@ -20,6 +20,6 @@ returns-clause-product c =
       rows = c.requires.follow.follow.rows;
       all = omega (arith, ints) ∙ c.sum-all.ensures.sum;
       numbers = omega (arith, ints) ∙ c.sum_numbered-numbers.ensures.sum;
-      clipped = omega (arith, ints) ∙ c.sum_top-clipped.ensures.sum;
+      clipped = λ wanted. omega (arith, ints) ∙ c.sum_top-clipped.ensures.sum (c.is_clipped.ensures ∙ wanted);
     }) facts.2 in
     subst (λ (o : Option Factor). IfSome o (λ outer. to_z w128 (of_z w128 c.sum_linear.result) ≡ wrapped (sum_over mask (λ r. factor_end table outer r *ℤ f r)))) (sym c.in-Some-outer.is) (whole ∙ told)

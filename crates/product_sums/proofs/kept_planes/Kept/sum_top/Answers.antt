@@ -17,7 +17,7 @@ use Rattle.product_sums.proofs.Thirds.{follow_among}
 use Rattle.product_sums.proofs.kept_planes.Kept.sum_top.Goals as goal
 
 pub returns-then-weight-eq0-clause-sum : goal.returns-then-weight-eq0-clause-sum
-returns-then-weight-eq0-clause-sum c =
+returns-then-weight-eq0-clause-sum c = λ wanted.
     let table = c.args.columns.now in
     let is : c.column-known.result.now ≡ column_at table c.args.third = c.column-known.ensures.column ∙ ap (column_at table) c.from.ensures in
     let none : weight_of_top High (column_at table c.args.third) ≡ pos 0 = sym (c.weight_of_top-weight.ensures ∙ ap (weight_of_top High) is) ∙ omega (arith, ints, c.if-weight-eq0.true) in
@@ -26,7 +26,7 @@ returns-then-weight-eq0-clause-sum c =
     sym (ap (λ z. wrapped (z *ℤ sum)) none ∙ ap wrapped (zero-*ℤ sum) ∙ int_wrap_fits w128 (pos 0) fits)
 
 pub returns-then-has_all_rows-clause-sum : goal.returns-then-has_all_rows-clause-sum
-returns-then-has_all_rows-clause-sum c =
+returns-then-has_all_rows-clause-sum c = λ wanted.
     let table = c.args.columns.now in
     let third = c.args.third in
     let mask = c.args.rows.mask.now in
@@ -43,7 +43,7 @@ returns-then-has_all_rows-clause-sum c =
     (c.requires.whole ∙ ap (λ m. wrapped (sum_over m f)) all)
 
 pub returns-clause-sum : goal.returns-clause-sum
-returns-clause-sum c =
+returns-clause-sum c = λ wanted.
     let table = c.args.columns.now in
     let third = c.args.third in
     let f : ℕ → ℤ = inner_end table c.args.inner.pair.first c.args.inner.parts in

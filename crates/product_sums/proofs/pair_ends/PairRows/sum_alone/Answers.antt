@@ -21,5 +21,5 @@ returns c =
     let counted : c.from.result ≡ wrapped (sum_over mask (λ r. pos 1)) = c.from.ensures ∙ sym (int_wrap_fits w128 (pos c.count.result) small) ∙ ap (λ n. wrapped (pos n)) c.count.ensures ∙ ap wrapped (sym (over_ones mask)) in
     let numbers = sums.sums_are.second ∙ ap (λ n. wrapped (sum_over mask (λ r. pos (first_number table second n r)))) sums.all_second
     ∙ ap wrapped (over_same mask (λ r. pos (first_number table second reads r)) (λ r. pos (first_number table second reads r) *ℤ pos 1) (λ r has. sym (alone (pos (first_number table second reads r))))) in
-    let told = c.sum_linear.ensures mask (λ r. pos 1) (record { rows = sums.sums_are.rows; all = omega (arith, ints) ∙ counted; numbers = omega (arith, ints) ∙ numbers; clipped = omega (arith, ints) ∙ c.requires.clipped.rows }) c.requires.values in
+    let told = c.sum_linear.ensures mask (λ r. pos 1) (record { rows = sums.sums_are.rows; all = omega (arith, ints) ∙ counted; numbers = omega (arith, ints) ∙ numbers; clipped = λ wanted. omega (arith, ints) ∙ (c.requires.clipped wanted).rows }) c.requires.values in
     whole ∙ told ∙ ap wrapped (over_same mask (λ r. factor_end table c.args.other r *ℤ pos 1) (factor_end table c.args.other) (λ r has. alone (factor_end table c.args.other r)))

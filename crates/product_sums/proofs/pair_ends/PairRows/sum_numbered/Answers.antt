@@ -24,5 +24,5 @@ returns c =
     let numbers = sums.sums_are.both ∙ ap (λ n. wrapped (sum_over mask (λ r. first n r *ℤ second c.args.self.now.sums.second_read r))) sums.all_first
     ∙ ap (λ n. wrapped (sum_over mask (λ r. first reads r *ℤ second n r))) sums.all_second
     ∙ ap wrapped (over_same mask (λ r. first reads r *ℤ second others r) (λ r. second others r *ℤ first reads r) (λ r has. swapped (first reads r) (second others r))) in
-    let told = c.sum_linear.ensures mask (first reads) (record { rows = sums.sums_are.rows; all = omega (arith, ints) ∙ all; numbers = omega (arith, ints) ∙ numbers; clipped = omega (arith, ints) ∙ c.requires.clipped.numbers }) c.requires.values in
+    let told = c.sum_linear.ensures mask (first reads) (record { rows = sums.sums_are.rows; all = omega (arith, ints) ∙ all; numbers = omega (arith, ints) ∙ numbers; clipped = λ wanted. omega (arith, ints) ∙ (c.requires.clipped wanted).numbers }) c.requires.values in
     whole ∙ told ∙ ap wrapped (over_same mask (λ r. factor_end table c.args.other r *ℤ first reads r) (λ r. first reads r *ℤ factor_end table c.args.other r) (λ r has. swapped (factor_end table c.args.other r) (first reads r)))
