@@ -4,6 +4,7 @@ use Rattle.std.proofs.lemmas.List.{get_or-map, get_or_append_left, length-map, m
 use Rattle.std.proofs.lemmas.List.Elements.{All-push, All-tail}
 use Rattle.std.proofs.lemmas.List.Folds.{list_any-from_Any}
 use Rattle.std.proofs.lemmas.List.Quantifiers.{position-Some}
+use Rattle.std.proofs.lemmas.Map.Keys.{any_passes_from_place}
 use Rattle.std.proofs.lemmas.Map.Text.{is_eq-slice_cmp}
 use Rattle.std.proofs.lemmas.Option.{get_or_from_slice_get, slice_get-get_or, slice_get-map, slice_get_within}
 use Rattle.std.proofs.lemmas.Slice.Eq.{bytes_eq-Decides}
@@ -33,6 +34,9 @@ empty_sorted = tt
 
 differs : (text x : List ℕ) (o : Ordering) → slice_cmp nat_cmp text x ≡ o → bytes_eq text x ≡ is_eq o
 differs text x o e = sym (is_eq-slice_cmp text x) ∙ ap is_eq e
+
+bytes_eq_same : (text : List ℕ) → bytes_eq text text ≡ true
+bytes_eq_same text = (bytes_eq-Decides text text).1 refl
 
 -- a name that is not there is one more
 longer_by : (text x : List ℕ) (names : List (List ℕ)) (o : Ordering) → slice_cmp nat_cmp text x ≡ o → list_any (bytes_eq text) (x ∷ names) ≡ false
@@ -160,6 +164,20 @@ found_at {K} view keys n d text all e =
 pub number_found : {K : Type 0} (view : K → List ℕ) (keys : List K) (n : ℕ) (text : List ℕ) → All IsShortText (map view keys) → position (λ k. bytes_eq text (view k)) keys ≡ Some n → HasNumber (map view keys) (map view keys) text n
 number_found view [] n text all e = absurd cc
 number_found view (k ∷ keys) n text all e = found_at view (k ∷ keys) n k text all e
+
+-- a key under a number, as the text that it is seen as
+pub seen_there : {K : Type 0} (view : K → List ℕ) (keys : List K) (n : ℕ) (k : K) (text : List ℕ) → slice_get keys n ≡ Some k → view k ≡ text → slice_get (map view keys) n ≡ Some text
+seen_there view keys n k text e v = slice_get-map view keys n ∙ ap (option_map view) e ∙ ap Some v
+
+-- a text that is kept under a number
+pub number_there : (kept : List (List ℕ)) (n : ℕ) (text : List ℕ) → All IsShortText kept → slice_get kept n ≡ Some text → HasNumber kept kept text n
+number_there kept n text all there =
+    let some : list_any (bytes_eq text) kept ≡ true = any_passes_from_place (bytes_eq text) kept n text there (bytes_eq_same text) in
+    record {
+      short = subst IsShortText (get_or_from_slice_get kept n text [] there) (all n [] (slice_get_within kept n text there));
+      kept = ap (λ b. if b then kept else kept ++ text ∷ []) (sym some);
+      there = there;
+    }
 
 pub number_given : {K : Type 0} (view : K → List ℕ) (keys new : List K) (n : ℕ) (key k : K) (text : List ℕ) → IsShortText text → new ≡ add (λ x y. bytes_eq (view x) (view y)) keys key → slice_get new n ≡ Some k → bytes_eq (view key) (view k) ≡ true → view key ≡ text
     → HasNumber (map view keys) (map view new) text n

@@ -1,7 +1,7 @@
 //! A list of texts of which each is kept once.
 
 ghost use Rattle.std.specs.Prelude.{◌≡◌, ◌↔◌, ◌<◌, ◌++◌, ◌∷◌, [], All, length};
-ghost use Rattle.std.specs.Prelude.{map, pos, slice_index_or, vec_items, IfOk, IsTrue, OnErr};
+ghost use Rattle.std.specs.Prelude.{map, pos, slice_get, slice_index_or, vec_items, IfOk, IsTrue, OnErr, Some};
 ghost use Rattle.std.specs.Cmp.Lexicographic.{slice_cmp};
 ghost use Rattle.std.specs.List.Sorted.{IsStrictlySortedBy};
 ghost use Rattle.std.specs.Ordering.{nat_cmp};
@@ -24,6 +24,8 @@ use std::str::from_utf8;
 pub(crate) struct Texts {
     kept: IndexSet<Vec<u8>>,
     numbers: Vec<u64>,
+    // at each text's place the number of one that stood there lately
+    hints: [usize; 256],
 }
 
 impl Model for Texts {
@@ -44,9 +46,31 @@ fn is_short_text(bytes: &[u8]) -> bool
     bytes.len() <= 255 && from_utf8(bytes).is_ok()
 }
 
+// Whether that number of those that are kept is the text's.
+fn is_at(kept: &IndexSet<Vec<u8>>, number: usize, text: &[u8]) -> bool
+    ensures { IsTrue result → slice_get (map vec_items kept.now.keys) number ≡ Some text.now }
+{
+    match kept.get_index(number) {
+        Some(known) => known.as_slice() == text,
+        None => false,
+    }
+}
+
+// The place of a text among the hints: few texts of a column share one where they are few.
+fn hint_place(text: &[u8]) -> usize
+    ensures { result < 256 }
+{
+    if text.is_empty() {
+        return 0;
+    }
+    let first = text[0] as usize;
+    let last = text[text.len() - 1] as usize;
+    (first + 2 * last + 16 * (text.len() % 256)) % 256
+}
+
 // The number of the text among those that are kept, which it joins where it is new. None where it is no text of a
 // dictionary: those that are kept are.
-fn number_of(
+fn number_sought(
     alloc: Global,
     kept: &mut IndexSet<Vec<u8>>,
     text: &[u8],
@@ -63,6 +87,29 @@ fn number_of(
     }
     let (number, _) = kept.insert_full(Vec::from_slice(alloc, text)?)?;
     Ok(Some(number))
+}
+
+// The same by the hint at the text's place, where it is right.
+fn number_of(
+    alloc: Global,
+    kept: &mut IndexSet<Vec<u8>>,
+    hints: &mut [usize; 256],
+    text: &[u8],
+) -> Result<Option<usize>, AllocError>
+    requires { All IsShortText (map vec_items kept.old.keys) }
+    ensures ok { IfOk result (λ number. Numbers (map vec_items kept.old.keys) (map vec_items kept.new.keys) text.now number) }
+    ensures err { OnErr result (kept.new.keys ≡ kept.old.keys) }
+{
+    let place = hint_place(text);
+    let hint = hints[place];
+    if is_at(kept, hint, text) {
+        return Ok(Some(hint));
+    }
+    let number = number_sought(alloc, kept, text)?;
+    if let Some(found) = number {
+        hints[place] = found;
+    }
+    Ok(number)
 }
 
 // Puts in the place of each number what stands there in the list.
@@ -83,6 +130,7 @@ impl Texts {
         Texts {
             kept: IndexSet::new(alloc),
             numbers: Vec::new(alloc),
+            hints: [0; 256],
         }
     }
 
@@ -92,7 +140,7 @@ impl Texts {
         ensures added { IfOk result (λ added. IsTrue added → self.new ≡ self.old ++ text.now ∷ []) }
     {
         self.numbers.reserve(1)?;
-        let Some(number) = number_of(alloc, &mut self.kept, text)? else {
+        let Some(number) = number_of(alloc, &mut self.kept, &mut self.hints, text)? else {
             return Ok(false);
         };
         self.numbers.push_reserved(number as u64);
@@ -124,7 +172,11 @@ impl Texts {
         requires sorted { IsStrictlySortedBy (slice_cmp nat_cmp) names.now }
         ensures { IfOk result (λ ranks. map lowered ranks.items ≡ map (λ text. pos (rank_of names.now text)) self) }
     {
-        let Texts { kept, mut numbers } = self;
+        let Texts {
+            kept,
+            mut numbers,
+            ..
+        } = self;
         let ranks = ranks_of(alloc, kept.as_slice(), names)?;
         become_ranks(&mut numbers, &ranks);
         Ok(numbers)
