@@ -3,5 +3,6 @@ mod Hulls
 mod PartKeys
 mod Shared
 mod Textless
+mod Whole
 mod WholeLaws
 mod Written

@@ -4,3 +4,4 @@ pub mod Faults
 pub mod Forms
 pub mod Laws
 pub mod Shown
+pub mod Whole

@@ -1,0 +1,85 @@
+-- The report by groups over all parts, as a function of what the parts tell.
+use native.Mathlib.Omega.{arith}
+use Rattle.std.specs.Prelude.{◌≡◌, ℕ, Bool, true, false, ◌||◌, List, length, map, max, IsTrue}
+use Rattle.std.specs.List.{All, list_all, range_with_len}
+use Rattle.std.specs.declared.option.Option.{Option}
+use Rattle.std.specs.declared.option.Option.TheVariants.{Some, None}
+use Rattle.interval_calc.specs.declared.Fraction.{Fraction}
+use Rattle.query_model.specs.declared.query.ItemKind.{ItemKind}
+use Rattle.query_model.specs.declared.bounds.AverageBound.{AverageBound}
+use Rattle.report_text.specs.declared.answers.Answer.{Answer}
+use Rattle.report_text.specs.declared.answers.Answer.TheVariants as report
+use Rattle.report_text.specs.declared.averages.Ratio.{Ratio}
+use Rattle.report_text.specs.declared.averages.ShownAverage.{ShownAverage}
+use Rattle.report_text.specs.Groups.{IsShownGroup}
+use Rattle.report_text.specs.declared.keys.ShownEnds.{ShownEnds}
+use Rattle.report_text.specs.declared.keys.ShownEnds.TheVariants as shown
+use Rattle.report_text.specs.declared.keys.ShownSpan.{ShownSpan}
+use Rattle.shard_groups.specs.Found.{Line, combined_lines}
+use Rattle.shard_groups.specs.declared.cells.Cell.{Cell}
+use Rattle.shard_groups.specs.declared.cells.ItemBound.{ItemBound}
+use Rattle.shard_groups.specs.declared.cells.ItemBound.TheVariants as code
+use Rattle.part_groups.specs.Cells.{Told, keys_of}
+use Rattle.part_groups.specs.Combined.{IsCombinedReport}
+use Rattle.part_groups.specs.Forms.{shared_form, told_over}
+use Rattle.part_groups.specs.Shown.{group_in}
+use Rattle.part_groups.specs.declared.forms.EndsForm.{EndsForm}
+use Rattle.part_groups.specs.declared.forms.Places.{Places}
+use Rattle.part_groups.specs.declared.forms.Places.TheVariants.{Columns, Items}
+use Rattle.part_groups.specs.declared.group.Group.{Group}
+
+abbrev pub code_fraction : Ratio → Fraction
+code_fraction ratio = record { num = ratio.sum.units; den = max ratio.rows 1; divisible = omega arith }
+
+abbrev pub code_average : ShownAverage → AverageBound
+code_average shown = record { null = shown.null; lo = code_fraction shown.low; hi = code_fraction shown.high }
+
+abbrev pub item_by : Answer → ItemBound
+item_by (report.Value shown) = code.Value shown.bound
+item_by (report.Average shown) = code.Average (code_average shown)
+
+-- the cell that the line of a group and the answers of its items tell
+abbrev pub cell_by : Group → Cell
+cell_by group = record { keys = keys_of group.line.keys; present = group.line.present; items = map item_by group.answers }
+
+abbrev pub cells_by : List (List Group) → List (List Cell)
+cells_by parts = map (map cell_by) parts
+
+-- the form that the parts share of each of so many columns, or items
+abbrev pub forms_over : Places → ℕ → List (List Group) → List (Option EndsForm)
+forms_over places count parts = map (λ number. shared_form (told_over places number parts)) (range_with_len 0 count)
+
+abbrev pub told_line : Line → Told
+told_line line = record { keys = line.keys; present = line.present; items = line.said }
+
+-- the groups over all parts of a query with so many group columns, and with items of these kinds
+abbrev pub groups_over : ℕ → List ItemKind → List (List Group) → List Group
+groups_over count kinds parts =
+    map (λ line. group_in (forms_over Columns count parts) (forms_over Items (length kinds) parts) (told_line line))
+    (combined_lines kinds (cells_by parts))
+
+-- null is allowed, or a value
+abbrev pub has_value : Option ShownEnds → Bool
+has_value None = false
+has_value (Some (shown.Values ends)) = true
+has_value (Some (shown.Texts ends)) = true
+has_value (Some shown.NoText) = false
+
+-- each column allows something: the dash of a column without texts says that it does not
+abbrev pub has_key : List ShownSpan → Bool
+has_key spans = list_all (λ span. span.null || has_value span.ends) spans
+
+-- a report shows the line, and it has a key of so many parts
+pub record IsKeyed (count : ℕ) (group : Group) : Type 0 where
+  pub shown : IsShownGroup group.line
+  pub key : IsTrue (has_key group.line.keys)
+  pub columns : length group.line.keys ≡ count
+
+abbrev pub AreKeyed : ℕ → List (List Group) → Type 0
+AreKeyed count parts = All (λ groups. All (IsKeyed count) groups) parts
+
+-- where each line has a key of so many parts, the combined report is this
+abbrev pub CombinedIsWhole : Type 0
+CombinedIsWhole =
+    (count : ℕ) (kinds : List ItemKind) (parts : List (List Group)) (groups : List Group) → AreKeyed count parts →
+    IsCombinedReport count kinds parts groups → groups ≡ groups_over count kinds parts
