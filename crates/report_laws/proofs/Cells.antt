@@ -93,7 +93,7 @@ joined spelled word items =
     ap (λ (rest : List ℕ). codes "group " ++ rest) (sym (append_assoc spelled word (codes "\n" ++ items)))
     ∙ sym (append_assoc (codes "group ") (spelled ++ word) (codes "\n" ++ items))
 
-text_by : (head : Head) (stage : Stage) (columns : List ℕ) (cell : ℕ) (at : IsBehind head stage columns cell) (spelled : List ℕ) → 
+text_by : (head : Head) (stage : Stage) (columns : List ℕ) (cell : ℕ) (at : IsBehind head stage columns cell) (spelled : List ℕ) →
     key_text head stage.query columns (ranges_of_cell (parts_in stage) cell) ≡ spelled → (absence : Nullity) → absence ≢ Always →
     cell_text head stage columns cell absence ≡ (codes "group " ++ (spelled ++ presence_text (is_present absence))) ++ (codes "\n" ++ at.items)
 text_by head stage columns cell at spelled keys Never filled =
