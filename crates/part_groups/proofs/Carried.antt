@@ -14,10 +14,13 @@ use Rattle.shard_groups.specs.declared.keys.KeyValue.{KeyValue}
 use Rattle.shard_groups.specs.declared.keys.Span.{Span}
 use Rattle.shard_groups.specs.Groups.{AreLinesOver, Said, Value, bound_at, bound_over, keys_in, said_from, said_of, said_over, value_by}
 use Rattle.shard_groups.specs.Keys.{Key, allows, holds}
-use Rattle.shard_groups.specs.Laws.{AreAdmittedAt, AreCertainAt, AreCounted, ArePresentAt, IsCellOf, IsOneOf, has_cell}
+use Rattle.shard_groups.specs.Laws.{AreAdmittedAt, AreAllToldAt, AreCertainAt, AreOneKeys, AreToldAt, AreCounted, ArePresentAt, IsCellOf, IsOneOf, has_cell}
+use Rattle.shard_bounds.specs.Laws.{Tells}
+use Rattle.shard_groups.specs.Lines.{AreApart}
+use Rattle.part_groups.proofs.PartKeys.{cell_keys, group_keys}
 use Rattle.part_groups.specs.Cells.{Told, keys_of, said_by, span_of, told, told_by}
 use Rattle.part_groups.specs.Forms.{form_at}
-use Rattle.part_groups.specs.Laws.{AreAdmittedIn, AreCertainIn, AreCountedIn, ArePresentIn, IsGroupOf, bound_by, bound_in, has_key, keys_by}
+use Rattle.part_groups.specs.Laws.{AreAdmittedIn, AreAllToldIn, AreCertainIn, AreToldIn, AreCountedIn, ArePresentIn, IsGroupOf, bound_by, bound_in, has_key, keys_by}
 use Rattle.part_groups.specs.Shown.{answer_in, answers_from, group_in, shown_from, shown_span, span_at}
 use Rattle.part_groups.specs.declared.forms.EndsForm.{EndsForm}
 use Rattle.part_groups.specs.declared.group.Group.{Group}
@@ -217,4 +220,37 @@ counted key (shard ∷ cells) (groups ∷ parts) (rows ∷ counts) e h =
         missing = λ f. h.0.missing (sym (has_same key shard groups same) ∙ f);
       },
       counted key cells parts counts (ap (drop 1) e) h.1,
+    )
+
+told_at : (kind : ItemKind) (item : ℕ) (key : Key) (cells : List Cell) (groups : List Group) (values : List ℤ) → map told cells ≡ map told_by groups →
+    AreToldIn kind item key groups values → AreToldAt kind item key cells values
+told_at kind item key [] groups values e h = tt
+told_at kind item key (cell ∷ cells) [] values e h = absurd (no_cells (told cell) (map told cells) (sym e))
+told_at kind item key (cell ∷ cells) (group ∷ groups) values e h =
+    let same = first_told cell (told_by group) (map told cells) (map told_by groups) e in (
+      (λ k. subst (λ (b : Bound). Tells b (answer kind values)) (sym (bound_same item cell group same))
+          (h.0 (subst (λ (t : Told). IsTrue (holds t.keys key)) same k))),
+      told_at kind item key cells groups values (ap (drop 1) e) h.1,
+    )
+
+keys_same : (cells : List Cell) (groups : List Group) → map told cells ≡ map told_by groups → keys_in cells ≡ map keys_by groups
+keys_same cells groups e = cell_keys cells ∙ ap (map (λ t. t.keys)) e ∙ group_keys groups
+
+pub all_told : (kind : ItemKind) (item : ℕ) (key : Key) (cells : List (List Cell)) (parts : List (List Group)) (tables : List (List ℤ)) →
+    map (map told) cells ≡ map (map told_by) parts → AreAllToldIn kind item key parts tables → AreAllToldAt kind item key cells tables
+all_told kind item key [] [] [] e h = tt
+all_told kind item key [] [] (values ∷ tables) e h = absurd h
+all_told kind item key [] (groups ∷ parts) tables e h = absurd (no_shards (map told_by groups) (map (map told_by) parts) e)
+all_told kind item key (shard ∷ cells) [] tables e h = absurd (no_shards (map told shard) (map (map told) cells) (sym e))
+all_told kind item key (shard ∷ cells) (groups ∷ parts) [] e h = absurd h
+all_told kind item key (shard ∷ cells) (groups ∷ parts) (values ∷ tables) e h =
+    let same = first_shard (map told shard) (map told_by groups) (map (map told) cells) (map (map told_by) parts) e in
+    let keys = sym (keys_same shard groups same) in (
+      record {
+        one_keys = subst AreOneKeys keys h.0.one_keys;
+        apart = subst AreApart keys h.0.apart;
+        told = told_at kind item key shard groups values same h.0.told;
+        missing = λ f. h.0.missing (sym (has_same key shard groups same) ∙ f);
+      },
+      all_told kind item key cells parts tables (ap (drop 1) e) h.1,
     )

@@ -112,11 +112,11 @@ shared_in forms count parts h column l =
 
 -- ---- the cells that tell the same
 
-cell_keys : (cells : List Cell) → keys_in cells ≡ map (λ t. t.keys) (map told cells)
+pub cell_keys : (cells : List Cell) → keys_in cells ≡ map (λ t. t.keys) (map told cells)
 cell_keys [] = refl
 cell_keys (cell ∷ cells) = ap (λ (ks : List (List Span)). cell.keys ∷ ks) (cell_keys cells)
 
-group_keys : (groups : List Group) → map (λ t. t.keys) (map told_by groups) ≡ map keys_by groups
+pub group_keys : (groups : List Group) → map (λ t. t.keys) (map told_by groups) ≡ map keys_by groups
 group_keys [] = refl
 group_keys (group ∷ groups) = ap (λ (ks : List (List Span)). keys_by group ∷ ks) (group_keys groups)
 

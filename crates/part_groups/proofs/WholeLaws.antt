@@ -1,19 +1,21 @@
 -- The laws of the lines over all parts, of the groups that show them.
 use Rattle.std.proofs.Common.{◌≡◌, ◌∙◌, ℕ, List, ◌∷◌, [], sym, ap, subst, inl, inr}
-use Rattle.query_model.specs.Bounds.{Admits}
+use Rattle.query_model.specs.Bounds.{Admits, IsNested}
 use Rattle.query_model.specs.declared.bounds.Bound.{Bound}
 use Rattle.query_model.specs.declared.query.ItemKind.{ItemKind}
 use Rattle.shard_bounds.specs.Combined.{answer_over}
+use Rattle.shard_bounds.specs.Laws.{Tells}
+use Rattle.shard_groups.proofs.Spans.{holds_more}
 use Rattle.shard_groups.specs.declared.cells.Cell.{Cell}
-use Rattle.shard_groups.specs.Groups.{AreLinesOver, all_keys, is_present, keys_in}
+use Rattle.shard_groups.specs.Groups.{AreLinesOver, all_keys, bound_over, is_present, keys_in}
 use Rattle.shard_groups.specs.Keys.{Key, holds}
-use Rattle.shard_groups.specs.Laws.{IsCellOf, LinesContain, LinesTellKeys}
+use Rattle.shard_groups.specs.Laws.{IsCellOf, LinesContain, LinesNest, LinesTell, LinesTellKeys}
 use Rattle.part_groups.specs.Cells.{told}
 use Rattle.part_groups.specs.Combined.{IsCombinedReport}
-use Rattle.part_groups.specs.Laws.{AreAllOf, GroupsContain, GroupsTellKeys, IsGroupOf, bound_in, keys_by}
+use Rattle.part_groups.specs.Laws.{AreAllOf, GroupsContain, GroupsNest, GroupsTell, GroupsTellKeys, IsGroupOf, bound_in, keys_by}
 use Rattle.part_groups.specs.Shown.{group_in}
 use Rattle.part_groups.specs.declared.group.Group.{Group}
-use Rattle.part_groups.proofs.Carried.{certain, counted, group_of, line_of, line_with, one_of, shown_bound, shown_same, within_of}
+use Rattle.part_groups.proofs.Carried.{all_told, certain, counted, group_of, line_of, line_with, one_of, shown_bound, shown_same, within_of}
 use Rattle.part_groups.proofs.Hulls.{AreWithin, lines_within}
 use Rattle.part_groups.proofs.PartKeys.{cells_in}
 
@@ -85,4 +87,34 @@ groups_tell_keys law count kinds parts groups key counts are report sure =
           let there = of_line count kinds parts groups are report group is in
           tells.present there.line.keys (one_of report.lines there.line there.is) (sym (there.keys key) ∙ has)
           (sym (present_of kinds cells report.lines there.line there.is combined.each) ∙ sym (ap (λ (g : Group). g.line.present) there.shown) ∙ present);
+    }
+
+pub groups_tell : LinesTell → GroupsTell
+groups_tell law count kinds parts groups kind item key tables group are report at no_average sure is has =
+    let there = of_line count kinds parts groups are report group is in
+    let cells = report.are_lines.cells in
+    let combined = report.are_lines.combined in
+    let tells = law kind item key cells tables (keys_in report.lines) there.line.keys no_average combined.lines (one_of report.lines there.line there.is)
+    (sym (there.keys key) ∙ has) (all_told kind item key cells parts tables report.are_lines.tell sure) in
+    let same = ap (bound_in item) there.shown
+    ∙ shown_bound report.columns report.items kinds cells report.lines there.line kind item there.is combined.each at no_average in
+    subst (λ (b : Bound). Tells b (answer_over kind tables)) (sym same) tells
+
+pub groups_nest : LinesNest → GroupsNest
+groups_nest law count kinds before parts olds groups kind item key old group are_before are_now report now at no_average later is_old is has_old has =
+    let first = of_line count kinds before olds are_before report old is_old in
+    let there = of_line count kinds parts groups are_now now group is in
+    let cells = report.are_lines.cells in
+    let news = now.are_lines.cells in
+    let nested = law kind item key cells news (keys_in report.lines) (keys_in now.lines) first.line.keys there.line.keys no_average
+    report.are_lines.combined.lines now.are_lines.combined.lines (later cells news report.are_lines.tell now.are_lines.tell)
+    (one_of report.lines first.line first.is) (one_of now.lines there.line there.is) (sym (first.keys key) ∙ has_old) (sym (there.keys key) ∙ has) in
+    let old_same = ap (bound_in item) first.shown
+    ∙ shown_bound report.columns report.items kinds cells report.lines first.line kind item first.is report.are_lines.combined.each at no_average in
+    let same = ap (bound_in item) there.shown
+    ∙ shown_bound now.columns now.items kinds news now.lines there.line kind item there.is now.are_lines.combined.each at no_average in
+    record {
+      keys = λ k h. first.keys k ∙ holds_more there.line.keys first.line.keys k nested.keys (sym (there.keys k) ∙ h);
+      bound = subst (λ (b : Bound). IsNested b (bound_in item group)) (sym old_same)
+          (subst (λ (b : Bound). IsNested (bound_over kind item first.line.keys cells) b) (sym same) nested.bound);
     }

@@ -7,14 +7,17 @@ use Rattle.query_model.specs.declared.bounds.Bound.{Bound}
 use Rattle.query_model.specs.declared.query.ItemKind.{ItemKind}
 use Rattle.query_model.specs.declared.query.ItemKind.TheVariants.{Sum, Avg}
 use Rattle.query_model.specs.Answers.{answer}
-use Rattle.query_model.specs.Bounds.{Admits}
+use Rattle.query_model.specs.Bounds.{Admits, IsNested}
 use Rattle.report_text.specs.Groups.{IsShownGroup}
 use Rattle.shard_bounds.specs.Combined.{answer_over}
+use Rattle.shard_bounds.specs.Laws.{Tells}
+use Rattle.shard_groups.specs.declared.cells.Cell.{Cell}
 use Rattle.shard_groups.specs.declared.keys.Span.{Span}
 use Rattle.shard_groups.specs.Groups.{Average, Said, Value, no_rows}
 use Rattle.shard_groups.specs.Keys.{Key, holds}
-use Rattle.shard_groups.specs.Laws.{all_rows}
-use Rattle.part_groups.specs.Cells.{keys_of, said_by}
+use Rattle.shard_groups.specs.Laws.{AreLater, AreOneKeys, all_rows}
+use Rattle.shard_groups.specs.Lines.{AreApart}
+use Rattle.part_groups.specs.Cells.{keys_of, said_by, told, told_by}
 use Rattle.part_groups.specs.Combined.{IsCombinedReport}
 use Rattle.part_groups.specs.declared.group.Group.{Group}
 
@@ -117,3 +120,56 @@ abbrev pub GroupsTellKeys : Type 0
 GroupsTellKeys =
     (count : ℕ) (kinds : List ItemKind) (parts : List (List Group)) (groups : List Group) (key : Key) (counts : List ℕ) →
     AreAllOf count parts → IsCombinedReport count kinds parts groups → AreCountedIn key parts counts → AreKeysShown key counts groups
+
+-- ---- exact
+
+-- each group that has the key says the answer over these values
+abbrev pub AreToldIn : ItemKind → ℕ → Key → List Group → List ℤ → Type 0
+AreToldIn kind item key [] values = Unit {0}
+AreToldIn kind item key (group ∷ groups) values =
+    (IsTrue (holds (keys_by group) key) → Tells (bound_in item group) (answer kind values)) × AreToldIn kind item key groups values
+
+-- the report of a part is exact at the key: each group has one key, no two the same, and that of the key says the answer
+pub record IsToldIn (kind : ItemKind) (item : ℕ) (key : Key) (groups : List Group) (values : List ℤ) : Type 0 where
+  pub one_keys : AreOneKeys (map keys_by groups)
+  pub apart : AreApart (map keys_by groups)
+  pub told : AreToldIn kind item key groups values
+  pub missing : IsFalse (has_key key groups) → values ≡ []
+
+abbrev pub AreAllToldIn : ItemKind → ℕ → Key → List (List Group) → List (List ℤ) → Type 0
+AreAllToldIn kind item key [] [] = Unit {0}
+AreAllToldIn kind item key [] (values ∷ tables) = ⊥
+AreAllToldIn kind item key (groups ∷ parts) [] = ⊥
+AreAllToldIn kind item key (groups ∷ parts) (values ∷ tables) =
+    IsToldIn kind item key groups values × AreAllToldIn kind item key parts tables
+
+-- where each part's report is exact, a group of the combined report that has the key says its answer over the rows of all parts
+abbrev pub GroupsTell : Type 0
+GroupsTell =
+    (count : ℕ) (kinds : List ItemKind) (parts : List (List Group)) (groups : List Group) (kind : ItemKind) (item : ℕ) (key : Key)
+    (tables : List (List ℤ)) (group : Group) →
+    AreAllOf count parts → IsCombinedReport count kinds parts groups → slice_get kinds item ≡ Some kind → kind ≢ Avg →
+    AreAllToldIn kind item key parts tables → IsGroupOf group groups → IsTrue (holds (keys_by group) key) →
+    Tells (bound_in item group) (answer_over kind tables)
+
+-- ---- nested
+
+-- these are later reports of the parts: the cells that they tell lie within those before, and so do their bounds
+abbrev pub AreLaterParts : ItemKind → ℕ → List (List Group) → List (List Group) → Type 0
+AreLaterParts kind item before parts =
+    (olds news : List (List Cell)) → map (map told) olds ≡ map (map told_by) before → map (map told) news ≡ map (map told_by) parts →
+    AreLater kind item olds news
+
+-- the keys of a group, and its bound, lie within those of another
+pub record IsNestedGroup (item : ℕ) (old group : Group) : Type 0 where
+  pub keys : (key : Key) → IsTrue (holds (keys_by group) key) → IsTrue (holds (keys_by old) key)
+  pub bound : IsNested (bound_in item old) (bound_in item group)
+
+-- with later reports of the parts the group of a key and its bound lie within those before
+abbrev pub GroupsNest : Type 0
+GroupsNest =
+    (count : ℕ) (kinds : List ItemKind) (before parts : List (List Group)) (olds groups : List Group) (kind : ItemKind) (item : ℕ)
+    (key : Key) (old group : Group) →
+    AreAllOf count before → AreAllOf count parts → IsCombinedReport count kinds before olds → IsCombinedReport count kinds parts groups →
+    slice_get kinds item ≡ Some kind → kind ≢ Avg → AreLaterParts kind item before parts → IsGroupOf old olds → IsGroupOf group groups →
+    IsTrue (holds (keys_by old) key) → IsTrue (holds (keys_by group) key) → IsNestedGroup item old group

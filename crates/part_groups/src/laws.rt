@@ -1,9 +1,9 @@
 //! The laws of reports by groups over all parts.
 
-ghost use Rattle.part_groups.specs.Laws.{GroupsContain, GroupsTellKeys};
+ghost use Rattle.part_groups.specs.Laws.{GroupsContain, GroupsNest, GroupsTell, GroupsTellKeys};
 ghost use Rattle.part_groups.specs.Whole.{CombinedIsWhole};
 
-use shard_groups::{combined_is_found, lines_contain, lines_tell_keys};
+use shard_groups::{combined_is_found, lines_contain, lines_nest, lines_tell, lines_tell_keys};
 
 /// Where the parts' reports are certain of a key, a group that has it contains its answer over the rows of all parts.
 pub fn groups_contain()
@@ -17,6 +17,20 @@ pub fn groups_tell_keys()
     ensures { GroupsTellKeys }
 {
     lines_tell_keys();
+}
+
+/// Where the parts' reports are exact, a group that has a key says its answer over the rows of all parts.
+pub fn groups_tell()
+    ensures { GroupsTell }
+{
+    lines_tell();
+}
+
+/// With later reports of the parts, the group of a key and its bound lie within those before.
+pub fn groups_nest()
+    ensures { GroupsNest }
+{
+    lines_nest();
 }
 
 /// Where each line has a key, the groups over all parts are a function of what the parts tell.

@@ -15,4 +15,6 @@ pub use combined::combine;
 pub use fault::CombineFault;
 pub use forms::EndsForm;
 pub use group::{Group, Groups};
-pub use laws::{combined_is_whole, groups_contain, groups_tell_keys};
+pub use laws::{
+    combined_is_whole, groups_contain, groups_nest, groups_tell, groups_tell_keys,
+};
