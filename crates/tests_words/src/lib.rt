@@ -10,6 +10,8 @@ mod files;
 #[cfg(test)]
 mod group_lines;
 #[cfg(test)]
+mod group_reports;
+#[cfg(test)]
 mod part_reports;
 #[cfg(test)]
 mod query_lines;
