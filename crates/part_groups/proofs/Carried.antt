@@ -1,5 +1,5 @@
 -- What holds of the cells of a combined report, carried over to the groups that show them.
-use Rattle.std.proofs.Common.{◌≡◌, ◌≢◌, ◌∙◌, ℕ, ℤ, suc, zero, ◌+◌, ◌<◌, Bool, ◌&&◌, ◌||◌, List, [], ◌∷◌, drop, get_or, length, map, slice_get, refl, arith, sym, ap, subst, inl, inr, IsTrue, Option, Some, None}
+use Rattle.std.proofs.Common.{◌≡◌, ◌≢◌, ◌∙◌, ℕ, ℤ, suc, zero, ◌+◌, ◌<◌, Bool, ◌&&◌, ◌||◌, List, [], ◌∷◌, drop, get_or, length, map, slice_get, refl, arith, sym, ap, subst, inl, inr, IsTrue, Option, Some, None, max}
 use Rattle.std.specs.Option.{option_map}
 use Rattle.std.proofs.lemmas.Option.{none-some, slice_get-map}
 use Rattle.query_model.specs.Answers.{answer}
@@ -15,7 +15,15 @@ use Rattle.shard_groups.specs.declared.keys.Span.{Span}
 use Rattle.shard_groups.specs.Groups.{AreLinesOver, Said, Value, bound_at, bound_over, keys_in, said_from, said_of, said_over, value_by}
 use Rattle.shard_groups.specs.Keys.{Key, allows, holds}
 use Rattle.shard_groups.specs.Laws.{AreAdmittedAt, AreAllToldAt, AreCertainAt, AreOneKeys, AreToldAt, AreCounted, ArePresentAt, IsCellOf, IsOneOf, has_cell}
+use Rattle.query_model.specs.Answers.{average}
+use Rattle.query_model.specs.Bounds.{AverageBound, fractions_of}
+use Rattle.query_model.specs.declared.bounds.AverageBound as bounds
+use Rattle.shard_bounds.specs.Averages.{IsDivisible, ReportsAverage}
 use Rattle.shard_bounds.specs.Laws.{Tells}
+use Rattle.shard_groups.specs.Groups as cells
+use Rattle.shard_groups.specs.Groups.{Average, average_at, average_over}
+use Rattle.shard_groups.specs.Laws.{AreAveragesCertainAt, AreCellsDivisible, AreReportedAt}
+use Rattle.part_groups.specs.Laws.{AreAveragesCertainIn, AreReportedIn, average_by, average_in}
 use Rattle.shard_groups.specs.Lines.{AreApart}
 use Rattle.part_groups.proofs.PartKeys.{cell_keys, group_keys}
 use Rattle.part_groups.specs.Cells.{Told, keys_of, said_by, span_of, told, told_by}
@@ -254,3 +262,79 @@ all_told kind item key (shard ∷ cells) (groups ∷ parts) (values ∷ tables) 
       },
       all_told kind item key cells parts tables (ap (drop 1) e) h.1,
     )
+
+-- ---- averages
+
+average_told : (o : Option ItemBound) → cells.average_by o ≡ average_by (option_map said_of o)
+average_told None = refl
+average_told (Some (code.Value bound)) = refl
+average_told (Some (code.Average bound)) = refl
+
+average_same : (item : ℕ) (cell : Cell) (group : Group) → told cell ≡ told_by group → average_at item cell ≡ average_in item group
+average_same item cell group e =
+    average_told (slice_get cell.items item) ∙ ap average_by (sym (slice_get-map said_of cell.items item))
+    ∙ ap (λ (t : Told). average_by (slice_get t.items item)) e
+
+divisible_by : (o : Option ItemBound) → IsDivisible (cells.average_by o)
+divisible_by None = record { lo = omega arith; hi = omega arith }
+divisible_by (Some (code.Value bound)) = record { lo = omega arith; hi = omega arith }
+divisible_by (Some (code.Average bound)) = record { lo = bound.lo.divisible; hi = bound.hi.divisible }
+
+are_divisible : (item : ℕ) (shard : List Cell) → AreCellsDivisible item shard
+are_divisible item [] = tt
+are_divisible item (cell ∷ shard) = (divisible_by (slice_get cell.items item), are_divisible item shard)
+
+reported : (item : ℕ) (key : Key) (shard : List Cell) (groups : List Group) (values : List ℤ) → map told shard ≡ map told_by groups →
+    AreReportedIn item key groups values → AreReportedAt item key shard values
+reported item key [] groups values e h = tt
+reported item key (cell ∷ shard) [] values e h = absurd (no_cells (told cell) (map told shard) (sym e))
+reported item key (cell ∷ shard) (group ∷ groups) values e h =
+    let same = first_told cell (told_by group) (map told shard) (map told_by groups) e in (
+      (λ k. subst (λ (b : AverageBound). ReportsAverage b (average values)) (sym (average_same item cell group same))
+          (h.0 (subst (λ (t : Told). IsTrue (holds t.keys key)) same k))),
+      reported item key shard groups values (ap (drop 1) e) h.1,
+    )
+
+pub averages_certain : (item : ℕ) (key : Key) (shards : List (List Cell)) (parts : List (List Group)) (tables : List (List ℤ)) →
+    map (map told) shards ≡ map (map told_by) parts → AreAveragesCertainIn item key parts tables → AreAveragesCertainAt item key shards tables
+averages_certain item key [] [] [] e h = tt
+averages_certain item key [] [] (values ∷ tables) e h = absurd h
+averages_certain item key [] (groups ∷ parts) tables e h = absurd (no_shards (map told_by groups) (map (map told_by) parts) e)
+averages_certain item key (shard ∷ shards) [] tables e h = absurd (no_shards (map told shard) (map (map told) shards) (sym e))
+averages_certain item key (shard ∷ shards) (groups ∷ parts) [] e h = absurd h
+averages_certain item key (shard ∷ shards) (groups ∷ parts) (values ∷ tables) e h =
+    let same = first_shard (map told shard) (map told_by groups) (map (map told) shards) (map (map told_by) parts) e in (
+      record {
+        divisible = are_divisible item shard;
+        reports = reported item key shard groups values same h.0.reports;
+        missing = λ f. h.0.missing (sym (has_same key shard groups same) ∙ f);
+      },
+      averages_certain item key shards parts tables (ap (drop 1) e) h.1,
+    )
+
+-- what is said of an average is said by its answer, since it is divided by a number above 0
+some_rows : (den : ℕ) → 0 < den → max den 1 ≡ den
+some_rows zero h = absurd (omega (arith, h))
+some_rows (suc den) h = omega arith
+
+average_kept : (form : Option EndsForm) (bound : bounds.AverageBound) → said_by (answer_in form (Average (fractions_of bound))) ≡ Average (fractions_of bound)
+average_kept form bound =
+    ap (λ (n : ℕ). Average (record { null = bound.null; lo = record { num = bound.lo.num; den = n }; hi = record { num = bound.hi.num; den = max bound.hi.den 1 } }))
+    (some_rows bound.lo.den bound.lo.divisible)
+    ∙ ap (λ (n : ℕ). Average (record { null = bound.null; lo = record { num = bound.lo.num; den = bound.lo.den }; hi = record { num = bound.hi.num; den = n } }))
+    (some_rows bound.hi.den bound.hi.divisible)
+
+average_by_answers : (from n : ℕ) (forms : List (Option EndsForm)) (items : List ItemBound) → average_by (slice_get (map said_by (answers_from from forms (map said_of items))) n)
+    ≡ average_by (slice_get (map said_of items) n)
+average_by_answers from n forms [] = refl
+average_by_answers from zero forms (code.Value bound ∷ items) = refl
+average_by_answers from zero forms (code.Average bound ∷ items) = ap (λ (s : Said). average_by (Some s)) (average_kept (form_at from forms) bound)
+average_by_answers from (suc n) forms (item ∷ items) = average_by_answers (from + 1) n forms items
+
+pub shown_average : (columns items : List (Option EndsForm)) (kinds : List ItemKind) (shards : List (List Cell)) (lines : List Cell) (line : Cell) (item : ℕ) →
+    IsCellOf line lines → AreLinesOver kinds shards lines → slice_get kinds item ≡ Some Avg →
+    average_in item (group_in columns items (told line)) ≡ average_over item line.keys shards
+shown_average columns items kinds shards lines line item is over at =
+    let said = ap (λ (s : List Said). slice_get s item) (over_of kinds shards lines line is over)
+    ∙ said_at 0 item item kinds Avg line.keys shards (omega arith) at in
+    average_by_answers 0 item items line.items ∙ ap average_by said

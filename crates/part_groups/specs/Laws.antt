@@ -6,9 +6,11 @@ use Rattle.std.specs.declared.option.Option.TheVariants.{Some, None}
 use Rattle.query_model.specs.declared.bounds.Bound.{Bound}
 use Rattle.query_model.specs.declared.query.ItemKind.{ItemKind}
 use Rattle.query_model.specs.declared.query.ItemKind.TheVariants.{Sum, Avg}
-use Rattle.query_model.specs.Answers.{answer}
-use Rattle.query_model.specs.Bounds.{Admits, IsNested}
+use Rattle.query_model.specs.Answers.{answer, average}
+use Rattle.query_model.specs.Bounds.{Admits, AdmitsAverage, AverageBound, IsNested}
 use Rattle.report_text.specs.Groups.{IsShownGroup}
+use Rattle.shard_bounds.specs.Averages.{ReportsAverage, no_average}
+use Rattle.shard_bounds.specs.Combined as answers
 use Rattle.shard_bounds.specs.Combined.{answer_over}
 use Rattle.shard_bounds.specs.Laws.{Tells}
 use Rattle.shard_groups.specs.declared.cells.Cell.{Cell}
@@ -173,3 +175,49 @@ GroupsNest =
     AreAllOf count before → AreAllOf count parts → IsCombinedReport count kinds before olds → IsCombinedReport count kinds parts groups →
     slice_get kinds item ≡ Some kind → kind ≢ Avg → AreLaterParts kind item before parts → IsGroupOf old olds → IsGroupOf group groups →
     IsTrue (holds (keys_by old) key) → IsTrue (holds (keys_by group) key) → IsNestedGroup item old group
+
+-- ---- averages
+
+abbrev pub average_by : Option Said → AverageBound
+average_by None = no_average
+average_by (Some (Value bound)) = no_average
+average_by (Some (Average bound)) = bound
+
+-- what a group says of an average
+abbrev pub average_in : ℕ → Group → AverageBound
+average_in item group = average_by (slice_get (map said_by group.answers) item)
+
+-- each group that has the key reports the average over these values
+abbrev pub AreReportedIn : ℕ → Key → List Group → List ℤ → Type 0
+AreReportedIn item key [] values = Unit {0}
+AreReportedIn item key (group ∷ groups) values =
+    (IsTrue (holds (keys_by group) key) → ReportsAverage (average_in item group) (average values)) × AreReportedIn item key groups values
+
+-- the report of a part is certain of the average at the key: one fraction alone is the sum of the values over their number
+pub record IsAverageCertainIn (item : ℕ) (key : Key) (groups : List Group) (values : List ℤ) : Type 0 where
+  pub reports : AreReportedIn item key groups values
+  pub missing : IsFalse (has_key key groups) → values ≡ []
+
+abbrev pub AreAveragesCertainIn : ℕ → Key → List (List Group) → List (List ℤ) → Type 0
+AreAveragesCertainIn item key [] [] = Unit {0}
+AreAveragesCertainIn item key [] (values ∷ tables) = ⊥
+AreAveragesCertainIn item key (groups ∷ parts) [] = ⊥
+AreAveragesCertainIn item key (groups ∷ parts) (values ∷ tables) =
+    IsAverageCertainIn item key groups values × AreAveragesCertainIn item key parts tables
+
+-- a group of the combined report that has the key contains its average over the rows of all parts
+abbrev pub GroupsContainAverages : Type 0
+GroupsContainAverages =
+    (count : ℕ) (kinds : List ItemKind) (parts : List (List Group)) (groups : List Group) (item : ℕ) (key : Key) (tables : List (List ℤ))
+    (group : Group) →
+    AreAllOf count parts → IsCombinedReport count kinds parts groups → slice_get kinds item ≡ Some Avg →
+    AreAveragesCertainIn item key parts tables → IsGroupOf group groups → IsTrue (holds (keys_by group) key) →
+    AdmitsAverage (average_in item group) (answers.average_over tables)
+
+-- ---- a combined report as a part
+
+-- its groups have as many columns as those of the parts, so that it may be a part of another
+abbrev pub GroupsHaveColumns : Type 0
+GroupsHaveColumns =
+    (count : ℕ) (kinds : List ItemKind) (parts : List (List Group)) (groups : List Group) (group : Group) →
+    IsCombinedReport count kinds parts groups → IsGroupOf group groups → length group.line.keys ≡ count

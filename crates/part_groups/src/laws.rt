@@ -1,9 +1,13 @@
 //! The laws of reports by groups over all parts.
 
-ghost use Rattle.part_groups.specs.Laws.{GroupsContain, GroupsNest, GroupsTell, GroupsTellKeys};
+ghost use Rattle.part_groups.specs.Laws.{GroupsContain, GroupsContainAverages, GroupsHaveColumns};
+ghost use Rattle.part_groups.specs.Laws.{GroupsNest, GroupsTell, GroupsTellKeys};
 ghost use Rattle.part_groups.specs.Whole.{CombinedIsWhole};
 
-use shard_groups::{combined_is_found, lines_contain, lines_nest, lines_tell, lines_tell_keys};
+use shard_groups::{
+    combined_is_found, lines_contain, lines_contain_averages, lines_nest, lines_tell,
+    lines_tell_keys,
+};
 
 /// Where the parts' reports are certain of a key, a group that has it contains its answer over the rows of all parts.
 pub fn groups_contain()
@@ -39,3 +43,15 @@ pub fn combined_is_whole()
 {
     combined_is_found();
 }
+
+/// Where the parts' reports are certain of the average at a key, a group that has the key contains it over the rows of all parts.
+pub fn groups_contain_averages()
+    ensures { GroupsContainAverages }
+{
+    lines_contain_averages();
+}
+
+/// The groups of a combined report have as many columns as those of the parts.
+pub fn groups_have_columns()
+    ensures { GroupsHaveColumns }
+{}

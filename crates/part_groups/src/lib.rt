@@ -16,5 +16,6 @@ pub use fault::CombineFault;
 pub use forms::EndsForm;
 pub use group::{Group, Groups};
 pub use laws::{
-    combined_is_whole, groups_contain, groups_nest, groups_tell, groups_tell_keys,
+    combined_is_whole, groups_contain, groups_contain_averages, groups_have_columns, groups_nest,
+    groups_tell, groups_tell_keys,
 };
