@@ -4,7 +4,7 @@ ghost use Rattle.std.specs.Prelude.{◌<◌};
 
 use interval_calc::Fraction;
 use query_model::{AverageBound, Bound, ItemKind, Nullity};
-use shard_bounds::{combine, combine_averages};
+use shard_bounds::{average_from, combine, combine_averages, meet_of_two};
 
 fn bound(null: Nullity, lo: i128, hi: i128) -> Bound {
     Bound { null, lo, hi }
@@ -138,4 +138,31 @@ fn great_fractions_are_compared(rt: HostRuntime) {
     );
     assert_eq!(rt; combine_averages(&[high, low]), Some(both));
     assert_eq!(rt; combine_averages(&[low, high]), Some(both));
+}
+
+#[test]
+fn averages_follow_from_sums(rt: HostRuntime) {
+    let sum = bound(Nullity::Never, -2, 9);
+    let from = average(Nullity::Never, (-2, 2), (9, 2));
+    assert_eq!(rt;
+        average_from(&sum, &bound(Nullity::Never, 2, 4)),
+        Some(from)
+    );
+    assert_eq!(rt;
+        average_from(
+            &bound(Nullity::Possibly, 3, 9),
+            &bound(Nullity::Never, 0, 4)
+        ),
+        Some(average(Nullity::Possibly, (3, 4), (9, 1)))
+    );
+    assert_eq!(rt;
+        average_from(&EMPTY, &bound(Nullity::Never, 0, 0)),
+        Some(average(Nullity::Always, (0, 1), (0, 1)))
+    );
+    let many = bound(Nullity::Never, 1, 1 << 64);
+    assert_eq!(rt; average_from(&CERTAIN, &many), None);
+    assert_eq!(rt;
+        meet_of_two(&from, &average(Nullity::Possibly, (-1, 1), (3, 1))),
+        average(Nullity::Never, (-2, 2), (3, 1))
+    );
 }
