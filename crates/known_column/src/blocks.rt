@@ -8,15 +8,6 @@ ghost use Rattle.known_column.specs.Marks.{AreBlockDigits};
 use crate::octets::byte_digits;
 use plane_kernels::Plane;
 
-// Makes each number 0.
-fn clear(numbers: &mut [u64])
-    ensures { numbers.new ≡ replicate (length numbers.old) 0 }
-{
-    for number in numbers.iter_mut() {
-        *number = 0;
-    }
-}
-
 // A number followed by so many digits.
 fn followed(number: u64, digits: u8, count: usize) -> u64
     requires count { count ≤ 8 }
@@ -41,6 +32,19 @@ fn append_digits(numbers: &mut [u64], digits: &[u8], count: usize)
     }
 }
 
+// Makes 64 numbers the digits of the rows in at most eight words.
+fn put_words(numbers: &mut [u64], words: &[u64])
+    requires rows { length numbers.old ≡ 64 }
+    requires few { length words.now ≤ 8 }
+    ensures { numbers.new ≡ digits_after words.now (replicate 64 0) }
+{
+    let mut digits = [0; 64];
+    byte_digits(words, &mut digits);
+    for (i, number) in numbers.iter_mut().enumerate() {
+        *number = u64::from(digits[i]);
+    }
+}
+
 // Follows each of 64 numbers by its bits in at most eight words.
 fn append_words(numbers: &mut [u64], words: &[u64])
     requires rows { length numbers.old ≡ 64 }
@@ -59,8 +63,8 @@ fn word_digits(words: &[u64], numbers: &mut [u64])
     requires few { length words.now ≤ 64 }
     ensures { numbers.new ≡ digits_after words.now (replicate 64 0) }
 {
-    clear(numbers);
-    let mut read = 0;
+    let mut read = words.len().min(8);
+    put_words(numbers, &words[..read]);
     while read < words.len() {
         let next = (read + 8).min(words.len());
         append_words(numbers, &words[read..next]);
