@@ -66,12 +66,21 @@ fn sum_if(certain: bool, sum: i128) -> i128
     if certain { sum } else { 0 }
 }
 
-// Makes the least digits no greater than these. They seldom change, and are written only then.
+// Writes digits in place of others. Few rows do, so it is kept out of their way.
+#[cold]
+#[inline(never)]
+fn replace(old: &mut u32, digits: u32)
+    ensures { old.new ≡ digits }
+{
+    *old = digits;
+}
+
+// Makes the least digits no greater than these.
 fn lower(least: &mut u32, digits: u32)
     ensures { least.new ≡ min least.old digits }
 {
     if digits < *least {
-        *least = digits;
+        replace(least, digits);
     }
 }
 
@@ -80,7 +89,7 @@ fn raise(greatest: &mut u32, digits: u32)
     ensures { greatest.new ≡ max greatest.old digits }
 {
     if digits > *greatest {
-        *greatest = digits;
+        replace(greatest, digits);
     }
 }
 
