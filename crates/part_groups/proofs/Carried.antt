@@ -18,12 +18,12 @@ use Rattle.shard_groups.specs.Laws.{AreAdmittedAt, AreAllToldAt, AreCertainAt, A
 use Rattle.query_model.specs.Answers.{average}
 use Rattle.query_model.specs.Bounds.{AverageBound, fractions_of}
 use Rattle.query_model.specs.declared.bounds.AverageBound as bounds
-use Rattle.shard_bounds.specs.Averages.{IsDivisible, ReportsAverage}
+use Rattle.shard_bounds.specs.Averages.{IsDivisible, ReportsAverage, TellsAverage}
 use Rattle.shard_bounds.specs.Laws.{Tells}
 use Rattle.shard_groups.specs.Groups as cells
 use Rattle.shard_groups.specs.Groups.{Average, average_at, average_over}
-use Rattle.shard_groups.specs.Laws.{AreAveragesCertainAt, AreCellsDivisible, AreReportedAt}
-use Rattle.part_groups.specs.Laws.{AreAveragesCertainIn, AreReportedIn, average_by, average_in}
+use Rattle.shard_groups.specs.Laws.{AreAllAveragesToldAt, AreAveragesCertainAt, AreAveragesToldAt, AreCellsDivisible, AreReportedAt}
+use Rattle.part_groups.specs.Laws.{AreAllAveragesToldIn, AreAveragesCertainIn, AreAveragesToldIn, AreReportedIn, average_by, average_in}
 use Rattle.shard_groups.specs.Lines.{AreApart}
 use Rattle.part_groups.proofs.PartKeys.{cell_keys, group_keys}
 use Rattle.part_groups.specs.Cells.{Told, keys_of, said_by, span_of, told, told_by}
@@ -338,3 +338,33 @@ shown_average columns items kinds shards lines line item is over at =
     let said = ap (λ (s : List Said). slice_get s item) (over_of kinds shards lines line is over)
     ∙ said_at 0 item item kinds Avg line.keys shards (omega arith) at in
     average_by_answers 0 item items line.items ∙ ap average_by said
+
+averages_told_at : (item : ℕ) (key : Key) (shard : List Cell) (groups : List Group) (values : List ℤ) → map told shard ≡ map told_by groups →
+    AreAveragesToldIn item key groups values → AreAveragesToldAt item key shard values
+averages_told_at item key [] groups values e h = tt
+averages_told_at item key (cell ∷ shard) [] values e h = absurd (no_cells (told cell) (map told shard) (sym e))
+averages_told_at item key (cell ∷ shard) (group ∷ groups) values e h =
+    let same = first_told cell (told_by group) (map told shard) (map told_by groups) e in (
+      (λ k. subst (λ (b : AverageBound). TellsAverage b (average values)) (sym (average_same item cell group same))
+          (h.0 (subst (λ (t : Told). IsTrue (holds t.keys key)) same k))),
+      averages_told_at item key shard groups values (ap (drop 1) e) h.1,
+    )
+
+pub averages_told : (item : ℕ) (key : Key) (shards : List (List Cell)) (parts : List (List Group)) (tables : List (List ℤ)) →
+    map (map told) shards ≡ map (map told_by) parts → AreAllAveragesToldIn item key parts tables → AreAllAveragesToldAt item key shards tables
+averages_told item key [] [] [] e h = tt
+averages_told item key [] [] (values ∷ tables) e h = absurd h
+averages_told item key [] (groups ∷ parts) tables e h = absurd (no_shards (map told_by groups) (map (map told_by) parts) e)
+averages_told item key (shard ∷ shards) [] tables e h = absurd (no_shards (map told shard) (map (map told) shards) (sym e))
+averages_told item key (shard ∷ shards) (groups ∷ parts) [] e h = absurd h
+averages_told item key (shard ∷ shards) (groups ∷ parts) (values ∷ tables) e h =
+    let same = first_shard (map told shard) (map told_by groups) (map (map told) shards) (map (map told_by) parts) e in
+    let keys = sym (keys_same shard groups same) in (
+      record {
+        one_keys = subst AreOneKeys keys h.0.one_keys;
+        apart = subst AreApart keys h.0.apart;
+        told = averages_told_at item key shard groups values same h.0.told;
+        missing = λ f. h.0.missing (sym (has_same key shard groups same) ∙ f);
+      },
+      averages_told item key shards parts tables (ap (drop 1) e) h.1,
+    )

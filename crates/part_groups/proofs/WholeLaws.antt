@@ -7,18 +7,19 @@ use Rattle.shard_bounds.specs.Combined as answers
 use Rattle.shard_bounds.specs.Combined.{answer_over}
 use Rattle.shard_bounds.specs.Laws.{Tells}
 use Rattle.shard_groups.proofs.Spans.{holds_more}
+use Rattle.shard_bounds.specs.Averages.{TellsAverage}
 use Rattle.shard_groups.specs.declared.cells.Cell.{Cell}
 use Rattle.shard_groups.specs.Groups.{AreLinesOver, all_keys, bound_over, is_present, keys_in}
 use Rattle.shard_groups.specs.Keys.{Key, holds}
-use Rattle.shard_groups.specs.Laws.{IsCellOf, LinesContain, LinesContainAverages, LinesNest, LinesTell, LinesTellKeys}
+use Rattle.shard_groups.specs.Laws.{IsCellOf, LinesContain, LinesContainAverages, LinesNest, LinesTell, LinesTellAverages, LinesTellKeys}
 use Rattle.part_groups.specs.Cells.{told}
 use Rattle.part_groups.specs.Combined.{IsCombinedReport}
-use Rattle.part_groups.specs.Laws.{AreAllOf, GroupsContain, GroupsContainAverages, GroupsHaveColumns, GroupsNest, GroupsTell, GroupsTellKeys, IsGroupOf, average_in, bound_in, keys_by}
+use Rattle.part_groups.specs.Laws.{AreAllOf, GroupsContain, GroupsContainAverages, GroupsHaveColumns, GroupsNest, GroupsTell, GroupsTellAverages, GroupsTellKeys, IsGroupOf, average_in, bound_in, keys_by}
 use Rattle.part_groups.specs.Shown.{group_in, shown_from}
 use Rattle.shard_groups.specs.declared.keys.Span.{Span}
 use Rattle.part_groups.specs.declared.forms.EndsForm.{EndsForm}
 use Rattle.part_groups.specs.declared.group.Group.{Group}
-use Rattle.part_groups.proofs.Carried.{all_told, averages_certain, shown_average, certain, counted, group_of, line_of, line_with, one_of, shown_bound, shown_same, within_of}
+use Rattle.part_groups.proofs.Carried.{all_told, averages_certain, averages_told, shown_average, certain, counted, group_of, line_of, line_with, one_of, shown_bound, shown_same, within_of}
 use Rattle.part_groups.proofs.Hulls.{AreWithin, lines_within}
 use Rattle.part_groups.proofs.PartKeys.{cells_in}
 
@@ -141,3 +142,14 @@ pub groups_have_columns : GroupsHaveColumns
 groups_have_columns count kinds parts groups group report is =
     let there = line_of report.columns report.items report.lines group (subst (IsGroupOf group) report.shown is) in
     ap (λ (g : Group). length g.line.keys) there.shown ∙ shown_length 0 report.columns there.line.keys ∙ report.forms.columns_shared.all
+
+pub groups_tell_averages : LinesTellAverages → GroupsTellAverages
+groups_tell_averages law count kinds parts groups item key tables group are report at sure is has =
+    let there = of_line count kinds parts groups are report group is in
+    let cells = report.are_lines.cells in
+    let combined = report.are_lines.combined in
+    let tells = law item key cells tables (keys_in report.lines) there.line.keys combined.lines (one_of report.lines there.line there.is)
+    (sym (there.keys key) ∙ has) (averages_told item key cells parts tables report.are_lines.tell sure) in
+    let same = ap (average_in item) there.shown
+    ∙ shown_average report.columns report.items kinds cells report.lines there.line item there.is combined.each at in
+    subst (λ (b : AverageBound). TellsAverage b (answers.average_over tables)) (sym same) tells

@@ -9,7 +9,7 @@ use Rattle.query_model.specs.declared.query.ItemKind.TheVariants.{Sum, Avg}
 use Rattle.query_model.specs.Answers.{answer, average}
 use Rattle.query_model.specs.Bounds.{Admits, AdmitsAverage, AverageBound, IsNested}
 use Rattle.report_text.specs.Groups.{IsShownGroup}
-use Rattle.shard_bounds.specs.Averages.{ReportsAverage, no_average}
+use Rattle.shard_bounds.specs.Averages.{ReportsAverage, TellsAverage, no_average}
 use Rattle.shard_bounds.specs.Combined as answers
 use Rattle.shard_bounds.specs.Combined.{answer_over}
 use Rattle.shard_bounds.specs.Laws.{Tells}
@@ -213,6 +213,34 @@ GroupsContainAverages =
     AreAllOf count parts → IsCombinedReport count kinds parts groups → slice_get kinds item ≡ Some Avg →
     AreAveragesCertainIn item key parts tables → IsGroupOf group groups → IsTrue (holds (keys_by group) key) →
     AdmitsAverage (average_in item group) (answers.average_over tables)
+
+-- each group that has the key says the sum and the number of these values
+abbrev pub AreAveragesToldIn : ℕ → Key → List Group → List ℤ → Type 0
+AreAveragesToldIn item key [] values = Unit {0}
+AreAveragesToldIn item key (group ∷ groups) values =
+    (IsTrue (holds (keys_by group) key) → TellsAverage (average_in item group) (average values)) × AreAveragesToldIn item key groups values
+
+pub record IsAverageToldIn (item : ℕ) (key : Key) (groups : List Group) (values : List ℤ) : Type 0 where
+  pub one_keys : AreOneKeys (map keys_by groups)
+  pub apart : AreApart (map keys_by groups)
+  pub told : AreAveragesToldIn item key groups values
+  pub missing : IsFalse (has_key key groups) → values ≡ []
+
+abbrev pub AreAllAveragesToldIn : ℕ → Key → List (List Group) → List (List ℤ) → Type 0
+AreAllAveragesToldIn item key [] [] = Unit {0}
+AreAllAveragesToldIn item key [] (values ∷ tables) = ⊥
+AreAllAveragesToldIn item key (groups ∷ parts) [] = ⊥
+AreAllAveragesToldIn item key (groups ∷ parts) (values ∷ tables) =
+    IsAverageToldIn item key groups values × AreAllAveragesToldIn item key parts tables
+
+-- where each part's report is exact, a group of the combined report that has the key says the sum and the number of its values in all
+abbrev pub GroupsTellAverages : Type 0
+GroupsTellAverages =
+    (count : ℕ) (kinds : List ItemKind) (parts : List (List Group)) (groups : List Group) (item : ℕ) (key : Key) (tables : List (List ℤ))
+    (group : Group) →
+    AreAllOf count parts → IsCombinedReport count kinds parts groups → slice_get kinds item ≡ Some Avg →
+    AreAllAveragesToldIn item key parts tables → IsGroupOf group groups → IsTrue (holds (keys_by group) key) →
+    TellsAverage (average_in item group) (answers.average_over tables)
 
 -- ---- a combined report as a part
 

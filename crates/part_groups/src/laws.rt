@@ -1,12 +1,12 @@
 //! The laws of reports by groups over all parts.
 
 ghost use Rattle.part_groups.specs.Laws.{GroupsContain, GroupsContainAverages, GroupsHaveColumns};
-ghost use Rattle.part_groups.specs.Laws.{GroupsNest, GroupsTell, GroupsTellKeys};
+ghost use Rattle.part_groups.specs.Laws.{GroupsNest, GroupsTell, GroupsTellAverages, GroupsTellKeys};
 ghost use Rattle.part_groups.specs.Whole.{CombinedIsWhole};
 
 use shard_groups::{
     combined_is_found, lines_contain, lines_contain_averages, lines_nest, lines_tell,
-    lines_tell_keys,
+    lines_tell_averages, lines_tell_keys,
 };
 
 /// Where the parts' reports are certain of a key, a group that has it contains its answer over the rows of all parts.
@@ -49,6 +49,13 @@ pub fn groups_contain_averages()
     ensures { GroupsContainAverages }
 {
     lines_contain_averages();
+}
+
+/// Where the parts' reports are exact, a group that has a key says the sum and the number of its values in all parts.
+pub fn groups_tell_averages()
+    ensures { GroupsTellAverages }
+{
+    lines_tell_averages();
 }
 
 /// The groups of a combined report have as many columns as those of the parts.

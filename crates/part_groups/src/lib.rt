@@ -17,5 +17,5 @@ pub use forms::EndsForm;
 pub use group::{Group, Groups};
 pub use laws::{
     combined_is_whole, groups_contain, groups_contain_averages, groups_have_columns, groups_nest,
-    groups_tell, groups_tell_keys,
+    groups_tell, groups_tell_averages, groups_tell_keys,
 };
