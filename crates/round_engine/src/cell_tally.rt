@@ -57,7 +57,7 @@ impl Selected<'_> {
     {
         if counts.certain == counts.all {
             certain
-        } else if known.base() >= 0 {
+        } else if counts.certain == 0 && known.base() >= 0 {
             self.share_above(end, known, certain)
         } else {
             self.shares(end, known, certain, added)
