@@ -69,7 +69,7 @@ pub record LacksTexts (count : ℕ) (kinds : List ItemKind) (parts : List (List 
 abbrev pub ShareColumns : ℕ → List (List Group) → Type 0
 ShareColumns count parts = (forms : List (Option EndsForm)) × AreSharedForms Columns count parts forms
 
--- the first of these faults: the first column that lines write in two forms, the first such item, an item that is too wide
+-- the first column that lines write in two forms, or, where columns share forms, the first such item; or an item that is too wide
 abbrev pub IsCombineFault : CombineFault → ℕ → List ItemKind → List (List Group) → Type 0
 IsCombineFault NoMemory count kinds parts = Unit {0}
 IsCombineFault (OtherColumn column) count kinds parts = IsFirstOther Columns column count parts

@@ -1,4 +1,5 @@
--- What holds of the report by groups over all parts, as statements. A public function with an empty body has each as its contract.
+-- What holds of the report by groups over all parts, as statements. A public function, which only
+-- names the laws on which it rests, has each as its contract.
 use Rattle.std.specs.Prelude.{◌≡◌, ◌≢◌, ◌⊎◌, ℕ, ◌<◌, ℤ, List, [], ◌∷◌, IsTrue, IsFalse, Bool, length, map, slice_get}
 use Rattle.std.specs.List.{list_any}
 use Rattle.std.specs.declared.option.Option.{Option}
@@ -244,7 +245,7 @@ GroupsTellAverages =
 
 -- ---- a combined report as a part
 
--- its groups have as many columns as those of the parts, so that it may be a part of another
+-- its groups have a key for each group column, so that it may be a part of another
 abbrev pub GroupsHaveColumns : Type 0
 GroupsHaveColumns =
     (count : ℕ) (kinds : List ItemKind) (parts : List (List Group)) (groups : List Group) (group : Group) →

@@ -76,7 +76,7 @@ fn groups_in(
 }
 
 /// The report by groups over all parts of a query with so many group columns and with items of these kinds. Each part gives the groups of
-/// its block. Of several faults the first that `CombineFault` names is answered.
+/// its block.
 pub fn combine(
     alloc: Global,
     columns: usize,

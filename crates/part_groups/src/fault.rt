@@ -9,7 +9,7 @@ use shard_groups::GroupFault;
 use std::alloc::{AllocError, AllocFailed};
 use thiserror::Error;
 
-/// Why the reports by groups of some parts are not combined. Of several faults the one that stands first here is answered.
+/// Why the reports by groups of some parts are not combined.
 #[derive(Clone, Copy, Debug, PartialEq, Eq, Drop, Error)]
 pub enum CombineFault {
     /// Two lines write the values of this column, counted from 0, in other forms.

@@ -51,7 +51,7 @@ pub record HoldsGroups (reading : Reading) (sections : ℕ → List Section) : T
   pub lies : (round : ℕ) (world : Cells) (row : ℕ) → IsWorld reading round world →
       (section : Section) → IsFor reading (sections round) world row section →
       AllZip (λ span item. LiesIn span (answered item (rows_in reading world row))) section.spans (asked reading.text.head)
-  -- where the query attains the ends of an item, each is the answer over the rows of the group in some world, in which there may be none
+  -- where the query attains the ends of an item, each is the answer over the rows of the group in some world, whose group may have no row
   pub tight : (round : ℕ) (world : Cells) (row : ℕ) → IsWorld reading round world →
       (section : Section) → IsFor reading (sections round) world row section → HasTexts reading.head →
       AllZip (λ span item. AttainsEnds reading.head reading.text item → IsTightSpan reading round item (row_at reading.head world row) span)

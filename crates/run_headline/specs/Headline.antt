@@ -1,4 +1,4 @@
--- The headline of `run`: what it has written where it answers Done to a query, and what this says of a table.
+-- The headline of `run`: what was written of a query, and what this says of a table.
 use Rattle.std.specs.Prelude.{◌≡◌, ℕ, List, length}
 use Rattle.std.specs.Io.KnownBytes.{Appends}
 use Rattle.std.specs.declared.option.Option.TheVariants.{Some}
@@ -50,7 +50,7 @@ pub data Request : Type 0 where
   of_file : Query → Wanted → Request
   of_session : List Query → Wanted → Request
 
--- the headline: it was answered. Of a store this is said where it tells its bytes
+-- the headline: it was answered. Of a store this is said where its bytes are known
 abbrev pub IsHeadline : Request → WorldState → WorldState → Type 0
 IsHeadline (of_input items table query wanted) before after =
     HasRead items before.input after.input table × IsAnsweredOn query wanted table before.out after.out

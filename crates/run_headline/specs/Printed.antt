@@ -1,4 +1,5 @@
--- The report of a query: a line of the query, a block for each round, and why the rounds ended. Of totals a block has a line for each item.
+-- The report of a query: a line of the query, a block for each round, and why the rounds ended. Of totals, without
+-- GROUP BY and ORDER BY, a block has a line for each item.
 use Rattle.std.specs.Prelude.{◌≡◌, ℕ, zero, suc, List, [], ◌++◌, codes, decimal, length, slice_get}
 use Rattle.std.specs.declared.option.Option.{Option}
 use Rattle.std.specs.declared.option.Option.TheVariants.{Some, None}

@@ -12,7 +12,8 @@ use Rattle.sql_text.specs.Tree.{Query}
 use Rattle.sql_typing.specs.Names.{names_in, place_of}
 use Rattle.table_rounds.specs.Rounds.{Planes}
 
--- which lines are wanted besides: by `--list` those of rows that may be among the first, and by `--clip` and `--exact-avg` more of an item
+-- which lines are wanted beside the ordinary: with `--list` those of rows that may be among the first, with `--clip` and `--exact-avg` a
+-- second line of an item
 pub record Wanted : Type 0 where
   pub list : Bool
   pub clip : Bool

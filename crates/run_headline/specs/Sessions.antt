@@ -1,4 +1,5 @@
--- The report of a session: its queries, after each step the blocks of those that it went to, and why the steps ended.
+-- The report of a session: its queries, after each step the blocks of those that it went to, and why the steps ended. A step reads a plane,
+-- for those queries that go on with it.
 use Rattle.std.specs.Prelude.{◌≡◌, ℕ, suc, List, [], ◌++◌, length, map, slice_get, slice_index_or, unwrap_or}
 use Rattle.std.specs.Io.KnownBytes.{Appends}
 use Rattle.std.specs.declared.option.Option.{Option}
