@@ -90,7 +90,8 @@ abbrev pub HasNone : (ℕ → Option (List ℕ)) → Type 0
 HasNone behind = (round : ℕ) → behind round ≡ Some []
 
 -- behind the line of the item at a place there is nothing. But with `--exact-avg` there is such a line of an average, with lines of the
--- rows that its ends take, of which nothing is said, and it is tight where the query attains the ends; and with `--clip` there is such a line of some other items
+-- rows that its ends take, of which nothing is said, and it is tight where the query attains the ends; and with `--clip` there is such a
+-- line of some other items
 abbrev pub IsBehind : Reading → Wanted → ℕ → Item → (ℕ → Span) → (ℕ → Option (List ℕ)) → Type 0
 IsBehind reading wanted place (Call Avg e) own behind =
     (wanted.exact ≡ false → HasNone behind)
