@@ -7,6 +7,7 @@ mod combined;
 mod fault;
 mod forms;
 mod group;
+mod keyed;
 mod keys;
 mod laws;
 
@@ -15,6 +16,7 @@ pub use combined::combine;
 pub use fault::CombineFault;
 pub use forms::EndsForm;
 pub use group::{Group, Groups};
+pub use keyed::has_key;
 pub use laws::{
     combined_is_whole, groups_contain, groups_contain_averages, groups_have_columns, groups_nest,
     groups_tell, groups_tell_averages, groups_tell_keys,

@@ -180,13 +180,13 @@ writes_one wanted parts round a b e f (waits r h) (goes s rest end has none k) =
 writes_one wanted parts round a b e f (ends r end has last) (waits s k) = absurd (false≢true (sym k ∙ has))
 writes_one wanted parts round a b e f (ends r end has last) (ends s other here later) =
     let same : other ≡ end = some_same other end (sym later ∙ last) in
-    (ap (λ (x : ReportEnd). block_text round wanted.shape.kinds parts ++ end_text x) same, ap (λ (x : ReportEnd). Some x) same)
+    (ap (λ (x : ReportEnd). block_text round wanted.shape parts ++ end_text x) same, ap (λ (x : ReportEnd). Some x) same)
 writes_one wanted parts round a b e f (ends r end has last) (goes s rest other here none k) = absurd (none-some end (sym none ∙ last))
 writes_one wanted parts round a b e f (goes r rest end has none h) (waits s k) = absurd (false≢true (sym k ∙ has))
 writes_one wanted parts round a b e f (goes r rest end has none h) (ends s other here last) = absurd (none-some other (sym none ∙ last))
 writes_one wanted parts round a b e f (goes r rest end has none h) (goes s more other here off k) =
     let behind = writes_one wanted parts (round + 1) rest more end other h k in
-    (ap (λ (x : List ℕ). block_text round wanted.shape.kinds parts ++ x) behind.0, behind.1)
+    (ap (λ (x : List ℕ). block_text round wanted.shape parts ++ x) behind.0, behind.1)
 
 pub text_one : TextIsOne
 text_one task parts text other end later few h k = elim (cases_lt (length parts) task.count) [

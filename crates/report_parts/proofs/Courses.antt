@@ -1,5 +1,5 @@
 -- The course of a combination: what was written stays as it is with each line more, and goes on as the definition says.
-use Rattle.std.proofs.Common.{◌≡◌, ◌≢◌, ◌⊎◌, ℕ, zero, suc, ◌+◌, ◌-◌, ◌<◌, ◌≤◌, ◌==◌, max, nat_le, nat_lt, Bool, true, false, ◌&&◌, ◌||◌, if◌then◌else◌, Option, Some, None, is_none, Result, Ok, Err, OnOk, IfErr, List, [], ◌∷◌, ◌++◌, length, refl, sym, ap, subst, ◌∙◌, inl, inr, arith, append-nil}
+use Rattle.std.proofs.Common.{◌≡◌, ◌≢◌, ◌⊎◌, ℕ, zero, suc, ◌+◌, ◌-◌, ◌<◌, ◌≤◌, ◌==◌, max, nat_le, nat_lt, Bool, true, false, ◌&&◌, ◌||◌, if◌then◌else◌, Option, Some, None, is_none, Result, Ok, Err, OnOk, IfErr, List, [], ◌∷◌, ◌++◌, codes, length, refl, sym, ap, subst, ◌∙◌, inl, inr, arith, append-nil}
 use Rattle.std.proofs.lemmas.Bool.{and_parts, false≢true}
 use Rattle.std.proofs.lemmas.Bool.Decides.{nat_tests}
 use Rattle.std.proofs.lemmas.List.{append_assoc}
@@ -10,8 +10,8 @@ use Rattle.std.specs.declared.cmp.Ordering.TheVariants.{Less, Equal, Greater}
 use Rattle.query_model.specs.declared.query.ItemKind.{ItemKind}
 use Rattle.report_text.specs.declared.lines.ReportEnd.{ReportEnd}
 use Rattle.report_text.specs.declared.lines.ReportEnd.TheVariants.{Narrow, Rounds}
-use Rattle.report_parts.proofs.FromRounds.{all_both, block_fault_too, cases_lt, refused_too, same_entries_over, same_count, same_end_of_all, same_has, same_over_all, takes_tagged_too}
-use Rattle.report_parts.proofs.Grows.{all_keep, only_grow, same_over}
+use Rattle.report_parts.proofs.FromRounds.{all_both, block_fault_too, cases_lt, refused_too, same_block_over, same_count, same_end_of_all, same_has, same_over_all, takes_tagged_too}
+use Rattle.report_parts.proofs.Grows.{all_keep, only_grow, same_block_over as kept_block_over}
 use Rattle.report_parts.proofs.Kept.{not_all_yet}
 use Rattle.report_parts.proofs.Ordered.{tag_is}
 use Rattle.report_parts.proofs.Stays.{follows}
@@ -20,15 +20,16 @@ use Rattle.report_parts.specs.Ends.{end_behind, end_of_all}
 use Rattle.report_parts.specs.Laws.{AllReach}
 use Rattle.report_parts.specs.Laws.Reaches.{goes as reaches, stays as remains}
 use Rattle.report_parts.specs.Passed.{AllTellFrom}
-use Rattle.report_parts.specs.Reports.{IsBlockFault, block_text, blocks_text}
+use Rattle.report_parts.specs.Reports.{IsBlockFault, block_lines, block_over, block_text, blocks_text}
 use Rattle.report_parts.specs.Rounds.{has_block, is_ended, is_over}
 use Rattle.report_parts.specs.Tags.{IsRefused, TakesTagged, against, behind_tag, by_order, tag_of, told_of, with_part}
 use Rattle.report_parts.specs.Told.{Takes, Told, nothing_told}
 use Rattle.report_parts.specs.Written.{Wanted, Writes, end_at, end_text, is_narrow_at}
 use Rattle.report_parts.specs.Written.Writes.{ends, goes as goes_behind, waits}
-use Rattle.report_parts.specs.declared.entry.Entry.{Entry}
+use Rattle.report_text.specs.Lines.{round_words}
+use Rattle.report_parts.specs.declared.block.Block.{Block}
 use Rattle.report_parts.specs.declared.fault.BlockFault.{BlockFault}
-use Rattle.report_parts.specs.declared.fault.BlockFault.TheVariants.{NoMemory, OtherDecimals, TooWide}
+use Rattle.report_parts.specs.declared.fault.BlockFault.TheVariants.{NoMemory, OtherColumn, OtherDecimals, TooWide}
 use Rattle.report_parts.specs.declared.fault.InputFault.{InputFault}
 use Rattle.report_parts.specs.declared.shape.Shape.{Shape}
 
@@ -88,7 +89,7 @@ pub passes_on : (query : List ℕ) (wanted : Wanted) (parts laters : List Told) 
     Passes wanted parts round text → Passes wanted laters round text
 passes_on query wanted parts laters round text h p = record {
   has = λ r below. all_keep query wanted.shape r parts laters h (p.has r below);
-  wide = λ r below. ap (λ (entries : List Entry). wanted.narrow entries) (same_over query wanted.shape wanted.shape.kinds r 0 parts laters h (p.has r below)) ∙ p.wide r below;
+  wide = λ r below. ap (λ (block : Block). wanted.narrow block) (kept_block_over query wanted.shape r parts laters h (p.has r below)) ∙ p.wide r below;
   more = p.more;
   goes = λ r below. elim (yes_or_no (list_all (is_over r) laters)) [
     | inl over ↦ absurd (false≢true (sym (not_all_yet query wanted.shape r parts laters h over (p.goes r below)) ∙ p.has (r + 1) below))
@@ -111,15 +112,15 @@ none_passed wanted parts = record {
 
 writes_back : (wanted : Wanted) (parts : List Told) (round : ℕ) (rest : List ℕ) (end : Option ReportEnd) →
     ((r : ℕ) → r < round → list_all (has_block r) parts ≡ true) → ((r : ℕ) → r < round → end_at wanted r parts ≡ None) →
-    Writes wanted parts round rest end → Writes wanted parts 0 (blocks_text round wanted.shape.kinds parts ++ rest) end
+    Writes wanted parts round rest end → Writes wanted parts 0 (blocks_text round wanted.shape parts ++ rest) end
 unfolding blocks_text
 writes_back wanted parts zero rest end has opened w = w
 writes_back wanted parts (suc round) rest end has opened w =
     let one : suc round ≡ round + 1 = omega arith in
     let behind = subst (λ (n : ℕ). Writes wanted parts n rest end) one w in
     let here = goes_behind round rest end (has round (omega arith)) (opened round (omega arith)) behind in
-    let first = writes_back wanted parts round (block_text round wanted.shape.kinds parts ++ rest) end (λ r below. has r (omega (arith, below))) (λ r below. opened r (omega (arith, below))) here in
-    subst (λ (text : List ℕ). Writes wanted parts 0 text end) (sym (append_assoc (blocks_text round wanted.shape.kinds parts) (block_text round wanted.shape.kinds parts) rest)) first
+    let first = writes_back wanted parts round (block_text round wanted.shape parts ++ rest) end (λ r below. has r (omega (arith, below))) (λ r below. opened r (omega (arith, below))) here in
+    subst (λ (text : List ℕ). Writes wanted parts 0 text end) (sym (append_assoc (blocks_text round wanted.shape parts) (block_text round wanted.shape parts) rest)) first
 
 goes_on : (wanted : Wanted) (parts : List Told) (round : ℕ) → is_narrow_at wanted round parts ≡ false → wanted.last round ≡ false →
     list_all (is_over round) parts ≡ false → end_at wanted round parts ≡ None
@@ -151,15 +152,15 @@ writes_over wanted parts (suc round) text p before =
     let end = end_of_all parts in
     let there : end_at wanted round parts ≡ Some end = rw (p.wide round (omega arith), p.more round (omega arith), before) refl in
     let here = ends round end (p.has round (omega arith)) there in
-    let first = writes_back wanted parts round (block_text round wanted.shape.kinds parts ++ end_text end) (Some end) (λ r below. p.has r (omega (arith, below)))
+    let first = writes_back wanted parts round (block_text round wanted.shape parts ++ end_text end) (Some end) (λ r below. p.has r (omega (arith, below)))
     (λ r below. goes_on wanted parts r (p.wide r (omega (arith, below))) (p.more r (omega (arith, below))) (p.goes r (omega (arith, below)))) here in
     subst (λ (front : List ℕ). Writes wanted parts 0 (front ++ end_text end) (Some end)) (sym p.is_text)
-    (subst (λ (whole : List ℕ). Writes wanted parts 0 whole (Some end)) (sym (append_assoc (blocks_text round wanted.shape.kinds parts) (block_text round wanted.shape.kinds parts) (end_text end))) first)
+    (subst (λ (whole : List ℕ). Writes wanted parts 0 whole (Some end)) (sym (append_assoc (blocks_text round wanted.shape parts) (block_text round wanted.shape parts) (end_text end))) first)
 
 -- a block more
 pub passes_more : (wanted : Wanted) (parts : List Told) (round : ℕ) (text : List ℕ) → Passes wanted parts round text → is_over_before round parts ≡ false →
     list_all (has_block round) parts ≡ true → is_narrow_at wanted round parts ≡ false → wanted.last round ≡ false →
-    Passes wanted parts (round + 1) (text ++ block_text round wanted.shape.kinds parts)
+    Passes wanted parts (round + 1) (text ++ block_text round wanted.shape parts)
 unfolding blocks_text
 passes_more wanted parts round text p before has narrow last = record {
   has = λ r below. there (λ (r : ℕ). list_all (has_block r) parts ≡ true) r below p.has has;
@@ -168,8 +169,8 @@ passes_more wanted parts round text p before has narrow last = record {
   goes = λ r below. all_go wanted parts round text p before r (omega (arith, below));
   is_text =
       let one : round + 1 ≡ suc round = omega arith in
-      ap (λ (front : List ℕ). front ++ block_text round wanted.shape.kinds parts) p.is_text
-      ∙ sym (ap (λ (n : ℕ). blocks_text n wanted.shape.kinds parts) one);
+      ap (λ (front : List ℕ). front ++ block_text round wanted.shape parts) p.is_text
+      ∙ sym (ap (λ (n : ℕ). blocks_text n wanted.shape parts) one);
 }
   where
     there : (P : ℕ → Type 0) (r : ℕ) → r < round + 1 → ((r : ℕ) → r < round → P r) → P round → P r
@@ -203,7 +204,7 @@ stands_combined course lines text h = record { parts = h.parts; told = h.told; i
   where
     by_case : (end : Option ReportEnd) → Holds end course h.parts text → IsText course.task h.parts text end
     by_case None o = record {
-      early = λ few. (o.ahead.passed.is_text ∙ ap (λ (n : ℕ). blocks_text n course.task.shape.kinds h.parts) (o.early few), refl);
+      early = λ few. (o.ahead.passed.is_text ∙ ap (λ (n : ℕ). blocks_text n course.task.shape h.parts) (o.early few), refl);
       whole = λ all.
           let rest = o.rests all in
           subst (λ (t : List ℕ). Writes (wanted_of course.task) h.parts 0 t None) (append-nil text)
@@ -246,7 +247,7 @@ unfolding blocks_text
 passed_behind course parts text line next opened most h = elim (cases_lt (length parts) course.task.count) [
   | inl early ↦
       let none = opened.early early in
-      let empty : text ≡ [] = opened.ahead.passed.is_text ∙ ap (λ (n : ℕ). blocks_text n course.task.shape.kinds parts) none in
+      let empty : text ≡ [] = opened.ahead.passed.is_text ∙ ap (λ (n : ℕ). blocks_text n course.task.shape parts) none in
       subst (λ (t : List ℕ). Passes (wanted_of course.task) next course.round t) (sym empty)
       (subst (λ (n : ℕ). Passes (wanted_of course.task) next n []) (sym none) (none_passed (wanted_of course.task) next))
   | inr all ↦
@@ -303,9 +304,10 @@ waits_for_parts before mid lines text e other h =
 
 -- ---- a round more
 
-same_block_over : (from round : ℕ) (kinds : List ItemKind) (wholes parts : List Told) → from ≤ round → AllTellFrom from wholes parts →
-    block_text round kinds parts ≡ block_text round kinds wholes
-same_block_over from round kinds wholes parts le h = rw (same_entries_over from round 0 kinds wholes parts le h) refl
+same_text : (from round : ℕ) (shape : Shape) (wholes parts : List Told) → from ≤ round → AllTellFrom from wholes parts →
+    block_text round shape parts ≡ block_text round shape wholes
+same_text from round shape wholes parts le h =
+    ap (λ (block : Block). (round_words round ++ codes "\n") ++ block_lines shape.kinds block) (same_block_over from round shape wholes parts le h)
 
 same_behind : (narrow last : Bool) (round : ℕ) (wholes parts : List Told) → AllTellFrom round wholes parts →
     end_behind narrow last round parts ≡ end_behind narrow last round wholes
@@ -313,26 +315,33 @@ same_behind narrow last round wholes parts h = rw (same_over_all round round who
 
 same_end_at : (wanted : Wanted) (round : ℕ) (wholes parts : List Told) → AllTellFrom round wholes parts → end_at wanted round parts ≡ end_at wanted round wholes
 same_end_at wanted round wholes parts h =
-    ap (λ (entries : List Entry). end_behind (wanted.narrow entries) (wanted.last round) round parts) (same_entries_over round round 0 wanted.shape.kinds wholes parts (omega arith) h)
+    ap (λ (block : Block). end_behind (wanted.narrow block) (wanted.last round) round parts) (same_block_over round round wanted.shape wholes parts (omega arith) h)
     ∙ same_behind (is_narrow_at wanted round wholes) (wanted.last round) round wholes parts h
 
 pub same_over_before : (from round : ℕ) (wholes parts : List Told) → AllTellFrom from wholes parts → is_over_before round parts ≡ is_over_before round wholes
 same_over_before from zero wholes parts h = refl
 same_over_before from (suc round) wholes parts h = same_over_all from round wholes parts h
 
+ends_at : (wanted : Wanted) (parts : List Told) (round : ℕ) (end : ReportEnd) → list_all (has_block round) parts ≡ true →
+    end_at wanted round parts ≡ Some end → Writes wanted parts round (block_text round wanted.shape parts ++ end_text end) (Some end)
+ends_at wanted parts round end has there = ends round end has there
+
 -- the block of the round is the last
 pub round_ends : (old new : Course) (wholes : List Told) (text before : List ℕ) (end : ReportEnd) → new.task ≡ old.task → new.end ≡ Some end →
     IsAhead old wholes text → is_over_before old.round wholes ≡ false → list_all (has_block old.round) old.parts ≡ true →
     end_at (wanted_of old.task) old.round old.parts ≡ Some end →
-    Moves new wholes text before ((before ++ block_text old.round old.task.shape.kinds old.parts) ++ end_text end)
+    Moves new wholes text before ((before ++ block_text old.round old.task.shape old.parts) ++ end_text end)
 round_ends old new wholes text before end t e ahead goes has there =
     let wanted = wanted_of old.task in
-    let block = block_text old.round old.task.shape.kinds old.parts in
-    let same = same_block_over old.round old.round old.task.shape.kinds wholes old.parts (omega arith) ahead.kept in
-    let last = ends old.round end (sym (same_has old.round old.round wholes old.parts ahead.kept) ∙ has) (sym (same_end_at wanted old.round wholes old.parts ahead.kept) ∙ there) in
+    let block = block_text old.round old.task.shape old.parts in
+    let same = same_text old.round old.round old.task.shape wholes old.parts (omega arith) ahead.kept in
+    let has_all : list_all (has_block old.round) wholes ≡ true = sym (same_has old.round old.round wholes old.parts ahead.kept) ∙ has in
+    let there_too : end_at wanted old.round wholes ≡ Some end = sym (same_end_at wanted old.round wholes old.parts ahead.kept) ∙ there in
+    let last : Writes wanted wholes old.round (block_text old.round old.task.shape wholes ++ end_text end) (Some end) =
+    ends_at wanted wholes old.round end has_all there_too in
     let whole : Writes wanted wholes 0 (text ++ (block ++ end_text end)) (Some end) =
     subst (λ (b : List ℕ). Writes wanted wholes 0 (text ++ (b ++ end_text end)) (Some end)) (sym same)
-    (writes_rest wanted wholes old.round text _ (Some end) ahead.passed goes last) in
+    (writes_rest wanted wholes old.round text (block_text old.round old.task.shape wholes ++ end_text end) (Some end) ahead.passed goes last) in
     record {
       more = block ++ end_text end;
       put = append_assoc before block (end_text end);
@@ -359,11 +368,11 @@ more_behind wanted round parts none = (open_parts (is_narrow_at wanted round par
 -- the report goes on behind the block of the round
 pub round_goes : (old new : Course) (wholes : List Told) (text before : List ℕ) → new.task ≡ old.task → new.end ≡ None → GoesOnTo old new →
     IsAhead old wholes text → is_over_before old.round wholes ≡ false → list_all (has_block old.round) old.parts ≡ true →
-    end_at (wanted_of old.task) old.round old.parts ≡ None → Moves new wholes text before (before ++ block_text old.round old.task.shape.kinds old.parts)
+    end_at (wanted_of old.task) old.round old.parts ≡ None → Moves new wholes text before (before ++ block_text old.round old.task.shape old.parts)
 round_goes old new wholes text before t e on ahead goes has none =
     let wanted = wanted_of old.task in
-    let block = block_text old.round old.task.shape.kinds old.parts in
-    let same = same_block_over old.round old.round old.task.shape.kinds wholes old.parts (omega arith) ahead.kept in
+    let block = block_text old.round old.task.shape old.parts in
+    let same = same_text old.round old.round old.task.shape wholes old.parts (omega arith) ahead.kept in
     let opened = open_parts (is_narrow_at wanted old.round wholes) (wanted.last old.round) (list_all (is_over old.round) wholes) (end_of_all wholes)
     (sym (same_end_at wanted old.round wholes old.parts ahead.kept) ∙ none) in
     let more = passes_more wanted wholes old.round text ahead.passed goes (sym (same_has old.round old.round wholes old.parts ahead.kept) ∙ has) opened.narrow opened.last in
@@ -454,10 +463,10 @@ adds_rests mid new lines text before after t all writes h =
 -- ---- a block that is not written
 
 pub stops_here : (why : BlockFault) (old : Course) (wholes : List Told) (text before : List ℕ) → list_all (has_block old.round) old.parts ≡ true →
-    IsBlockFault why old.round old.task.shape.kinds old.parts → IsAhead old wholes text → StopsBy why old.task wholes text before before
-stops_here why old wholes text before has fault ahead = by_case why (block_fault_too why old.round old.task.shape.kinds wholes old.parts ahead.kept fault)
+    IsBlockFault why old.round old.task.shape old.parts → IsAhead old wholes text → StopsBy why old.task wholes text before before
+stops_here why old wholes text before has fault ahead = by_case why (block_fault_too why old.round old.task.shape wholes old.parts ahead.kept fault)
   where
-    stopped : (why : BlockFault) → IsBlockFault why old.round old.task.shape.kinds wholes → Stops old.task wholes text before before why
+    stopped : (why : BlockFault) → IsBlockFault why old.round old.task.shape wholes → Stops old.task wholes text before before why
     stopped why refused = record {
       round = old.round;
       more = [];
@@ -467,7 +476,8 @@ stops_here why old wholes text before has fault ahead = by_case why (block_fault
       fault = refused;
     }
 
-    by_case : (why : BlockFault) → IsBlockFault why old.round old.task.shape.kinds wholes → StopsBy why old.task wholes text before before
+    by_case : (why : BlockFault) → IsBlockFault why old.round old.task.shape wholes → StopsBy why old.task wholes text before before
+    by_case (OtherColumn column) refused = stopped (OtherColumn column) refused
     by_case (OtherDecimals item) refused = stopped (OtherDecimals item) refused
     by_case (TooWide item) refused = stopped (TooWide item) refused
     by_case NoMemory refused = tt
@@ -488,6 +498,7 @@ stops_behind why task wholes text more before mid after put h = by_case why h
     }
 
     by_case : (why : BlockFault) → StopsBy why task wholes (text ++ more) mid after → StopsBy why task wholes text before after
+    by_case (OtherColumn column) h = stopped (OtherColumn column) h
     by_case (OtherDecimals item) h = stopped (OtherDecimals item) h
     by_case (TooWide item) h = stopped (TooWide item) h
     by_case NoMemory h = tt
@@ -587,12 +598,12 @@ err_each (Err why) p f = f why p
 
 -- the block and the end are put behind the text
 pub wrote_end : (old new : Course) (end : ReportEnd) (r : Result (Unit {0}) BlockFault) (before mid after block : List ℕ) → new.task ≡ old.task →
-    mid ≡ before ++ block → block ≡ block_text old.round old.task.shape.kinds old.parts → OnOk r (new.end ≡ Some end) → OnOk r (after ≡ mid ++ end_text end) →
+    mid ≡ before ++ block → block ≡ block_text old.round old.task.shape old.parts → OnOk r (new.end ≡ Some end) → OnOk r (after ≡ mid ++ end_text end) →
     list_all (has_block old.round) old.parts ≡ true → end_at (wanted_of old.task) old.round old.parts ≡ Some end →
     OnOk r ((wholes : List Told) (text : List ℕ) → IsAhead old wholes text → is_over_before old.round wholes ≡ false → Moves new wholes text before after)
 wrote_end old new end r before mid after block t m b ended put has last =
     ok_both r ended put (λ e p wholes text ahead goes.
-    let whole : after ≡ (before ++ block_text old.round old.task.shape.kinds old.parts) ++ end_text end =
+    let whole : after ≡ (before ++ block_text old.round old.task.shape old.parts) ++ end_text end =
     p ∙ ap (λ (x : List ℕ). x ++ end_text end) (m ∙ ap (λ (x : List ℕ). before ++ x) b) in
     subst (λ (x : List ℕ). Moves new wholes text before x) (sym whole) (round_ends old new wholes text before end t e ahead goes has last))
 
@@ -602,12 +613,12 @@ on_goes old new r round kept none =
     ok_both r round kept (λ e k. record { round = e; kept = k; more = more_behind (wanted_of old.task) old.round old.parts none })
 
 pub wrote_block : (old new : Course) (r : Result (Unit {0}) BlockFault) (before mid block : List ℕ) → new.task ≡ old.task → new.end ≡ None →
-    mid ≡ before ++ block → block ≡ block_text old.round old.task.shape.kinds old.parts → OnOk r (GoesOnTo old new) →
+    mid ≡ before ++ block → block ≡ block_text old.round old.task.shape old.parts → OnOk r (GoesOnTo old new) →
     list_all (has_block old.round) old.parts ≡ true → end_at (wanted_of old.task) old.round old.parts ≡ None →
     OnOk r ((wholes : List Told) (text : List ℕ) → IsAhead old wholes text → is_over_before old.round wholes ≡ false → Moves new wholes text before mid)
 wrote_block old new r before mid block t e m b on has none =
     ok_both r on on (λ g h wholes text ahead goes.
-    let whole : mid ≡ before ++ block_text old.round old.task.shape.kinds old.parts = m ∙ ap (λ (x : List ℕ). before ++ x) b in
+    let whole : mid ≡ before ++ block_text old.round old.task.shape old.parts = m ∙ ap (λ (x : List ℕ). before ++ x) b in
     subst (λ (x : List ℕ). Moves new wholes text before x) (sym whole) (round_goes old new wholes text before t e g ahead goes has none))
 
 pub wrote_over : (old new : Course) (end : ReportEnd) (r : Result (Unit {0}) BlockFault) (before after : List ℕ) → new.task ≡ old.task →

@@ -16,21 +16,23 @@ use Rattle.report_text.specs.Lines.{IsRoundLine, item_line}
 use Rattle.report_text.specs.declared.groups.GroupLine.{GroupLine}
 use Rattle.report_parts.specs.Ends.{end_of_all, ends_narrow}
 use Rattle.report_parts.specs.Passed.{AllTellFrom, TellsFrom}
-use Rattle.report_parts.specs.Blocks.{entries_of, no_block}
+use Rattle.part_groups.specs.Combined.{IsCombineFault}
+use Rattle.part_groups.specs.Whole.{groups_over}
+use Rattle.report_parts.specs.Blocks.{groups_of, entries_of, no_block}
 use Rattle.report_parts.specs.Combined.{AreAlikeEntries, FitEntries}
-use Rattle.report_parts.specs.Entries.{ends_with_extra, last_entry, no_entry}
-use Rattle.report_parts.specs.Reports.{IsBlockFault, entries_over}
-use Rattle.report_parts.specs.Rounds.{entries_in, entry_in, has_block, is_over}
+use Rattle.report_parts.specs.Entries.{answers_of, ends_with_extra, last_entry, no_entry}
+use Rattle.report_parts.specs.Reports.{IsBlockFault, IsFaultBy, IsTotalsFault, block_by, block_over, entries_over, of_groups}
+use Rattle.report_parts.specs.Rounds.{all_groups_in, groups_in, entries_in, entry_in, has_block, is_over}
 use Rattle.report_parts.specs.Tags.{AreInOrder, CannotTake, IsLineRefused, IsRefused, TakesTagged, against, behind_tag, by_order, tag_of, told_of, with_part}
 use Rattle.report_parts.specs.Told.{Answers, BeginsGroup, Closes, Extends, GoesOn, GroupsGoOn, OrElse, PassesBehind, PassesBehindSection, PassesInside, Takes, TakesAt, TakesBehind, TakesBehindAnswer, TakesBetween, TakesInside, TakesRest, Told, at_place, block_done, closed, closed_by, completed, completed_by, is_whole, nothing_told, opened_by, settled, with_answer, with_current, with_extra, with_group}
 use Rattle.report_parts.specs.declared.block.Block.{Block}
 use Rattle.report_parts.specs.declared.block.Block.TheVariants.{Groups, Totals}
-use Rattle.report_parts.specs.declared.block.Section.{Section}
+use Rattle.part_groups.specs.declared.group.Group.{Group as GroupTold}
 use Rattle.report_parts.specs.declared.closing.Closing.{Closing}
 use Rattle.report_parts.specs.declared.closing.Closing.TheVariants.{Unknown}
 use Rattle.report_parts.specs.declared.entry.Entry.{Entry}
 use Rattle.report_parts.specs.declared.fault.BlockFault.{BlockFault}
-use Rattle.report_parts.specs.declared.fault.BlockFault.TheVariants.{NoMemory as NoBlock, OtherDecimals, TooWide}
+use Rattle.report_parts.specs.declared.fault.BlockFault.TheVariants.{OtherColumn, NoMemory as NoBlock, OtherDecimals, TooWide}
 use Rattle.report_parts.specs.declared.fault.InputFault.{InputFault}
 use Rattle.report_parts.specs.declared.fault.InputFault.TheVariants.{Line, NoTab, NoTag, OtherPart}
 use Rattle.report_parts.specs.declared.fault.LineFault.{LineFault}
@@ -128,6 +130,24 @@ same_entries_over from round item [] wholes parts le h = refl
 same_entries_over from round item (kind ∷ kinds) wholes parts le h =
     rw (same_in from round item wholes parts le h, same_entries_over from round (item + 1) kinds wholes parts le h) refl
 
+pub same_groups : (from round : ℕ) (wholes parts : List Told) → from ≤ round → AllTellFrom from wholes parts → all_groups_in round parts ≡ all_groups_in round wholes
+same_groups from round [] [] le h = refl
+same_groups from round [] (part ∷ parts) le h = absurd h
+same_groups from round (whole ∷ wholes) [] le h = absurd h
+same_groups from round (whole ∷ wholes) (part ∷ parts) le h =
+    let one : groups_in round part ≡ groups_in round whole = ap groups_of (h.0.same round le) in
+    rw (one, same_groups from round wholes parts le h.1) refl
+
+same_block_by : (from round columns : ℕ) (kinds : List ItemKind) (wholes parts : List Told) → from ≤ round → AllTellFrom from wholes parts →
+    block_by columns round kinds parts ≡ block_by columns round kinds wholes
+same_block_by from round zero kinds wholes parts le h = ap (λ (entries : List Entry). Totals entries) (same_entries_over from round 0 kinds wholes parts le h)
+same_block_by from round (suc columns) kinds wholes parts le h =
+    ap (λ (all : List (List GroupTold)). Groups (groups_over (suc columns) kinds all)) (same_groups from round wholes parts le h)
+
+pub same_block_over : (from round : ℕ) (shape : Shape) (wholes parts : List Told) → from ≤ round → AllTellFrom from wholes parts →
+    block_over round shape parts ≡ block_over round shape wholes
+same_block_over from round shape wholes parts le h = same_block_by from round shape.columns shape.kinds wholes parts le h
+
 -- ---- a line more
 
 moved_too : (round : ℕ) (whole told next : Told) (place : Place) → TellsFrom round whole told → next ≡ at_place told place →
@@ -191,7 +211,7 @@ closed_by_too None round current whole told h = record {
 closed_by_too (Some group) round current whole told h = record {
   tag = h.tag;
   closing = refl;
-  sections = ap (λ (sections : List Section). sections ++ record { group = group; entries = current } ∷ []) h.sections;
+  sections = ap (λ (sections : List GroupTold). sections ++ record { line = group; answers = answers_of current } ∷ []) h.sections;
   group = refl;
   current = refl;
   place = refl;
@@ -199,7 +219,7 @@ closed_by_too (Some group) round current whole told h = record {
   same = h.same;
 }
 
-abbrev with_sections : Told → List Section → Told
+abbrev with_sections : Told → List GroupTold → Told
 with_sections told sections = record {
   tag = told.tag;
   blocks = told.blocks;
@@ -213,7 +233,7 @@ with_sections told sections = record {
 -- the block of sections
 block_done_too : (round : ℕ) → Keeps round block_done
 block_done_too round whole told h =
-    subst (λ (sections : List Section). TellsFrom round (block_done (with_sections whole sections)) (block_done told)) h.sections (record {
+    subst (λ (sections : List GroupTold). TellsFrom round (block_done (with_sections whole sections)) (block_done told)) h.sections (record {
       tag = h.tag;
       closing = h.closing;
       sections = refl;
@@ -312,7 +332,7 @@ goes_on round columns line whole told next h (inr k) = record {
 begins_group : (round columns : ℕ) (line : List ℕ) → IsTaken round (λ told next. BeginsGroup columns told line next)
 begins_group round columns line whole told next h k = record {
   wholly = with_group whole k.group;
-  taken = record { group = k.group; shown = k.shown; each = k.each; is_line = k.is_line; begun = refl };
+  taken = record { group = k.group; shown = k.shown; key = k.key; each = k.each; is_line = k.is_line; begun = refl };
   tells = subst (λ (t : Told). TellsFrom round (with_group whole k.group) t) (sym k.begun) (record {
     tag = h.tag;
     closing = h.closing;
@@ -427,7 +447,7 @@ passes_behind_section round kinds line whole told next h k =
     let g = passes_behind round kinds line whole told next h k.passes in
     record {
       wholly = g.wholly;
-      taken = record { some = subst (λ (sections : List Section). 0 < length sections) h.sections k.some; passes = g.taken };
+      taken = record { some = subst (λ (sections : List GroupTold). 0 < length sections) h.sections k.some; passes = g.taken };
       tells = g.tells;
     }
 
@@ -529,7 +549,7 @@ forgotten n block blocks i le =
     ∙ sym (get_or-append_right (replicate n no_block) (block ∷ blocks) n i no_block (length-replicate n no_block) (omega (arith, le)))
 
 -- where it is before the round, and not the last
-pub passed_on : (tag : List ℕ) (n round : ℕ) (blocks : List Block) (closing : Closing) (sections : List Section) (group : Option GroupLine) (current : List Entry) (place : Place) →
+pub passed_on : (tag : List ℕ) (n round : ℕ) (blocks : List Block) (closing : Closing) (sections : List GroupTold) (group : Option GroupLine) (current : List Entry) (place : Place) →
     n < round → 1 < length blocks →
     TellsFrom round
     (record { tag = tag; blocks = replicate n no_block ++ blocks; closing = closing; sections = sections; group = group; current = current; place = place })
@@ -588,7 +608,7 @@ nothing_is round tag whole h =
     subst (λ (t : List ℕ). whole ≡ record { tag = t; blocks = []; closing = Unknown; sections = []; group = None; current = []; place = Query }) (sym h.tag)
     (subst (λ (b : List Block). whole ≡ record { tag = whole.tag; blocks = b; closing = Unknown; sections = []; group = None; current = []; place = Query }) (empty_list whole.blocks h.count)
     (subst (λ (c : Closing). whole ≡ record { tag = whole.tag; blocks = whole.blocks; closing = c; sections = []; group = None; current = []; place = Query }) (sym h.closing)
-    (subst (λ (s : List Section). whole ≡ record { tag = whole.tag; blocks = whole.blocks; closing = whole.closing; sections = s; group = None; current = []; place = Query }) (sym h.sections)
+    (subst (λ (s : List GroupTold). whole ≡ record { tag = whole.tag; blocks = whole.blocks; closing = whole.closing; sections = s; group = None; current = []; place = Query }) (sym h.sections)
     (subst (λ (g : Option GroupLine). whole ≡ record { tag = whole.tag; blocks = whole.blocks; closing = whole.closing; sections = whole.sections; group = g; current = []; place = Query }) (sym h.group)
     (subst (λ (c : List Entry). whole ≡ record { tag = whole.tag; blocks = whole.blocks; closing = whole.closing; sections = whole.sections; group = whole.group; current = c; place = Query }) (sym h.current)
     (subst (λ (p : Place). whole ≡ record { tag = whole.tag; blocks = whole.blocks; closing = whole.closing; sections = whole.sections; group = whole.group; current = whole.current; place = p }) (sym h.place) refl))))))
@@ -626,17 +646,28 @@ refused_too (Line why) query shape most round wholes parts line h refused = (
 )
 
 -- a block that is not written
-pub block_fault_too : (why : BlockFault) (round : ℕ) (kinds : List ItemKind) (wholes parts : List Told) → AllTellFrom round wholes parts →
-    IsBlockFault why round kinds parts → IsBlockFault why round kinds wholes
-block_fault_too (OtherDecimals item) round kinds wholes parts h refused =
+totals_fault_too : (why : BlockFault) (round : ℕ) (kinds : List ItemKind) (wholes parts : List Told) → AllTellFrom round wholes parts →
+    IsTotalsFault why round kinds parts → IsTotalsFault why round kinds wholes
+totals_fault_too (OtherColumn column) round kinds wholes parts h refused = absurd refused
+totals_fault_too (OtherDecimals item) round kinds wholes parts h refused =
     subst (λ (entries : List Entry). ¬ AreAlikeEntries entries) (same_in round round item wholes parts (omega arith) h) refused
-block_fault_too (TooWide item) round kinds wholes parts h refused = record {
+totals_fault_too (TooWide item) round kinds wholes parts h refused = record {
   kind = refused.kind;
   there = refused.there;
   alike = subst (λ (entries : List Entry). AreAlikeEntries entries) (same_in round round item wholes parts (omega arith) h) refused.alike;
   wide = subst (λ (entries : List Entry). ¬ FitEntries refused.kind entries) (same_in round round item wholes parts (omega arith) h) refused.wide;
 }
-block_fault_too NoBlock round kinds wholes parts h refused = tt
+totals_fault_too NoBlock round kinds wholes parts h refused = tt
+
+fault_too_by : (columns : ℕ) (why : BlockFault) (round : ℕ) (kinds : List ItemKind) (wholes parts : List Told) → AllTellFrom round wholes parts →
+    IsFaultBy columns why round kinds parts → IsFaultBy columns why round kinds wholes
+fault_too_by zero why round kinds wholes parts h refused = totals_fault_too why round kinds wholes parts h refused
+fault_too_by (suc columns) why round kinds wholes parts h refused =
+    subst (λ (all : List (List GroupTold)). IsCombineFault (of_groups why) (suc columns) kinds all) (same_groups round round wholes parts (omega arith) h) refused
+
+pub block_fault_too : (why : BlockFault) (round : ℕ) (shape : Shape) (wholes parts : List Told) → AllTellFrom round wholes parts →
+    IsBlockFault why round shape parts → IsBlockFault why round shape wholes
+block_fault_too why round shape wholes parts h refused = fault_too_by shape.columns why round shape.kinds wholes parts h refused
 
 -- ---- a block among those that are kept
 

@@ -1,17 +1,26 @@
 -- That what all parts have told stays in the combined report.
-use Rattle.std.proofs.Common.{◌≡◌, ℕ, zero, suc, ◌+◌, true, List, [], ◌∷◌, get_or, refl, ap, ◌∙◌, arith}
+use Rattle.std.proofs.Common.{◌≡◌, ℕ, zero, suc, ◌+◌, true, List, [], ◌∷◌, ◌++◌, codes, get_or, refl, sym, ap, subst, ◌∙◌, arith}
 use Rattle.std.proofs.lemmas.Bool.{and_parts}
 use Rattle.std.specs.List.{list_all}
 use Rattle.query_model.specs.declared.query.ItemKind.{ItemKind}
 use Rattle.report_parts.proofs.Stays.{blocks_stay}
-use Rattle.report_parts.specs.Blocks.{entries_of}
+use Rattle.part_groups.specs.Combined.{IsCombineFault}
+use Rattle.part_groups.specs.Whole.{groups_over}
+use Rattle.part_groups.specs.declared.group.Group.{Group as GroupTold}
+use Rattle.report_text.specs.Lines.{round_words}
+use Rattle.report_parts.specs.Blocks.{groups_of, entries_of}
+use Rattle.report_parts.specs.Combined.{AreAlikeEntries, FitEntries}
 use Rattle.report_parts.specs.Entries.{no_entry}
 use Rattle.report_parts.specs.Laws.{AllReach, KeepsBlock, Reaches, ReportsOnlyGrow}
 use Rattle.report_parts.specs.Laws.Reaches.{goes, stays}
-use Rattle.report_parts.specs.Reports.{AreTold, block_text, blocks_text, entries_over}
-use Rattle.report_parts.specs.Rounds.{entries_in, entry_in, has_block}
+use Rattle.report_parts.specs.Reports.{AreTold, IsBlockFault, IsFaultBy, IsTotalsFault, block_by, block_lines, block_over, block_text, blocks_text, entries_over, of_groups}
+use Rattle.report_parts.specs.Rounds.{all_groups_in, groups_in, entries_in, entry_in, has_block}
 use Rattle.report_parts.specs.Told.{Told}
 use Rattle.report_parts.specs.declared.block.Block.{Block}
+use Rattle.report_parts.specs.declared.block.Block.TheVariants.{Groups, Totals}
+use Rattle.report_parts.specs.declared.entry.Entry.{Entry}
+use Rattle.report_parts.specs.declared.fault.BlockFault.{BlockFault}
+use Rattle.report_parts.specs.declared.fault.BlockFault.TheVariants.{NoMemory, OtherColumn, OtherDecimals, TooWide}
 use Rattle.report_parts.specs.declared.shape.Shape.{Shape}
 
 -- a part keeps the block that it has told
@@ -51,16 +60,65 @@ same_over query shape [] round item parts laters h has = refl
 same_over query shape (kind ∷ some) round item parts laters h has =
     rw (same_entries query shape round item parts laters h has, same_over query shape some round (item + 1) parts laters h has) refl
 
+same_groups : (query : List ℕ) (shape : Shape) (round : ℕ) (parts laters : List Told) → AllReach query shape parts laters →
+    list_all (has_block round) parts ≡ true → all_groups_in round laters ≡ all_groups_in round parts
+same_groups query shape round [] [] h has = refl
+same_groups query shape round [] (later ∷ laters) h has = absurd h
+same_groups query shape round (part ∷ parts) [] h has = absurd h
+same_groups query shape round (part ∷ parts) (later ∷ laters) h has =
+    let each = and_parts (has_block round part) (list_all (has_block round) parts) has in
+    let one = keeps query shape round part later h.0 each.0 in
+    let same : groups_in round later ≡ groups_in round part = ap groups_of one.same in
+    rw (same, same_groups query shape round parts laters h.1 each.1) refl
+
+same_block_by : (query : List ℕ) (shape : Shape) (columns round : ℕ) (kinds : List ItemKind) (parts laters : List Told) → AllReach query shape parts laters →
+    list_all (has_block round) parts ≡ true → block_by columns round kinds laters ≡ block_by columns round kinds parts
+same_block_by query shape zero round kinds parts laters h has = ap (λ (entries : List Entry). Totals entries) (same_over query shape kinds round 0 parts laters h has)
+same_block_by query shape (suc columns) round kinds parts laters h has =
+    ap (λ (all : List (List GroupTold)). Groups (groups_over (suc columns) kinds all)) (same_groups query shape round parts laters h has)
+
+pub same_block_over : (query : List ℕ) (shape : Shape) (round : ℕ) (parts laters : List Told) → AllReach query shape parts laters →
+    list_all (has_block round) parts ≡ true → block_over round shape laters ≡ block_over round shape parts
+same_block_over query shape round parts laters h has = same_block_by query shape shape.columns round shape.kinds parts laters h has
+
 pub same_block : (query : List ℕ) (shape : Shape) (round : ℕ) (parts laters : List Told) → AllReach query shape parts laters →
-    list_all (has_block round) parts ≡ true → block_text round shape.kinds laters ≡ block_text round shape.kinds parts
-same_block query shape round parts laters h has = rw (same_over query shape shape.kinds round 0 parts laters h has) refl
+    list_all (has_block round) parts ≡ true → block_text round shape laters ≡ block_text round shape parts
+same_block query shape round parts laters h has =
+    ap (λ (block : Block). (round_words round ++ codes "\n") ++ block_lines shape.kinds block) (same_block_over query shape round parts laters h has)
 
 same_blocks : (query : List ℕ) (shape : Shape) (rounds : ℕ) (parts laters : List Told) → AllReach query shape parts laters →
-    AreTold rounds parts → blocks_text rounds shape.kinds laters ≡ blocks_text rounds shape.kinds parts
+    AreTold rounds parts → blocks_text rounds shape laters ≡ blocks_text rounds shape parts
 unfolding blocks_text
 same_blocks query shape zero parts laters h are = refl
 same_blocks query shape (suc rounds) parts laters h are =
     rw (same_blocks query shape rounds parts laters h (λ round below. are round (omega (arith, below))), same_block query shape rounds parts laters h (are rounds (omega arith))) refl
+
+-- a block that is not written
+totals_fault_stays : (query : List ℕ) (shape : Shape) (why : BlockFault) (round : ℕ) (kinds : List ItemKind) (parts laters : List Told) →
+    AllReach query shape parts laters → list_all (has_block round) parts ≡ true → IsTotalsFault why round kinds parts → IsTotalsFault why round kinds laters
+totals_fault_stays query shape (OtherColumn column) round kinds parts laters h has refused = absurd refused
+totals_fault_stays query shape (OtherDecimals item) round kinds parts laters h has refused =
+    subst (λ (entries : List Entry). ¬ AreAlikeEntries entries) (sym (same_entries query shape round item parts laters h has)) refused
+totals_fault_stays query shape (TooWide item) round kinds parts laters h has refused =
+    let same = sym (same_entries query shape round item parts laters h has) in
+    record {
+      kind = refused.kind;
+      there = refused.there;
+      alike = subst (λ (entries : List Entry). AreAlikeEntries entries) same refused.alike;
+      wide = subst (λ (entries : List Entry). ¬ FitEntries refused.kind entries) same refused.wide;
+    }
+totals_fault_stays query shape NoMemory round kinds parts laters h has refused = tt
+
+fault_stays_by : (query : List ℕ) (shape : Shape) (columns : ℕ) (why : BlockFault) (round : ℕ) (kinds : List ItemKind) (parts laters : List Told) →
+    AllReach query shape parts laters → list_all (has_block round) parts ≡ true → IsFaultBy columns why round kinds parts →
+    IsFaultBy columns why round kinds laters
+fault_stays_by query shape zero why round kinds parts laters h has refused = totals_fault_stays query shape why round kinds parts laters h has refused
+fault_stays_by query shape (suc columns) why round kinds parts laters h has refused =
+    subst (λ (all : List (List GroupTold)). IsCombineFault (of_groups why) (suc columns) kinds all) (sym (same_groups query shape round parts laters h has)) refused
+
+pub fault_stays : (query : List ℕ) (shape : Shape) (why : BlockFault) (round : ℕ) (parts laters : List Told) → AllReach query shape parts laters →
+    list_all (has_block round) parts ≡ true → IsBlockFault why round shape parts → IsBlockFault why round shape laters
+fault_stays query shape why round parts laters h has refused = fault_stays_by query shape shape.columns why round shape.kinds parts laters h has refused
 
 pub only_grow : ReportsOnlyGrow
 only_grow query shape rounds parts laters h are = record {

@@ -6,15 +6,15 @@ use Rattle.std.proofs.lemmas.List.{append_assoc}
 use Rattle.std.proofs.lemmas.Option.{none-some}
 use Rattle.std.specs.List.{list_all}
 use Rattle.report_text.specs.declared.lines.ReportEnd.{ReportEnd}
-use Rattle.report_parts.proofs.Grows.{all_keep, same_block, same_over}
+use Rattle.report_parts.proofs.Grows.{all_keep, same_block, same_block_over}
 use Rattle.report_parts.proofs.Stays.{none_behind, only_add}
 use Rattle.report_parts.specs.Ends.{end_behind, end_of_all}
 use Rattle.report_parts.specs.Laws.{AllReach, Reaches}
 use Rattle.report_parts.specs.Laws.Reaches.{goes as reaches, stays as rests}
-use Rattle.report_parts.specs.Reports.{block_text, entries_over}
+use Rattle.report_parts.specs.Reports.{block_over, block_text}
 use Rattle.report_parts.specs.Rounds.{has_block, is_ended, is_over}
 use Rattle.report_parts.specs.Told.{Told}
-use Rattle.report_parts.specs.declared.entry.Entry.{Entry}
+use Rattle.report_parts.specs.declared.block.Block.{Block}
 use Rattle.report_parts.specs.declared.shape.Shape.{Shape}
 use Rattle.report_parts.specs.Written.{Wanted, Writes, WrittenStays, end_at, end_text, is_narrow_at}
 use Rattle.report_parts.specs.Written.Writes.{ends, goes, waits}
@@ -128,15 +128,15 @@ nothing_yet wanted parts round text end (goes r rest e has there k) fails = absu
 -- whether the block is narrow does not change
 pub same_end : (query : List ℕ) (wanted : Wanted) (round : ℕ) (parts laters : List Told) → AllReach query wanted.shape parts laters →
     list_all (has_block round) parts ≡ true →
-    end_at wanted round laters ≡ end_behind (wanted.narrow (entries_over round 0 wanted.shape.kinds parts)) (wanted.last round) round laters
+    end_at wanted round laters ≡ end_behind (wanted.narrow (block_over round wanted.shape parts)) (wanted.last round) round laters
 same_end query wanted round parts laters h has =
-    ap (λ (entries : List Entry). end_behind (wanted.narrow entries) (wanted.last round) round laters) (same_over query wanted.shape wanted.shape.kinds round 0 parts laters h has)
+    ap (λ (block : Block). end_behind (wanted.narrow block) (wanted.last round) round laters) (same_block_over query wanted.shape round parts laters h has)
 
 pub end_stays : (query : List ℕ) (wanted : Wanted) (round : ℕ) (parts laters : List Told) (end : ReportEnd) → AllReach query wanted.shape parts laters →
     list_all (has_block round) parts ≡ true → end_at wanted round parts ≡ Some end → end_at wanted round laters ≡ Some end
 end_stays query wanted round parts laters end h has e =
     same_end query wanted round parts laters h has
-    ∙ end_rests query wanted.shape (wanted.narrow (entries_over round 0 wanted.shape.kinds parts)) (wanted.last round) (list_all (is_over round) parts) round parts laters end
+    ∙ end_rests query wanted.shape (wanted.narrow (block_over round wanted.shape parts)) (wanted.last round) (list_all (is_over round) parts) round parts laters end
     refl h e
 
 pub some_same : (a b : ReportEnd) → Some a ≡ Some b → a ≡ b
@@ -151,9 +151,9 @@ written_stays query wanted parts laters round text longer end later h (ends r e 
     record {
       more = [];
       split =
-          ap (λ (e : ReportEnd). block_text round wanted.shape.kinds laters ++ end_text e) same
+          ap (λ (e : ReportEnd). block_text round wanted.shape laters ++ end_text e) same
           ∙ ap (λ (block : List ℕ). block ++ end_text e) (same_block query wanted.shape round parts laters h has)
-          ∙ sym (append-nil (block_text round wanted.shape.kinds parts ++ end_text e));
+          ∙ sym (append-nil (block_text round wanted.shape parts ++ end_text e));
     }
 written_stays query wanted parts laters round text longer end later h (ends r e has there) (goes s rest behind now none k) =
     absurd (none-some e (sym none ∙ end_stays query wanted round parts laters e h has there))
@@ -170,8 +170,8 @@ written_stays query wanted parts laters round text longer end later h (goes r re
       more = tail;
       split =
           ap (λ (block : List ℕ). block ++ tail) (same_block query wanted.shape round parts laters h has)
-          ∙ ap (λ (block : List ℕ). block ++ tail) (sym (append-nil (block_text round wanted.shape.kinds parts)))
-          ∙ ap (λ (behind : List ℕ). (block_text round wanted.shape.kinds parts ++ behind) ++ tail) (sym nothing);
+          ∙ ap (λ (block : List ℕ). block ++ tail) (sym (append-nil (block_text round wanted.shape parts)))
+          ∙ ap (λ (behind : List ℕ). (block_text round wanted.shape parts ++ behind) ++ tail) (sym nothing);
     }
 written_stays query wanted parts laters round text longer end later h (goes r rest behind has none k) (goes s rest_now behind_now now none_now k_now) =
     let after = written_stays query wanted parts laters (round + 1) rest rest_now behind behind_now h k k_now in
@@ -179,6 +179,6 @@ written_stays query wanted parts laters round text longer end later h (goes r re
       more = after.more;
       split =
           ap (λ (block : List ℕ). block ++ rest_now) (same_block query wanted.shape round parts laters h has)
-          ∙ ap (λ (rest : List ℕ). block_text round wanted.shape.kinds parts ++ rest) after.split
-          ∙ sym (append_assoc (block_text round wanted.shape.kinds parts) rest after.more);
+          ∙ ap (λ (rest : List ℕ). block_text round wanted.shape parts ++ rest) after.split
+          ∙ sym (append_assoc (block_text round wanted.shape parts) rest after.more);
     }

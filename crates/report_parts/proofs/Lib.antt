@@ -3,8 +3,10 @@ pub mod Commutes
 pub mod Courses
 pub mod EntryLines
 pub mod FromRounds
+pub mod GroupsOver
 pub mod Grows
 pub mod Headlines
+pub mod Keyed
 pub mod Kept
 pub mod Ordered
 pub mod Splits

@@ -4,7 +4,7 @@ use Rattle.std.proofs.lemmas.Bool.{false≢true, lt-ltb, ltb-true}
 use Rattle.std.proofs.lemmas.List.{append_assoc, get_or_append_left}
 use Rattle.report_text.specs.declared.groups.GroupLine.{GroupLine}
 use Rattle.report_parts.specs.Blocks.{no_block}
-use Rattle.report_parts.specs.Entries.{last_entry}
+use Rattle.report_parts.specs.Entries.{answers_of, last_entry}
 use Rattle.report_parts.specs.Laws.{GoesBehind, KeepsBlock, LinesOnlyAdd, ToldBlocksStay}
 use Rattle.report_parts.specs.Rounds.{is_ended}
 use Rattle.report_parts.specs.Told.{BeginsGroup, GoesOn, GroupsGoOn, TakesAt, TakesBehindAnswer, TakesInside, TakesRest, Told, at_place, block_done, closed, closed_by, completed, completed_by, is_whole, opened_by, with_current}
@@ -66,7 +66,7 @@ completed_follows None told = closed_follows None told (closed_by None told) ref
 completed_follows (Some group) told = record {
   tag = refl;
   begun = λ f. absurd (let g : Round ≡ Query = f in cc);
-  behind = record { more = Groups (told.sections ++ record { group = group; entries = told.current } ∷ []) ∷ []; blocks = refl };
+  behind = record { more = Groups (told.sections ++ record { line = group; answers = answers_of told.current } ∷ []) ∷ []; blocks = refl };
 }
 
 put_in : (whole : Bool) (told next : Told) (current : List Entry) →

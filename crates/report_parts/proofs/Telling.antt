@@ -217,7 +217,7 @@ stays_ended query wanted parts laters round text longer o later end h (ends r mi
     absurd (false≢true (sym fails ∙ all_keep query wanted.shape round parts laters h has))
 stays_ended query wanted parts laters round text longer o later end h (ends r mine has there) e (ends s other now f) =
     let same : other ≡ mine = some_same other mine (sym f ∙ end_stays query wanted round parts laters mine h has there) in (
-      ap (λ (x : ReportEnd). block_text round wanted.shape.kinds laters ++ end_text x) same
+      ap (λ (x : ReportEnd). block_text round wanted.shape laters ++ end_text x) same
           ∙ ap (λ (block : List ℕ). block ++ end_text mine) (same_block query wanted.shape round parts laters h has),
       ap (λ (x : ReportEnd). Some x) same ∙ e,
     )
@@ -232,7 +232,7 @@ stays_ended query wanted parts laters round text longer o later end h (goes r re
 stays_ended query wanted parts laters round text longer o later end h (goes r rest behind has none k) e (goes s rest_now behind_now now none_now k_now) =
     let after = stays_ended query wanted parts laters (round + 1) rest rest_now behind behind_now end h k e k_now in (
       ap (λ (block : List ℕ). block ++ rest_now) (same_block query wanted.shape round parts laters h has)
-          ∙ ap (λ (x : List ℕ). block_text round wanted.shape.kinds parts ++ x) after.0,
+          ∙ ap (λ (x : List ℕ). block_text round wanted.shape parts ++ x) after.0,
       after.1,
     )
 

@@ -6,6 +6,7 @@ use Rattle.report_text.specs.declared.groups.GroupLine.{GroupLine}
 use Rattle.report_parts.specs.Told.{Closes, GroupsGoOn, OrElse, Refuses, Told, block_done, closed, completed, completed_by}
 use Rattle.report_parts.specs.declared.block.Block.TheVariants.{Groups, Totals}
 use Rattle.report_parts.specs.declared.closing.Closing.TheVariants.{Unknown}
+use Rattle.report_parts.specs.Entries.{answers_of}
 use Rattle.report_parts.specs.declared.shape.Shape.{Shape}
 
 -- where the first is refused, which changes nothing, the second decides
@@ -66,7 +67,7 @@ closes_ok (Err e) shape told line next first all h = tt
 
 completed_more : (group : Option GroupLine) (told : Told) → length (completed_by group told).blocks ≡ length told.blocks + 1
 completed_more None told = length-append told.blocks (Totals told.current ∷ [])
-completed_more (Some group) told = length-append told.blocks (Groups (told.sections ++ record { group = group; entries = told.current } ∷ []) ∷ [])
+completed_more (Some group) told = length-append told.blocks (Groups (told.sections ++ record { line = group; answers = answers_of told.current } ∷ []) ∷ [])
 
 -- there is one block more
 pub completed_count : (told : Told) (count : ℕ) → count ≡ length told.blocks → length (completed told).blocks ≡ count + 1

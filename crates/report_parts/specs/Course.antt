@@ -1,5 +1,5 @@
 -- The course of a combination: which lines were taken, and what is written of them.
-use Rattle.std.specs.Prelude.{◌≡◌, ◌≢◌, ℕ, zero, suc, ◌+◌, ◌<◌, ◌≤◌, ◌==◌, Bool, true, false, List, [], ◌∷◌, ◌++◌, codes, length}
+use Rattle.std.specs.Prelude.{◌≡◌, ◌≢◌, ℕ, zero, suc, ◌+◌, ◌<◌, ◌≤◌, ◌==◌, ◌&&◌, Bool, true, false, List, [], ◌∷◌, ◌++◌, codes, length}
 use Rattle.std.specs.declared.option.Option.{Option}
 use Rattle.std.specs.declared.option.Option.TheVariants.{Some, None}
 use Rattle.std.specs.List.{list_all}
@@ -12,8 +12,10 @@ use Rattle.report_parts.specs.Rounds.{has_block, is_over}
 use Rattle.report_parts.specs.Tags.{IsRefused, TakesTagged, tag_of}
 use Rattle.report_parts.specs.Told.{Told}
 use Rattle.report_parts.specs.Written.{Wanted, Writes, is_narrow_at}
+use Rattle.report_parts.specs.declared.block.Block.{Block as BlockTold}
+use Rattle.report_parts.specs.declared.block.Block.TheVariants.{Groups, Totals}
 use Rattle.report_parts.specs.declared.fault.BlockFault.{BlockFault}
-use Rattle.report_parts.specs.declared.fault.BlockFault.TheVariants.{NoMemory, OtherDecimals, TooWide}
+use Rattle.report_parts.specs.declared.fault.BlockFault.TheVariants.{NoMemory, OtherColumn, OtherDecimals, TooWide}
 use Rattle.report_parts.specs.declared.fault.CourseFault.{CourseFault}
 use Rattle.report_parts.specs.declared.fault.CourseFault.TheVariants.{Block, Input}
 use Rattle.report_parts.specs.declared.fault.InputFault.{InputFault}
@@ -32,11 +34,15 @@ abbrev pub is_last : Option ℕ → ℕ → Bool
 is_last None round = false
 is_last (Some last) round = last == round
 
--- a block is narrow where each answer is, whatever the lines behind tell
+-- a block is narrow where each answer is, whatever the lines behind tell, and each group is in the result for certain
+abbrev pub is_narrow_block : ℕ → BlockTold → Bool
+is_narrow_block width (Totals entries) = list_all (λ entry. is_narrow width entry.answer) entries
+is_narrow_block width (Groups groups) = list_all (λ group. group.line.present && list_all (is_narrow width) group.answers) groups
+
 abbrev pub wanted_of : Task → Wanted
 wanted_of task = record {
   shape = task.shape;
-  narrow = λ entries. list_all (λ entry. is_narrow task.width entry.answer) entries;
+  narrow = is_narrow_block task.width;
   last = is_last task.last;
 }
 
@@ -84,7 +90,7 @@ pub record Passes (wanted : Wanted) (parts : List Told) (round : ℕ) (text : Li
   pub wide : (r : ℕ) → r < round → is_narrow_at wanted r parts ≡ false
   pub more : (r : ℕ) → r < round → wanted.last r ≡ false
   pub goes : (r : ℕ) → r + 1 < round → list_all (is_over r) parts ≡ false
-  pub is_text : text ≡ blocks_text round wanted.shape.kinds parts
+  pub is_text : text ≡ blocks_text round wanted.shape parts
 
 -- no part goes on behind the last block that was written
 abbrev pub is_over_before : ℕ → List Told → Bool
@@ -172,9 +178,10 @@ pub record Stops (task : Task) (parts : List Told) (text before after : List ℕ
   pub put : after ≡ before ++ more
   pub passed : Passes (wanted_of task) parts round (text ++ more)
   pub has : list_all (has_block round) parts ≡ true
-  pub fault : IsBlockFault why round task.shape.kinds parts
+  pub fault : IsBlockFault why round task.shape parts
 
 abbrev pub StopsBy : BlockFault → Task → List Told → List ℕ → List ℕ → List ℕ → Type 0
+StopsBy (OtherColumn column) task parts text before after = Stops task parts text before after (OtherColumn column)
 StopsBy (OtherDecimals item) task parts text before after = Stops task parts text before after (OtherDecimals item)
 StopsBy (TooWide item) task parts text before after = Stops task parts text before after (TooWide item)
 StopsBy NoMemory task parts text before after = Unit {0}

@@ -51,14 +51,14 @@ AllReach query shape (part ∷ parts) [] = ⊥
 AllReach query shape (part ∷ parts) (later ∷ laters) = Reaches query shape part later × AllReach query shape parts laters
 
 -- the rounds stay told, with the same text
-pub record Grows (rounds : ℕ) (kinds : List ItemKind) (parts laters : List Told) : Type 0 where
+pub record Grows (rounds : ℕ) (shape : Shape) (parts laters : List Told) : Type 0 where
   pub are_told : AreTold rounds laters
-  pub same : blocks_text rounds kinds laters ≡ blocks_text rounds kinds parts
+  pub same : blocks_text rounds shape laters ≡ blocks_text rounds shape parts
 
 abbrev pub ReportsOnlyGrow : Type 0
 ReportsOnlyGrow =
     (query : List ℕ) (shape : Shape) (rounds : ℕ) (parts laters : List Told) →
-    AllReach query shape parts laters → AreTold rounds parts → Grows rounds shape.kinds parts laters
+    AllReach query shape parts laters → AreTold rounds parts → Grows rounds shape parts laters
 
 -- ---- what is combined is certain
 

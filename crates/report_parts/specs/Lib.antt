@@ -4,6 +4,7 @@ pub mod Course
 pub mod Ends
 pub mod Entries
 pub mod Headline
+pub mod Keyed
 pub mod Laws
 pub mod Narrowness
 pub mod Passed

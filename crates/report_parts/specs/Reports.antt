@@ -1,18 +1,27 @@
 -- The text of a combined report, by what its parts have told.
-use Rattle.std.specs.Prelude.{◌≡◌, slice_get, ℕ, zero, suc, ◌+◌, ◌<◌, true, List, [], ◌∷◌, ◌++◌, codes}
-use Rattle.std.specs.List.{list_all}
+use Rattle.std.specs.Prelude.{◌≡◌, slice_get, ℕ, zero, suc, ◌+◌, ◌<◌, true, List, [], ◌∷◌, ◌++◌, codes, length}
+use Rattle.std.specs.List.{All, list_all}
 use Rattle.std.specs.declared.option.Option.{Option}
 use Rattle.std.specs.declared.option.Option.TheVariants.{Some, None}
 use Rattle.query_model.specs.declared.query.ItemKind.{ItemKind}
 use Rattle.report_text.specs.Extras.{extra_line}
 use Rattle.report_text.specs.Lines.{item_line, parts_line, round_words}
 use Rattle.report_text.specs.declared.answers.Answer.{Answer}
-use Rattle.report_parts.specs.Combined.{AreAlikeEntries, FitEntries, entry_over}
-use Rattle.report_parts.specs.Rounds.{entries_in, has_block}
+use Rattle.report_parts.specs.Combined.{AreAlikeEntries, FitEntries, HasEntryTexts, entry_over}
+use Rattle.part_groups.specs.Combined.{IsCombineFault, IsShown}
+use Rattle.part_groups.specs.Whole.{groups_over}
+use Rattle.part_groups.specs.declared.fault.CombineFault.{CombineFault as GroupsFault}
+use Rattle.part_groups.specs.declared.fault.CombineFault.TheVariants as groups
+use Rattle.part_groups.specs.declared.group.Group.{Group}
+use Rattle.report_text.specs.Groups.{group_line}
+use Rattle.report_parts.specs.Rounds.{all_groups_in, entries_in, has_block}
 use Rattle.report_parts.specs.Told.{Told}
+use Rattle.report_parts.specs.declared.block.Block.{Block}
+use Rattle.report_parts.specs.declared.block.Block.TheVariants.{Groups, Totals}
 use Rattle.report_parts.specs.declared.entry.Entry.{Entry}
 use Rattle.report_parts.specs.declared.fault.BlockFault.{BlockFault}
-use Rattle.report_parts.specs.declared.fault.BlockFault.TheVariants.{NoMemory, OtherDecimals, TooWide}
+use Rattle.report_parts.specs.declared.fault.BlockFault.TheVariants.{NoMemory, OtherColumn, OtherDecimals, TooWide}
+use Rattle.report_parts.specs.declared.shape.Shape.{Shape}
 
 -- what is said over all parts in a round, of the items from that one on
 abbrev pub entries_over : ℕ → ℕ → List ItemKind → List Told → List Entry
@@ -33,19 +42,46 @@ item_lines number [] entries = []
 item_lines number (kind ∷ kinds) [] = []
 item_lines number (kind ∷ kinds) (entry ∷ entries) = entry_lines kind number entry ++ item_lines (number + 1) kinds entries
 
+-- what is said over all parts in a round: of the items, or, where there are group columns, of groups
+abbrev pub block_by : ℕ → ℕ → List ItemKind → List Told → Block
+block_by zero round kinds parts = Totals (entries_over round 0 kinds parts)
+block_by (suc columns) round kinds parts = Groups (groups_over (suc columns) kinds (all_groups_in round parts))
+
+abbrev pub block_over : ℕ → Shape → List Told → Block
+block_over round shape parts = block_by shape.columns round shape.kinds parts
+
+-- the lines of answers, numbered from that number on
+abbrev pub answer_lines : ℕ → List Answer → List ℕ
+answer_lines number [] = []
+answer_lines number (answer ∷ answers) = (item_line number answer ++ codes "\n") ++ answer_lines (number + 1) answers
+
+-- the line of each group, and those of its answers
+abbrev pub group_lines : List Group → List ℕ
+group_lines [] = []
+group_lines (group ∷ groups) = ((group_line group.line ++ codes "\n") ++ answer_lines 1 group.answers) ++ group_lines groups
+
+abbrev pub block_lines : List ItemKind → Block → List ℕ
+block_lines kinds (Totals entries) = item_lines 1 kinds entries
+block_lines kinds (Groups groups) = group_lines groups
+
+-- each line of a block can be written
+abbrev pub HasBlockTexts : List ItemKind → Block → Type 0
+HasBlockTexts kinds (Totals entries) = All HasEntryTexts entries × (length kinds ≡ length entries)
+HasBlockTexts kinds (Groups groups) = All IsShown groups
+
 -- the block of a round: it names no column, since each part reads its own
-abbrev pub block_text : ℕ → List ItemKind → List Told → List ℕ
-block_text round kinds parts = (round_words round ++ codes "\n") ++ item_lines 1 kinds (entries_over round 0 kinds parts)
+abbrev pub block_text : ℕ → Shape → List Told → List ℕ
+block_text round shape parts = (round_words round ++ codes "\n") ++ block_lines shape.kinds (block_over round shape parts)
 
 -- the blocks of so many rounds, from 0
-unfoldable pub blocks_text : ℕ → List ItemKind → List Told → List ℕ
-blocks_text zero kinds parts = []
-blocks_text (suc rounds) kinds parts = blocks_text rounds kinds parts ++ block_text rounds kinds parts
+unfoldable pub blocks_text : ℕ → Shape → List Told → List ℕ
+blocks_text zero shape parts = []
+blocks_text (suc rounds) shape parts = blocks_text rounds shape parts ++ block_text rounds shape parts
 
 -- behind the query it says of how many parts it is
-abbrev pub report_text : List ℕ → ℕ → ℕ → List ItemKind → List Told → List ℕ
-report_text query count rounds kinds parts =
-    (query ++ codes "\n") ++ ((parts_line count ++ codes "\n") ++ blocks_text rounds kinds parts)
+abbrev pub report_text : List ℕ → ℕ → ℕ → Shape → List Told → List ℕ
+report_text query count rounds shape parts =
+    (query ++ codes "\n") ++ ((parts_line count ++ codes "\n") ++ blocks_text rounds shape parts)
 
 -- all parts tell what they know in each of so many rounds
 abbrev pub AreTold : ℕ → List Told → Type 0
@@ -60,7 +96,22 @@ pub record IsTooWide (round item : ℕ) (kinds : List ItemKind) (parts : List To
   pub alike : AreAlikeEntries (entries_in round item parts)
   pub wide : ¬ FitEntries kind (entries_in round item parts)
 
-abbrev pub IsBlockFault : BlockFault → ℕ → List ItemKind → List Told → Type 0
-IsBlockFault (OtherDecimals item) round kinds parts = ¬ AreAlikeEntries (entries_in round item parts)
-IsBlockFault (TooWide item) round kinds parts = IsTooWide round item kinds parts
-IsBlockFault NoMemory round kinds parts = Unit {0}
+abbrev pub IsTotalsFault : BlockFault → ℕ → List ItemKind → List Told → Type 0
+IsTotalsFault (OtherColumn column) round kinds parts = ⊥
+IsTotalsFault (OtherDecimals item) round kinds parts = ¬ AreAlikeEntries (entries_in round item parts)
+IsTotalsFault (TooWide item) round kinds parts = IsTooWide round item kinds parts
+IsTotalsFault NoMemory round kinds parts = Unit {0}
+
+-- a fault of groups
+abbrev pub of_groups : BlockFault → GroupsFault
+of_groups (OtherColumn column) = groups.OtherColumn column
+of_groups (OtherDecimals item) = groups.OtherItem item
+of_groups (TooWide item) = groups.TooWide item
+of_groups NoMemory = groups.NoMemory
+
+abbrev pub IsFaultBy : ℕ → BlockFault → ℕ → List ItemKind → List Told → Type 0
+IsFaultBy zero why round kinds parts = IsTotalsFault why round kinds parts
+IsFaultBy (suc columns) why round kinds parts = IsCombineFault (of_groups why) (suc columns) kinds (all_groups_in round parts)
+
+abbrev pub IsBlockFault : BlockFault → ℕ → Shape → List Told → Type 0
+IsBlockFault why round shape parts = IsFaultBy shape.columns why round shape.kinds parts

@@ -1,7 +1,8 @@
 -- Which block of a part stands for a round of all parts.
 use Rattle.std.specs.Prelude.{ℕ, ◌-◌, ◌+◌, nat_lt, nat_le, min, Bool, true, false, ◌&&◌, ◌||◌, List, length, map, slice_index_or}
 use Rattle.report_text.specs.declared.answers.Answer.{Answer}
-use Rattle.report_parts.specs.Blocks.{entries_of, no_block}
+use Rattle.part_groups.specs.declared.group.Group.{Group as GroupTold}
+use Rattle.report_parts.specs.Blocks.{entries_of, groups_of, no_block}
 use Rattle.report_parts.specs.Entries.{answers_of, entry_at, extras_of}
 use Rattle.report_parts.specs.Told.{Told}
 use Rattle.report_parts.specs.declared.block.Block.{Block}
@@ -38,6 +39,13 @@ answers_in round item parts = answers_of (entries_in round item parts)
 
 abbrev pub extras_in : ℕ → ℕ → List Told → List Answer
 extras_in round item parts = extras_of (entries_in round item parts)
+
+-- what each part says of groups in that round
+abbrev pub groups_in : ℕ → Told → List GroupTold
+groups_in round told = groups_of (block_for round told)
+
+abbrev pub all_groups_in : ℕ → List Told → List (List GroupTold)
+all_groups_in round parts = map (groups_in round) parts
 
 -- no part goes on behind that round
 abbrev pub is_over : ℕ → Told → Bool

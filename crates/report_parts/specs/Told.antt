@@ -1,6 +1,6 @@
 -- What the lines of a part's report have told so far, and which line comes next.
 use Rattle.std.specs.Prelude.{◌≡◌, ◌⊎◌, ℕ, zero, suc, ◌+◌, ◌-◌, ◌<◌, ◌^◌, ◌==◌, Bool, true, false, ◌&&◌, List, [], ◌∷◌, ◌++◌}
-use Rattle.std.specs.Prelude.{length, set, slice_get, if◌then◌else◌}
+use Rattle.std.specs.Prelude.{length, set, slice_get, if◌then◌else◌, IsTrue}
 use Rattle.std.specs.declared.option.Option.{Option}
 use Rattle.std.specs.declared.option.Option.TheVariants.{Some, None}
 use Rattle.query_model.specs.declared.query.ItemKind.{ItemKind}
@@ -12,10 +12,11 @@ use Rattle.report_text.specs.Lines.{IsRoundLine, end_line, item_line, parts_line
 use Rattle.report_text.specs.declared.answers.Answer.{Answer}
 use Rattle.report_text.specs.declared.groups.GroupLine.{GroupLine}
 use Rattle.report_text.specs.declared.lines.ReportEnd.{ReportEnd}
-use Rattle.report_parts.specs.Entries.{ends_with_extra, last_entry}
+use Rattle.part_groups.specs.Whole.{has_key}
+use Rattle.part_groups.specs.declared.group.Group.{Group as GroupTold}
+use Rattle.report_parts.specs.Entries.{answers_of, ends_with_extra, last_entry}
 use Rattle.report_parts.specs.declared.block.Block.{Block}
 use Rattle.report_parts.specs.declared.block.Block.TheVariants.{Groups, Totals}
-use Rattle.report_parts.specs.declared.block.Section.{Section}
 use Rattle.report_parts.specs.declared.entry.Entry.{Entry}
 use Rattle.report_parts.specs.declared.closing.Closing.{Closing}
 use Rattle.report_parts.specs.declared.closing.Closing.TheVariants.{Unknown, Item, Extra}
@@ -29,7 +30,7 @@ pub record Told : Type 0 where
   pub tag : List ℕ
   pub blocks : List Block
   pub closing : Closing
-  pub sections : List Section
+  pub sections : List GroupTold
   pub group : Option GroupLine
   pub current : List Entry
   pub place : Place
@@ -91,7 +92,7 @@ closed_by (Some group) told = record {
   tag = told.tag;
   blocks = told.blocks;
   closing = closing_of told.current;
-  sections = told.sections ++ record { group = group; entries = told.current } ∷ [];
+  sections = told.sections ++ record { line = group; answers = answers_of told.current } ∷ [];
   group = None;
   current = [];
   place = Group;
@@ -183,6 +184,7 @@ with_group told group = record {
 pub record BeginsGroup (columns : ℕ) (told : Told) (line : List ℕ) (next : Told) : Type 0 where
   pub group : GroupLine
   pub shown : IsShownGroup group
+  pub key : IsTrue (has_key group.keys)
   pub each : length group.keys ≡ columns
   pub is_line : group_line group ≡ line
   pub begun : next ≡ with_group told group

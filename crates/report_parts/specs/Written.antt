@@ -7,21 +7,21 @@ use Rattle.report_text.specs.Lines.{end_line}
 use Rattle.report_text.specs.declared.lines.ReportEnd.{ReportEnd}
 use Rattle.report_parts.specs.Ends.{end_behind}
 use Rattle.report_parts.specs.Laws.{AllReach}
-use Rattle.report_parts.specs.Reports.{block_text, entries_over}
+use Rattle.report_parts.specs.Reports.{block_over, block_text}
 use Rattle.report_parts.specs.Rounds.{has_block}
 use Rattle.report_parts.specs.Told.{Told}
-use Rattle.report_parts.specs.declared.entry.Entry.{Entry}
+use Rattle.report_parts.specs.declared.block.Block.{Block}
 use Rattle.report_parts.specs.declared.shape.Shape.{Shape}
 
 -- what is asked for: the shape of a block, which blocks are narrow, and which round is the last that is wanted
 pub record Wanted : Type 0 where
   pub shape : Shape
-  pub narrow : List Entry → Bool
+  pub narrow : Block → Bool
   pub last : ℕ → Bool
 
 -- the block of the round is narrow
 abbrev pub is_narrow_at : Wanted → ℕ → List Told → Bool
-is_narrow_at wanted round parts = wanted.narrow (entries_over round 0 wanted.shape.kinds parts)
+is_narrow_at wanted round parts = wanted.narrow (block_over round wanted.shape parts)
 
 -- how the report ends behind the block of that round, if it does
 abbrev pub end_at : Wanted → ℕ → List Told → Option ReportEnd
@@ -35,10 +35,10 @@ end_text end = end_line end ++ codes "\n"
 pub data Writes (wanted : Wanted) (parts : List Told) : ℕ → List ℕ → Option ReportEnd → Type 0 where
   waits : (round : ℕ) → list_all (has_block round) parts ≡ false → Writes wanted parts round [] None
   ends : (round : ℕ) (end : ReportEnd) → list_all (has_block round) parts ≡ true → end_at wanted round parts ≡ Some end →
-      Writes wanted parts round (block_text round wanted.shape.kinds parts ++ end_text end) (Some end)
+      Writes wanted parts round (block_text round wanted.shape parts ++ end_text end) (Some end)
   goes : (round : ℕ) (rest : List ℕ) (end : Option ReportEnd) → list_all (has_block round) parts ≡ true →
       end_at wanted round parts ≡ None → Writes wanted parts (round + 1) rest end →
-      Writes wanted parts round (block_text round wanted.shape.kinds parts ++ rest) end
+      Writes wanted parts round (block_text round wanted.shape parts ++ rest) end
 
 -- the one text begins the other
 pub record Begins (text longer : List ℕ) : Type 0 where

@@ -11,6 +11,7 @@ use crate::fault::LineFault;
 use crate::part::{Part, Place};
 use crate::shape::Shape;
 use daq_table::Listed;
+use part_groups::has_key;
 use query_model::ItemKind;
 use report_text::{GroupLine, read_group};
 use std::alloc::{AllocError, Global};
@@ -28,7 +29,8 @@ pub(crate) fn next_group(
 {
     match read_group(alloc, line)? {
         Some(group) => {
-            if group.keys.as_slice().len() == columns {
+            let spans = group.keys.as_slice();
+            if spans.len() == columns && has_key(spans) {
                 Ok(Some(group))
             } else {
                 Ok(None)

@@ -5,7 +5,7 @@ ghost use Rattle.std.specs.List.{All};
 ghost use Rattle.query_model.specs.declared.query.ItemKind.{ItemKind};
 ghost use Rattle.report_parts.specs.Combined.{HasEntryTexts, HasExtraText, entry_over};
 ghost use Rattle.report_parts.specs.Course.{opening_text};
-ghost use Rattle.report_parts.specs.Reports.{IsBlockFault, block_text, entries_over, entry_lines, extra_lines, item_lines};
+ghost use Rattle.report_parts.specs.Reports.{IsTotalsFault, entries_over, entry_lines, extra_lines, item_lines};
 ghost use Rattle.report_parts.specs.Rounds.{entries_in};
 ghost use Rattle.report_text.specs.Lines.{parts_line, round_words};
 
@@ -29,7 +29,7 @@ fn item_over(
     ensures texts { IfOk result HasEntryTexts }
     ensures entry { IfOk result (λ entry. entry ≡ entry_over kind (entries_in round item parts.now)) }
     ensures fault { IfErr result (λ why.
-        (kinds : List ItemKind) → slice_get kinds item ≡ Some kind → IsBlockFault why round kinds parts.now) }
+        (kinds : List ItemKind) → slice_get kinds item ≡ Some kind → IsTotalsFault why round kinds parts.now) }
 {
     match combine_item(alloc, kind, round, item, parts) {
         Ok(entry) => Ok(entry),
@@ -49,7 +49,7 @@ pub(crate) fn entries_over(
     ensures entries { IfOk result (λ entries. entries.items ≡ entries_over round 0 kinds.now parts.now) }
     ensures count { IfOk result (λ entries. length kinds.now ≡ length entries.items) }
     ensures texts { IfOk result (λ entries. All HasEntryTexts entries.items) }
-    ensures fault { IfErr result (λ why. IsBlockFault why round kinds.now parts.now) }
+    ensures fault { IfErr result (λ why. IsTotalsFault why round kinds.now parts.now) }
 {
     let mut entries = Vec::with_capacity(alloc, kinds.len())?;
     for kind in kinds {
@@ -98,7 +98,11 @@ fn push_entry(
 }
 
 // Puts the lines of the items behind the text.
-fn push_items(text: &mut Vec<u8>, kinds: &[ItemKind], entries: &[Entry]) -> Result<(), AllocError>
+pub(crate) fn push_items(
+    text: &mut Vec<u8>,
+    kinds: &[ItemKind],
+    entries: &[Entry],
+) -> Result<(), AllocError>
     requires texts { All HasEntryTexts entries.now }
     requires count { length kinds.now ≡ length entries.now }
     ensures { OnOk result (text.new.items ≡ text.old.items ++ item_lines 1 kinds.now entries.now) }
@@ -127,8 +131,17 @@ fn written_round(round: u64) -> TextBuf
     text
 }
 
+// The line of a round.
+pub(crate) fn written_start(alloc: Global, round: usize) -> Result<Vec<u8>, AllocError>
+    ensures { IfOk result (λ text. text.items ≡ round_words round ++ codes "\n") }
+{
+    let mut text = Vec::new(alloc);
+    push_line(&mut text, written_round(round as u64).bytes())?;
+    Ok(text)
+}
+
 // The text of the block of a round that says this of items of these kinds.
-pub(crate) fn written_entries(
+fn written_entries(
     alloc: Global,
     round: usize,
     kinds: &[ItemKind],
@@ -138,21 +151,21 @@ pub(crate) fn written_entries(
     requires count { length kinds.now ≡ length entries.now }
     ensures { IfOk result (λ text. text.items ≡ (round_words round ++ codes "\n") ++ item_lines 1 kinds.now entries.now) }
 {
-    let mut text = Vec::new(alloc);
-    push_line(&mut text, written_round(round as u64).bytes())?;
+    let mut text = written_start(alloc, round)?;
     push_items(&mut text, kinds, entries)?;
     Ok(text)
 }
 
-/// The text of the block of a round: its line, and the lines of the items that are asked for.
+/// The text of the block of totals of a round: its line, and the lines of the items that are asked for.
 pub fn written_block(
     alloc: Global,
     round: usize,
     kinds: &[ItemKind],
     parts: &[Part],
 ) -> Result<Vec<u8>, BlockFault>
-    ensures text { IfOk result (λ text. text.items ≡ block_text round kinds.now parts.now) }
-    ensures fault { IfErr result (λ why. IsBlockFault why round kinds.now parts.now) }
+    ensures text { IfOk result (λ text. text.items
+        ≡ (round_words round ++ codes "\n") ++ item_lines 1 kinds.now (entries_over round 0 kinds.now parts.now)) }
+    ensures fault { IfErr result (λ why. IsTotalsFault why round kinds.now parts.now) }
 {
     let entries = entries_over(alloc, round, kinds, parts)?;
     Ok(written_entries(alloc, round, kinds, &entries)?)

@@ -13,10 +13,11 @@ ghost use Rattle.report_parts.specs.Tags.{IsRefused, TakesTagged, part_at};
 ghost use Rattle.report_parts.specs.Told.{Told};
 ghost use Rattle.report_parts.specs.Written.{end_at, end_text};
 
-use crate::blocks::{entries_over, push_line, written_entries};
+use crate::blocks::push_line;
 use crate::ends::{end_behind, end_of_all, may_end, written_end};
-use crate::fault::{BlockFault, CourseFault, EndFault, InputFault};
-use crate::narrowness::are_narrow;
+use crate::fault::{BlockFault, CourseFault, EndFault, InputFault, LineFault};
+use crate::narrowness::is_narrow_block;
+use crate::over::{block_over, written_over};
 use crate::parts::{Asked, Parts};
 use crate::rounds::{all_have_block, have_all_ended};
 use report_text::ReportEnd;
@@ -44,6 +45,7 @@ pub struct Combination {
 impl Model for Combination {
     ghost use Rattle.std.specs.Prelude.{◌<◌, ◌^◌};
     ghost use Rattle.report_parts.specs.Course.{Course};
+    ghost use Rattle.report_parts.specs.Keyed.{AreKeyedFrom};
 
     ghost Value = { Course };
 
@@ -60,7 +62,7 @@ impl Model for Combination {
       end = c.end;
     } };
 
-    ghost invariant = { λ c. c.round < 2 ^ 62 };
+    ghost invariant = { λ c. (c.round < 2 ^ 62) × AreKeyedFrom c.asked.shape.columns c.round c.parts };
 }
 
 // More rounds than any report has.
@@ -132,7 +134,7 @@ impl Combination {
         self.parts.as_slice()[place].tag()
     }
 
-    // The parts take a line.
+    // The parts take a line. Where memory runs out they are forgotten.
     fn take_line(&mut self, alloc: Global, line: &[u8]) -> Result<(), InputFault>
         ensures task { self.new.task ≡ self.old.task }
         ensures round { self.new.round ≡ self.old.round }
@@ -142,7 +144,14 @@ impl Combination {
         ensures refused { IfErr result (λ why.
             IsRefused why self.old.task.query self.old.task.shape self.old.task.count self.old.parts line.now) }
     {
-        self.parts.take(alloc, &self.asked, self.count, line)
+        match self.parts.take(alloc, &self.asked, self.count, line) {
+            Ok(()) => Ok(()),
+            Err(InputFault::Line(LineFault::NoMemory)) => {
+                self.parts = Parts::new(alloc);
+                Err(InputFault::Line(LineFault::NoMemory))
+            }
+            Err(why) => Err(why),
+        }
     }
 
     // Writes the end.
@@ -175,18 +184,17 @@ impl Combination {
 
     // The block of the round, and how the report ends behind it, if it does.
     fn block(&self, alloc: Global) -> Result<Ahead, BlockFault>
-        ensures block { IfOk result (λ ahead. ahead.block.items ≡ block_text self.now.round self.now.task.shape.kinds self.now.parts) }
+        ensures block { IfOk result (λ ahead. ahead.block.items ≡ block_text self.now.round self.now.task.shape self.now.parts) }
         ensures end { IfOk result (λ ahead. ahead.end ≡ end_at (wanted_of self.now.task) self.now.round self.now.parts) }
-        ensures fault { IfErr result (λ why. IsBlockFault why self.now.round self.now.task.shape.kinds self.now.parts) }
+        ensures fault { IfErr result (λ why. IsBlockFault why self.now.round self.now.task.shape self.now.parts) }
     {
         let parts = self.parts.as_slice();
-        let kinds = self.asked.shape.kinds.as_slice();
-        let entries = entries_over(alloc, self.round, kinds, parts)?;
-        let block = written_entries(alloc, self.round, kinds, &entries)?;
-        let narrow = are_narrow(self.until.width, &entries);
+        let shape = &self.asked.shape;
+        let block = block_over(alloc, self.round, shape, parts)?;
+        let narrow = is_narrow_block(self.until.width, &block);
         let last = is_last(self.until.rounds, self.round);
         Ok(Ahead {
-            block,
+            block: written_over(alloc, self.round, shape.kinds.as_slice(), &block)?,
             end: end_behind(narrow, last, self.round, parts),
         })
     }

@@ -5,10 +5,12 @@ ghost use Rattle.report_parts.specs.Told.{BeginsGroup, GoesOn, GroupsGoOn, Refus
 
 use crate::behind::place_behind;
 use crate::between::next_group;
-use crate::block::{Block, Section};
+use crate::block::Block;
 use crate::closing::closing_of;
+use crate::entry::answers_of;
 use crate::part::{Part, Place};
 use daq_table::Listed;
+use part_groups::Group;
 use std::alloc::{AllocError, Global};
 use std::mem;
 
@@ -27,7 +29,11 @@ impl Part {
                 Ok(())
             }
             Some(group) => {
-                self.sections.push(Section { group, entries })?;
+                let answers = Listed::new(answers_of(alloc, entries.as_slice())?);
+                self.sections.push(Group {
+                    line: group,
+                    answers,
+                })?;
                 self.place = Place::Group;
                 Ok(())
             }

@@ -1,12 +1,14 @@
 //! Why a line is refused, and why answers are not combined.
 
 ghost use Rattle.std.specs.Prelude.{◌≡◌};
+ghost use Rattle.report_parts.specs.Reports.{of_groups};
 ghost use Rattle.report_parts.specs.declared.fault.BlockFault.TheVariants.{NoMemory as NoBlock};
 ghost use Rattle.report_parts.specs.declared.fault.CombineFault.TheVariants.{NoMemory};
 ghost use Rattle.report_parts.specs.declared.fault.CourseFault.TheVariants.{Block, Input};
 ghost use Rattle.report_parts.specs.declared.fault.InputFault.TheVariants.{Line};
 ghost use Rattle.report_parts.specs.declared.fault.LineFault.TheVariants.{NoMemory as NoRoom};
 
+use part_groups::CombineFault as GroupsFault;
 use std::alloc::{AllocError, AllocFailed};
 use thiserror::Error;
 
@@ -119,9 +121,12 @@ pub enum EndFault {
     OtherCount(usize),
 }
 
-/// Why a block is not written: at which item, of those from 0.
+/// Why a block is not written: at which item or group column, of those from 0.
 #[derive(Clone, Copy, Debug, PartialEq, Eq, Drop, Error)]
 pub enum BlockFault {
+    /// Two lines write this group column, of those from 0, in other ways: with other decimals, or as dates.
+    #[error("column {0}: other decimals")]
+    OtherColumn(usize),
     /// The numbers of two parts have other decimals.
     #[error("item {0}: other decimals")]
     OtherDecimals(usize),
@@ -131,6 +136,19 @@ pub enum BlockFault {
     /// Memory ran out.
     #[error("no memory")]
     NoMemory,
+}
+
+impl From<GroupsFault> for BlockFault {
+    ghost from_gives = { λ why e. of_groups e ≡ why };
+
+    fn from(why: GroupsFault) -> Self {
+        match why {
+            GroupsFault::OtherColumn(column) => BlockFault::OtherColumn(column),
+            GroupsFault::OtherItem(item) => BlockFault::OtherDecimals(item),
+            GroupsFault::TooWide(item) => BlockFault::TooWide(item),
+            GroupsFault::NoMemory => BlockFault::NoMemory,
+        }
+    }
 }
 
 impl From<AllocError> for BlockFault {

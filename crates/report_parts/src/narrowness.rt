@@ -1,12 +1,15 @@
 //! Whether it is known well enough where an answer lies.
 
-ghost use Rattle.std.specs.Prelude.{◌≡◌};
+ghost use Rattle.std.specs.Prelude.{◌≡◌, ◌&&◌};
 ghost use Rattle.std.specs.List.{list_all};
+ghost use Rattle.report_parts.specs.Course.{is_narrow_block};
 ghost use Rattle.report_parts.specs.Narrowness.{is_narrow, is_told, near_numbers};
 
 use crate::averages::fraction_of;
+use crate::block::Block;
 use crate::entry::Entry;
 use crate::near::are_near;
+use part_groups::Group;
 use query_model::{Bound, Nullity};
 use report_text::Answer;
 
@@ -43,7 +46,7 @@ pub fn is_narrow(width: u64, answer: &Answer) -> bool
 }
 
 // Whether each answer is narrow, whatever the lines behind tell.
-pub(crate) fn are_narrow(width: u64, entries: &[Entry]) -> bool
+fn are_narrow(width: u64, entries: &[Entry]) -> bool
     ensures { result ≡ list_all (λ entry. is_narrow width entry.answer) entries.now }
 {
     for entry in entries {
@@ -52,4 +55,38 @@ pub(crate) fn are_narrow(width: u64, entries: &[Entry]) -> bool
         }
     }
     true
+}
+
+// Whether each of these answers is narrow.
+fn answers_are_narrow(width: u64, answers: &[Answer]) -> bool
+    ensures { result ≡ list_all (is_narrow width) answers.now }
+{
+    for answer in answers {
+        if !is_narrow(width, answer) {
+            return false;
+        }
+    }
+    true
+}
+
+// Whether each group is in the result for certain, with narrow answers.
+fn groups_are_narrow(width: u64, groups: &[Group]) -> bool
+    ensures { result ≡ list_all (λ group. group.line.present && list_all (is_narrow width) group.answers) groups.now }
+{
+    for group in groups {
+        if !(group.line.present && answers_are_narrow(width, group.answers.as_slice())) {
+            return false;
+        }
+    }
+    true
+}
+
+// Whether the block is narrow: each answer is, and each group is in the result for certain.
+pub(crate) fn is_narrow_block(width: u64, block: &Block) -> bool
+    ensures { result ≡ is_narrow_block width block.now }
+{
+    match block {
+        Block::Totals(entries) => are_narrow(width, entries.as_slice()),
+        Block::Groups(groups) => groups_are_narrow(width, groups.as_slice()),
+    }
 }

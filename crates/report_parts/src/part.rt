@@ -1,17 +1,18 @@
 //! The report of a part, read line by line. Blocks that are no longer asked for are forgotten.
 
-ghost use Rattle.std.specs.Prelude.{◌≡◌, ◌≢◌, ◌+◌, ◌<◌, ◌^◌, Err, OnOk, length};
-ghost use Rattle.report_parts.specs.Blocks.{entries_of};
+ghost use Rattle.std.specs.Prelude.{◌≡◌, ◌≢◌, ◌+◌, ◌<◌, ◌^◌, Err, MatchOption, OnOk, length};
+ghost use Rattle.report_parts.specs.Blocks.{entries_of, groups_of, no_block};
 ghost use Rattle.report_parts.specs.Passed.{TellsFrom};
 ghost use Rattle.report_parts.specs.Rounds.{block_for};
 ghost use Rattle.report_parts.specs.Told.{Refuses, Takes, TakesInside, at_place, nothing_told};
 ghost use Rattle.report_parts.specs.declared.part.Place.TheVariants.{Query};
 
-use crate::block::{Block, Section};
+use crate::block::Block;
 use crate::closing::Closing;
 use crate::entry::Entry;
 use crate::fault::LineFault;
 use crate::shape::Shape;
+use part_groups::Group;
 use report_text::{GroupLine, ReportEnd};
 use std::alloc::Global;
 use std::marker::Model;
@@ -42,7 +43,7 @@ pub struct Part {
     pub(crate) passed: usize,
     pub(crate) blocks: Vec<Block>,
     pub(crate) closing: Closing,
-    pub(crate) sections: Vec<Section>,
+    pub(crate) sections: Vec<Group>,
     pub(crate) group: Option<GroupLine>,
     pub(crate) current: Vec<Entry>,
     pub(crate) place: Place,
@@ -103,20 +104,40 @@ impl Part {
         self.passed + self.blocks.len()
     }
 
+    // Its block for a round, if it is kept. Where its report has ended before, the block is the last.
+    fn block_for(&self, round: usize) -> Option<&Block>
+        ensures { MatchOption result (block_for round self.now ≡ no_block) (λ block. block.now ≡ block_for round self.now) }
+    {
+        let count = self.count();
+        if count == 0 {
+            return None;
+        }
+        let place = round.min(count - 1);
+        if place < self.passed {
+            return None;
+        }
+        Some(&self.blocks[place - self.passed])
+    }
+
     /// What its block for a round says of the items, where it is of totals. Where its report has ended before, the block is the last. One
     /// that was forgotten says nothing, and so does that of a part that has told none.
     pub fn entries_for(&self, round: usize) -> &[Entry]
         ensures { result.now ≡ entries_of (block_for round self.now) }
     {
-        let count = self.count();
-        if count == 0 {
-            return &[];
+        match self.block_for(round) {
+            Some(block) => block.entries(),
+            None => &[],
         }
-        let place = round.min(count - 1);
-        if place < self.passed {
-            return &[];
+    }
+
+    /// What it says of groups, where it is of groups.
+    pub fn groups_for(&self, round: usize) -> &[Group]
+        ensures { result.now ≡ groups_of (block_for round self.now) }
+    {
+        match self.block_for(round) {
+            Some(block) => block.groups(),
+            None => &[],
         }
-        self.blocks[place - self.passed].entries()
     }
 
     /// What comes next.

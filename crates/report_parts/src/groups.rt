@@ -1,0 +1,94 @@
+//! What is said over all parts of groups, and its lines.
+
+ghost use Rattle.std.specs.Prelude.{◌≡◌, ◌<◌, ◌++◌, IfErr, IfOk, OnOk, codes};
+ghost use Rattle.std.specs.List.{All};
+ghost use Rattle.part_groups.specs.Cells.{slices};
+ghost use Rattle.part_groups.specs.Combined.{IsCombineFault, IsShown};
+ghost use Rattle.part_groups.specs.Whole.{AreKeyed, groups_over};
+ghost use Rattle.report_text.specs.Answers.{CanBeWritten};
+ghost use Rattle.report_text.specs.Groups.{group_line};
+ghost use Rattle.report_text.specs.Lines.{item_line};
+ghost use Rattle.report_parts.specs.Reports.{answer_lines, group_lines, of_groups};
+ghost use Rattle.report_parts.specs.Rounds.{all_groups_in};
+
+use crate::blocks::push_line;
+use crate::fault::BlockFault;
+use crate::part::Part;
+use part_groups::{Group, combine, combined_is_whole};
+use query_model::ItemKind;
+use report_text::{Answer, written_group, written_item};
+use std::alloc::{AllocError, Global};
+
+// What each part says of groups in that round.
+fn all_groups_in(alloc: Global, round: usize, parts: &[Part]) -> Result<Vec<&[Group]>, AllocError>
+    ensures { IfOk result (λ groups. slices groups.items ≡ all_groups_in round parts.now) }
+{
+    let mut groups = Vec::with_capacity(alloc, parts.len())?;
+    for part in parts {
+        groups.push(part.groups_for(round))?;
+    }
+    Ok(groups)
+}
+
+// What is said over all parts in a round, of groups of so many columns.
+pub(crate) fn groups_over(
+    alloc: Global,
+    round: usize,
+    columns: usize,
+    kinds: &[ItemKind],
+    parts: &[Part],
+) -> Result<Vec<Group>, BlockFault>
+    requires some { 0 < columns }
+    requires keyed { AreKeyed columns (all_groups_in round parts.now) }
+    ensures groups { IfOk result (λ groups. groups.items ≡ groups_over columns kinds.now (all_groups_in round parts.now)) }
+    ensures shown { IfOk result (λ groups. All IsShown groups.items) }
+    ensures fault { IfErr result (λ why. IsCombineFault (of_groups why) columns kinds.now (all_groups_in round parts.now)) }
+{
+    combined_is_whole();
+    let groups = all_groups_in(alloc, round, parts)?;
+    Ok(combine(alloc, columns, kinds, &groups)?)
+}
+
+// Puts the line of an answer behind the text.
+fn push_answer(text: &mut Vec<u8>, number: u64, answer: &Answer) -> Result<(), AllocError>
+    requires { CanBeWritten answer.now }
+    ensures { OnOk result (text.new.items ≡ text.old.items ++ (item_line number answer.now ++ codes "\n")) }
+{
+    push_line(text, written_item(number, answer).bytes())
+}
+
+// Puts the lines of the answers behind the text.
+fn push_answers(text: &mut Vec<u8>, answers: &[Answer]) -> Result<(), AllocError>
+    requires { All CanBeWritten answers.now }
+    ensures { OnOk result (text.new.items ≡ text.old.items ++ answer_lines 1 answers.now) }
+{
+    for place in 0..answers.len() {
+        push_answer(text, place as u64 + 1, &answers[place])?;
+    }
+    Ok(())
+}
+
+// Puts the line of a group and those of its answers behind the text.
+fn push_group(alloc: Global, text: &mut Vec<u8>, group: &Group) -> Result<(), AllocError>
+    requires { IsShown group.now }
+    ensures { OnOk result (text.new.items ≡ text.old.items
+        ++ ((group_line group.now.line ++ codes "\n") ++ answer_lines 1 group.now.answers)) }
+{
+    push_line(text, written_group(alloc, &group.line)?.as_slice())?;
+    push_answers(text, group.answers.as_slice())
+}
+
+// Puts the lines of groups behind the text.
+pub(crate) fn push_groups(
+    alloc: Global,
+    text: &mut Vec<u8>,
+    groups: &[Group],
+) -> Result<(), AllocError>
+    requires { All IsShown groups.now }
+    ensures { OnOk result (text.new.items ≡ text.old.items ++ group_lines groups.now) }
+{
+    for group in groups {
+        push_group(alloc, text, group)?;
+    }
+    Ok(())
+}
