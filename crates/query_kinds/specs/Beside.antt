@@ -8,8 +8,10 @@ use Rattle.std.specs.Str.{bytes_eq}
 use Rattle.query_model.specs.declared.query.ItemKind.{ItemKind}
 use Rattle.sql_text.specs.declared.tree.CallKind.TheVariants as calls
 use Rattle.sql_text.specs.Tree.{Item, Call, Expr, Column, Number, Add, Sub, Mul, Query}
-use Rattle.query_kinds.specs.Kinds.{Asks, IsQueryLine, IsTotals}
+use Rattle.query_kinds.specs.Kinds.{Asks, IsNoQuery, IsQueryLine, IsTotals}
 use Rattle.query_kinds.specs.declared.beside.Beside.{Beside}
+use Rattle.query_kinds.specs.declared.fault.KindsFault.{KindsFault}
+use Rattle.query_kinds.specs.declared.fault.KindsFault.TheVariants as faults
 
 -- two expressions say the same, wherever they stand in the text
 abbrev pub says_same : Expr → Expr → Bool
@@ -52,9 +54,24 @@ pub record AsksBeside (line : List ℕ) (besides : List (Option Beside)) : Type 
   pub totals : IsTotals query items
   pub each : besides ≡ map (beside_in items) items
 
+abbrev pub IsNoTotals : Query → Type 0
+IsNoTotals query = (items : List Item) → IsTotals query items → ⊥
+
+-- the line is that of a query which asks for groups or for rows
+pub record AsksNoTotals (line : List ℕ) : Type 0 where
+  pub query : Query
+  pub is_line : IsQueryLine line query
+  pub no_totals : IsNoTotals query
+
+-- why nothing is said of what stands beside
+abbrev pub IsBesideFault : List ℕ → KindsFault → Type 0
+IsBesideFault line faults.NoQuery = IsNoQuery line
+IsBesideFault line faults.NoTotals = AsksNoTotals line
+IsBesideFault line faults.NoMemory = Unit {0}
+
 -- ---- laws
 
 pub record BesidesAreOne : Type 0 where
   pub same : (line : List ℕ) (one other : List (Option Beside)) → AsksBeside line one → AsksBeside line other → one ≡ other
-  pub as_many : (line : List ℕ) (kinds : List ItemKind) (besides : List (Option Beside)) → Asks line kinds → AsksBeside line besides →
-      length besides ≡ length kinds
+  pub as_many : (line : List ℕ) (kinds : List ItemKind) (columns : ℕ) (besides : List (Option Beside)) → Asks line kinds columns →
+      AsksBeside line besides → length besides ≡ length kinds

@@ -1,6 +1,6 @@
--- Which line is that of a query of totals, and of which kinds its items are.
-use Rattle.std.specs.Prelude.{◌≡◌, ℕ, Bool, true, false, List, ◌++◌, map, codes}
-use Rattle.std.specs.List.{list_all}
+-- Which line is that of a query of totals or of groups, and of which kinds its aggregates are.
+use Rattle.std.specs.Prelude.{◌≡◌, ◌⊎◌, ℕ, Bool, true, false, List, ◌++◌, filter, length, map, codes}
+use Rattle.std.specs.List.{list_all, list_any}
 use Rattle.std.specs.Str.{IsUtf8}
 use Rattle.query_model.specs.declared.query.ItemKind.{ItemKind}
 use Rattle.query_model.specs.declared.query.ItemKind.TheVariants as kinds
@@ -9,7 +9,7 @@ use Rattle.sql_text.specs.declared.tree.CallKind.TheVariants as calls
 use Rattle.sql_text.specs.Answer.{IsText}
 use Rattle.sql_text.specs.declared.fault.SqlFault.{SqlFault}
 use Rattle.sql_text.specs.declared.fault.SqlFault.TheVariants as text
-use Rattle.sql_text.specs.Tree.{Item, Plain, CountAll, Call, Query, Items, Nothing}
+use Rattle.sql_text.specs.Tree.{Name, Item, Plain, CountAll, Call, Query, Items, Nothing, Grouped}
 use Rattle.query_kinds.specs.declared.fault.KindsFault.{KindsFault}
 use Rattle.query_kinds.specs.declared.fault.KindsFault.TheVariants as faults
 
@@ -37,13 +37,27 @@ pub record IsTotals (query : Query) (items : List Item) : Type 0 where
   pub head : query.head ≡ Items items
   pub aggregates : list_all is_aggregate items ≡ true
 
-abbrev pub IsNoTotals : Query → Type 0
-IsNoTotals query = (items : List Item) → IsTotals query items → ⊥
+-- a query by groups of so many columns, which asks for these aggregates, one at least; its list may have columns beside them
+pub record IsByGroups (query : Query) (columns : ℕ) (items : List Item) : Type 0 where
+  pub names : List Name
+  pub grouped : query.ending ≡ Grouped names
+  pub as_many : columns ≡ length names
+  pub asked : List Item
+  pub head : query.head ≡ Items asked
+  pub aggregates : items ≡ filter is_aggregate asked
+  pub some : list_any is_aggregate asked ≡ true
 
--- these are the kinds of its aggregates
-pub record IsOfKinds (query : Query) (kinds : List ItemKind) : Type 0 where
+-- a query of totals, which has no group column, or by groups
+abbrev pub IsOfItems : Query → (columns : ℕ) → List Item → Type 0
+IsOfItems query columns items = ((columns ≡ 0) × IsTotals query items) ⊎ IsByGroups query columns items
+
+abbrev pub IsNoShape : Query → Type 0
+IsNoShape query = (columns : ℕ) (items : List Item) → IsOfItems query columns items → ⊥
+
+-- these are the kinds of its aggregates, and this is the number of its group columns
+pub record IsOfShape (query : Query) (kinds : List ItemKind) (columns : ℕ) : Type 0 where
   pub items : List Item
-  pub totals : IsTotals query items
+  pub of_items : IsOfItems query columns items
   pub each : kinds ≡ map kind_of items
 
 -- the line in front of a report, and the query that it says
@@ -53,20 +67,20 @@ pub record IsQueryLine (line : List ℕ) (query : Query) : Type 0 where
   pub utf8 : IsUtf8 text
   pub is_text : IsText text query
 
--- the line is that of a query of totals whose items are of these kinds
-pub record Asks (line : List ℕ) (kinds : List ItemKind) : Type 0 where
+-- the line is that of a query of these kinds and so many group columns
+pub record Asks (line : List ℕ) (kinds : List ItemKind) (columns : ℕ) : Type 0 where
   pub query : Query
   pub is_line : IsQueryLine line query
-  pub of_kinds : IsOfKinds query kinds
+  pub of_shape : IsOfShape query kinds columns
 
 abbrev pub IsNoQuery : List ℕ → Type 0
 IsNoQuery line = (query : Query) → IsQueryLine line query → ⊥
 
--- the line is that of a query which asks for groups or for rows
+-- the line is that of a query of no shape: it asks for rows, for columns without groups, or for groups without an aggregate
 pub record AsksOther (line : List ℕ) : Type 0 where
   pub query : Query
   pub is_line : IsQueryLine line query
-  pub no_totals : IsNoTotals query
+  pub no_shape : IsNoShape query
 
 abbrev pub IsKindsFault : List ℕ → KindsFault → Type 0
 IsKindsFault line faults.NoQuery = IsNoQuery line
@@ -81,6 +95,6 @@ fault_of fault = faults.NoQuery
 -- ---- laws
 
 pub record KindsAreOne : Type 0 where
-  pub same : (line : List ℕ) (one other : List ItemKind) → Asks line one → Asks line other → one ≡ other
-  pub not_none : (line : List ℕ) (kinds : List ItemKind) → Asks line kinds → IsNoQuery line → ⊥
-  pub not_other : (line : List ℕ) (kinds : List ItemKind) → Asks line kinds → AsksOther line → ⊥
+  pub same : (line : List ℕ) (one other : List ItemKind) (m n : ℕ) → Asks line one m → Asks line other n → (one ≡ other) × (m ≡ n)
+  pub not_none : (line : List ℕ) (kinds : List ItemKind) (columns : ℕ) → Asks line kinds columns → IsNoQuery line → ⊥
+  pub not_other : (line : List ℕ) (kinds : List ItemKind) (columns : ℕ) → Asks line kinds columns → AsksOther line → ⊥

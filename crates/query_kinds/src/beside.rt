@@ -1,14 +1,15 @@
 //! The sums and the numbers of values that the line of a query asks for beside its averages.
 
-ghost use Rattle.std.specs.Prelude.{◌≡◌, map, IfOk, IfErr};
+ghost use Rattle.std.specs.Prelude.{◌≡◌, map, IfOk, IfErr, MatchOption};
 ghost use Rattle.std.specs.List.{position};
-ghost use Rattle.sql_text.specs.Tree.{expr_of, item_of};
-ghost use Rattle.query_kinds.specs.Beside.{AsksBeside, beside_at, beside_average, beside_in, is_count_of, is_sum_of, says_same};
-ghost use Rattle.query_kinds.specs.Kinds.{IsKindsFault};
+ghost use Rattle.sql_text.specs.Tree.{expr_of, item_of, query_of};
+ghost use Rattle.query_kinds.specs.Beside.{AsksBeside, IsBesideFault, IsNoTotals};
+ghost use Rattle.query_kinds.specs.Beside.{beside_at, beside_average, beside_in, is_count_of, is_sum_of, says_same};
+ghost use Rattle.query_kinds.specs.Kinds.{IsTotals};
 
 use crate::fault::KindsFault;
-use crate::kinds::{read_line, totals_of};
-use sql_text::{CallKind, ExprTree, ItemTree};
+use crate::kinds::{are_aggregates, read_line};
+use sql_text::{CallKind, Ending, ExprTree, ItemTree, Select, Tree};
 use std::alloc::{AllocError, Global};
 
 /// The places of the sum and of the number of the values of an average among the items of its query, counted from 0.
@@ -123,11 +124,31 @@ fn besides(alloc: Global, items: &[ItemTree]) -> Result<Vec<Option<Beside>>, All
     Ok(besides)
 }
 
+// The aggregates of a query of totals.
+#[tactic(auto, using(crate::proofs::Besides::not_alone, crate::proofs::Besides::not_items, crate::proofs::Besides::not_all))]
+fn totals_of(tree: &Tree) -> Option<&[ItemTree]>
+    ensures { MatchOption result (IsNoTotals (query_of tree.now)) (λ items. IsTotals (query_of tree.now) (map item_of items.now)) }
+{
+    match &tree.ending {
+        Ending::Group(_) | Ending::Order { .. } => None,
+        Ending::Nothing => match &tree.head {
+            Select::Star => None,
+            Select::Items(items) => {
+                if are_aggregates(items) {
+                    Some(items)
+                } else {
+                    None
+                }
+            }
+        },
+    }
+}
+
 /// For each aggregate of the query of totals whose line this is: where it is an average, the places of SUM and COUNT of the same expression
 /// in the query, if it asks for both. Else whether the line is none of a query, or that query asks for groups or for rows.
 pub fn averages_beside(alloc: Global, line: &[u8]) -> Result<Vec<Option<Beside>>, KindsFault>
     ensures besides { IfOk result (λ besides. AsksBeside line.now besides.items) }
-    ensures fault { IfErr result (IsKindsFault line.now) }
+    ensures fault { IfErr result (IsBesideFault line.now) }
 {
     let tree = read_line(alloc, line)?;
     match totals_of(&tree) {

@@ -1,4 +1,4 @@
-//! Why a line is none of a query of totals.
+//! Why a line is none of a query of totals or groups.
 
 ghost use Rattle.std.specs.Prelude.{◌≡◌};
 ghost use Rattle.query_kinds.specs.declared.fault.KindsFault.TheVariants.{NoMemory};
@@ -6,14 +6,15 @@ ghost use Rattle.query_kinds.specs.declared.fault.KindsFault.TheVariants.{NoMemo
 use std::alloc::{AllocError, AllocFailed};
 use thiserror::Error;
 
-/// Why a line is none of a query of totals, or that memory ran out.
+/// Why a line is none of a query of totals or groups, or that memory ran out.
 #[derive(Debug, PartialEq, Eq, Drop, Error)]
 pub enum KindsFault {
     /// The line is none of a query.
     #[error("no query")]
     NoQuery,
-    /// The query asks for groups or for rows.
-    #[error("no query of totals")]
+    /// The query asks for rows, for columns without groups, or for groups without an aggregate. Of what stands beside averages: it asks
+    /// for groups or for rows.
+    #[error("no query of totals or groups")]
     NoTotals,
     /// Memory ran out.
     #[error("no memory")]

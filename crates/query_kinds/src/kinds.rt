@@ -1,10 +1,11 @@
-//! The kinds of the items that the line of a query asks for.
+//! The kinds of the aggregates that the line of a query asks for, and the number of its group columns.
 
-ghost use Rattle.std.specs.Prelude.{◌≡◌, ◌++◌, ℕ, List, codes, map, IfOk, IfErr, MatchOption};
-ghost use Rattle.std.specs.List.{list_all};
+ghost use Rattle.std.specs.Prelude.{◌≡◌, ◌++◌, ℕ, List, codes, filter, map, IfOk, IfErr, MatchOption};
+ghost use Rattle.std.specs.List.{list_all, list_any};
 ghost use Rattle.std.specs.Str.{IsUtf8};
 ghost use Rattle.sql_text.specs.Tree.{item_of, query_of};
-ghost use Rattle.query_kinds.specs.Kinds.{Asks, IsKindsFault, IsNoTotals, IsQueryLine, IsTotals};
+ghost use Rattle.query_kinds.specs.Beside.{IsBesideFault};
+ghost use Rattle.query_kinds.specs.Kinds.{Asks, IsKindsFault, IsNoShape, IsOfItems, IsQueryLine};
 ghost use Rattle.query_kinds.specs.Kinds.{fault_of, is_aggregate, kind_of, kind_of_call};
 
 use crate::fault::KindsFault;
@@ -45,7 +46,7 @@ fn kind_of(item: &ItemTree) -> ItemKind
     }
 }
 
-fn are_aggregates(items: &[ItemTree]) -> bool
+pub(crate) fn are_aggregates(items: &[ItemTree]) -> bool
     ensures { result ≡ list_all is_aggregate (map item_of items.now) }
 {
     for item in items {
@@ -56,34 +57,64 @@ fn are_aggregates(items: &[ItemTree]) -> bool
     true
 }
 
-// The kinds of aggregates.
-fn kinds_of(alloc: Global, items: &[ItemTree]) -> Result<Vec<ItemKind>, AllocError>
-    ensures { IfOk result (λ kinds. kinds.items ≡ map kind_of (map item_of items.now)) }
+fn has_aggregate(items: &[ItemTree]) -> bool
+    ensures { result ≡ list_any is_aggregate (map item_of items.now) }
 {
-    let mut kinds = Vec::with_capacity(alloc, items.len())?;
     for item in items {
-        kinds.push(kind_of(item))?;
+        if is_aggregate(item) {
+            return true;
+        }
+    }
+    false
+}
+
+// The kinds of the aggregates among the items.
+fn kinds_of(alloc: Global, items: &[ItemTree]) -> Result<Vec<ItemKind>, AllocError>
+    ensures { IfOk result (λ kinds. kinds.items ≡ map kind_of (filter is_aggregate (map item_of items.now))) }
+{
+    let mut kinds = Vec::new(alloc);
+    for item in items {
+        if is_aggregate(item) {
+            kinds.push(kind_of(item))?;
+        }
     }
     Ok(kinds)
 }
 
-// The aggregates of a query of totals.
-#[tactic(auto, using(crate::proofs::OneKind::not_alone, crate::proofs::OneKind::not_items, crate::proofs::OneKind::not_all))]
-pub(crate) fn totals_of(tree: &Tree) -> Option<&[ItemTree]>
-    ensures { MatchOption result (IsNoTotals (query_of tree.now)) (λ items. IsTotals (query_of tree.now) (map item_of items.now)) }
+// What a query asks for, in its list, and the number of its group columns.
+#[derive(Clone, Copy)]
+struct AskedItems<'a> {
+    items: &'a [ItemTree],
+    columns: usize,
+}
+
+// The items of a query of totals or of groups.
+#[tactic(auto, using(crate::proofs::OneKind::shapes))]
+fn items_of(tree: &Tree) -> Option<AskedItems<'_>>
+    ensures { MatchOption result (IsNoShape (query_of tree.now))
+        (λ asked. IsOfItems (query_of tree.now) asked.columns (filter is_aggregate (map item_of asked.items.now))) }
 {
+    let items = match &tree.head {
+        Select::Star => return None,
+        Select::Items(items) => items,
+    };
     match &tree.ending {
-        Ending::Group(_) | Ending::Order { .. } => None,
-        Ending::Nothing => match &tree.head {
-            Select::Star => None,
-            Select::Items(items) => {
-                if are_aggregates(items) {
-                    Some(items)
-                } else {
-                    None
-                }
+        Ending::Order { .. } => None,
+        Ending::Nothing => {
+            if are_aggregates(items) {
+                Some(AskedItems { items, columns: 0 })
+            } else {
+                None
             }
-        },
+        }
+        Ending::Group(names) => {
+            if has_aggregate(items) {
+                let columns = names.len();
+                Some(AskedItems { items, columns })
+            } else {
+                None
+            }
+        }
     }
 }
 
@@ -114,6 +145,7 @@ fn fault_of(fault: SqlFault) -> KindsFault
 pub(crate) fn read_line(alloc: Global, line: &[u8]) -> Result<Tree, KindsFault>
     ensures query { IfOk result (λ tree. IsQueryLine line.now (query_of tree)) }
     ensures fault { IfErr result (IsKindsFault line.now) }
+    ensures beside { IfErr result (IsBesideFault line.now) }
 {
     match text_behind(line) {
         Some(text) => match parse(alloc, text) {
@@ -124,15 +156,25 @@ pub(crate) fn read_line(alloc: Global, line: &[u8]) -> Result<Tree, KindsFault>
     }
 }
 
-/// The kinds of the aggregates of the query of totals whose line this is, as it stands in front of a report; else whether the line is none
-/// of a query, or that query asks for groups or for rows.
-pub fn query_kinds(alloc: Global, line: &[u8]) -> Result<Vec<ItemKind>, KindsFault>
-    ensures kinds { IfOk result (λ kinds. Asks line.now kinds.items) }
+/// What the line of a query tells of its report: the kinds of its aggregates, and how many group columns it has; totals have none.
+#[derive(Drop)]
+pub struct QueryShape {
+    pub kinds: Vec<ItemKind>,
+    pub columns: usize,
+}
+
+/// The shape of the query of totals or of groups whose line this is, as it stands in front of a report; else whether the line is none of a
+/// query, or that query asks for rows, for columns without groups, or for groups without an aggregate.
+pub fn query_shape(alloc: Global, line: &[u8]) -> Result<QueryShape, KindsFault>
+    ensures shape { IfOk result (λ shape. Asks line.now shape.kinds.items shape.columns) }
     ensures fault { IfErr result (IsKindsFault line.now) }
 {
     let tree = read_line(alloc, line)?;
-    match totals_of(&tree) {
-        Some(items) => Ok(kinds_of(alloc, items)?),
+    match items_of(&tree) {
+        Some(asked) => Ok(QueryShape {
+            kinds: kinds_of(alloc, asked.items)?,
+            columns: asked.columns,
+        }),
         None => Err(KindsFault::NoTotals),
     }
 }

@@ -5,7 +5,7 @@ ghost use Rattle.query_kinds.specs.Kinds.{KindsAreOne};
 
 use sql_text::one_answer;
 
-/// A line asks for items of one list of kinds at most, and then has no fault but want of memory.
+/// A line asks for items of one shape at most, and then has no fault but want of memory.
 pub fn kinds_are_one()
     ensures { KindsAreOne }
 {

@@ -1,4 +1,4 @@
-//! The line of a query in front of its report, and the kinds of the items that it asks for.
+//! The line of a query in front of its report, the kinds of the aggregates that it asks for, and the number of its group columns.
 #![tactic(auto)]
 
 mod beside;
@@ -8,5 +8,5 @@ mod laws;
 
 pub use beside::{Beside, averages_beside};
 pub use fault::KindsFault;
-pub use kinds::query_kinds;
+pub use kinds::{QueryShape, query_shape};
 pub use laws::{besides_are_one, kinds_are_one};

@@ -1,13 +1,16 @@
 //! Lines of queries in front of reports, and lines that are none.
 
-use query_kinds::{Beside, KindsFault, averages_beside, query_kinds};
+use query_kinds::{Beside, KindsFault, averages_beside, query_shape};
 use query_model::ItemKind;
 use std::alloc::Global;
 use std::test::Fail;
 
-// How many aggregates the query of the line asks for, and the kind of the last of them.
-fn last_kind(alloc: Global, line: &[u8]) -> Result<(usize, Option<ItemKind>), KindsFault> {
-    query_kinds(alloc, line).map(|kinds| (kinds.len(), kinds.last().copied()))
+// How many aggregates the query of the line asks for, the kind of the last of them, and the number of its group columns.
+fn last_kind(alloc: Global, line: &[u8]) -> Result<(usize, Option<ItemKind>, usize), KindsFault> {
+    query_shape(alloc, line).map(|shape| {
+        let kinds = &shape.kinds;
+        (kinds.len(), kinds.last().copied(), shape.columns)
+    })
 }
 
 #[test]
@@ -28,7 +31,38 @@ fn lines_of_totals(rt: HostRuntime) -> Result<(), Fail> {
         ),
     ];
     for (line, count, kind) in lines {
-        assert_eq!(rt; last_kind(rt.alloc(), line), Ok((count, Some(kind))));
+        assert_eq!(rt; last_kind(rt.alloc(), line), Ok((count, Some(kind), 0)));
+    }
+    Ok(())
+}
+
+#[test]
+fn lines_of_groups(rt: HostRuntime) -> Result<(), Fail> {
+    let lines: [(&[u8], usize, ItemKind, usize); 3] = [
+        (
+            b"query SELECT city, COUNT(*) FROM t GROUP BY city",
+            1,
+            ItemKind::Count,
+            1,
+        ),
+        (
+            b"query SELECT COUNT(*), SUM(a) FROM t GROUP BY city, day",
+            2,
+            ItemKind::Sum,
+            2,
+        ),
+        (
+            b"query SELECT city, AVG(a), day, MIN(a) FROM t GROUP BY city, day",
+            2,
+            ItemKind::Min,
+            2,
+        ),
+    ];
+    for (line, count, kind, columns) in lines {
+        assert_eq!(rt;
+            last_kind(rt.alloc(), line),
+            Ok((count, Some(kind), columns))
+        );
     }
     Ok(())
 }
@@ -43,7 +77,7 @@ fn lines_of_no_totals(rt: HostRuntime) -> Result<(), Fail> {
         (b"query SELECT COUNT(* FROM t", KindsFault::NoQuery),
         (b"query SELECT COUNT(\"\xff\") FROM t", KindsFault::NoQuery),
         (
-            b"query SELECT city, COUNT(*) FROM t GROUP BY city",
+            b"query SELECT city FROM t GROUP BY city",
             KindsFault::NoTotals,
         ),
         (
