@@ -356,7 +356,7 @@ def look_at_query(line):
         raise Refused("no query")
     calls = all(CALL.match(item) for item in items[1].split(", "))
     if not calls or re.search(r" (GROUP|ORDER) BY ", re.sub(TEXT, "''", line)):
-        raise Refused("no query of totals")
+        raise Refused("no query of totals or groups")
 
 
 class Part:

@@ -63,9 +63,12 @@ fn written_line_refusal(parts: u32, why: LineRefusal) -> TextBuf
         LineRefusal::NoTag => plain(b"a tag of no byte or more than 255"),
         LineRefusal::MoreParts => with_number(b"more than ", u128::from(parts), b" parts"),
         LineRefusal::NoQuery => plain(b"no query"),
-        LineRefusal::NoTotals => plain(b"no query of totals"),
+        LineRefusal::NoTotals => plain(b"no query of totals or groups"),
         LineRefusal::OtherQuery => plain(b"another query"),
         LineRefusal::OtherLine => plain(b"no line of a report at this place"),
+        LineRefusal::OtherColumn(column) => {
+            with_number(b"scales of group column ", after(column), b" differ")
+        }
         LineRefusal::OtherDecimals(item) => {
             with_number(b"scales of item ", after(item), b" differ")
         }

@@ -16,8 +16,8 @@ fn line_sentence(why: &str) -> &'static str {
         "a tag has 1 to 255 bytes: give the parts shorter names"
     } else if why.starts_with("more than ") {
         "the tag is that of one part more than combine was told of: count the parts that were asked"
-    } else if why == "no query of totals" {
-        "combine takes COUNT, SUM, AVG, MIN and MAX over all rows, without GROUP BY and ORDER BY"
+    } else if why == "no query of totals or groups" {
+        "combine takes COUNT, SUM, AVG, MIN and MAX over all rows or by groups, without ORDER BY"
     } else if why == "no query" {
         "a report begins with the line of its query: hand over all that daq query, ask or demo prints"
     } else if why == "another query" {

@@ -123,7 +123,7 @@ module _ (kinds : KindsAreOne) (count : ℕ) (until : Until) where
           let n = is_next h.lines h.line (h.rest ++ t.behind) h.read.are_lines (split_by (h.lines ++ h.line ∷ []) h.rest h.read) (written_open kinds count until out out' h.lines h.written) in
           let same = own_task h.lines h.line h.task n h.is_task in
           let told : Tell m.task [] (h.lines ++ h.line ∷ n.others) m.combines.parts = subst (λ (ls : List (List ℕ)). Tell m.task [] ls m.combines.parts) n.lines_are m.combines.told in
-          refuses_line m.task h.lines n.others h.line m.combines.parts h.fault (asks_some m.task.query m.task.shape.kinds m.is_task.asks) told (λ e. absurd (let f : Line number why ≡ NoMemory = h.is ∙ ap (of_input number) e in cc))
+          refuses_line m.task h.lines n.others h.line m.combines.parts h.fault (asks_some m.task.query m.task.shape.kinds m.task.shape.columns m.is_task.asks) told (λ e. absurd (let f : Line number why ≡ NoMemory = h.is ∙ ap (of_input number) e in cc))
           (subst (λ (t : Task). IsLineFault t h.lines h.line h.fault) same h.refused)
 
       stops_block : (number : ℕ) (why : LineRefusal) → RefusesBlock count until input input' out out' number why → ⊥

@@ -1,5 +1,5 @@
 -- The first line, and what it asks.
-use Rattle.std.proofs.Common.{◌≡◌, ℕ, ◌≤◌, true, None, List, [], ◌∷◌, refl, sym, ap, subst, ◌∙◌, inl}
+use Rattle.std.proofs.Common.{◌≡◌, ℕ, ◌≤◌, true, None, List, [], ◌∷◌, refl, sym, subst, ◌∙◌, inl}
 use Rattle.outer_world.specs.Device.{SinkState, SourceState}
 use Rattle.query_kinds.specs.Kinds.{Asks}
 use Rattle.report_parts.specs.declared.shape.Shape.{Shape}
@@ -69,8 +69,8 @@ task_of : (count : ℕ) (until : Until) (first query : List ℕ) (shape : Shape)
 task_of count until first query shape task h q k n w l = record {
   is_tag = h.is_tag;
   query = q ∙ h.is_query;
-  asks = subst (λ (own : Shape). Asks task.query own.kinds) (sym k) (subst (λ (own : List ℕ). Asks own shape.kinds) (sym q) h.asks);
-  totals = ap (λ (own : Shape). own.columns) k ∙ h.totals;
+  asks = subst (λ (own : Shape). Asks task.query own.kinds own.columns) (sym k)
+      (subst (λ (own : List ℕ). Asks own shape.kinds shape.columns) (sym q) h.asks);
   count = n;
   width = w;
   last = l;

@@ -222,7 +222,7 @@ module _ (kinds : KindsAreOne) (count : ℕ) (until : Until) (bytes : List ℕ) 
           by (inl b) =
               let e = same_next h.lines h.line y is b in
               let same = next_task h.lines b.others h.line h.task e h.is_task in
-              absurd (refuses_line g.task h.lines b.others h.line g.combines.parts h.fault (asks_some g.task.query g.task.shape.kinds g.is_task.asks) (next_told h.lines b.others h.line e)
+              absurd (refuses_line g.task h.lines b.others h.line g.combines.parts h.fault (asks_some g.task.query g.task.shape.kinds g.task.shape.columns g.is_task.asks) (next_told h.lines b.others h.line e)
               (λ n. absurd (let f : Line number why ≡ NoMemory = h.is ∙ ap (of_input number) n in cc)) (subst (λ (t : Task). IsLineFault t h.lines h.line h.fault) same h.refused))
           by (inr (inl (e, f))) =
               let mine : IsTask count until (first_line (own ++ h.line ∷ [])) h.task = subst (λ (ls : List (List ℕ)). IsTask count until (first_line (ls ++ h.line ∷ [])) h.task) e h.is_task in
@@ -421,7 +421,7 @@ module _ (kinds : KindsAreOne) (count : ℕ) (until : Until) (bytes : List ℕ) 
       (line_here own rest line behind g (Line number r.MoreParts) comes.next full only)
     where
       full : (next : List PartTold) → TakesLine g.task g.combines.parts line next → ⊥
-      full next takes = not_refused i.OtherPart g.task g.combines.parts line next (asks_some g.task.query g.task.shape.kinds g.is_task.asks) (tell_started g.task [] own g.combines.parts tt g.combines.told) takes
+      full next takes = not_refused i.OtherPart g.task g.combines.parts line next (asks_some g.task.query g.task.shape.kinds g.task.shape.columns g.is_task.asks) (tell_started g.task [] own g.combines.parts tt g.combines.told) takes
           (λ e. absurd cc) (comes.tagged, (subst (λ (n : ℕ). n ≤ length g.combines.parts) (sym g.is_task.count) many, new))
 
       mine : PartTold
@@ -446,7 +446,7 @@ module _ (kinds : KindsAreOne) (count : ℕ) (until : Until) (bytes : List ℕ) 
   started : (own : List (List ℕ)) (rest : List ℕ) (g : GoesRight count until bytes own rest) (f : InputFault) (line : List ℕ) (next : List PartTold) → f ≢ i.Line l.NoMemory →
       Refuting line own rest g f → TakesLine g.task g.combines.parts line next → ⊥
   started own rest g f line next memory refused takes =
-      not_refused f g.task g.combines.parts line next (asks_some g.task.query g.task.shape.kinds g.is_task.asks) (tell_started g.task [] own g.combines.parts tt g.combines.told) takes memory refused
+      not_refused f g.task g.combines.parts line next (asks_some g.task.query g.task.shape.kinds g.task.shape.columns g.is_task.asks) (tell_started g.task [] own g.combines.parts tt g.combines.told) takes memory refused
 
   -- no tab stands in the line
   tab_told : (own : List (List ℕ)) (rest line behind : List ℕ) (g : GoesRight count until bytes own rest) (number : ℕ) → IsNext rest line behind → ¬ HasTab line →
@@ -658,6 +658,7 @@ module _ (kinds : KindsAreOne) (count : ℕ) (until : Until) (bytes : List ℕ) 
   query_only first tab tag none r.MoreParts h = absurd h
   query_only first tab tag none r.OtherQuery h = absurd h
   query_only first tab tag none r.OtherLine h = absurd h
+  query_only first tab tag none (r.OtherColumn column) h = absurd h
   query_only first tab tag none (r.OtherDecimals item) h = absurd h
   query_only first tab tag none (r.TooWide item) h = absurd h
   query_only first tab tag none r.TooLong h = absurd h
@@ -670,6 +671,7 @@ module _ (kinds : KindsAreOne) (count : ℕ) (until : Until) (bytes : List ℕ) 
   totals_only first tab tag other r.MoreParts h = absurd h
   totals_only first tab tag other r.OtherQuery h = absurd h
   totals_only first tab tag other r.OtherLine h = absurd h
+  totals_only first tab tag other (r.OtherColumn column) h = absurd h
   totals_only first tab tag other (r.OtherDecimals item) h = absurd h
   totals_only first tab tag other (r.TooWide item) h = absurd h
   totals_only first tab tag other r.TooLong h = absurd h
@@ -682,6 +684,7 @@ module _ (kinds : KindsAreOne) (count : ℕ) (until : Until) (bytes : List ℕ) 
   tab_only first none r.MoreParts h = absurd h
   tab_only first none r.OtherQuery h = absurd h
   tab_only first none r.OtherLine h = absurd h
+  tab_only first none (r.OtherColumn column) h = absurd h
   tab_only first none (r.OtherDecimals item) h = absurd h
   tab_only first none (r.TooWide item) h = absurd h
   tab_only first none r.TooLong h = absurd h
@@ -694,6 +697,7 @@ module _ (kinds : KindsAreOne) (count : ℕ) (until : Until) (bytes : List ℕ) 
   tag_only first tab none r.MoreParts h = absurd h
   tag_only first tab none r.OtherQuery h = absurd h
   tag_only first tab none r.OtherLine h = absurd h
+  tag_only first tab none (r.OtherColumn column) h = absurd h
   tag_only first tab none (r.OtherDecimals item) h = absurd h
   tag_only first tab none (r.TooWide item) h = absurd h
   tag_only first tab none r.TooLong h = absurd h
@@ -705,15 +709,15 @@ module _ (kinds : KindsAreOne) (count : ℕ) (until : Until) (bytes : List ℕ) 
   shown_told fault (other_count lines rest g number is none counted) = other_told lines rest g number is none counted
   shown_told fault (no_query first behind comes none) =
       first_told first behind comes.next
-      (λ task is. kinds.not_none (behind_tag first) task.shape.kinds (subst (λ (q : List ℕ). Asks q task.shape.kinds) is.query is.asks) none)
+      (λ task is. kinds.not_none (behind_tag first) task.shape.kinds task.shape.columns (subst (λ (q : List ℕ). Asks q task.shape.kinds task.shape.columns) is.query is.asks) none)
       (Line 1 r.NoQuery) (query_only first comes.tagged.0 comes.tagged.1 none)
   shown_told fault (no_totals first behind comes other) =
       first_told first behind comes.next
-      (λ task is. kinds.not_other (behind_tag first) task.shape.kinds (subst (λ (q : List ℕ). Asks q task.shape.kinds) is.query is.asks) other)
+      (λ task is. kinds.not_other (behind_tag first) task.shape.kinds task.shape.columns (subst (λ (q : List ℕ). Asks q task.shape.kinds task.shape.columns) is.query is.asks) other)
       (Line 1 r.NoTotals) (totals_only first comes.tagged.0 comes.tagged.1 other)
   shown_told fault (first_without_tab first behind comes none) =
       first_told first behind comes
-      (λ task is. asks_some task.query task.shape.kinds is.asks (is.query ∙ no_tab_behind first none)) (Line 1 r.NoTab) (tab_only first none)
+      (λ task is. asks_some task.query task.shape.kinds task.shape.columns is.asks (is.query ∙ no_tab_behind first none)) (Line 1 r.NoTab) (tab_only first none)
   shown_told fault (first_without_tag first behind comes tab none) =
       first_told first behind comes (λ task is. none is.is_tag) (Line 1 r.NoTag) (tag_only first tab none)
   shown_told fault (first_too_long far) = far_told far

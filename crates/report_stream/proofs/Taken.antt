@@ -13,15 +13,13 @@ use Rattle.report_text.specs.Lines.{end_line}
 use Rattle.report_text.specs.declared.lines.ReportEnd.{ReportEnd}
 use Rattle.report_text.specs.declared.lines.ReportEnd.TheVariants.{Narrow, Reads, Rounds}
 use Rattle.report_parts.proofs.Courses.{passes_on, tag_of_told, tag_stays}
-use Rattle.report_parts.proofs.Grows.{all_keep, same_entries}
+use Rattle.report_parts.proofs.Grows.{all_keep, fault_stays}
 use Rattle.report_parts.proofs.Stays.{follows}
 use Rattle.report_parts.proofs.Telling.{grown, telling_one, tells_split}
-use Rattle.report_parts.specs.Combined.{AreAlikeEntries, FitEntries}
-use Rattle.report_parts.specs.Course.{IsLineFault, IsStopped, StopsBy, TakesLine, Task, Tell, wanted_of}
+use Rattle.report_parts.specs.Course.{IsLineFault, IsStopped, Stops, StopsBy, TakesLine, Task, Tell, wanted_of}
 use Rattle.report_parts.specs.Laws.{AllReach}
 use Rattle.report_parts.specs.Tags.{HasTab, IsRefused, IsTag, against, behind_tag, by_order, part_at, tag_of, told_of, with_part}
 use Rattle.report_parts.specs.Told.{GoesOn, GroupsGoOn, TakesAt, TakesBehindAnswer, TakesRest, Told, block_done, closed, completed, nothing_told}
-use Rattle.report_parts.specs.declared.entry.Entry.{Entry}
 use Rattle.report_parts.specs.declared.fault.BlockFault.{BlockFault}
 use Rattle.report_parts.specs.declared.fault.BlockFault.TheVariants as b
 use Rattle.report_parts.specs.declared.fault.InputFault.{InputFault}
@@ -44,8 +42,8 @@ no_tab line none = by (nat_lt (position_or_len (λ c. c == 9) line) (length line
     by true e = absurd (none (position_or_len (λ c. c == 9) line, rw e refl))
     by false e = drop_all (position_or_len (λ c. c == 9) line + 1) line (none_before (position_or_len (λ c. c == 9) line) (length line) e)
 
-pub asks_some : (query : List ℕ) (kinds : List ItemKind) → Asks query kinds → query ≢ []
-asks_some query kinds asks none = absurd (let e : [] ≡ codes "query " ++ asks.is_line.text = sym none ∙ asks.is_line.spelled in cc)
+pub asks_some : (query : List ℕ) (kinds : List ItemKind) (columns : ℕ) → Asks query kinds columns → query ≢ []
+asks_some query kinds columns asks none = absurd (let e : [] ≡ codes "query " ++ asks.is_line.text = sym none ∙ asks.is_line.spelled in cc)
 
 -- no line of an item is empty
 none_spelled : (number : ℕ) (text : List ℕ) → decimal number ++ (codes " " ++ text) ≡ [] → ⊥
@@ -160,24 +158,19 @@ refuses_line task lines others line parts fault some told memory f =
     let same = telling_one task [] lines f.parts mid f.told before in
     not_refused fault task f.parts line next some (tell_started task [] lines f.parts tt f.told) (subst (λ (ps : List Told). TakesLine task ps line next) same takes) memory f.refused
 
+stood : (task : Task) (parts laters : List Told) (body more : List ℕ) (fault : BlockFault) → BlocksFit task laters → AllReach task.query task.shape parts laters →
+    fault ≢ b.NoMemory → Stops task parts body [] more fault → ⊥
+stood task parts laters body more fault fit reach memory s =
+    fit s.round (body ++ s.more) fault (passes_on task.query (wanted_of task) parts laters s.round (body ++ s.more) reach s.passed)
+    (all_keep task.query task.shape s.round parts laters reach s.has) memory
+    (fault_stays task.query task.shape fault s.round parts laters reach s.has s.fault)
+
 -- a block that is not written is none that fits
 blocks_stand : (task : Task) (parts laters : List Told) (body more : List ℕ) (fault : BlockFault) → BlocksFit task laters → AllReach task.query task.shape parts laters →
     fault ≢ b.NoMemory → StopsBy fault task parts body [] more → ⊥
-blocks_stand task parts laters body more (b.OtherDecimals item) fit reach memory s =
-    let same = same_entries task.query task.shape s.round item parts laters reach s.has in
-    fit s.round (body ++ s.more) (b.OtherDecimals item) (passes_on task.query (wanted_of task) parts laters s.round (body ++ s.more) reach s.passed)
-    (all_keep task.query task.shape s.round parts laters reach s.has) memory
-    (λ alike. s.fault (subst AreAlikeEntries same alike))
-blocks_stand task parts laters body more (b.TooWide item) fit reach memory s =
-    let same = same_entries task.query task.shape s.round item parts laters reach s.has in
-    fit s.round (body ++ s.more) (b.TooWide item) (passes_on task.query (wanted_of task) parts laters s.round (body ++ s.more) reach s.passed)
-    (all_keep task.query task.shape s.round parts laters reach s.has) memory
-    (record {
-      kind = s.fault.kind;
-      there = s.fault.there;
-      alike = subst AreAlikeEntries (sym same) s.fault.alike;
-      wide = λ fits. s.fault.wide (subst (λ (entries : List Entry). FitEntries s.fault.kind entries) same fits);
-    })
+blocks_stand task parts laters body more (b.OtherColumn column) fit reach memory s = stood task parts laters body more (b.OtherColumn column) fit reach memory s
+blocks_stand task parts laters body more (b.OtherDecimals item) fit reach memory s = stood task parts laters body more (b.OtherDecimals item) fit reach memory s
+blocks_stand task parts laters body more (b.TooWide item) fit reach memory s = stood task parts laters body more (b.TooWide item) fit reach memory s
 blocks_stand task parts laters body more b.NoMemory fit reach memory s = memory refl
 
 pub refuses_block : (task : Task) (lines others : List (List ℕ)) (line body more : List ℕ) (laters : List Told) (fault : BlockFault) → BlocksFit task laters →

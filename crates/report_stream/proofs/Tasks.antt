@@ -40,10 +40,10 @@ same_shape a b kinds columns =
 pub same_task : KindsAreOne → (count : ℕ) (until : Until) (first : List ℕ) (a b : Task) → IsTask count until first a → IsTask count until first b → a ≡ b
 same_task kinds count until first a b h k =
     let query = h.query ∙ sym k.query in
-    let mine : Asks b.query a.shape.kinds = subst (λ (q : List ℕ). Asks q a.shape.kinds) query h.asks in
-    let items = kinds.same b.query a.shape.kinds b.shape.kinds mine k.asks in
+    let mine : Asks b.query a.shape.kinds a.shape.columns = subst (λ (q : List ℕ). Asks q a.shape.kinds a.shape.columns) query h.asks in
+    let same = kinds.same b.query a.shape.kinds b.shape.kinds a.shape.columns b.shape.columns mine k.asks in
     ap (λ (q : List ℕ). record { query = q; shape = a.shape; count = a.count; width = a.width; last = a.last }) query
-    ∙ ap (λ (x : Shape). record { query = b.query; shape = x; count = a.count; width = a.width; last = a.last }) (same_shape a.shape b.shape items (h.totals ∙ sym k.totals))
+    ∙ ap (λ (x : Shape). record { query = b.query; shape = x; count = a.count; width = a.width; last = a.last }) (same_shape a.shape b.shape same.0 same.1)
     ∙ ap (λ (n : ℕ). record { query = b.query; shape = b.shape; count = n; width = a.width; last = a.last }) (h.count ∙ sym k.count)
     ∙ ap (λ (n : ℕ). record { query = b.query; shape = b.shape; count = b.count; width = n; last = a.last }) (h.width ∙ sym k.width)
     ∙ ap (λ (o : Option ℕ). record { query = b.query; shape = b.shape; count = b.count; width = b.width; last = o }) (h.last ∙ sym k.last)
@@ -79,13 +79,14 @@ module _ (kinds : KindsAreOne) (count : ℕ) (until : Until) where
 
   -- a line that asks is not refused as the first
   pub first_not_refused : (why : LineRefusal) (first : List ℕ) (task : Task) → IsTask count until first task → IsFirstRefused why first → ⊥
-  first_not_refused r.NoTab first task is none = asks_some task.query task.shape.kinds is.asks (is.query ∙ no_tab first none)
+  first_not_refused r.NoTab first task is none = asks_some task.query task.shape.kinds task.shape.columns is.asks (is.query ∙ no_tab first none)
   first_not_refused r.NoTag first task is (tab, none) = none is.is_tag
-  first_not_refused r.NoQuery first task is (tagged, none) = kinds.not_none (behind_tag first) task.shape.kinds (subst (λ (q : List ℕ). Asks q task.shape.kinds) is.query is.asks) none
-  first_not_refused r.NoTotals first task is (tagged, other) = kinds.not_other (behind_tag first) task.shape.kinds (subst (λ (q : List ℕ). Asks q task.shape.kinds) is.query is.asks) other
+  first_not_refused r.NoQuery first task is (tagged, none) = kinds.not_none (behind_tag first) task.shape.kinds task.shape.columns (subst (λ (q : List ℕ). Asks q task.shape.kinds task.shape.columns) is.query is.asks) none
+  first_not_refused r.NoTotals first task is (tagged, other) = kinds.not_other (behind_tag first) task.shape.kinds task.shape.columns (subst (λ (q : List ℕ). Asks q task.shape.kinds task.shape.columns) is.query is.asks) other
   first_not_refused r.MoreParts first task is h = absurd h
   first_not_refused r.OtherQuery first task is h = absurd h
   first_not_refused r.OtherLine first task is h = absurd h
+  first_not_refused (r.OtherColumn column) first task is h = absurd h
   first_not_refused (r.OtherDecimals item) first task is h = absurd h
   first_not_refused (r.TooWide item) first task is h = absurd h
   first_not_refused r.TooLong first task is h = absurd h

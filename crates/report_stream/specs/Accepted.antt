@@ -17,13 +17,13 @@ use Rattle.report_stream.specs.Streams.{AreLines, Combined, IsTask, StreamCause,
 use Rattle.report_stream.specs.declared.fault.StreamFault.{StreamFault}
 use Rattle.report_stream.specs.declared.fault.StreamFault.TheVariants.{NoMemory}
 
--- each block that is reached can be written: in each item the numbers of the parts have the same decimals, and what is combined fits
+-- each block that is reached can be written: all lines write each item, and each group column, in the same form, and what is combined fits
 abbrev pub BlocksFit : Task → List Told → Type 0
 BlocksFit task parts =
     (round : ℕ) (before : List ℕ) (why : BlockFault) → Passes (wanted_of task) parts round before →
-    list_all (has_block round) parts ≡ true → why ≢ b.NoMemory → IsBlockFault why round task.shape.kinds parts → ⊥
+    list_all (has_block round) parts ≡ true → why ≢ b.NoMemory → IsBlockFault why round task.shape parts → ⊥
 
--- the bytes begin with the lines of reports of one query of totals, which are combined to their end, and this is the combined report
+-- the bytes begin with the lines of reports of one query, which are combined to their end, and this is the combined report
 pub record AreReports (count : ℕ) (until : Until) (bytes text : List ℕ) : Type 0 where
   pub lines : List (List ℕ)
   pub rest : List ℕ

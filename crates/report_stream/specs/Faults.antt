@@ -22,7 +22,7 @@ of_input line (i.Line l.OtherQuery) = Line line r.OtherQuery
 of_input line (i.Line l.OtherLine) = Line line r.OtherLine
 of_input line (i.Line l.NoMemory) = NoMemory
 
--- the first line is that of no query of totals
+-- the first line is that of no query of totals or groups
 abbrev pub of_kinds : KindsFault → StreamFault
 of_kinds k.NoQuery = Line 1 r.NoQuery
 of_kinds k.NoTotals = Line 1 r.NoTotals
@@ -30,6 +30,7 @@ of_kinds k.NoMemory = NoMemory
 
 -- behind the line with that number a block is not written
 abbrev pub of_block : ℕ → BlockFault → StreamFault
+of_block line (b.OtherColumn column) = Line line (r.OtherColumn column)
 of_block line (b.OtherDecimals item) = Line line (r.OtherDecimals item)
 of_block line (b.TooWide item) = Line line (r.TooWide item)
 of_block line b.NoMemory = NoMemory

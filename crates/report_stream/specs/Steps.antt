@@ -22,12 +22,11 @@ use Rattle.report_stream.specs.declared.fault.StreamFault.TheVariants.{EndsEarly
 
 -- ---- the first line
 
--- the line has a tag, and behind it this query, of totals, whose blocks have this shape
+-- the line has a tag, and behind it this query, whose blocks have this shape
 pub record IsAsked (first query : List ℕ) (shape : Shape) : Type 0 where
   pub is_tag : IsTag (tag_of first)
   pub is_query : query ≡ behind_tag first
-  pub asks : Asks query shape.kinds
-  pub totals : shape.columns ≡ 0
+  pub asks : Asks query shape.kinds shape.columns
 
 abbrev pub IsFirstFault : List ℕ → StreamFault → Type 0
 IsFirstFault first (Line number why) = (number ≡ 1) × IsFirstRefused why first

@@ -51,12 +51,11 @@ abbrev pub first_line : List (List ℕ) → List ℕ
 first_line [] = []
 first_line (line ∷ lines) = line
 
--- the first line has the query, of totals, that all parts are to answer; there are to be so many, up to that round
+-- the first line has the query that all parts are to answer, and tells the shape of its blocks; there are to be so many parts, up to that round
 pub record IsTask (wanted : ℕ) (until : Until) (first : List ℕ) (task : Task) : Type 0 where
   pub is_tag : IsTag (tag_of first)
   pub query : task.query ≡ behind_tag first
-  pub asks : Asks task.query task.shape.kinds
-  pub totals : task.shape.columns ≡ 0
+  pub asks : Asks task.query task.shape.kinds task.shape.columns
   pub count : task.count ≡ wanted
   pub width : task.width ≡ until.width
   pub last : task.last ≡ until.rounds

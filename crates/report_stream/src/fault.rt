@@ -61,8 +61,8 @@ pub enum LineRefusal {
     /// It is the first, and no line of a query stands behind the tag.
     #[error("no query")]
     NoQuery,
-    /// It is the first, and the query asks for groups or for rows.
-    #[error("no query of totals")]
+    /// It is the first, and the query asks for rows, for columns without groups, or for groups without an aggregate.
+    #[error("no query of totals or groups")]
     NoTotals,
     /// It is the first of its part, and is not the line of the query.
     #[error("another query")]
@@ -70,6 +70,9 @@ pub enum LineRefusal {
     /// At its place no report of the query has this line.
     #[error("no line of a report at this place")]
     OtherLine,
+    /// Two lines of groups write the values of the group column with other decimals, or as dates and numbers.
+    #[error("scales of group column {0} differ")]
+    OtherColumn(usize),
     /// The numbers that two parts say of the item have other decimals.
     #[error("scales of item {0} differ")]
     OtherDecimals(usize),

@@ -8,7 +8,7 @@ ghost use Rattle.source_lines.specs.Lines.{Ends, Stands as HasRead, has_line};
 use crate::fault::{LineRefusal, StreamFault, Tag, of_input, of_kinds, of_source};
 use daq_table::Listed;
 use outer_world::{Sink, Source, write_whole};
-use query_kinds::query_kinds;
+use query_kinds::query_shape;
 use report_parts::{
     Asked, BlockFault, Combination, CourseFault, EndFault, Shape, Until, untagged, written_opening,
 };
@@ -25,15 +25,15 @@ fn read_asked(alloc: Global, first: &[u8]) -> Result<Asked, StreamFault>
         Ok(query) => query,
         Err(fault) => return Err(of_input(1, fault)),
     };
-    let kinds = match query_kinds(alloc, query) {
-        Ok(kinds) => kinds,
+    let asked = match query_shape(alloc, query) {
+        Ok(asked) => asked,
         Err(fault) => return Err(of_kinds(fault)),
     };
     let mut text = Vec::new(alloc);
     text.extend_from_slice(query)?;
     let shape = Shape {
-        kinds: Listed::new(kinds),
-        columns: 0,
+        kinds: Listed::new(asked.kinds),
+        columns: asked.columns,
     };
     Ok(Asked { query: text, shape })
 }
@@ -90,6 +90,10 @@ fn take<K: Sink>(
             Ok(())
         }
         Err(CourseFault::Input(fault)) => Err(of_input(number, fault)),
+        Err(CourseFault::Block(BlockFault::OtherColumn(column))) => {
+            let why = LineRefusal::OtherColumn(column);
+            Err(write_before(out, text, number, why))
+        }
         Err(CourseFault::Block(BlockFault::OtherDecimals(item))) => {
             let why = LineRefusal::OtherDecimals(item);
             Err(write_before(out, text, number, why))
