@@ -4,11 +4,11 @@
 parts.py PARTS REPORTS [--width W] [--rounds N]  prints the combined report of PARTS parts; each line of REPORTS is a tag, a tab and a line
                                                  of that part's report. A refusal is told on standard error, with status 9. As the program,
                                                  it takes no extremes of texts
-parts.py --certain [COUNT [SEED]]                cuts tables made by chance into parts, combines the parts' reports in several orders of
-                                                 their lines, and looks whether each interval holds what the uncut table answers; also of
-                                                 groups, which the program does not combine
-parts.py --program DAQ [COUNT [SEED]]            loads the parts of such tables by the program DAQ, asks them side by side, combines them by it,
-                                                 and looks at the same, and whether it prints what is worked out here
+parts.py --certain [COUNT [SEED]]                cuts tables made by chance into parts, combines the parts' reports of totals or of groups
+                                                 in several orders of their lines, and looks whether each interval, and each line of a
+                                                 group, holds what the uncut table answers
+parts.py --program DAQ [COUNT [SEED]]            loads the parts of such tables by the program DAQ, asks them side by side, combines them
+                                                 by it, and looks at the same, and whether it prints what is worked out here
 """
 import datetime
 import os
@@ -188,15 +188,22 @@ VALUE = re.compile(r"%s|%s|-?\d+(?:\.\d+)?" % (DATE, TEXT), re.DOTALL)
 
 
 class Span:
-    """What the keys of a line are in one column: from a value to a value, or no value, and whether null is one of them."""
+    """What the keys of a line are in one column: from a value to a value, or no value, whether null is one of them, and how it is written,
+    None where it is null alone."""
 
-    def __init__(self, low, high, null):
-        self.low, self.high, self.null = low, high, null
+    def __init__(self, low, high, null, form=None):
+        self.low, self.high, self.null, self.form = low, high, null, form
 
     def hull(self, other):
         ends = [span for span in (self, other) if span.low is not None]
         low, high = min((s.low for s in ends), default=None), max((s.high for s in ends), default=None)
-        return Span(low, high, self.null or other.null)
+        return Span(low, high, self.null or other.null, self.form or other.form)
+
+    def text(self):
+        if self.low is None:
+            return "null" if self.form is None else NO_TEXTS if self.null else "-"
+        low, high = self.form.text(self.low), self.form.text(self.high)
+        return (low if low == high else low + ".." + high) + (" or null" if self.null else "")
 
     def meets(self, other):
         has_values = self.low is not None and other.low is not None
@@ -214,33 +221,62 @@ class Span:
         return self.null if value is None else self.low is not None and self.low <= value <= self.high
 
 
-def value_of(text):
-    """A number, a day or the bytes of a text; in a column all values are of one kind."""
+def form_of_value(text):
+    """How a number, a day or a text is written; in a column all values are written in one way."""
     if text.startswith("'"):
-        return TEXTS.value(text)
-    return DATES.value(text) if re.fullmatch(DATE, text) else Fraction(text)
+        return TEXTS
+    return DATES if re.fullmatch(DATE, text) else number_form(len(text.partition(".")[2]))
 
 
 def span_at(text, place):
-    """What is written of a column's keys from a place on, and where it ends."""
+    """What is written of a column's keys from a place on, and where it ends; None where nothing is."""
     if text.startswith("null", place) or text.startswith(NO_TEXTS, place):
-        return Span(None, None, True), place + (4 if text.startswith("null", place) else len(NO_TEXTS))
+        is_null = text.startswith("null", place)
+        return Span(None, None, True, None if is_null else TEXTS), place + (4 if is_null else len(NO_TEXTS))
     low = VALUE.match(text, place)
-    high = VALUE.match(text, low.end() + 2) if text.startswith("..", low.end()) else low
-    null = text.startswith(" or null", high.end())
-    return Span(value_of(low[0]), value_of(high[0]), null), high.end() + (8 if null else 0)
+    high = VALUE.match(text, low.end() + 2) if low and text.startswith("..", low.end()) else low
+    if not low or not high:
+        return None, place
+    form, null = form_of_value(low[0]), text.startswith(" or null", high.end())
+    span = span_of(form, low[0], high[0], null) if form.name == form_of_value(high[0]).name else None
+    return span, high.end() + (8 if null else 0)
+
+
+def span_of(form, low, high, null):
+    """From a value to one that is no less; None where it is none."""
+    try:
+        span = Span(form.value(low), form.value(high), null, form)
+    except ValueError:
+        return None
+    return span if span.low <= span.high and fits(span) else None
 
 
 def keys_of(line):
-    """The spans of the line of a group, one for each column, and whether its key is present."""
+    """The spans of the line of a group, one for each column, and whether its key is present; None where it is no such line."""
     text, _, word = line.removeprefix("group ").rpartition(" ")
     spans, place = [], 0
-    while True:
+    while line.startswith("group ") and word in ("present", "possible"):
         span, place = span_at(text, place)
+        if span is None:
+            break
         spans.append(span)
         if place == len(text):
-            return spans, word == "present"
+            return (spans, word == "present") if group_line(spans, word) == line else None
+        if not text.startswith(", ", place):
+            break
         place += len(", ")
+    return None
+
+
+def group_line(spans, word):
+    return "group %s %s" % (", ".join(span.text() for span in spans), word)
+
+
+def look_alike_keys(blocks):
+    """Refuses a column that two lines write in different ways."""
+    for column, spans in enumerate(zip(*[section[0] for block in blocks for section in block])):
+        if len({span.form.name for span in spans if span.form}) > 1:
+            raise Refused("scales of group column %d differ" % (column + 1))
 
 
 def related(test, a, b):
@@ -304,18 +340,32 @@ def share(kind, place, line, sections):
 
 
 def entries_over(kinds, line, blocks):
-    shares = [[share(kind, place, line, block) for block in blocks] for place, kind in enumerate(kinds)]
-    for some in shares:
-        look_alike(some)
-    return [combined(kind, some) for kind, some in zip(kinds, shares)]
+    entries = []
+    for place, kind in enumerate(kinds):
+        try:
+            entries.append(combined(kind, [share(kind, place, line, block) for block in blocks]))
+        except Refused as why:
+            raise Refused(str(why) % (place + 1))
+    return entries
 
 
 def combined_sections(kinds, blocks):
     """The sections of a block over all parts: keys, whether they are present, and what is said of each item."""
-    whole = []
-    for line in lines_over([section[0] for block in blocks for section in block]):
-        whole.append((line, any(is_present(line, block) for block in blocks), entries_over(kinds, line, blocks)))
-    return whole
+    look_alike_keys(blocks)
+    for place in range(len(kinds)):
+        try:
+            look_alike([section[2][place] for block in blocks for section in block])
+        except Refused as why:
+            raise Refused(str(why) % (place + 1))
+    lines = lines_over([section[0] for block in blocks for section in block])
+    return [(line, any(is_present(line, block) for block in blocks), entries_over(kinds, line, blocks)) for line in lines]
+
+
+def section_lines(kinds, section):
+    """The lines of a group."""
+    spans, present, entries = section
+    items = ["%d %s" % (number, known.text()) for number, known in enumerate(entries, 1)]
+    return [group_line(spans, "present" if present else "possible")] + items
 
 
 def fits(known):
@@ -345,26 +395,34 @@ def is_near(known, width):
 
 
 def kinds_of(query):
-    """The kinds of the items of a query of totals."""
+    """The kinds of the aggregates of a query."""
     return CALL.findall(re.sub(TEXT, "''", query).partition(" FROM ")[0])
 
 
+def columns_of(query):
+    """How many columns the query groups by; one that is named twice counts once."""
+    grouped = re.search(r" GROUP BY (.+)", re.sub(TEXT, "''", query))
+    return len(set(grouped[1].split(", "))) if grouped else 0
+
+
 def look_at_query(line):
-    """Refuses a first line that is none of a query of totals."""
+    """Refuses a first line that is none of a query of totals or groups."""
     items = ITEMS.fullmatch(re.sub(TEXT, "''", line))
     if not items or items[1].count("(") != items[1].count(")"):
         raise Refused("no query")
-    calls = all(CALL.match(item) for item in items[1].split(", "))
-    if not calls or re.search(r" (GROUP|ORDER) BY ", re.sub(TEXT, "''", line)):
+    calls = [bool(CALL.match(item)) for item in items[1].split(", ")]
+    is_right = any(calls) if columns_of(line) else all(calls)
+    if not is_right or re.search(r" ORDER BY ", re.sub(TEXT, "''", line)):
         raise Refused("no query of totals or groups")
 
 
 class Part:
     """The report of a part. A block has for each item its answer and what the line behind tells, or None; `closing` says whether a block
-    ends with such a line, once the first is whole."""
+    ends with such a line, once the first is whole. A block by groups has sections: keys, whether they are present, and answers."""
 
     def __init__(self, query, any_kind=True):
         self.query, self.kinds, self.blocks, self.current, self.end, self.place = query, kinds_of(query), [], None, None, "query"
+        self.columns, self.sections, self.group = columns_of(query), None, None
         self.any_kind, self.closing = any_kind, "item" if self.kinds[-1] == "COUNT" else None
 
     def take(self, line):
@@ -373,12 +431,24 @@ class Part:
                 raise Refused("another query")
             self.place = "opened"
             return
-        if self.end is not None or not (self.takes_in_block(line) or self.takes_round(line)):
+        if self.end is not None or not (self.takes_in_block(line) or self.takes_group(line) or self.takes_round(line)):
             raise Refused("no line of a report at this place")
+
+    def takes_group(self, line):
+        """The line of the next group, behind a section that is whole, perhaps by it."""
+        if self.sections is None or self.current is not None and (self.closing or len(self.current) < len(self.kinds)):
+            return False
+        keys = keys_of(line)
+        if not keys or len(keys[0]) != self.columns:
+            return False
+        if self.current is not None:
+            self.close()
+        self.group, self.current = keys, []
+        return True
 
     def takes_in_block(self, line):
         if self.current is None:
-            return self.closing == "extra" and self.tells_rows(len(self.kinds), line)
+            return self.closing == "extra" and self.sections != [] and self.tells_rows(len(self.kinds), line)
         count = len(self.current)
         if self.takes_item(count, line) or count and self.takes_extra(count, line):
             if len(self.current) == len(self.kinds) and (self.closing == "item" or self.closing == "extra" and self.current[-1][1]):
@@ -410,7 +480,10 @@ class Part:
 
     def close(self):
         self.closing = "extra" if self.current[-1][1] else "item"
-        self.blocks.append(self.current)
+        if self.sections is None:
+            self.blocks.append(self.current)
+        else:
+            self.sections.append(self.group + ([answer for answer, _ in self.current],))
         self.current, self.place = None, "round"
 
     def takes_round(self, line):
@@ -420,15 +493,20 @@ class Part:
         if self.place == "opened" and not inside and re.fullmatch(r"parts (0|[1-9]\d*)", line):
             self.place = "round"
             return True
-        count = len(self.blocks) + inside
+        count = len(self.blocks) + (inside if self.sections is None else 1)
         ends = count > 0 and line in ("end narrow", "end rounds", "end reads")
         start = "round %d" % count
         if not ends and line != start and not line.startswith(start + " "):
             return False
         if inside:
             self.close()
+        if self.sections is not None:
+            self.blocks.append(self.sections)
+            self.sections = None
         if ends:
             self.end = line
+        elif self.columns:
+            self.sections = []
         else:
             self.current = []
         return True
@@ -490,6 +568,27 @@ class Combined:
 
     def write(self, parts):
         blocks = [part.block(self.number) for part in parts]
+        if parts[0].columns:
+            self.write_groups(parts[0].kinds, blocks)
+        else:
+            self.write_totals(parts, blocks)
+        self.number += 1
+
+    def write_groups(self, kinds, blocks):
+        block = combined_sections(kinds, blocks)
+        self.lines.append("round %d" % self.number)
+        for section in block:
+            self.lines += section_lines(kinds, section)
+        self.end_behind(block, all(present and all(is_near(known, self.width) for known in entries) for _, present, entries in block))
+
+    def end_behind(self, block, is_narrow):
+        self.blocks.append(block)
+        if is_narrow:
+            self.finish("end narrow")
+        elif self.number == self.rounds:
+            self.finish("end rounds")
+
+    def write_totals(self, parts, blocks):
         block = []
         for place, kind in enumerate(parts[0].kinds):
             try:
@@ -499,12 +598,7 @@ class Combined:
         self.lines.append("round %d" % self.number)
         for number, (kind, entry) in enumerate(zip(parts[0].kinds, block), 1):
             self.lines += entry_lines(number, kind, entry)
-        self.blocks.append(block)
-        if all(is_near(answer, self.width) for answer, _ in block):
-            self.finish("end narrow")
-        elif self.number == self.rounds:
-            self.finish("end rounds")
-        self.number += 1
+        self.end_behind(block, all(is_near(answer, self.width) for answer, _ in block))
 
     def finish(self, line):
         self.lines.append(line)
@@ -554,10 +648,29 @@ def some_query(chance, columns):
 
 
 def some_query_by_groups(chance, columns):
-    groups = [column[0] for column in chance.sample(columns, chance.randint(1, min(2, len(columns))))]
-    items = groups + reports.some_items(chance, columns)
-    by = ", ".join(groups)
-    return "SELECT %s FROM t%s GROUP BY %s" % (", ".join(items), reports.some_condition(chance, columns), by)
+    """By one column or two, one of which may be named twice; some of their names stand among the items."""
+    groups = [column[0] for column in chance.sample(columns, chance.randint(1, 2))]
+    items = chance.sample(groups, chance.randint(0, len(groups))) + reports.some_items(chance, columns)
+    chance.shuffle(items)
+    by = groups + chance.choice([[], [], [], groups[:1]])
+    return "SELECT %s FROM t%s GROUP BY %s" % (", ".join(items), reports.some_condition(chance, columns), ", ".join(by))
+
+
+def read_back(sql, text):
+    """The blocks of a report."""
+    report = Part("query " + sql)
+    for line in text.splitlines():
+        report.take(line)
+    return report
+
+
+def some_task(chance):
+    """A table, its schema, and a query of totals or of groups; in some tables a text holds a comma."""
+    text, schema, columns = reports.some_table(chance)
+    sql = chance.choice([some_query, some_query_by_groups])(chance, columns)
+    if chance.random() < 0.3:
+        text, sql = text.replace("Ulm", '"Ulm, Donau"'), sql.replace("Ulm", "Ulm, Donau")
+    return text, schema, sql
 
 
 def cut(chance, text, count):
@@ -607,7 +720,7 @@ def is_same(kind, known, answer):
     return holds(kind, known, answer) and is_within(kind, known, answer)
 
 
-def faults_of_blocks(kinds, blocks, answers):
+def faults_of_totals(kinds, blocks, answers):
     """What is wrong with the blocks of a combined report: each interval holds the answer, lies within the one before, and is the answer at
     the end. Of exact averages the last is not asked."""
     wrong = []
@@ -625,61 +738,11 @@ def faults_of_blocks(kinds, blocks, answers):
     return wrong
 
 
-def faults(chance, text, schema, sql, count):
-    """What is wrong with the combined reports of a table that is cut."""
-    lists = tagged(chance, cut(chance, text, count), schema, sql)
-    first, refusal = combine(count, b"".join(line for lines in lists for line in lines))
-    if refusal:
-        return [refusal]
-    wrong = []
-    for _ in range(3):
-        other, refusal = combine(count, interleaved(chance, lists))
-        if refusal or other.lines != first.lines:
-            wrong.append("another order of lines: %s %s" % (refusal, other.lines))
-    again, refusal = combine(1, "".join("all\t%s\n" % line for line in first.lines).encode())
-    if refusal or again.lines[2:] != first.lines[2:]:
-        wrong.append("as the report of one part: %s %s" % (refusal, again.lines))
-    last = read_back(sql, reports.report(text, schema, sql, []))
-    return wrong + faults_of_blocks(last.kinds, first.blocks, last.blocks[-1])
-
-
-def blocks_by_groups(sql, text):
-    """The blocks of a report by groups: for each line its keys, whether they are present, and where each answer lies."""
-    kinds, blocks = kinds_of("query " + sql), []
-    for line in text.splitlines():
-        if line.startswith("round "):
-            blocks.append([])
-        elif line.startswith("group "):
-            blocks[-1].append(keys_of(line) + ([],))
-        elif line[0].isdigit():
-            known = blocks[-1][-1][2]
-            known.append(read(kinds[len(known)], line.partition(" ")[2], True))
-    return kinds, blocks
-
-
 def line_of(key, block):
     """The line that has a key. No two have it."""
     having = [section for section in block if all(span.allows(value) for span, value in zip(section[0], key))]
     assert len(having) < 2
     return having[0] if having else None
-
-
-def faults_of_groups(chance, text, schema, sql, count):
-    """What is wrong with what the parts of a table tell of groups together, block by block."""
-    parts = []
-    for part in cut(chance, text, count):
-        words = ["--policy", chance.choice(["widest", "order", "filter", "balanced"])]
-        kinds, blocks = blocks_by_groups(sql, reports.report(part, schema, sql, words))
-        parts.append(blocks)
-    answers = blocks_by_groups(sql, reports.report(text, schema, sql, []))[1][-1]
-    wrong, before = [], None
-    for number in range(max(map(len, parts))):
-        block = combined_sections(kinds, [blocks[min(number, len(blocks) - 1)] for blocks in parts])
-        if count == 1 and block_text(block) != block_text(parts[0][number]):
-            wrong.append("block %d is not that of the one part: %s" % (number, block_text(block)))
-        wrong += ["block %d: %s" % (number, fault) for fault in faults_of_sections(kinds, block, before or block, answers)]
-        before = block
-    return wrong + ([] if block_text(before) == block_text(answers) else ["at the end: %s" % block_text(before)])
 
 
 def block_text(block):
@@ -706,14 +769,51 @@ def faults_of_sections(kinds, block, before, answers):
     return wrong + (["a key is present that is in no result"] if present != sum(section[1] for section in block) else [])
 
 
+def faults_of_groups(kinds, blocks, answers):
+    """What is wrong with the blocks of a combined report by groups; the last is that of the uncut table."""
+    wrong = []
+    for number, block in enumerate(blocks):
+        found = faults_of_sections(kinds, block, blocks[max(number - 1, 0)], answers)
+        wrong += ["block %d: %s" % (number, fault) for fault in found]
+    return wrong + ([] if block_text(blocks[-1]) == block_text(answers) else ["at the end: %s" % block_text(blocks[-1])])
+
+
+def faults_of_blocks(blocks, text, schema, sql):
+    """What is wrong with the blocks that are told of a table, beside what it answers."""
+    last = read_back(sql, reports.report(text, schema, sql, []))
+    look = faults_of_groups if last.columns else faults_of_totals
+    return look(last.kinds, blocks, last.blocks[-1])
+
+
+def without_read(line):
+    """A line of a report as it stands in a combined one, where a round says no column."""
+    return re.sub(r"^(round \d+) .*", r"\1", line.rstrip("\n"))
+
+
+def faults(chance, text, schema, sql, count):
+    """What is wrong with the combined reports of a table that is cut."""
+    lists = tagged(chance, cut(chance, text, count), schema, sql)
+    first, refusal = combine(count, b"".join(line for lines in lists for line in lines))
+    if refusal:
+        return [refusal]
+    wrong = []
+    if count == 1 and first.parts[b"p0000"].columns and first.lines[2:] != [without_read(line[6:].decode()) for line in lists[0][1:]]:
+        wrong.append("other than the report of the one part: %s" % first.lines)
+    for _ in range(3):
+        other, refusal = combine(count, interleaved(chance, lists))
+        if refusal or other.lines != first.lines:
+            wrong.append("another order of lines: %s %s" % (refusal, other.lines))
+    again, refusal = combine(1, "".join("all\t%s\n" % line for line in first.lines).encode())
+    if refusal or again.lines[2:] != first.lines[2:]:
+        wrong.append("as the report of one part: %s %s" % (refusal, again.lines))
+    return wrong + faults_of_blocks(first.blocks, text, schema, sql)
+
+
 def certain(count, seed):
     chance, wrong = random.Random(seed), 0
     for number in range(count):
-        text, schema, columns = reports.some_table(chance)
-        is_by_groups = number % 3 == 2
-        sql = (some_query_by_groups if is_by_groups else some_query)(chance, columns)
-        look = faults_of_groups if is_by_groups else faults
-        found = look(chance, text, schema, sql, chance.choice([1, 2, 2, 3, 5]))
+        text, schema, sql = some_task(chance)
+        found = faults(chance, text, schema, sql, chance.choice([1, 2, 2, 3, 5]))
         if found:
             wrong += 1
             print("wrong (%d): %s\n%s%s\n%s" % (number, schema, text, sql, "\n".join(found)))
@@ -756,14 +856,6 @@ def has_no_texts(sql, schema):
     return all(kinds.get(name, "int")[:3] != "tex" for name in re.findall(r"(?:MIN|MAX)\((\w+)\)", sql))
 
 
-def read_back(sql, text):
-    """The blocks of a combined report, by the reader of reports."""
-    report = Part("query " + sql)
-    for line in text.splitlines():
-        report.take(line)
-    return report
-
-
 def faults_of_program(program, folder, chance, text, schema, sql, count):
     """What is wrong with what the program says of a table that is cut."""
     texts = cut(chance, text, count)
@@ -774,16 +866,14 @@ def faults_of_program(program, folder, chance, text, schema, sql, count):
              for number, (part, (_, words)) in enumerate(zip(texts, started))]
     wanted, refusal = combine(count, b"".join(line for lines in lists for line in lines), any_kind=False)
     wrong = [] if told.splitlines() == wanted.lines else ["not what is worked out: %s" % (refusal or wanted.lines)]
-    last = read_back(sql, reports.report(text, schema, sql, []))
-    return wrong + faults_of_blocks(last.kinds, read_back(sql, told).blocks, last.blocks[-1])
+    return wrong + faults_of_blocks(read_back(sql, told).blocks, text, schema, sql)
 
 
 def by_program(program, count, seed):
     chance, wrong, number = random.Random(seed), 0, 0
     with tempfile.TemporaryDirectory() as folder:
         while number < count and wrong < 3:
-            text, schema, columns = reports.some_table(chance)
-            sql = some_query(chance, columns)
+            text, schema, sql = some_task(chance)
             if not has_no_texts(sql, schema):
                 continue
             number += 1
