@@ -202,7 +202,7 @@ class Report:
             raise ReportError("a round out of turn: %s" % _shown(line))
         plane, planes = self._plane(number, line, column, head[3], head[4])
         reader = _Body(query, body)
-        groups, ranking = ((), reader.ranking()) if query.order is not None else (reader.groups(), None)
+        groups, ranking = ((), reader.ranking()) if query.order is not None else (reader.groups(self.parts > 0), None)
         reader.finish()
         read = place if planes_read is None else planes_read
         block = Block(query, place, column, plane, planes, groups, ranking, read, number, read * self._plane_bytes, self.parts)
@@ -243,14 +243,15 @@ class _Body:
         if self.place < len(self.lines):
             raise _unknown(self.lines[self.place])
 
-    def groups(self) -> tuple[Group, ...]:
+    def groups(self, is_combined: bool) -> tuple[Group, ...]:
         if not self.query.groups:
             return (Group((), "", self.items()),)
         groups = []
         while self.place < len(self.lines):
             found = self.need(_GROUP)
             keys = parse_keys(found[1], len(self.query.groups))
-            if groups and not _is_behind(keys, groups[-1].keys):
+            in_order = _begins_behind if is_combined else _is_behind
+            if groups and not in_order(keys, groups[-1].keys):
                 raise ReportError("a group out of turn: %s" % _shown(found[0]))
             groups.append(Group(keys, found[2], self.items()))
         return tuple(groups)
@@ -339,6 +340,20 @@ def _is_behind(keys: tuple[Key, ...], before: tuple[Key, ...]) -> bool:
     low = _sorted_as(key.low if isinstance(key, KeyRange) else key)
     high = _sorted_as(other.high if isinstance(other, KeyRange) else other)
     return high is None or low is not None and type(low) is type(high) and low > high
+
+
+def _begins_behind(keys: tuple[Key, ...], before: tuple[Key, ...]) -> bool:
+    """Whether the least of some keys comes after that of others, in the same order. Lines of a combined report may meet in a column."""
+    for key, other in zip(map(_least, keys), map(_least, before)):
+        if key != other:
+            return other is None or key is not None and type(key) is type(other) and key > other
+    return False
+
+
+def _least(key: Key) -> Optional[Value]:
+    if isinstance(key, KeyRange):
+        return None if key.maybe_null else _sorted_as(key.low)
+    return _sorted_as(key)
 
 
 def _sorted_as(value: Optional[Value]) -> Optional[Value]:

@@ -170,6 +170,18 @@ class CombinedReports(unittest.TestCase):
         self.assertEqual((first.clip.low, first.clip.high), (20, 42))
         self.assertEqual((second.exact.low, second.exact.high, second.low_takes), (Fraction(20, 3), Fraction(41, 4), None))
 
+    def test_lines_of_groups_may_meet_in_a_column(self):
+        lines = ["group %s possible\n1 [0, 2]\n" % keys for keys in ("null, 5..9", "1..3, 0.5", "2..4 or null, 1.5", "3..4, 0.5")]
+        front = "query SELECT COUNT(*) FROM t GROUP BY a, b\nparts 2\nround 0\n"
+        for order, is_right in (((0, 1, 3), True), ((2, 1, 3), True), ((1, 0), False), ((3, 1), False), ((1, 1), False), ((1, 2), False)):
+            text = front + "".join(lines[place] for place in order) + "end rounds\n"
+            with self.subTest(order):
+                if is_right:
+                    self.assertEqual(len(read(text)[1][0].groups), len(order))
+                else:
+                    self.assertRaises(daq.ReportError, read, text)
+                self.assertRaises(daq.ReportError, read, text.replace("parts 2\n", ""))
+
     def test_other_lines_are_refused(self):
         for old, new in (("parts 2", "parts"), ("parts 2", "parts 02"), ("round 1", "round 1 price 1/4"), ("round 1", "parts 2")):
             with self.subTest(new), self.assertRaises(daq.ReportError):
