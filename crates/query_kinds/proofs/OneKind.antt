@@ -1,5 +1,5 @@
 -- A line asks for items of one shape at most.
-use Rattle.std.proofs.Common.{◌≡◌, ℕ, Bool, Err, true, false, List, [], ◌∷◌, ◌++◌, filter, length, map, refl, sym, ap, ◌∙◌, subst, codes, inl, inr}
+use Rattle.std.proofs.Common.{◌≡◌, ℕ, Bool, Err, true, false, List, [], ◌∷◌, ◌++◌, filter, map, refl, sym, ap, ◌∙◌, subst, codes, inl, inr}
 use Rattle.std.specs.List.{list_all, list_any}
 use Rattle.query_model.specs.declared.query.ItemKind.{ItemKind}
 use Rattle.sql_text.specs.Answer.{Answers, IsText}
@@ -9,7 +9,7 @@ use Rattle.sql_text.specs.Tree.{Call, CountAll, Grouped, Item, Items, Name, Noth
 use Rattle.sql_text.specs.declared.tree.Num.{Num}
 use Rattle.query_kinds.specs.Beside.{IsBesideFault}
 use Rattle.query_kinds.specs.Kinds.{IsByGroups, IsKindsFault, IsNoQuery, IsNoShape, IsOfItems, IsOfShape, IsQueryLine, IsTotals}
-use Rattle.query_kinds.specs.Kinds.{KindsAreOne, fault_of, is_aggregate, kind_of}
+use Rattle.query_kinds.specs.Kinds.{KindsAreOne, columns_named, fault_of, is_aggregate, kind_of}
 
 -- ---- the shape of a query
 
@@ -25,7 +25,7 @@ totals_shape query items alone head all =
     let own : IsTotals query items = record { alone = alone; head = head; aggregates = all } in
     inl (refl, subst (IsTotals query) (sym (all_kept items all)) own)
 
-pub groups_shape : (query : Query) (names : List Name) (columns : ℕ) (items : List Item) → query.ending ≡ Grouped names → columns ≡ length names →
+pub groups_shape : (query : Query) (names : List Name) (columns : ℕ) (items : List Item) → query.ending ≡ Grouped names → columns ≡ columns_named names →
     query.head ≡ Items items → list_any is_aggregate items ≡ true → IsOfItems query columns (filter is_aggregate items)
 groups_shape query names columns items grouped as_many head some =
     inr (record { names = names; grouped = grouped; as_many = as_many; asked = items; head = head; aggregates = refl; some = some })
@@ -103,7 +103,7 @@ items_same query m n one other (inr a) (inr b) =
     let names : a.names ≡ b.names = cc in
     let heads : Items a.asked ≡ Items b.asked = sym a.head ∙ b.head in
     let asked : a.asked ≡ b.asked = cc in
-    (a.as_many ∙ ap (λ (ns : List Name). length ns) names ∙ sym b.as_many, a.aggregates ∙ ap (filter is_aggregate) asked ∙ sym b.aggregates)
+    (a.as_many ∙ ap columns_named names ∙ sym b.as_many, a.aggregates ∙ ap (filter is_aggregate) asked ∙ sym b.aggregates)
 
 shapes_same : (query : Query) (one other : List ItemKind) (m n : ℕ) → IsOfShape query one m → IsOfShape query other n → (one ≡ other) × (m ≡ n)
 shapes_same query one other m n a b =

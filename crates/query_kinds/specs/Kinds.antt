@@ -1,7 +1,8 @@
 -- Which line is that of a query of totals or of groups, and of which kinds its aggregates are.
-use Rattle.std.specs.Prelude.{◌≡◌, ◌⊎◌, ℕ, Bool, true, false, List, ◌++◌, filter, length, map, codes}
+use Rattle.std.specs.Prelude.{◌≡◌, ◌⊎◌, ℕ, Bool, true, false, List, ◌++◌, filter, map, codes}
 use Rattle.std.specs.List.{list_all, list_any}
-use Rattle.std.specs.Str.{IsUtf8}
+use Rattle.std.specs.Set.{distinct_count}
+use Rattle.std.specs.Str.{IsUtf8, bytes_eq}
 use Rattle.query_model.specs.declared.query.ItemKind.{ItemKind}
 use Rattle.query_model.specs.declared.query.ItemKind.TheVariants as kinds
 use Rattle.sql_text.specs.declared.tree.CallKind.{CallKind}
@@ -37,11 +38,15 @@ pub record IsTotals (query : Query) (items : List Item) : Type 0 where
   pub head : query.head ≡ Items items
   pub aggregates : list_all is_aggregate items ≡ true
 
+-- how many columns these names name; one that is named twice counts once
+abbrev pub columns_named : List Name → ℕ
+columns_named names = distinct_count bytes_eq (map (λ n. n.name) names)
+
 -- a query by groups of so many columns, which asks for these aggregates, one at least; its list may have columns beside them
 pub record IsByGroups (query : Query) (columns : ℕ) (items : List Item) : Type 0 where
   pub names : List Name
   pub grouped : query.ending ≡ Grouped names
-  pub as_many : columns ≡ length names
+  pub as_many : columns ≡ columns_named names
   pub asked : List Item
   pub head : query.head ≡ Items asked
   pub aggregates : items ≡ filter is_aggregate asked

@@ -2,15 +2,15 @@
 
 ghost use Rattle.std.specs.Prelude.{◌≡◌, ◌++◌, ℕ, List, codes, filter, map, IfOk, IfErr, MatchOption};
 ghost use Rattle.std.specs.List.{list_all, list_any};
-ghost use Rattle.std.specs.Str.{IsUtf8};
-ghost use Rattle.sql_text.specs.Tree.{item_of, query_of};
+ghost use Rattle.std.specs.Str.{IsUtf8, bytes_eq};
+ghost use Rattle.sql_text.specs.Tree.{item_of, name_of, query_of};
 ghost use Rattle.query_kinds.specs.Beside.{IsBesideFault};
 ghost use Rattle.query_kinds.specs.Kinds.{Asks, IsKindsFault, IsNoShape, IsOfItems, IsQueryLine};
-ghost use Rattle.query_kinds.specs.Kinds.{fault_of, is_aggregate, kind_of, kind_of_call};
+ghost use Rattle.query_kinds.specs.Kinds.{columns_named, fault_of, is_aggregate, kind_of, kind_of_call};
 
 use crate::fault::KindsFault;
 use query_model::ItemKind;
-use sql_text::{CallKind, Ending, ItemTree, Select, SqlFault, Tree, parse};
+use sql_text::{CallKind, Ending, ItemTree, Named, Select, SqlFault, Tree, parse};
 use std::alloc::{AllocError, Global};
 use std::str::from_utf8;
 
@@ -81,6 +81,37 @@ fn kinds_of(alloc: Global, items: &[ItemTree]) -> Result<Vec<ItemKind>, AllocErr
     Ok(kinds)
 }
 
+fn is_same(one: &Named, other: &Named) -> bool
+    ensures { result ≡ bytes_eq (name_of one.now).name (name_of other.now).name }
+{
+    one.name.as_slice() == other.name.as_slice()
+}
+
+// Whether one of these names is the same.
+fn is_among(names: &[Named], name: &Named) -> bool
+    ensures { result ≡ list_any (bytes_eq (name_of name.now).name) (map (λ n. n.name) (map name_of names.now)) }
+{
+    for other in names {
+        if is_same(name, other) {
+            return true;
+        }
+    }
+    false
+}
+
+// How many columns the names name: each name is counted where it stands last.
+fn columns_named(names: &[Named]) -> usize
+    ensures { result ≡ columns_named (map name_of names.now) }
+{
+    let mut columns = 0;
+    for (at, name) in names.iter().enumerate() {
+        if !is_among(&names[at + 1..], name) {
+            columns += 1;
+        }
+    }
+    columns
+}
+
 // What a query asks for, in its list, and the number of its group columns.
 #[derive(Clone, Copy)]
 struct AskedItems<'a> {
@@ -109,7 +140,7 @@ fn items_of(tree: &Tree) -> Option<AskedItems<'_>>
         }
         Ending::Group(names) => {
             if has_aggregate(items) {
-                let columns = names.len();
+                let columns = columns_named(names.as_slice());
                 Some(AskedItems { items, columns })
             } else {
                 None
