@@ -197,7 +197,7 @@ class Span:
     def hull(self, other):
         ends = [span for span in (self, other) if span.low is not None]
         low, high = min((s.low for s in ends), default=None), max((s.high for s in ends), default=None)
-        return Span(low, high, self.null or other.null, self.form or other.form)
+        return Span(low, high, self.null or other.null, ends[0].form if ends else None)
 
     def text(self):
         if self.low is None:
@@ -292,9 +292,9 @@ def are_within(a, b):
 
 
 def lines_over(cells):
-    """The narrowest sets of keys, apart from each other, of which each cell lies in one."""
+    """The narrowest sets of keys, apart from each other, of which each cell lies in one. Null alone has no form in them."""
     lines = []
-    for line in cells:
+    for line in ([span.hull(span) for span in cell] for cell in cells):
         while True:
             met = [other for other in lines if meet(line, other)]
             if not met:
@@ -549,10 +549,10 @@ class Combined:
 
     def begin(self, tag, line):
         """Takes the first line of a part; behind that of the first part the report begins."""
-        part = Part(line if self.query is None else self.query, self.any_kind)
         if self.query is None:
             look_at_query(line)
             self.query, self.lines = line, [line, "parts %d" % self.count]
+        part = Part(self.query, self.any_kind)
         part.take(line)
         self.parts[tag] = part
 
