@@ -130,7 +130,7 @@ value_over Min item line shards no_average = refl
 value_over Max item line shards no_average = refl
 value_over Avg item line shards no_average = absurd (no_average refl)
 
-over_of : (kinds : List ItemKind) (shards : List (List Cell)) (lines : List Cell) (line : Cell) → IsCellOf line lines → AreLinesOver kinds shards lines →
+pub over_of : (kinds : List ItemKind) (shards : List (List Cell)) (lines : List Cell) (line : Cell) → IsCellOf line lines → AreLinesOver kinds shards lines →
     map said_of line.items ≡ said_from 0 kinds line.keys shards
 over_of kinds shards [] line is over = absurd is
 over_of kinds shards (other ∷ lines) line (inl e) over =
@@ -280,7 +280,7 @@ divisible_by None = record { lo = omega arith; hi = omega arith }
 divisible_by (Some (code.Value bound)) = record { lo = omega arith; hi = omega arith }
 divisible_by (Some (code.Average bound)) = record { lo = bound.lo.divisible; hi = bound.hi.divisible }
 
-are_divisible : (item : ℕ) (shard : List Cell) → AreCellsDivisible item shard
+pub are_divisible : (item : ℕ) (shard : List Cell) → AreCellsDivisible item shard
 are_divisible item [] = tt
 are_divisible item (cell ∷ shard) = (divisible_by (slice_get cell.items item), are_divisible item shard)
 

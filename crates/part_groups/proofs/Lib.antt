@@ -1,5 +1,6 @@
 mod Carried
 mod Hulls
+mod Overall
 mod PartKeys
 mod Shared
 mod Textless

@@ -117,7 +117,7 @@ abbrev first_list : List Told → List (List Told) → List Told
 first_list other [] = other
 first_list other (t ∷ ts) = t
 
-same_shards : (shards : List (List Cell)) (parts : List (List Group)) → map (map told) shards ≡ map (map told_by) parts → shards ≡ cells_by parts
+pub same_shards : (shards : List (List Cell)) (parts : List (List Group)) → map (map told) shards ≡ map (map told_by) parts → shards ≡ cells_by parts
 same_shards [] [] e = refl
 same_shards [] (part ∷ parts) e = absurd (let n = ap length e in omega (arith, n))
 same_shards (shard ∷ shards) [] e = absurd (let n = ap length e in omega (arith, n))

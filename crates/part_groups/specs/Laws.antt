@@ -8,20 +8,20 @@ use Rattle.query_model.specs.declared.bounds.Bound.{Bound}
 use Rattle.query_model.specs.declared.query.ItemKind.{ItemKind}
 use Rattle.query_model.specs.declared.query.ItemKind.TheVariants.{Sum, Avg}
 use Rattle.query_model.specs.Answers.{answer, average}
-use Rattle.query_model.specs.Bounds.{Admits, AdmitsAverage, AverageBound, IsNested}
+use Rattle.query_model.specs.Bounds.{Admits, AdmitsAverage, AverageBound, IsNested, IsNestedAverage}
 use Rattle.report_text.specs.Groups.{IsShownGroup}
 use Rattle.shard_bounds.specs.Averages.{ReportsAverage, TellsAverage, no_average}
 use Rattle.shard_bounds.specs.Combined as answers
 use Rattle.shard_bounds.specs.Combined.{answer_over}
 use Rattle.shard_bounds.specs.Laws.{Tells}
-use Rattle.shard_groups.specs.declared.cells.Cell.{Cell}
 use Rattle.shard_groups.specs.declared.keys.Span.{Span}
 use Rattle.shard_groups.specs.Groups.{Average, Said, Value, no_rows}
 use Rattle.shard_groups.specs.Keys.{Key, holds}
-use Rattle.shard_groups.specs.Laws.{AreLater, AreOneKeys, all_rows}
+use Rattle.shard_groups.specs.Laws.{AreLater, AreLaterAverages, AreOneKeys, all_rows}
 use Rattle.shard_groups.specs.Lines.{AreApart}
-use Rattle.part_groups.specs.Cells.{keys_of, said_by, told, told_by}
+use Rattle.part_groups.specs.Cells.{keys_of, said_by}
 use Rattle.part_groups.specs.Combined.{IsCombinedReport}
+use Rattle.part_groups.specs.Whole.{cells_by}
 use Rattle.part_groups.specs.declared.group.Group.{Group}
 
 -- ---- groups of reports
@@ -113,9 +113,11 @@ pub record HasKey (key : Key) (groups : List Group) : Type 0 where
   pub is : IsGroupOf group groups
   pub has : IsTrue (holds (keys_by group) key)
 
--- a key of the whole result is in a group, and each key of a present group is in the result
+-- a key of the whole result is in a group, none is in two groups, and each key of a present group is in the result
 pub record AreKeysShown (key : Key) (counts : List ℕ) (groups : List Group) : Type 0 where
   pub found : 0 < all_rows counts → HasKey key groups
+  pub alone : (group other : Group) → IsGroupOf group groups → IsGroupOf other groups → IsTrue (holds (keys_by group) key) →
+      IsTrue (holds (keys_by other) key) → group ≡ other
   pub present : (group : Group) → IsGroupOf group groups → IsTrue (holds (keys_by group) key) → IsTrue group.line.present →
       0 < all_rows counts
 
@@ -157,12 +159,6 @@ GroupsTell =
 
 -- ---- nested
 
--- these are later reports of the parts: the cells that they tell lie within those before, and so do their bounds
-abbrev pub AreLaterParts : ItemKind → ℕ → List (List Group) → List (List Group) → Type 0
-AreLaterParts kind item before parts =
-    (olds news : List (List Cell)) → map (map told) olds ≡ map (map told_by) before → map (map told) news ≡ map (map told_by) parts →
-    AreLater kind item olds news
-
 -- the keys of a group, and its bound, lie within those of another
 pub record IsNestedGroup (item : ℕ) (old group : Group) : Type 0 where
   pub keys : (key : Key) → IsTrue (holds (keys_by group) key) → IsTrue (holds (keys_by old) key)
@@ -174,8 +170,8 @@ GroupsNest =
     (count : ℕ) (kinds : List ItemKind) (before parts : List (List Group)) (olds groups : List Group) (kind : ItemKind) (item : ℕ)
     (key : Key) (old group : Group) →
     AreAllOf count before → AreAllOf count parts → IsCombinedReport count kinds before olds → IsCombinedReport count kinds parts groups →
-    slice_get kinds item ≡ Some kind → kind ≢ Avg → AreLaterParts kind item before parts → IsGroupOf old olds → IsGroupOf group groups →
-    IsTrue (holds (keys_by old) key) → IsTrue (holds (keys_by group) key) → IsNestedGroup item old group
+    slice_get kinds item ≡ Some kind → kind ≢ Avg → AreLater kind item (cells_by before) (cells_by parts) → IsGroupOf old olds →
+    IsGroupOf group groups → IsTrue (holds (keys_by old) key) → IsTrue (holds (keys_by group) key) → IsNestedGroup item old group
 
 -- ---- averages
 
@@ -242,6 +238,20 @@ GroupsTellAverages =
     AreAllOf count parts → IsCombinedReport count kinds parts groups → slice_get kinds item ≡ Some Avg →
     AreAllAveragesToldIn item key parts tables → IsGroupOf group groups → IsTrue (holds (keys_by group) key) →
     TellsAverage (average_in item group) (answers.average_over tables)
+
+-- the keys of a group, and its average, lie within those of another
+pub record IsNestedAverageGroup (item : ℕ) (old group : Group) : Type 0 where
+  pub keys : (key : Key) → IsTrue (holds (keys_by group) key) → IsTrue (holds (keys_by old) key)
+  pub average : IsNestedAverage (average_in item old) (average_in item group)
+
+-- with later reports of the parts the group of a key and its average lie within those before
+abbrev pub GroupsNestAverages : Type 0
+GroupsNestAverages =
+    (count : ℕ) (kinds : List ItemKind) (before parts : List (List Group)) (olds groups : List Group) (item : ℕ) (key : Key)
+    (old group : Group) →
+    AreAllOf count before → AreAllOf count parts → IsCombinedReport count kinds before olds → IsCombinedReport count kinds parts groups →
+    slice_get kinds item ≡ Some Avg → AreLaterAverages item (cells_by before) (cells_by parts) → IsGroupOf old olds →
+    IsGroupOf group groups → IsTrue (holds (keys_by old) key) → IsTrue (holds (keys_by group) key) → IsNestedAverageGroup item old group
 
 -- ---- a combined report as a part
 

@@ -1,6 +1,6 @@
 -- The report by groups over all parts, as a function of what the parts tell.
 use native.Mathlib.Omega.{arith}
-use Rattle.std.specs.Prelude.{◌≡◌, ℕ, Bool, true, false, ◌||◌, List, length, map, max, IsTrue}
+use Rattle.std.specs.Prelude.{◌≡◌, ℕ, ◌<◌, Bool, true, false, ◌||◌, List, length, map, max, IsTrue}
 use Rattle.std.specs.List.{All, list_all, range_with_len}
 use Rattle.std.specs.declared.option.Option.{Option}
 use Rattle.std.specs.declared.option.Option.TheVariants.{Some, None}
@@ -21,7 +21,7 @@ use Rattle.shard_groups.specs.declared.cells.ItemBound.{ItemBound}
 use Rattle.shard_groups.specs.declared.cells.ItemBound.TheVariants as code
 use Rattle.part_groups.specs.Cells.{Told, keys_of}
 use Rattle.part_groups.specs.Combined.{IsCombinedReport}
-use Rattle.part_groups.specs.Forms.{shared_form, told_over}
+use Rattle.part_groups.specs.Forms.{AreAlike, shared_form, told_over}
 use Rattle.part_groups.specs.Shown.{group_in}
 use Rattle.part_groups.specs.declared.forms.EndsForm.{EndsForm}
 use Rattle.part_groups.specs.declared.forms.Places.{Places}
@@ -83,3 +83,14 @@ abbrev pub CombinedIsWhole : Type 0
 CombinedIsWhole =
     (count : ℕ) (kinds : List ItemKind) (parts : List (List Group)) (groups : List Group) → AreKeyed count parts →
     IsCombinedReport count kinds parts groups → groups ≡ groups_over count kinds parts
+
+-- the parts write each of so many columns in one form, and so each item
+pub record AreWrittenAlike (count : ℕ) (kinds : List ItemKind) (parts : List (List Group)) : Type 0 where
+  pub columns : (column : ℕ) → column < count → AreAlike Columns column parts
+  pub items : (item : ℕ) → item < length kinds → AreAlike Items item parts
+
+-- where they do, this is a combined report
+abbrev pub WholeIsCombined : Type 0
+WholeIsCombined =
+    (count : ℕ) (kinds : List ItemKind) (parts : List (List Group)) → AreWrittenAlike count kinds parts →
+    IsCombinedReport count kinds parts (groups_over count kinds parts)

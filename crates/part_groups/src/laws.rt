@@ -1,12 +1,13 @@
 //! The laws of reports by groups over all parts.
 
 ghost use Rattle.part_groups.specs.Laws.{GroupsContain, GroupsContainAverages, GroupsHaveColumns};
-ghost use Rattle.part_groups.specs.Laws.{GroupsNest, GroupsTell, GroupsTellAverages, GroupsTellKeys};
-ghost use Rattle.part_groups.specs.Whole.{CombinedIsWhole};
+ghost use Rattle.part_groups.specs.Laws.{GroupsNest, GroupsNestAverages};
+ghost use Rattle.part_groups.specs.Laws.{GroupsTell, GroupsTellAverages, GroupsTellKeys};
+ghost use Rattle.part_groups.specs.Whole.{CombinedIsWhole, WholeIsCombined};
 
 use shard_groups::{
-    combined_is_found, lines_contain, lines_contain_averages, lines_nest, lines_tell,
-    lines_tell_averages, lines_tell_keys,
+    combined_is_found, lines_are_found, lines_contain, lines_contain_averages, lines_nest,
+    lines_nest_averages, lines_tell, lines_tell_averages, lines_tell_keys,
 };
 
 /// Where the parts' reports are certain of a key, a group that has it contains its answer over the rows of all parts.
@@ -16,7 +17,7 @@ pub fn groups_contain()
     lines_contain();
 }
 
-/// Each key of the whole result is in a group, and each key of a present group is in the result.
+/// Each key of the whole result is in one group, and each key of a present group is in the result.
 pub fn groups_tell_keys()
     ensures { GroupsTellKeys }
 {
@@ -44,11 +45,25 @@ pub fn combined_is_whole()
     combined_is_found();
 }
 
+/// Where the parts write each column and each item in one form, what is found of what they tell is a combined report.
+pub fn whole_is_combined()
+    ensures { WholeIsCombined }
+{
+    lines_are_found();
+}
+
 /// Where the parts' reports are certain of the average at a key, a group that has the key contains it over the rows of all parts.
 pub fn groups_contain_averages()
     ensures { GroupsContainAverages }
 {
     lines_contain_averages();
+}
+
+/// With later reports of the parts, the group of a key and its average lie within those before.
+pub fn groups_nest_averages()
+    ensures { GroupsNestAverages }
+{
+    lines_nest_averages();
 }
 
 /// Where the parts' reports are exact, a group that has a key says the sum and the number of its values in all parts.

@@ -19,5 +19,5 @@ pub use group::{Group, Groups};
 pub use keyed::has_key;
 pub use laws::{
     combined_is_whole, groups_contain, groups_contain_averages, groups_have_columns, groups_nest,
-    groups_tell, groups_tell_averages, groups_tell_keys,
+    groups_nest_averages, groups_tell, groups_tell_averages, groups_tell_keys, whole_is_combined,
 };
