@@ -7,7 +7,6 @@ use Rattle.std.proofs.lemmas.Option.{none-some}
 use Rattle.std.specs.List.{list_all}
 use Rattle.std.specs.declared.cmp.Ordering.{Ordering}
 use Rattle.std.specs.declared.cmp.Ordering.TheVariants.{Less, Equal, Greater}
-use Rattle.query_model.specs.declared.query.ItemKind.{ItemKind}
 use Rattle.report_text.specs.declared.lines.ReportEnd.{ReportEnd}
 use Rattle.report_text.specs.declared.lines.ReportEnd.TheVariants.{Narrow, Rounds}
 use Rattle.report_parts.proofs.FromRounds.{all_both, block_fault_too, cases_lt, refused_too, same_block_over, same_count, same_end_of_all, same_has, same_over_all, takes_tagged_too}
@@ -20,7 +19,7 @@ use Rattle.report_parts.specs.Ends.{end_behind, end_of_all}
 use Rattle.report_parts.specs.Laws.{AllReach}
 use Rattle.report_parts.specs.Laws.Reaches.{goes as reaches, stays as remains}
 use Rattle.report_parts.specs.Passed.{AllTellFrom}
-use Rattle.report_parts.specs.Reports.{IsBlockFault, block_lines, block_over, block_text, blocks_text}
+use Rattle.report_parts.specs.Reports.{IsBlockFault, block_lines, block_text, blocks_text}
 use Rattle.report_parts.specs.Rounds.{has_block, is_ended, is_over}
 use Rattle.report_parts.specs.Tags.{IsRefused, TakesTagged, against, behind_tag, by_order, tag_of, told_of, with_part}
 use Rattle.report_parts.specs.Told.{Takes, Told, nothing_told}

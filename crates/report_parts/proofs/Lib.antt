@@ -3,6 +3,7 @@ pub mod Commutes
 pub mod Courses
 pub mod EntryLines
 pub mod FromRounds
+pub mod GroupHeadlines
 pub mod GroupsOver
 pub mod Grows
 pub mod Headlines

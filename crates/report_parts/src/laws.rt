@@ -1,6 +1,7 @@
 //! What holds of the lines of parts. Each law stands on a function that does nothing.
 
 ghost use Rattle.report_parts.specs.Course.{OrderIsFree, StandsIsCombined, TextIsOne};
+ghost use Rattle.report_parts.specs.GroupHeadline.{CombinedGroupsAreCertain};
 ghost use Rattle.report_parts.specs.Headline.{CombinedAveragesAreCertain, CombinedClipsAreCertain};
 ghost use Rattle.report_parts.specs.Headline.{CombinedExactAveragesAreCertain, CombinedIsCertain};
 ghost use Rattle.report_parts.specs.Laws.{AnswersContain, AnswersNest, AnswersTell, AveragesContain};
@@ -8,6 +9,10 @@ ghost use Rattle.report_parts.specs.Laws.{LinesOnlyAdd, ReportsOnlyGrow, ToldBlo
 ghost use Rattle.report_parts.specs.Telling.{EndedStays, TellingIsOne};
 ghost use Rattle.report_parts.specs.Written.{WrittenStays};
 
+use part_groups::{
+    groups_contain, groups_contain_averages, groups_nest, groups_nest_averages, groups_tell,
+    groups_tell_averages, groups_tell_keys, whole_is_combined,
+};
 use shard_bounds::{
     averages_nest, combinations_contain, combinations_nest, combinations_report_averages,
     combinations_tell, combinations_tell_averages, hulls_contain, hulls_nest,
@@ -124,4 +129,20 @@ pub fn combined_exact_averages_are_certain()
 {
     hulls_contain();
     hulls_nest();
+}
+
+/// The same of groups: where the lines of the parts write each column and each item in one form, each key of the whole result is in one
+/// group that is printed, each key of a present group is in the result, and what the group says contains the key's answer over the rows of
+/// all parts, lies within what the round before says of it, and is the answer where each part says its own.
+pub fn combined_groups_are_certain()
+    ensures { CombinedGroupsAreCertain }
+{
+    whole_is_combined();
+    groups_tell_keys();
+    groups_contain();
+    groups_nest();
+    groups_tell();
+    groups_contain_averages();
+    groups_nest_averages();
+    groups_tell_averages();
 }
