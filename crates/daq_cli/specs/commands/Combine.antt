@@ -1,11 +1,12 @@
 -- `combine`: the reports of the parts of a table, line by line, become one report of the whole.
-use Rattle.std.specs.Prelude.{◌≡◌, ◌≢◌, ℕ, ◌≤◌, ℤ, List, [], length, slice_get, Some}
+use Rattle.std.specs.Prelude.{◌≡◌, ◌≢◌, ℕ, ◌<◌, ◌≤◌, ℤ, List, [], length, slice_get, Some}
 use Rattle.std.specs.declared.option.Option.{Option}
 use Rattle.command_line.specs.Commands.{Combine}
 use Rattle.outer_world.specs.Device.{SinkState, SourceState}
 use Rattle.query_model.specs.declared.query.ItemKind.{ItemKind}
 use Rattle.query_model.specs.declared.query.ItemKind.TheVariants.{Avg}
 use Rattle.report_parts.specs.Course.{Task, Tell}
+use Rattle.report_parts.specs.GroupHeadline.{AreGroupsCertain}
 use Rattle.report_parts.specs.Headline.{AreCertainAverages, AreCertainOf, AreClippedOf, AreExactOf}
 use Rattle.report_parts.specs.Headline.{IsAverageIn, IsCertainIn, IsClippedIn, IsExactIn}
 use Rattle.report_parts.specs.Told.{Told}
@@ -52,10 +53,12 @@ pub record AreCertainTogether (kinds : List ItemKind) (parts : List Told) : Type
   pub exact_averages : (item : ℕ) (tables : List (List ℤ)) (round : ℕ) → slice_get kinds item ≡ Some Avg → AreExactOf item parts tables →
       IsExactIn round item kinds parts tables
 
--- the combined report of the lines that were read was written to its end. Each interval in it is certain, where those of the parts are
+-- the combined report of the lines that were read was written to its end. Each interval in it is certain, where those of the parts are; of
+-- a query by groups, so is each group
 pub record CombinesReports (c : Combine) (input input' : SourceState) (out out' : SinkState) : Type 0 where
   pub combined : Combined c.parts (until_of c) input input' out out'
   pub headline : AreCertainTogether combined.task.shape.kinds combined.combines.parts
+  pub groups : 0 < combined.task.shape.columns → AreGroupsCertain combined.task.shape combined.combines.parts
 
 -- why a `combine` stops, and with that what was read and written
 pub record CombineCause (c : Combine) (input input' : SourceState) (out out' : SinkState) (why : Refusal) : Type 0 where
