@@ -1,0 +1,10 @@
+mod Counts
+mod Ends
+mod Exact
+mod Later
+mod Lists
+mod Orders
+mod Ranking
+mod Ranks
+mod Right
+mod Standing

@@ -1,0 +1,5 @@
+pub mod Laws
+pub mod Marks
+pub mod Ranked
+pub mod Standings
+pub mod Worlds

@@ -1,0 +1,24 @@
+//! The laws of standings over all parts. Each stands on a function that does nothing.
+
+ghost use Rattle.part_rows.specs.Laws.{OrderIsFree, StandingsAreRight, StandingsBecomeExact, StandingsNest};
+
+/// In each world in which the parts' reports hold a certain row is among the first of all parts, and an excluded row and one that no
+/// report lists are not.
+pub fn standings_are_right()
+    ensures { StandingsAreRight }
+{}
+
+/// With later reports of the parts certain rows stay certain, and excluded rows stay excluded.
+pub fn standings_nest()
+    ensures { StandingsNest }
+{}
+
+/// Where each listed row is certain and has one key, the certain rows are the first of all parts.
+pub fn standings_become_exact()
+    ensures { StandingsBecomeExact }
+{}
+
+/// The order in which the parts' rows are listed makes no difference.
+pub fn order_is_free()
+    ensures { OrderIsFree }
+{}

@@ -1,0 +1,12 @@
+//! The first rows in an order over all parts of a table, judged from the rows that the parts' reports list.
+#![tactic(auto)]
+
+mod laws;
+mod order;
+mod ranked;
+mod row;
+mod standings;
+
+pub use laws::{order_is_free, standings_are_right, standings_become_exact, standings_nest};
+pub use row::{FirstRows, PartRow, RowName};
+pub use standings::judge;
