@@ -1,10 +1,12 @@
 mod Counts
 mod Ends
 mod Exact
+mod Joins
 mod Later
 mod Lists
 mod Orders
 mod Ranking
 mod Ranks
+mod Reports
 mod Right
 mod Standing

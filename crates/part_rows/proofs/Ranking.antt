@@ -71,7 +71,7 @@ count_behind test [] = refl
 count_behind test (row ∷ rows) =
     omega (arith, step test row.now (rows_behind rows), step (λ y. test y.now) row rows, count_behind test rows)
 
-pub count_filtered : (p q : PartRow → Bool) (rows : List PartRow) → count_by q (filter p rows) ≡ count_by (λ y. p y && q y) rows
+pub count_filtered : {X : Type 0} (p q : X → Bool) (rows : List X) → count_by q (filter p rows) ≡ count_by (λ y. p y && q y) rows
 count_filtered p q [] = refl
 count_filtered p q (row ∷ rows) =
     elim (cases_Bool (p row)) [

@@ -2,4 +2,5 @@ pub mod Laws
 pub mod Marks
 pub mod Ranked
 pub mod Standings
+pub mod Tables
 pub mod Worlds

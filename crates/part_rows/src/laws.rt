@@ -1,6 +1,9 @@
 //! The laws of standings over all parts. Each stands on a function that does nothing.
 
 ghost use Rattle.part_rows.specs.Laws.{OrderIsFree, StandingsAreRight, StandingsBecomeExact, StandingsNest};
+ghost use Rattle.part_rows.specs.Tables.{ReportsHold, ReportsJoin};
+
+use query_model::completions_are_selections;
 
 /// In each world in which the parts' reports hold a certain row is among the first of all parts, and an excluded row and one that no
 /// report lists are not.
@@ -21,4 +24,17 @@ pub fn standings_become_exact()
 /// The order in which the parts' rows are listed makes no difference.
 pub fn order_is_free()
     ensures { OrderIsFree }
+{}
+
+/// What is listed of a table of which something is known, by the standings and the ranges of its rows, holds of each of its completions.
+pub fn reports_hold()
+    ensures { ReportsHold }
+{
+    query_model::standings_are_right();
+    completions_are_selections();
+}
+
+/// The reports of some parts and of others hold together, so those of any number of parts.
+pub fn reports_join()
+    ensures { ReportsJoin }
 {}

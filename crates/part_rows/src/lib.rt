@@ -7,6 +7,9 @@ mod ranked;
 mod row;
 mod standings;
 
-pub use laws::{order_is_free, standings_are_right, standings_become_exact, standings_nest};
+pub use laws::{
+    order_is_free, reports_hold, reports_join, standings_are_right, standings_become_exact,
+    standings_nest,
+};
 pub use row::{FirstRows, PartRow, RowName};
 pub use standings::judge;
