@@ -1,12 +1,12 @@
 -- Blocks of eight words and the rows that they have.
 use Rattle.std.proofs.Common.{◌≡◌, ℕ, zero, suc, ◌+◌, ◌-◌, ◌*◌, ◌^◌, ◌<◌, ◌≤◌, min, Bool, List, [], ◌∷◌, ◌++◌, length, take, drop, get_or, replicate, sym, refl, ap, subst, ◌∙◌, arith, inl, inr, length-append, length-drop, append_assoc}
 use Rattle.std.proofs.lemmas.Bool.{cases_lt}
-use Rattle.std.proofs.lemmas.List.{append-nil, drop_all, length-take, take_all, take_rest, take-replicate}
+use Rattle.std.proofs.lemmas.List.{append-nil, drop_all, length-take, take_all, take-replicate}
 use Rattle.std.proofs.lemmas.Nat.{pow_pos}
 use Rattle.std.proofs.lemmas.Nat.Bits.{bit_at_and, bit_at-lt, bit_at_ones}
 use Rattle.std.specs.Int.{bit_at}
 use Rattle.std.specs.Int.Bits.{bit_and, mask_lt}
-use Rattle.std.specs.Simd.Lanes.{put_chunk}
+use Rattle.std.specs.Simd.Lanes.{put_chunk, zip2}
 use Rattle.plane_kernels.specs.Rows.{bits_of, rows_of, block_rows, IsPadded, HoldsRows}
 use Rattle.plane_kernels.specs.Words.{trimmed}
 use Rattle.plane_kernels.proofs.RowLemmas.{length-bits_of, same-bits_of}
@@ -117,10 +117,8 @@ filled (suc m) z (w ∷ rest) zero h e = absurd (omega (arith, e))
 filled (suc m) z (w ∷ rest) (suc count) h e = ap (λ l. w ∷ l) (filled m z rest count (omega (arith, h)) (omega (arith, e)))
 
 -- as the code fills them in
-pub filled_eight : (ws new : List ℕ) (at count : ℕ) → count ≡ min (length ws - at) 8 → new ≡ take count (take (length ws - at) (drop at ws)) → new ++ drop count (replicate 8 0) ≡ take 8 (drop at ws ++ replicate 8 0)
-filled_eight ws new at count e is =
-    ap (λ l. l ++ drop count (replicate 8 0)) (is ∙ ap (take count) (take_rest ws at))
-    ∙ filled 8 8 (drop at ws) count (omega arith) (omega (arith, e, length-drop at ws))
+pub filled_eight : (ws new : List ℕ) (count : ℕ) → count ≡ min (length ws) 8 → new ≡ take count ws → new ++ drop count (replicate 8 0) ≡ take 8 (ws ++ replicate 8 0)
+filled_eight ws new count e is = ap (λ l. l ++ drop count (replicate 8 0)) is ∙ filled 8 8 ws count (omega arith) e
 
 -- eight words that have these rows
 pub record HaveBlock (n block : ℕ) (ws eight : List ℕ) : Type 0 where
@@ -148,6 +146,14 @@ have_block n block ws p =
 pub length-trimmed : (n : ℕ) (ws : List ℕ) → length (trimmed n ws) ≡ length ws
 length-trimmed n [] = refl
 length-trimmed n (w ∷ ws) = ap suc (length-trimmed (n - 64) ws)
+
+-- of eight words all of whose bits stand for rows none is taken away
+pub trimmed-whole : (m n : ℕ) (ws : List ℕ) → length ws ≡ m → 64 * m ≤ n → zip2 bit_and ws (replicate m (2 ^ 64 - 1)) ≡ trimmed n ws
+trimmed-whole m n [] h k = refl
+trimmed-whole zero n (w ∷ ws) h k = absurd (omega (arith, h))
+trimmed-whole (suc m) n (w ∷ ws) h k =
+    let size : 64 ≡ min n 64 = omega (arith, k) in
+    ap (λ l. bit_and w (2 ^ 64 - 1) ∷ l) (trimmed-whole m (n - 64) ws (omega (arith, h)) (omega (arith, k))) ∙ ap (λ k. bit_and w (2 ^ k - 1) ∷ trimmed (n - 64) ws) size
 
 pub get_or-trimmed : (n : ℕ) (ws : List ℕ) (i : ℕ) → i < length ws → get_or (trimmed n ws) i 0 ≡ bit_and (get_or ws i 0) (2 ^ min (n - 64 * i) 64 - 1)
 get_or-trimmed n [] i h = absurd (omega (arith, h))

@@ -82,12 +82,14 @@ impl Bits {
         room
     }
 
+    #[inline(always)]
     pub fn rows(&self) -> usize
         ensures { result ≡ length self.now }
     {
         self.rows
     }
 
+    #[inline(always)]
     pub fn get(&self, row: usize) -> bool
         requires { row < length self.now }
         ensures { slice_get self.now row ≡ Some result }
@@ -95,6 +97,7 @@ impl Bits {
         self.words[row / 64] >> (row % 64) & 1 == 1
     }
 
+    #[inline(always)]
     pub fn set(&mut self, row: usize, bit: bool)
         requires { row < length self.old }
         ensures { self.new ≡ slice_set self.old row bit }
@@ -208,6 +211,7 @@ impl Bits {
     }
 
     // The word with the bits of a block of 64 rows.
+    #[inline(always)]
     pub fn word(&self, block: usize) -> u64
         requires { 64 * block < length self.now }
         ensures { bits_of (min 64 (length self.now - 64 * block)) result ≡ take 64 (drop (64 * block) self.now) }
@@ -216,6 +220,7 @@ impl Bits {
     }
 
     // Makes the rows of a block of 64 these bits, and leaves the others.
+    #[inline(always)]
     pub fn set_word(&mut self, block: usize, word: u64)
         requires { 64 * block < length self.old }
         ensures { self.new ≡ put_chunk (64 * block) self.old (bits_of (min 64 (length self.old - 64 * block)) word) }
@@ -224,6 +229,7 @@ impl Bits {
     }
 
     // The words with the bits of a block of 512 rows.
+    #[inline(always)]
     pub fn block(&self, block: usize) -> [u64; 8]
         requires { 512 * block < length self.now }
         ensures rows { rows_of (block_rows (length self.now) block) result ≡ take 512 (drop (512 * block) self.now) }
@@ -233,6 +239,7 @@ impl Bits {
     }
 
     // Makes the rows of a block these bits, and leaves the others.
+    #[inline(always)]
     pub fn set_block(&mut self, block: usize, words: &[u64; 8])
         requires { 512 * block < length self.old }
         ensures { self.new ≡ put_chunk (512 * block) self.old (rows_of (block_rows (length self.old) block) words.now) }

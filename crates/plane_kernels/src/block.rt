@@ -15,18 +15,21 @@ use crate::row_bits::RowBits;
 use std::marker::Model;
 use std::simd::prelude::*;
 
+#[inline(always)]
 fn and_words(words: &[u64; 8], others: &[u64; 8]) -> [u64; 8]
     ensures { result ≡ zip2 bit_and words.now others.now }
 {
     (u64x8::from_array(*words) & u64x8::from_array(*others)).to_array()
 }
 
+#[inline(always)]
 fn and_not_words(words: &[u64; 8], others: &[u64; 8]) -> [u64; 8]
     ensures { result ≡ zip2 and_not words.now others.now }
 {
     (u64x8::from_array(*words) & !u64x8::from_array(*others)).to_array()
 }
 
+#[inline(always)]
 fn or_words(words: &[u64; 8], others: &[u64; 8]) -> [u64; 8]
     ensures { result ≡ zip2 bit_or words.now others.now }
 {
@@ -34,6 +37,7 @@ fn or_words(words: &[u64; 8], others: &[u64; 8]) -> [u64; 8]
 }
 
 /// How many bits of the words are 1.
+#[inline(always)]
 pub fn count_ones(words: &[u64; 8]) -> u64
     ensures { result ≡ sum_by ones words.now }
 {
@@ -41,6 +45,7 @@ pub fn count_ones(words: &[u64; 8]) -> u64
 }
 
 /// How many bits are 1 in the words and in others.
+#[inline(always)]
 pub fn count_both(words: &[u64; 8], others: &[u64; 8]) -> u64
     ensures { result ≡ sum_by ones (zip2 bit_and words.now others.now) }
 {
@@ -68,6 +73,7 @@ impl Model for Block {
 
 impl Block {
     /// The rows of a mask.
+    #[inline(always)]
     pub fn of_mask(mask: &Mask, block: usize) -> Block
         requires { 512 * block < length mask.now }
         ensures { result ≡ take 512 (drop (512 * block) mask.now) }
@@ -79,6 +85,7 @@ impl Block {
     }
 
     /// The rows with a bit of 1 in a plane.
+    #[inline(always)]
     pub fn of_plane(plane: &Plane, block: usize) -> Block
         requires { 512 * block < length plane.now }
         ensures { result ≡ take 512 (drop (512 * block) plane.now) }
@@ -90,6 +97,7 @@ impl Block {
     }
 
     /// The rows of both.
+    #[inline(always)]
     pub fn and(&self, other: &Block) -> Block
         requires { length other.now ≡ length self.now }
         ensures { result ≡ zip2 (λ a b. a && b) self.now other.now }
@@ -101,6 +109,7 @@ impl Block {
     }
 
     /// The rows that the other has not.
+    #[inline(always)]
     pub fn and_not(&self, other: &Block) -> Block
         requires { length other.now ≡ length self.now }
         ensures { result ≡ zip2 (λ a b. a && not b) self.now other.now }
@@ -112,6 +121,7 @@ impl Block {
     }
 
     /// The rows of either.
+    #[inline(always)]
     pub fn or(&self, other: &Block) -> Block
         requires { length other.now ≡ length self.now }
         ensures { result ≡ zip2 (λ a b. a || b) self.now other.now }
@@ -123,6 +133,7 @@ impl Block {
     }
 
     // Makes the rows of a block of 512 these, and leaves the others.
+    #[inline(always)]
     pub(crate) fn put_into(&self, bits: &mut RowBits, block: usize)
         requires block { 512 * block < length bits.old }
         requires rows { length self.now ≡ block_rows (length bits.old) block }
@@ -132,6 +143,7 @@ impl Block {
     }
 
     /// Whether there is none.
+    #[inline(always)]
     pub fn is_empty(&self) -> bool
         ensures { result ≡ true → self.now ≡ replicate (length self.now) false }
     {
@@ -139,6 +151,7 @@ impl Block {
     }
 
     /// How many rows there are.
+    #[inline(always)]
     pub fn count(&self) -> u64
         ensures { result ≡ count_by (λ b. b) self.now }
     {

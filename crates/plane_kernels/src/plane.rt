@@ -44,6 +44,7 @@ impl Plane {
     }
 
     /// The number of rows.
+    #[inline(always)]
     pub fn rows(&self) -> usize
         ensures { result ≡ length self.now }
     {
@@ -51,6 +52,7 @@ impl Plane {
     }
 
     /// One row's bit.
+    #[inline(always)]
     pub fn get(&self, row: usize) -> bool
         requires { row < length self.now }
         ensures { slice_get self.now row ≡ Some result }
@@ -84,6 +86,7 @@ impl Plane {
     }
 
     /// The bits of a block of 64 rows, the first row's lowest.
+    #[inline(always)]
     pub fn word(&self, block: usize) -> u64
         requires { 64 * block < length self.now }
         ensures { bits_of (min 64 (length self.now - 64 * block)) result ≡ take 64 (drop (64 * block) self.now) }
@@ -92,6 +95,7 @@ impl Plane {
     }
 
     /// The words with the bits of a block of 512 rows, the first row's lowest; bits past the last row are 0.
+    #[inline(always)]
     pub fn block(&self, block: usize) -> [u64; 8]
         requires { 512 * block < length self.now }
         ensures rows { rows_of (block_rows (length self.now) block) result ≡ take 512 (drop (512 * block) self.now) }

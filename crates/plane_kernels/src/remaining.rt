@@ -45,6 +45,7 @@ impl Model for Remaining {
 }
 
 // The rows of a block that have this bit in the plane.
+#[inline(always)]
 fn with_bit(rows: &Block, plane: &Block, bit: bool) -> Block
     requires { length plane.now ≡ length rows.now }
     ensures { result ≡ kept_rows bit rows.now plane.now }
@@ -57,6 +58,7 @@ fn with_bit(rows: &Block, plane: &Block, bit: bool) -> Block
 }
 
 // Keeps the rows of a block that have this bit in the plane, and tells whether one is left.
+#[inline(always)]
 fn keep_block(rows: &mut Mask, plane: &Plane, bit: bool, block: usize) -> bool
     requires plane { length plane.now ≡ length rows.old }
     requires block { 512 * block < length rows.old }
@@ -73,6 +75,7 @@ fn keep_block(rows: &mut Mask, plane: &Plane, bit: bool, block: usize) -> bool
 }
 
 // The same, where the rows that are not kept are added to another mask.
+#[inline(always)]
 fn part_block(rows: &mut Mask, others: &mut Mask, plane: &Plane, bit: bool, block: usize) -> bool
     requires others { length others.old ≡ length rows.old }
     requires plane { length plane.now ≡ length rows.old }
@@ -91,6 +94,7 @@ fn part_block(rows: &mut Mask, others: &mut Mask, plane: &Plane, bit: bool, bloc
 }
 
 // Keeps the rows of a block that have this bit in the plane, if it may have one.
+#[inline(always)]
 fn keep_in(rows: &mut Mask, blocks: &mut Mask, plane: &Plane, bit: bool, block: usize)
     requires blocks { AreBlocksOf rows.old blocks.old }
     requires plane { length plane.now ≡ length rows.old }
@@ -119,6 +123,7 @@ fn keep_rows(rows: &mut Mask, blocks: &mut Mask, plane: &Plane, bit: bool)
 }
 
 // Keeps the rows of a block that have this bit in the plane, if it may have one, and adds the others to another mask.
+#[inline(always)]
 fn part_in(
     rows: &mut Mask,
     blocks: &mut Mask,
@@ -185,6 +190,7 @@ fn part_whole(rows: &mut Mask, blocks: &Mask, others: &mut Mask, plane: &Plane, 
 }
 
 // Whether a block has a row.
+#[inline(always)]
 fn has_row_in(rows: &Mask, blocks: &Mask, block: usize) -> bool
     requires blocks { AreBlocksOf rows.now blocks.now }
     requires block { block < length blocks.now }
@@ -197,6 +203,7 @@ fn has_row_in(rows: &Mask, blocks: &Mask, block: usize) -> bool
 }
 
 // Whether a row of a block has a bit of 1 in the plane.
+#[inline(always)]
 fn has_one_in(rows: &Mask, blocks: &Mask, plane: &Plane, block: usize) -> bool
     requires blocks { AreBlocksOf rows.now blocks.now }
     requires plane { length plane.now ≡ length rows.now }
@@ -240,6 +247,7 @@ impl Remaining {
     }
 
     /// The rows.
+    #[inline(always)]
     pub fn mask(&self) -> &Mask
         ensures { result.now ≡ self.now }
     {
@@ -247,6 +255,7 @@ impl Remaining {
     }
 
     /// The bits of a block of 64 rows, the first row's lowest.
+    #[inline(always)]
     pub fn word(&self, block: usize) -> u64
         requires { 64 * block < length self.now }
         ensures { bits_of (min 64 (length self.now - 64 * block)) result ≡ take 64 (drop (64 * block) self.now) }

@@ -113,6 +113,7 @@ impl RowBits {
         })
     }
 
+    #[inline(always)]
     pub fn rows(&self) -> usize
         ensures { result ≡ length self.now }
     {
@@ -122,6 +123,7 @@ impl RowBits {
         }
     }
 
+    #[inline(always)]
     pub fn get(&self, row: usize) -> bool
         requires { row < length self.now }
         ensures { slice_get self.now row ≡ Some result }
@@ -132,7 +134,20 @@ impl RowBits {
         }
     }
 
+    #[inline(always)]
     pub fn set(&mut self, row: usize, bit: bool)
+        requires { row < length self.old }
+        ensures { self.new ≡ slice_set self.old row bit }
+    {
+        match &mut self.state {
+            State::Written(bits) => bits.set(row, bit),
+            State::Even { .. } => self.set_unwritten(row, bit),
+        }
+    }
+
+    // The same, where no word is written yet.
+    #[cold]
+    fn set_unwritten(&mut self, row: usize, bit: bool)
         requires { row < length self.old }
         ensures { self.new ≡ slice_set self.old row bit }
     {
@@ -439,6 +454,7 @@ impl RowBits {
     }
 
     // The word with the bits of a block of 64 rows.
+    #[inline(always)]
     pub fn word(&self, block: usize) -> u64
         requires { 64 * block < length self.now }
         ensures { bits_of (min 64 (length self.now - 64 * block)) result ≡ take 64 (drop (64 * block) self.now) }
@@ -450,7 +466,20 @@ impl RowBits {
     }
 
     // Makes the rows of a block of 64 these bits, and leaves the others.
+    #[inline(always)]
     pub fn set_word(&mut self, block: usize, word: u64)
+        requires { 64 * block < length self.old }
+        ensures { self.new ≡ put_chunk (64 * block) self.old (bits_of (min 64 (length self.old - 64 * block)) word) }
+    {
+        match &mut self.state {
+            State::Written(bits) => bits.set_word(block, word),
+            State::Even { .. } => self.set_unwritten_word(block, word),
+        }
+    }
+
+    // The same, where no word is written yet.
+    #[cold]
+    fn set_unwritten_word(&mut self, block: usize, word: u64)
         requires { 64 * block < length self.old }
         ensures { self.new ≡ put_chunk (64 * block) self.old (bits_of (min 64 (length self.old - 64 * block)) word) }
     {
@@ -462,6 +491,7 @@ impl RowBits {
     }
 
     // The words with the bits of a block of 512 rows.
+    #[inline(always)]
     pub fn block(&self, block: usize) -> [u64; 8]
         requires { 512 * block < length self.now }
         ensures rows { rows_of (block_rows (length self.now) block) result ≡ take 512 (drop (512 * block) self.now) }
@@ -474,7 +504,20 @@ impl RowBits {
     }
 
     // Makes the rows of a block these bits, and leaves the others.
+    #[inline(always)]
     pub fn set_block(&mut self, block: usize, words: &[u64; 8])
+        requires { 512 * block < length self.old }
+        ensures { self.new ≡ put_chunk (512 * block) self.old (rows_of (block_rows (length self.old) block) words.now) }
+    {
+        match &mut self.state {
+            State::Written(bits) => bits.set_block(block, words),
+            State::Even { .. } => self.set_unwritten_block(block, words),
+        }
+    }
+
+    // The same, where no word is written yet.
+    #[cold]
+    fn set_unwritten_block(&mut self, block: usize, words: &[u64; 8])
         requires { 512 * block < length self.old }
         ensures { self.new ≡ put_chunk (512 * block) self.old (rows_of (block_rows (length self.old) block) words.now) }
     {
