@@ -4,3 +4,4 @@ pub mod NumberRanges
 pub mod NullRows
 pub mod ShortNumbers
 pub mod ShortRows
+pub mod Sizes

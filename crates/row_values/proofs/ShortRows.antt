@@ -8,23 +8,17 @@ use Rattle.interval_calc.proofs.Conversions.{same_interval}
 use Rattle.known_column.specs.Columns.{KnownColumn, count_in_block, number_of}
 use Rattle.known_column.specs.KnownTables.{KnownTable}
 use Rattle.query_model.specs.Knowledge.{is_legal, ranges_of}
-use Rattle.query_model.specs.Queries.{Term, Add, Sub, Mul}
+use Rattle.query_model.specs.Queries.{Term}
 use Rattle.query_model.specs.Truths.{Ranges, IsInside, may_be_number, null_of, one_null, span_of}
 use Rattle.query_model.specs.Validity.{declared_ranges}
 use Rattle.query_model.proofs.Spans.{IsSmaller, difference_smaller, product_smaller, sum_smaller}
 use Rattle.row_values.specs.declared.short.ShortInterval.{ShortInterval}
 use Rattle.row_values.specs.declared.short_arithmetic.Operation.{Operation}
 use Rattle.row_values.specs.declared.short_arithmetic.Operation.TheVariants.{Sum, Difference, Product}
-use Rattle.row_values.specs.ShortSpans.{AreResults, AreShortSpans, FitEach, IsShort, IsShortRange, interval_of, result_of}
+use Rattle.row_values.specs.ShortSpans.{AreResults, AreShortSpans, FitEach, FitsShort, IsShort, IsShortRange, interval_of, result_of, term_with}
 use Rattle.row_values.proofs.NullRows.{numbers_both}
 use Rattle.row_values.proofs.NumberRanges.{number_range, unread_digits}
 use Rattle.row_values.proofs.ShortNumbers.{short_inside}
-
--- an expression of two others
-abbrev pub term_with : Operation → Term → Term → Term
-term_with Sum a b = Add a b
-term_with Difference a b = Sub a b
-term_with Product a b = Mul a b
 
 smaller : (operation : Operation) (i i' j j' : Interval) → IsSmaller i i' → IsSmaller j j' → IsSmaller (result_of operation i j) (result_of operation i' j')
 smaller Sum i i' j j' p q = sum_smaller i i' j j' p q
@@ -41,10 +35,16 @@ null_with_both Sum a b ranges = refl
 null_with_both Difference a b ranges = refl
 null_with_both Product a b ranges = refl
 
+both_fit : (operation : Operation) (a b : Term) (ranges : Ranges) → FitsShort (term_with operation a b) ranges → IsShort (result_of operation (span_of a ranges) (span_of b ranges))
+both_fit Sum a b ranges p = p.2
+both_fit Difference a b ranges p = p.2
+both_fit Product a b ranges p = p.2
+
 module _ (operation : Operation) (a b : Term) (table : KnownTable) (block count : ℕ) (left right : List ShortInterval) (rows : count ≡ count_in_block block table.frame.rows)
     (first : AreShortSpans a table block left) (second : AreShortSpans b table block right) where
-  pub fit_each : IsShort (result_of operation (span_of a (declared_ranges table.frame)) (span_of b (declared_ranges table.frame))) → FitEach operation count left right
-  fit_each fits r x y below at at' =
+  pub fit_each : FitsShort (term_with operation a b) (declared_ranges table.frame) → FitEach operation count left right
+  fit_each whole r x y below at at' =
+      let fits = both_fit operation a b (declared_ranges table.frame) whole in
       let within : r < count_in_block block table.frame.rows = omega (arith, rows, below) in
       let p : IsSmaller (interval_of x) (span_of a (declared_ranges table.frame)) = record { ordered = x.ordered; inside = (first r x within at).inside } in
       let q : IsSmaller (interval_of y) (span_of b (declared_ranges table.frame)) = record { ordered = y.ordered; inside = (second r y within at').inside } in

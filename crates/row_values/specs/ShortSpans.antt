@@ -41,6 +41,12 @@ result_of Sum i j = sum_of i j
 result_of Difference i j = difference_of i j
 result_of Product i j = product_of i j
 
+-- an expression of two others
+abbrev pub term_with : Operation → Term → Term → Term
+term_with Sum a b = Add a b
+term_with Difference a b = Sub a b
+term_with Product a b = Mul a b
+
 -- each of the first spans with the second in its place gives an interval of 64 bits
 abbrev pub FitEach : Operation → ℕ → List ShortInterval → List ShortInterval → Type 0
 FitEach operation count left right =

@@ -45,7 +45,9 @@ fn range_of(base: i64, top: i64, unread: u8, digits: u64) -> ShortInterval
     }
 }
 
-// The ranges of a column at a block's rows. At a row that is surely null it is some range inside the declared one.
+// The ranges of a column at a block's rows. At a row that is surely null it is some range inside the declared one. It is a call of its own:
+// else each level of an expression takes room for its numbers.
+#[inline(never)]
 pub(crate) fn column_ranges(known: &Known, block: usize, spans: &mut [ShortInterval; 64])
     requires { 64 * block < rows_of_column known.now }
     ensures { AreShortRanges known.now block spans.new }

@@ -5,7 +5,7 @@ ghost use Rattle.query_model.specs.Meaning.{ReadsBelow};
 ghost use Rattle.query_model.specs.Queries.{term_of};
 ghost use Rattle.query_model.specs.Truths.{span_of};
 ghost use Rattle.query_model.specs.Validity.{declared_ranges};
-ghost use Rattle.row_values.specs.ShortSpans.{interval_of, AreEach, AreShortSpans, FitsShort};
+ghost use Rattle.row_values.specs.ShortSpans.{interval_of, term_with, AreEach, AreShortSpans, FitsShort};
 
 use crate::short::{ShortInterval, ZERO};
 use crate::short_arithmetic::{Operation, join_each, shortened, widened};
@@ -56,7 +56,33 @@ fn repeat(number: i64, spans: &mut [ShortInterval; 64])
     }
 }
 
+// Where what an operation makes of two expressions lies at a block's rows. It is a call of its own, so that a level of the expression
+// takes room for the spans of one part alone.
+#[cycle(short_spans)]
+#[inline(never)]
+fn joined_spans(
+    operation: Operation,
+    left: &Expr,
+    right: &Expr,
+    columns: &LentColumns<'_>,
+    block: usize,
+    spans: &mut [ShortInterval; 64],
+)
+    requires left { ReadsBelow (length columns.now.frame.columns) (term_of left.now) }
+    requires right { ReadsBelow (length columns.now.frame.columns) (term_of right.now) }
+    requires fits { FitsShort (term_with operation (term_of left.now) (term_of right.now)) (declared_ranges columns.now.frame) }
+    requires block { 64 * block < columns.now.frame.rows }
+    ensures { AreShortSpans (term_with operation (term_of left.now) (term_of right.now)) columns.now block spans.new }
+{
+    let count = (columns.rows() - 64 * block).min(64);
+    let mut others = [ZERO; 64];
+    short_spans(left, columns, block, spans);
+    short_spans(right, columns, block, &mut others);
+    join_each(operation, count, spans, &others);
+}
+
 // Where the expression lies at a block's rows. At a row where it is surely null it is some span inside the declared one.
+#[cycle(short_spans)]
 pub(crate) fn short_spans(
     expr: &Expr,
     columns: &LentColumns<'_>,
@@ -68,27 +94,11 @@ pub(crate) fn short_spans(
     requires block { 64 * block < columns.now.frame.rows }
     ensures { AreShortSpans (term_of expr.now) columns.now block spans.new }
 {
-    let count = (columns.rows() - 64 * block).min(64);
     match expr {
         Expr::Column(column) => column_ranges(columns.column(*column as usize), block, spans),
         Expr::Literal(value) => repeat(*value as i64, spans),
-        Expr::Add(a, b) => {
-            let mut right = [ZERO; 64];
-            short_spans(a, columns, block, spans);
-            short_spans(b, columns, block, &mut right);
-            join_each(Operation::Sum, count, spans, &right);
-        }
-        Expr::Sub(a, b) => {
-            let mut right = [ZERO; 64];
-            short_spans(a, columns, block, spans);
-            short_spans(b, columns, block, &mut right);
-            join_each(Operation::Difference, count, spans, &right);
-        }
-        Expr::Mul(a, b) => {
-            let mut right = [ZERO; 64];
-            short_spans(a, columns, block, spans);
-            short_spans(b, columns, block, &mut right);
-            join_each(Operation::Product, count, spans, &right);
-        }
+        Expr::Add(a, b) => joined_spans(Operation::Sum, a, b, columns, block, spans),
+        Expr::Sub(a, b) => joined_spans(Operation::Difference, a, b, columns, block, spans),
+        Expr::Mul(a, b) => joined_spans(Operation::Product, a, b, columns, block, spans),
     }
 }
