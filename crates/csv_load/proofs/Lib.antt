@@ -11,7 +11,9 @@ pub mod NullFacts
 pub mod TableFacts
 pub mod LoadFacts
 pub mod LineFacts
+pub mod ReadSteps
 pub mod StopFacts
+pub mod AnyFacts
 pub mod NumberFacts
 pub mod RaisedFacts
 pub mod PlainFacts

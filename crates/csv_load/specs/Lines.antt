@@ -1,10 +1,16 @@
--- Lines of a text whose fields have no quote inside.
-use Rattle.std.specs.Prelude.{◌≡◌, ◌≢◌, ◌==◌, ◌||◌, ◌⊎◌, Bool, ℕ, ◌≤◌, ◌<◌, ⊤, List, [], length, drop, slice_index_or, Option, Some, None}
+-- The lines of a text: those whose fields have no quote inside, and those in any form.
+use Rattle.std.specs.Prelude.{◌≡◌, ◌≢◌, ◌==◌, ◌||◌, ◌⊎◌, Bool, ℕ, ◌≤◌, ◌<◌, List, [], length, drop, slice_index_or, Option, Some, None}
 use Rattle.csv.specs.Machine.{Read, next_record}
 use Rattle.csv.specs.Reading.{default_config}
+use Rattle.csv.specs.declared.parser.Action.{Action}
+use Rattle.csv.specs.declared.parser.Action.TheVariants as act
 use Rattle.csv.specs.declared.parser.State.{State}
 use Rattle.csv.specs.declared.parser.State.TheVariants as st
 use Rattle.csv_load.specs.Records.{Fields}
+use Rattle.csv_load.specs.declared.any_record.Effect.{Effect}
+use Rattle.csv_load.specs.declared.any_record.Effect.TheVariants.{Passes, Joins, EndsField, EndsRecord}
+use Rattle.csv_load.specs.declared.any_record.Within.{Within}
+use Rattle.csv_load.specs.declared.any_record.Within.TheVariants.{Start, Bare, Quoted, Closed}
 use Rattle.csv_load.specs.declared.lines.Line.{Line}
 use Rattle.csv_load.specs.declared.lines.Line.TheVariants.{End, Ends, Other}
 
@@ -62,8 +68,29 @@ pub record EndsAt (text : List ℕ) (from : ℕ) (fields : Fields) (next : ℕ) 
   pub between : IsBetween state
   pub read : record_at text from ≡ Some (fields, state, drop next text)
 
--- there is no further record, or the next one has these fields and ends before a place; of another line nothing is said
+-- the next line that is not empty begins at a place
+pub record BeginsAt (text : List ℕ) (from at : ℕ) : Type 0 where
+  pub within : at < length text
+  pub passed : record_at text from ≡ record_at text at
+  pub no_feed : slice_index_or text at 0 ≢ 10
+  pub no_return : slice_index_or text at 0 ≢ 13
+
+-- there is no further record, or the next one has these fields and ends before a place, or is not read and begins at a place
 abbrev pub ReadsLine : List ℕ → ℕ → Fields → Line → Type 0
 ReadsLine text from fields End = record_at text from ≡ None
 ReadsLine text from fields (Ends next) = EndsAt text from fields next
-ReadsLine text from fields Other = ⊤
+ReadsLine text from fields (Other at) = BeginsAt text from at
+
+-- where the machine of records is, by the place in a field
+abbrev pub state_within : Within → State
+state_within Start = st.StartField
+state_within Bare = st.InField
+state_within Quoted = st.InQuoted
+state_within Closed = st.AfterQuote
+
+-- what a byte does by the machine of records
+abbrev pub Does : State × Action → Effect → Type 0
+Does did (Passes within) = did ≡ (state_within within, act.Skip)
+Does did (Joins within) = did ≡ (state_within within, act.Copy)
+Does did EndsField = did ≡ (st.StartField, act.EndField)
+Does did EndsRecord = IsBetween did.0 × (did.1 ≡ act.EndRecord)

@@ -19,6 +19,7 @@ use Rattle.daq_table.specs.Dictionaries.{rank_of}
 use Rattle.daq_table.specs.Extremes.{greatest, least}
 use Rattle.daq_table.specs.ColumnFacts.{is_text}
 use Rattle.csv_load.specs.Columns.{IsValue, column_texts, dictionary, is_null, present}
+use Rattle.csv_load.specs.Lines.{EndsAt, record_at}
 use Rattle.csv_load.specs.Kept.{AreFull, fields_at, kept_fields, kept_rows}
 use Rattle.csv_load.specs.Records.{AreRecordsOf, Fields}
 use Rattle.csv_load.specs.Faults.{IsFirstDifference}
@@ -201,6 +202,26 @@ RefusesHeader items fields NoMemory = ⊥
 abbrev pub RefusesRecord : List SchemaItem → Limits → ℕ → List State → Fields → TableFault → Type 0
 RefusesRecord items limits zero old fields fault = RefusesHeader items fields fault
 RefusesRecord items limits (suc rows) old fields fault = RefusesRow items limits rows old fields fault
+
+-- the next record of a text from a place on is taken after so many, and ends before another place
+pub record TakesNext (items : List SchemaItem) (limits : Limits) (records : ℕ) (text : List ℕ) (from : ℕ) (old : List State)
+    (next : ℕ) (new : List State) : Type 0 where
+  pub fields : Fields
+  pub ends : EndsAt text from fields next
+  pub takes : TakesRecord items limits records old fields new
+
+-- there is no next record, and the states stay, or it is taken
+abbrev pub TakesSome : List SchemaItem → Limits → ℕ → List ℕ → ℕ → List State → List State → Option ℕ → Type 0
+TakesSome items limits records text from old new None = (record_at text from ≡ None) × (new ≡ old)
+TakesSome items limits records text from old new (Some next) = TakesNext items limits records text from old next new
+
+-- the next record of a text from a place on is refused after so many
+pub record RefusesNext (items : List SchemaItem) (limits : Limits) (records : ℕ) (text : List ℕ) (from : ℕ) (old : List State)
+    (fault : TableFault) : Type 0 where
+  pub fields : Fields
+  pub next : ℕ
+  pub ends : EndsAt text from fields next
+  pub refuses : RefusesRecord items limits records old fields fault
 
 -- after a header, the rows are good and the states are theirs
 pub record HasRows (items : List SchemaItem) (limits : Limits) (header : Fields) (rows : List Fields) (states : List State)

@@ -1,6 +1,7 @@
 //! Tables from CSV texts under a schema: each fault exactly where it belongs, and else the table that the text stands for.
 #![tactic(auto)]
 
+mod any_record;
 mod building;
 mod column;
 mod exactness;

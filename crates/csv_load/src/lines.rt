@@ -15,8 +15,8 @@ pub(crate) enum Line {
     End,
     /// A record, and the place where the next line begins.
     Ends(usize),
-    /// A line with a quote inside a field, which is not read.
-    Other,
+    /// A line with a quote inside a field, which is not read: the place where it begins.
+    Other(usize),
 }
 
 // A field, and the place where it ends: at a comma, a line break or the end of the text.
@@ -26,8 +26,8 @@ struct Field<'t> {
     end: usize,
 }
 
-// Whether a line ends at the byte.
-fn is_break(byte: u8) -> bool
+/// Whether a line ends at the byte.
+pub(crate) fn is_break(byte: u8) -> bool
     ensures yes { IsTrue result → IsBreak byte }
     ensures no_feed { IsFalse result → byte ≢ 10 }
     ensures no_return { IsFalse result → byte ≢ 13 }
@@ -163,13 +163,14 @@ pub(crate) fn read_line<'t>(
     ensures { IfOk result (λ line. ReadsLine text.now from (held fields.new.items) line) }
 {
     fields.clear();
-    let mut at = line_start(text, from);
-    if at == text.len() {
+    let start = line_start(text, from);
+    if start == text.len() {
         return Ok(Line::End);
     }
+    let mut at = start;
     'fields: loop {
         let Some(field) = read_field(text, at) else {
-            return Ok(Line::Other);
+            return Ok(Line::Other(start));
         };
         fields.push(field.bytes)?;
         if field.end == text.len() {

@@ -1,5 +1,4 @@
 use Rattle.csv_load.proofs.LineFacts.{quotes_field}
-use Rattle.std.proofs.Common.{arith, ◌<◌, length}
 use Rattle.csv_load.proofs.lines.quoted_field.Goals as goal
 
 pub returns-then-ends_field : goal.returns-then-ends_field

@@ -1,21 +1,21 @@
-use Rattle.std.proofs.Common.{◌≡◌, ◌∙◌, ◌≢◌, ◌<◌, Bor, List, ℕ, ap, arith, inl, length, refl}
+use Rattle.std.proofs.Common.{◌∙◌, ◌<◌, Bor, List, ℕ, ap, arith, inl, length, refl}
 use Rattle.std.proofs.lemmas.List.{map-append}
 use Rattle.csv.specs.declared.parser.State.TheVariants as st
 use Rattle.csv_load.specs.Records.{held}
 use Rattle.csv_load.proofs.LineFacts.{comma_field, field_begins, last_field, line_field, none_at_end}
 use Rattle.csv_load.proofs.lines.read_line.Goals as goal
 
-pub returns-then-at-text : goal.returns-then-at-text
-returns-then-at-text c = c.line_start-at.ensures.passed ∙ none_at_end c.args.text.now c.line_start-at.result (omega (arith, c.if-at-text.true))
+pub returns-then-start-text : goal.returns-then-start-text
+returns-then-start-text c = c.line_start-start.ensures.passed ∙ none_at_end c.args.text.now c.line_start-start.result (omega (arith, c.if-start-text.true))
 
 pub fields-init : goal.fields-init
 fields-init c =
     let text = c.args.text.now in
-    let at = c.line_start-at.result in
-    let lt : at < length text = omega (arith, c.if-at-text.false, c.line_start-at.ensures.within) in
+    let at = c.line_start-start.result in
+    let lt : at < length text = omega (arith, c.if-start-text.false, c.line_start-start.ensures.within) in
     record {
-      within = c.line_start-at.ensures.within;
-      read = rw c.clear.ensures.items (c.line_start-at.ensures.passed ∙ field_begins text at lt (c.line_start-at.ensures.no_return lt) (c.line_start-at.ensures.no_feed lt));
+      within = c.line_start-start.ensures.within;
+      read = rw c.clear.ensures.items (c.line_start-start.ensures.passed ∙ field_begins text at lt (c.line_start-start.ensures.no_return lt) (c.line_start-start.ensures.no_feed lt));
     }
 
 pub returns-then-field-text : goal.returns-then-field-text
@@ -48,3 +48,9 @@ fields-preserved c =
       within = omega (arith, lt);
       read = rw fields (c.fields.invariant.read ∙ comma_field text (held c.fields.fields.items) c.fields.at _ c.in-Some.field.end field lt c.if-text-field-ne44.false);
     }
+
+pub returns-in_default : goal.returns-in_default
+returns-in_default c =
+    let start = c.line_start-start.ensures in
+    let lt : c.line_start-start.result < length c.args.text.now = omega (arith, c.if-start-text.false, start.within) in
+    record { within = lt; passed = start.passed; no_feed = start.no_feed lt; no_return = start.no_return lt }
