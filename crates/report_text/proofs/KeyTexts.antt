@@ -36,7 +36,7 @@ low_value ends = record { form = ends.form; value = ends.low }
 abbrev pub high_value : ValueEnds → IntervalEnd
 high_value ends = record { form = ends.form; value = ends.high }
 
-not_by : (c b : ℕ) (same : Bool) → (c == b) ≡ same → is_other b ≡ true → is_other c ≡ false → same ≡ false
+pub not_by : (c b : ℕ) (same : Bool) → (c == b) ≡ same → is_other b ≡ true → is_other c ≡ false → same ≡ false
 not_by c b true e h k = absurd (false≢true (sym k ∙ ap is_other ((Decides-eqb c b).0 e) ∙ h))
 not_by c b false e h k = refl
 
@@ -45,7 +45,7 @@ fails_byte : (b : ℕ) (text : List ℕ) → is_other b ≡ true → Fails is_ot
 fails_byte b [] h k = tt
 fails_byte b (c ∷ cs) h k = (not_by c b (c == b) refl h k.0, fails_byte b cs h k.1)
 
-end_lacks : (w : ℕ) (ws : List ℕ) (end : IntervalEnd) → is_other w ≡ true → IsIntervalEnd end → LacksOutside (w ∷ ws) false (text_of_end end)
+pub end_lacks : (w : ℕ) (ws : List ℕ) (end : IntervalEnd) → is_other w ≡ true → IsIntervalEnd end → LacksOutside (w ∷ ws) false (text_of_end end)
 end_lacks w ws end h k =
     let plain = (end_is_end end k).plain in
     fails_lacks w ws (text_of_end end) (fails_byte 39 (text_of_end end) refl plain) (fails_byte w (text_of_end end) h plain)
@@ -128,11 +128,11 @@ null_lacks ends h = ends_lack 32 (111 ∷ 114 ∷ 32 ∷ 110 ∷ 117 ∷ 108 ∷
 
 -- ---- first bytes
 
-pub first : List ℕ → ℕ
+unfoldable pub first : List ℕ → ℕ
 first [] = 0
 first (c ∷ cs) = c
 
-first_plain : (text rest : List ℕ) → IsEnd text → is_other (first (text ++ rest)) ≡ false
+pub first_plain : (text rest : List ℕ) → IsEnd text → is_other (first (text ++ rest)) ≡ false
 unfolding first
 first_plain [] rest h = absurd (let none = h.some in omega (arith, none))
 first_plain (c ∷ cs) rest h = h.plain.0

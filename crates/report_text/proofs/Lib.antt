@@ -3,11 +3,14 @@ pub mod DateTexts
 pub mod DigitTexts
 pub mod EndPlaces
 pub mod EndTexts
+pub mod KeyIntervals
 pub mod KeyTexts
+pub mod LastOutside
 pub mod NumberTexts
 pub mod OneAnswer
 pub mod OneGroup
 pub mod Outside
 pub mod ReadKeys
 pub mod RoundLines
+pub mod RowTexts
 pub mod ShownTexts

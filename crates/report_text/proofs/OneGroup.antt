@@ -143,7 +143,7 @@ all_one (a ∷ xs) (b ∷ ys) h k e = keys_one a b xs ys h.each k.each e
 
 -- ---- what is known of them
 
-last_one : (xs ys : List ℕ) (a b : ℕ) → xs ++ (a ∷ []) ≡ ys ++ (b ∷ []) → a ≡ b
+pub last_one : (xs ys : List ℕ) (a b : ℕ) → xs ++ (a ∷ []) ≡ ys ++ (b ∷ []) → a ≡ b
 last_one [] [] a b e = cc
 last_one [] (y ∷ []) a b e = absurd cc
 last_one [] (y ∷ z ∷ zs) a b e = absurd cc

@@ -11,7 +11,7 @@ use Rattle.report_text.specs.Quotes.{LacksOutside, begins_outside, place_outside
 -- ---- words
 
 -- a word begins what it stands before
-begins_itself : (word rest : List ℕ) → starts_with ◌==◌ (word ++ rest) word ≡ true
+pub begins_itself : (word rest : List ℕ) → starts_with ◌==◌ (word ++ rest) word ≡ true
 begins_itself word rest = (starts_is Decides-eqb (word ++ rest) word (starts_with ◌==◌ (word ++ rest) word) refl).1 rest refl
 
 place_of_word : (word rest : List ℕ) → 0 < length word → place_outside word false (word ++ rest) ≡ 0

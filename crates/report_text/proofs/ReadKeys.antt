@@ -11,7 +11,7 @@ use Rattle.report_text.proofs.OneGroup.{same_texts, same_values, span_lacks}
 use Rattle.report_text.proofs.Outside.{quoted_lacks}
 use Rattle.report_text.specs.Forms.{text_in}
 use Rattle.report_text.specs.Groups.{AreShownKeys}
-use Rattle.report_text.specs.Keys.{AreShownEnds, AreTextEnds, AreValueEnds, IsShownPart, IsShownSpan, dotted, keys_text, part_text, span_text, text_of_ends}
+use Rattle.report_text.specs.Keys.{AreShownEnds, AreTextEnds, AreValueEnds, HaveTexts, IsShownPart, IsShownSpan, dotted, keys_text, part_text, span_text, text_of_ends}
 use Rattle.report_text.specs.Parted.{IsParted}
 use Rattle.report_text.specs.Quotes.{LacksOutside}
 use Rattle.report_text.specs.Reading.{IsReadTo, others_text}
@@ -49,19 +49,24 @@ module _ (text low high : List ℕ) (around : AreAround text low high) (other : 
   texts_parts ends e =
       around (bytes_eq ends.low ends.high) (quoted_text ends.low) (quoted_text ends.high) (quoted_lacks 46 (46 ∷ []) ends.low refl) (same_texts ends) e
 
-  pub from_texts : (read : Option ShownEnds) (rest : List ℕ) → low ≡ codes "'" ++ rest →
-      ((ends : TextEnds) → AreTextEnds ends → quoted_text ends.low ≡ low → quoted_text ends.high ≡ high → read ≡ Some (Texts ends)) →
-      (ends : ShownEnds) → AreShownEnds ends → text_of_ends ends ≡ text → read ≡ Some ends
-  from_texts read rest quote texts (Values ends) h e = no_quote ends rest h (sym (values_parts ends h e).0 ∙ quote)
-  from_texts read rest quote texts (Texts ends) h e = let parts = texts_parts ends e in texts ends h (sym parts.0) (sym parts.1)
-  from_texts read rest quote texts NoText h e = absurd (other (sym e))
+  pub have_texts : (ends : ShownEnds) → AreShownEnds ends → text_of_ends ends ≡ text → HaveTexts low high ends
+  have_texts (Values ends) h e = let parts = values_parts ends h e in (sym parts.0, sym parts.1)
+  have_texts (Texts ends) h e = let parts = texts_parts ends e in (sym parts.0, sym parts.1)
+  have_texts NoText h e = absurd (other (sym e))
 
-  pub from_values : (read : Option ShownEnds) → ((rest : List ℕ) → low ≢ codes "'" ++ rest) →
-      ((ends : ValueEnds) → AreValueEnds ends → text_in ends.form ends.low ≡ low → text_in ends.form ends.high ≡ high → read ≡ Some (Values ends)) →
-      (ends : ShownEnds) → AreShownEnds ends → text_of_ends ends ≡ text → read ≡ Some ends
-  from_values read none values (Values ends) h e = let parts = values_parts ends h e in values ends h (sym parts.0) (sym parts.1)
-  from_values read none values (Texts ends) h e = absurd (none (flat_map doubled ends.low ++ codes "'") (texts_parts ends e).0)
-  from_values read none values NoText h e = absurd (other (sym e))
+pub from_texts : (low high rest : List ℕ) (read : Option ShownEnds) → low ≡ codes "'" ++ rest →
+    ((ends : TextEnds) → AreTextEnds ends → quoted_text ends.low ≡ low → quoted_text ends.high ≡ high → read ≡ Some (Texts ends)) →
+    (ends : ShownEnds) → AreShownEnds ends → HaveTexts low high ends → read ≡ Some ends
+from_texts low high rest read quote texts (Values ends) h are = no_quote ends rest h (are.0 ∙ quote)
+from_texts low high rest read quote texts (Texts ends) h are = texts ends h are.0 are.1
+from_texts low high rest read quote texts NoText h are = absurd are
+
+pub from_values : (low high : List ℕ) (read : Option ShownEnds) → ((rest : List ℕ) → low ≢ codes "'" ++ rest) →
+    ((ends : ValueEnds) → AreValueEnds ends → text_in ends.form ends.low ≡ low → text_in ends.form ends.high ≡ high → read ≡ Some (Values ends)) →
+    (ends : ShownEnds) → AreShownEnds ends → HaveTexts low high ends → read ≡ Some ends
+from_values low high read none values (Values ends) h are = values ends h are.0 are.1
+from_values low high read none values (Texts ends) h are = absurd (none (flat_map doubled ends.low ++ codes "'") (sym are.0))
+from_values low high read none values NoText h are = absurd are
 
 pub values_are_read : (ends : ValueEnds) (low high : IntervalEnd) → low ≡ low_value ends → high ≡ high_value ends →
     ◌≡◌ {A = ValueEnds} (record { form = low.form; low = low.value; high = high.value }) ends

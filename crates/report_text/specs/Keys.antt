@@ -24,6 +24,12 @@ text_of_ends (Values ends) = dotted (int_eq ends.low ends.high) (text_in ends.fo
 text_of_ends (Texts ends) = dotted (bytes_eq ends.low ends.high) (quoted_text ends.low) (quoted_text ends.high)
 text_of_ends NoText = codes "-"
 
+-- these are the texts of both ends
+abbrev pub HaveTexts : List ℕ → List ℕ → ShownEnds → Type 0
+HaveTexts low high (Values ends) = (text_in ends.form ends.low ≡ low) × (text_in ends.form ends.high ≡ high)
+HaveTexts low high (Texts ends) = (quoted_text ends.low ≡ low) × (quoted_text ends.high ≡ high)
+HaveTexts low high NoText = ⊥
+
 -- what a key may have in a column: values, null, or both
 abbrev pub part_text : Bool → Option ShownEnds → List ℕ
 part_text false None = []

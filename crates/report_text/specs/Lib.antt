@@ -4,6 +4,7 @@ pub mod Bounds
 pub mod Extras
 pub mod Forms
 pub mod Groups
+pub mod Intervals
 pub mod Keys
 pub mod Layouts
 pub mod Lines
@@ -11,4 +12,5 @@ pub mod Numbers
 pub mod Parted
 pub mod Quotes
 pub mod Reading
+pub mod Rows
 pub mod Words

@@ -1,5 +1,7 @@
 -- Texts in quotes, and the words of a text that stand outside of them.
 use Rattle.std.specs.Prelude.{◌≡◌, ℕ, suc, ◌==◌, ◌&&◌, not, Bool, true, false, List, [], ◌∷◌, ◌++◌, if◌then◌else◌}
+use Rattle.std.specs.declared.option.Option.{Option}
+use Rattle.std.specs.declared.option.Option.TheVariants.{Some, None}
 use Rattle.std.specs.List.{starts_with}
 
 -- a quote begins what is quoted, or ends it
@@ -21,6 +23,27 @@ abbrev pub LacksOutside : List ℕ → Bool → List ℕ → Type 0
 LacksOutside word quoted [] = quoted ≡ false
 LacksOutside word quoted (c ∷ cs) =
     ((rest : List ℕ) → begins_outside word quoted (c ∷ (cs ++ rest)) ≡ false) × LacksOutside word (turned c quoted) cs
+
+-- an odd number of quotes stands in the text
+abbrev pub is_open : List ℕ → Bool
+is_open [] = false
+is_open (c ∷ cs) = turned c (is_open cs)
+
+-- a place one further, else this one if it is one
+abbrev pub place_here : Option ℕ → Bool → Option ℕ
+place_here (Some further) here = Some (suc further)
+place_here None true = Some 0
+place_here None false = None
+
+-- the place of the last such word behind which each quote is ended
+abbrev pub last_outside : List ℕ → List ℕ → Option ℕ
+last_outside word [] = None
+last_outside word (c ∷ cs) = place_here (last_outside word cs) (begins_outside word (is_open (c ∷ cs)) (c ∷ cs))
+
+-- a word that does not begin with a quote
+abbrev pub IsWord : List ℕ → Type 0
+IsWord [] = ⊥
+IsWord (c ∷ cs) = (c == 39) ≡ false
 
 -- the text without each second quote
 abbrev pub undoubled : Bool → List ℕ → List ℕ

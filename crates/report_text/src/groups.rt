@@ -1,6 +1,6 @@
 //! The lines of groups, read back: which keys they show, and whether these are in the result for certain.
 
-ghost use Rattle.std.specs.Prelude.{◌≡◌, ◌≢◌, ◌++◌, ℕ, List, Bool, codes, Some, IfOk, IfSome, MatchOption, OnOk, true, false, length};
+ghost use Rattle.std.specs.Prelude.{◌≡◌, ◌++◌, ℕ, List, Bool, codes, Some, IfOk, IfSome, OnOk, true, false, length};
 ghost use Rattle.std.specs.List.{All};
 ghost use Rattle.report_text.specs.Groups.{AreShownKeys, HasPresence, IsShownGroup, group_line, presence_text};
 ghost use Rattle.report_text.specs.Keys.{IsShownSpan, keys_text};
@@ -9,7 +9,7 @@ ghost use Rattle.report_text.specs.declared.groups.GroupLine.{GroupLine};
 ghost use Rattle.report_text.specs.declared.keys.ShownSpan.{ShownSpan};
 
 use crate::keys::{ShownSpan, append_span, read_span};
-use crate::layouts::behind;
+use crate::layouts::{before, behind};
 use crate::quotes::around_outside;
 use daq_table::{Listed, Text};
 use std::alloc::{AllocError, Global};
@@ -45,13 +45,6 @@ fn read_keys(alloc: Global, text: &[u8]) -> Result<Option<ShownKeys>, AllocError
         }
         None => Ok(None),
     }
-}
-
-// What stands before a word that the text ends with.
-fn before<'a>(text: &'a [u8], word: &[u8]) -> Option<&'a [u8]>
-    ensures { MatchOption result ((front : List ℕ) → text.now ≢ front ++ word.now) (λ front. text.now ≡ front.now ++ word.now) }
-{
-    text.strip_suffix(word)
 }
 
 // What stands before the word on whether keys are in the result for certain, and what it says.

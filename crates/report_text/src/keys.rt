@@ -5,7 +5,7 @@ ghost use Rattle.std.specs.Cmp.Lexicographic.{slice_cmp};
 ghost use Rattle.std.specs.Ordering.{is_le, nat_cmp};
 ghost use Rattle.daq_table.specs.ValueTexts.{quoted_text};
 ghost use Rattle.report_text.specs.Forms.{IsIntervalEnd, text_in};
-ghost use Rattle.report_text.specs.Keys.{AreShownEnds, AreTextEnds, AreValueEnds, IsShownSpan, dotted, span_text, text_of_ends};
+ghost use Rattle.report_text.specs.Keys.{AreShownEnds, AreTextEnds, AreValueEnds, HaveTexts, IsShownSpan, dotted, span_text, text_of_ends};
 ghost use Rattle.report_text.specs.Quotes.{LacksOutside};
 ghost use Rattle.report_text.specs.declared.forms.IntervalEnd.{IntervalEnd};
 ghost use Rattle.report_text.specs.declared.keys.ShownEnds.{ShownEnds};
@@ -115,6 +115,21 @@ fn around_dots(text: &[u8]) -> (&[u8], &[u8])
     }
 }
 
+// The values between two ends with these texts.
+pub(crate) fn read_between(
+    alloc: Global,
+    low: &[u8],
+    high: &[u8],
+) -> Result<Option<ShownEnds>, AllocError>
+    ensures shown { IfOk result (λ read. IfSome read AreShownEnds) }
+    ensures read { IfOk result (λ read. (ends : ShownEnds) → AreShownEnds ends → HaveTexts low.now high.now ends → read ≡ Some ends) }
+{
+    match behind(low, b"'") {
+        Some(_) => read_texts(alloc, low, high),
+        None => Ok(read_values(low, high)),
+    }
+}
+
 // The values whose text this is.
 fn read_ends(alloc: Global, text: &[u8]) -> Result<Option<ShownEnds>, AllocError>
     ensures shown { IfOk result (λ read. IfSome read AreShownEnds) }
@@ -124,14 +139,11 @@ fn read_ends(alloc: Global, text: &[u8]) -> Result<Option<ShownEnds>, AllocError
         return Ok(Some(ShownEnds::NoText));
     }
     let (low, high) = around_dots(text);
-    match behind(low, b"'") {
-        Some(_) => read_texts(alloc, low, high),
-        None => Ok(read_values(low, high)),
-    }
+    read_between(alloc, low, high)
 }
 
 // The span of these values.
-fn with_null(null: bool, ends: Option<ShownEnds>) -> Option<ShownSpan>
+pub(crate) fn with_null(null: bool, ends: Option<ShownEnds>) -> Option<ShownSpan>
     requires { IfSome ends AreShownEnds }
     ensures shown { IfSome result IsShownSpan }
     ensures is { (shown : ShownEnds) → ends ≡ Some shown → result ≡ Some (record { null = null; ends = Some shown }) }

@@ -25,6 +25,13 @@ pub(crate) fn behind<'a>(text: &'a [u8], word: &[u8]) -> Option<&'a [u8]>
     text.strip_prefix(word)
 }
 
+// What stands before a word that the text ends with.
+pub(crate) fn before<'a>(text: &'a [u8], word: &[u8]) -> Option<&'a [u8]>
+    ensures { MatchOption result ((front : List ℕ) → text.now ≢ front ++ word.now) (λ front. text.now ≡ front.now ++ word.now) }
+{
+    text.strip_suffix(word)
+}
+
 // The place of the first byte that stands in no number.
 fn first_other(text: &[u8]) -> Option<usize>
     ensures { result ≡ position is_other text.now }

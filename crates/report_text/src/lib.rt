@@ -11,12 +11,14 @@ mod digits;
 mod extras;
 mod forms;
 mod groups;
+mod intervals;
 mod keys;
 mod laws;
 mod layouts;
 mod lines;
 mod numbers;
 mod quotes;
+mod rows;
 
 pub use answers::{Answer, read_answer, written_answer};
 pub use averages::{Ratio, ShownAverage, read_average, written_average};
@@ -30,3 +32,4 @@ pub use lines::{
     ReportEnd, is_round_line, read_end, read_item, read_parts, text_of_item, written_item,
 };
 pub use numbers::{Number, read_number};
+pub use rows::{RowLine, RowName, TopLine, read_row, read_top, written_row, written_top};

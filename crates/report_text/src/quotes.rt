@@ -1,9 +1,9 @@
 //! Texts in quotes, and the words of a text that stand outside of them.
 
-ghost use Rattle.std.specs.Prelude.{◌≡◌, ◌<◌, ◌≤◌, ◌++◌, ℕ, List, Some, None, IfOk, IfSome, OnOk, false, length};
+ghost use Rattle.std.specs.Prelude.{◌≡◌, ◌<◌, ◌≤◌, ◌++◌, ℕ, List, Some, None, IfOk, IfSome, OnOk, drop, false, length};
 ghost use Rattle.daq_table.specs.ValueTexts.{quoted_text};
 ghost use Rattle.report_text.specs.Parted.{IsParted};
-ghost use Rattle.report_text.specs.Quotes.{LacksOutside, begins_outside, place_outside, turned, undoubled};
+ghost use Rattle.report_text.specs.Quotes.{IsWord, LacksOutside, begins_outside, last_outside, place_outside, turned, undoubled};
 
 use crate::layouts::behind;
 use daq_table::Text;
@@ -49,6 +49,35 @@ pub(crate) fn around_outside<'a>(text: &'a [u8], word: &[u8]) -> Option<(&'a [u8
     ensures shorter { IfSome result (λ around. length around.1.now < length text.now) }
 {
     let place = place_outside(text, word);
+    let rest = behind(&text[place..], word)?;
+    Some((&text[..place], rest))
+}
+
+// The place of the last such word behind which each quote is ended.
+fn last_outside(text: &[u8], word: &[u8]) -> Option<usize>
+    ensures place { result ≡ last_outside word.now text.now }
+    ensures within { IfSome result (λ place. place < length text.now) }
+{
+    let mut quoted = false;
+    let mut place = text.len();
+    while place > 0 {
+        place -= 1;
+        quoted = turned(text[place], quoted);
+        if begins_outside(word, quoted, &text[place..]) {
+            return Some(place);
+        }
+    }
+    None
+}
+
+// What stands before the last such word behind which each quote is ended, and behind it.
+pub(crate) fn around_last<'a>(text: &'a [u8], word: &[u8]) -> Option<(&'a [u8], &'a [u8])>
+    requires { IsWord word.now }
+    ensures parted { (front rest : List ℕ) → LacksOutside word.now false (drop 1 word.now ++ rest) → front ++ (word.now ++ rest) ≡ text.now
+        → IsParted front rest result }
+    ensures whole { LacksOutside word.now false text.now → result ≡ None }
+{
+    let place = last_outside(text, word)?;
     let rest = behind(&text[place..], word)?;
     Some((&text[..place], rest))
 }

@@ -1,6 +1,6 @@
 use Rattle.std.proofs.lemmas.Bool.Decides.{Decides-eqb}
 use Rattle.std.proofs.lemmas.Slice.Eq.{strip_suffix_is}
-use Rattle.report_text.proofs.groups.before.Goals as goal
+use Rattle.report_text.proofs.layouts.before.Goals as goal
 
 pub returns : goal.returns
 returns c = strip_suffix_is Decides-eqb c.args.text.now c.args.word.now _ c.strip_suffix.ensures.cases
