@@ -1,6 +1,6 @@
 //! The lines of groups, read back: which keys they show, and whether these are in the result for certain.
 
-ghost use Rattle.std.specs.Prelude.{◌≡◌, ◌++◌, ℕ, List, Bool, codes, Some, IfOk, IfSome, OnOk, true, false, length};
+ghost use Rattle.std.specs.Prelude.{◌≡◌, ◌++◌, ℕ, List, Bool, codes, Some, IfOk, IfSome, OnOk, true, false};
 ghost use Rattle.std.specs.List.{All};
 ghost use Rattle.report_text.specs.Groups.{AreShownKeys, HasPresence, IsShownGroup, group_line, presence_text};
 ghost use Rattle.report_text.specs.Keys.{IsShownSpan, keys_text};

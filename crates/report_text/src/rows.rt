@@ -1,7 +1,6 @@
 //! The lines of first rows, read back: how many there are, and of each its number, its standing, and where its sort key lies.
 
-ghost use Rattle.std.specs.Prelude.{◌≡◌, ◌<◌, ◌≤◌, ◌^◌, ◌++◌, ℕ, List, Option, Some, IfOk, IfSome, OnOk, codes, decimal, false, length};
-ghost use Rattle.report_text.specs.Intervals.{key_interval};
+ghost use Rattle.std.specs.Prelude.{◌≡◌, ◌≤◌, ◌++◌, ℕ, List, Some, IfOk, IfSome, OnOk, codes, false, length};
 ghost use Rattle.report_text.specs.Keys.{IsShownSpan};
 ghost use Rattle.report_text.specs.Parted.{IsParted};
 ghost use Rattle.report_text.specs.Quotes.{LacksOutside};
