@@ -69,12 +69,19 @@ pub record LacksTexts (count : ℕ) (kinds : List ItemKind) (parts : List (List 
 abbrev pub ShareColumns : ℕ → List (List Group) → Type 0
 ShareColumns count parts = (forms : List (Option EndsForm)) × AreSharedForms Columns count parts forms
 
--- the first column that lines write in two forms, or, where columns share forms, the first such item; or an item that is too wide
+-- so they do of the columns and of the items
+abbrev pub ShareForms : ℕ → List ItemKind → List (List Group) → Type 0
+ShareForms count kinds parts =
+    (columns : List (Option EndsForm)) × (items : List (Option EndsForm)) × AreForms count kinds parts columns items
+
+-- the first column that lines write in two forms; where columns share forms, the first such item; or, where items do too, an item that is
+-- too wide
 abbrev pub IsCombineFault : CombineFault → ℕ → List ItemKind → List (List Group) → Type 0
 IsCombineFault NoMemory count kinds parts = Unit {0}
 IsCombineFault (OtherColumn column) count kinds parts = IsFirstOther Columns column count parts
 IsCombineFault (OtherItem item) count kinds parts = ShareColumns count parts × IsFirstOther Items item (length kinds) parts
-IsCombineFault (TooWide item) count kinds parts = LeavesRange kinds parts item ⊎ LacksTexts count kinds parts item
+IsCombineFault (TooWide item) count kinds parts =
+    ShareForms count kinds parts × (LeavesRange kinds parts item ⊎ LacksTexts count kinds parts item)
 
 -- the same, of the steps
 
