@@ -175,16 +175,16 @@ order_free task lines others text end i h = record { parts = h.parts; told = tel
 writes_one : (wanted : Wanted) (parts : List Told) (round : ℕ) (a b : List ℕ) (e f : Option ReportEnd) → Writes wanted parts round a e →
     Writes wanted parts round b f → (b ≡ a) × (f ≡ e)
 writes_one wanted parts round a b e f (waits r h) (waits s k) = (refl, refl)
-writes_one wanted parts round a b e f (waits r h) (ends s end has last) = absurd (false≢true (sym h ∙ has))
-writes_one wanted parts round a b e f (waits r h) (goes s rest end has none k) = absurd (false≢true (sym h ∙ has))
-writes_one wanted parts round a b e f (ends r end has last) (waits s k) = absurd (false≢true (sym k ∙ has))
-writes_one wanted parts round a b e f (ends r end has last) (ends s other here later) =
+writes_one wanted parts round a b e f (waits r h) (ends s end has said last) = absurd (false≢true (sym h ∙ has))
+writes_one wanted parts round a b e f (waits r h) (goes s rest end has said none k) = absurd (false≢true (sym h ∙ has))
+writes_one wanted parts round a b e f (ends r end has said last) (waits s k) = absurd (false≢true (sym k ∙ has))
+writes_one wanted parts round a b e f (ends r end has said last) (ends s other here said_now later) =
     let same : other ≡ end = some_same other end (sym later ∙ last) in
     (ap (λ (x : ReportEnd). block_text round wanted.shape parts ++ end_text x) same, ap (λ (x : ReportEnd). Some x) same)
-writes_one wanted parts round a b e f (ends r end has last) (goes s rest other here none k) = absurd (none-some end (sym none ∙ last))
-writes_one wanted parts round a b e f (goes r rest end has none h) (waits s k) = absurd (false≢true (sym k ∙ has))
-writes_one wanted parts round a b e f (goes r rest end has none h) (ends s other here last) = absurd (none-some other (sym none ∙ last))
-writes_one wanted parts round a b e f (goes r rest end has none h) (goes s more other here off k) =
+writes_one wanted parts round a b e f (ends r end has said last) (goes s rest other here said_now none k) = absurd (none-some end (sym none ∙ last))
+writes_one wanted parts round a b e f (goes r rest end has said none h) (waits s k) = absurd (false≢true (sym k ∙ has))
+writes_one wanted parts round a b e f (goes r rest end has said none h) (ends s other here said_now last) = absurd (none-some other (sym none ∙ last))
+writes_one wanted parts round a b e f (goes r rest end has said none h) (goes s more other here said_now off k) =
     let behind = writes_one wanted parts (round + 1) rest more end other h k in
     (ap (λ (x : List ℕ). block_text round wanted.shape parts ++ x) behind.0, behind.1)
 

@@ -1,5 +1,5 @@
 -- The course of a combination: what was written stays as it is with each line more, and goes on as the definition says.
-use Rattle.std.proofs.Common.{◌≡◌, ◌≢◌, ◌⊎◌, ℕ, zero, suc, ◌+◌, ◌-◌, ◌<◌, ◌≤◌, ◌==◌, max, nat_le, nat_lt, Bool, true, false, ◌&&◌, ◌||◌, if◌then◌else◌, Option, Some, None, is_none, Result, Ok, Err, OnOk, IfErr, List, [], ◌∷◌, ◌++◌, codes, length, refl, sym, ap, subst, ◌∙◌, inl, inr, arith, append-nil}
+use Rattle.std.proofs.Common.{◌≡◌, ◌≢◌, ◌⊎◌, ℕ, zero, suc, ◌+◌, ◌-◌, ◌<◌, ◌≤◌, ◌==◌, max, nat_le, nat_lt, Bool, true, false, ◌&&◌, ◌||◌, if◌then◌else◌, Option, Some, None, is_none, Result, Ok, Err, OnOk, List, [], ◌∷◌, ◌++◌, codes, length, refl, sym, ap, subst, ◌∙◌, inl, inr, arith, append-nil}
 use Rattle.std.proofs.lemmas.Bool.{and_parts, false≢true}
 use Rattle.std.proofs.lemmas.Bool.Decides.{nat_tests}
 use Rattle.std.proofs.lemmas.List.{append_assoc}
@@ -9,17 +9,18 @@ use Rattle.std.specs.declared.cmp.Ordering.{Ordering}
 use Rattle.std.specs.declared.cmp.Ordering.TheVariants.{Less, Equal, Greater}
 use Rattle.report_text.specs.declared.lines.ReportEnd.{ReportEnd}
 use Rattle.report_text.specs.declared.lines.ReportEnd.TheVariants.{Narrow, Rounds}
-use Rattle.report_parts.proofs.FromRounds.{all_both, block_fault_too, cases_lt, refused_too, same_block_over, same_count, same_end_of_all, same_has, same_over_all, takes_tagged_too}
-use Rattle.report_parts.proofs.Grows.{all_keep, only_grow, same_block_over as kept_block_over}
+use Rattle.report_parts.proofs.FromRounds.{all_both, block_fault_too, cases_lt, refused_too, said_too, same_block_over, same_count, same_end_of_all, same_has, same_over_all, takes_tagged_too}
+use Rattle.report_parts.proofs.Grows.{all_keep, only_grow, said_stays, same_block_over as kept_block_over}
 use Rattle.report_parts.proofs.Kept.{not_all_yet}
 use Rattle.report_parts.proofs.Ordered.{tag_is}
 use Rattle.report_parts.proofs.Stays.{follows}
 use Rattle.report_parts.specs.Course.{Adds, Course, GoesOnTo, Holds, IsAhead, IsLineFault, IsOpen, IsStopped, IsText, IsWritten, Moves, Passes, Rests, Stands, StandsIsCombined, Stops, StopsBy, TakesLine, Task, Tell, is_over_before, wanted_of}
 use Rattle.report_parts.specs.Ends.{end_behind, end_of_all}
+use Rattle.report_parts.specs.Faults.{CanSay, IsBlockFault}
 use Rattle.report_parts.specs.Laws.{AllReach}
 use Rattle.report_parts.specs.Laws.Reaches.{goes as reaches, stays as remains}
 use Rattle.report_parts.specs.Passed.{AllTellFrom}
-use Rattle.report_parts.specs.Reports.{IsBlockFault, block_lines, block_text, blocks_text}
+use Rattle.report_parts.specs.Reports.{block_lines, block_text, blocks_text}
 use Rattle.report_parts.specs.Rounds.{has_block, is_ended, is_over}
 use Rattle.report_parts.specs.Tags.{IsRefused, TakesTagged, against, behind_tag, by_order, tag_of, told_of, with_part}
 use Rattle.report_parts.specs.Told.{Takes, Told, nothing_told}
@@ -80,7 +81,7 @@ all_reach query shape parts line next h few =
 
 -- ---- what was written stays
 
-yes_or_no : (b : Bool) → (b ≡ true) ⊎ (b ≡ false)
+pub yes_or_no : (b : Bool) → (b ≡ true) ⊎ (b ≡ false)
 yes_or_no true = inl refl
 yes_or_no false = inr refl
 
@@ -88,6 +89,7 @@ pub passes_on : (query : List ℕ) (wanted : Wanted) (parts laters : List Told) 
     Passes wanted parts round text → Passes wanted laters round text
 passes_on query wanted parts laters round text h p = record {
   has = λ r below. all_keep query wanted.shape r parts laters h (p.has r below);
+  said = λ r below. said_stays query wanted.shape r parts laters h (p.has r below) (p.said r below);
   wide = λ r below. ap (λ (block : Block). wanted.narrow block) (kept_block_over query wanted.shape r parts laters h (p.has r below)) ∙ p.wide r below;
   more = p.more;
   goes = λ r below. elim (yes_or_no (list_all (is_over r) laters)) [
@@ -101,6 +103,7 @@ pub none_passed : (wanted : Wanted) (parts : List Told) → Passes wanted parts 
 unfolding blocks_text
 none_passed wanted parts = record {
   has = λ r below. absurd (omega (arith, below));
+  said = λ r below. absurd (omega (arith, below));
   wide = λ r below. absurd (omega (arith, below));
   more = λ r below. absurd (omega (arith, below));
   goes = λ r below. absurd (omega (arith, below));
@@ -110,25 +113,26 @@ none_passed wanted parts = record {
 -- ---- the whole text, from the first round on
 
 writes_back : (wanted : Wanted) (parts : List Told) (round : ℕ) (rest : List ℕ) (end : Option ReportEnd) →
-    ((r : ℕ) → r < round → list_all (has_block r) parts ≡ true) → ((r : ℕ) → r < round → end_at wanted r parts ≡ None) →
-    Writes wanted parts round rest end → Writes wanted parts 0 (blocks_text round wanted.shape parts ++ rest) end
+    ((r : ℕ) → r < round → list_all (has_block r) parts ≡ true) → ((r : ℕ) → r < round → CanSay r wanted.shape parts) →
+    ((r : ℕ) → r < round → end_at wanted r parts ≡ None) → Writes wanted parts round rest end → Writes wanted parts 0 (blocks_text round wanted.shape parts ++ rest) end
 unfolding blocks_text
-writes_back wanted parts zero rest end has opened w = w
-writes_back wanted parts (suc round) rest end has opened w =
+writes_back wanted parts zero rest end has said opened w = w
+writes_back wanted parts (suc round) rest end has said opened w =
     let one : suc round ≡ round + 1 = omega arith in
     let behind = subst (λ (n : ℕ). Writes wanted parts n rest end) one w in
-    let here = goes_behind round rest end (has round (omega arith)) (opened round (omega arith)) behind in
-    let first = writes_back wanted parts round (block_text round wanted.shape parts ++ rest) end (λ r below. has r (omega (arith, below))) (λ r below. opened r (omega (arith, below))) here in
+    let here = goes_behind round rest end (has round (omega arith)) (said round (omega arith)) (opened round (omega arith)) behind in
+    let first = writes_back wanted parts round (block_text round wanted.shape parts ++ rest) end (λ r below. has r (omega (arith, below)))
+    (λ r below. said r (omega (arith, below))) (λ r below. opened r (omega (arith, below))) here in
     subst (λ (text : List ℕ). Writes wanted parts 0 text end) (sym (append_assoc (blocks_text round wanted.shape parts) (block_text round wanted.shape parts) rest)) first
 
-goes_on : (wanted : Wanted) (parts : List Told) (round : ℕ) → is_narrow_at wanted round parts ≡ false → wanted.last round ≡ false →
+pub goes_on : (wanted : Wanted) (parts : List Told) (round : ℕ) → is_narrow_at wanted round parts ≡ false → wanted.last round ≡ false →
     list_all (is_over round) parts ≡ false → end_at wanted round parts ≡ None
 goes_on wanted parts round narrow last over = rw (narrow, last, over) refl
 
 over_at : (parts : List Told) (round : ℕ) (r : ℕ) → round ≡ suc r → is_over_before round parts ≡ false → list_all (is_over r) parts ≡ false
 over_at parts round r e h = subst (λ (n : ℕ). is_over_before n parts ≡ false) e h
 
-all_go : (wanted : Wanted) (parts : List Told) (round : ℕ) (text : List ℕ) → Passes wanted parts round text → is_over_before round parts ≡ false →
+pub all_go : (wanted : Wanted) (parts : List Told) (round : ℕ) (text : List ℕ) → Passes wanted parts round text → is_over_before round parts ≡ false →
     (r : ℕ) → r < round → list_all (is_over r) parts ≡ false
 all_go wanted parts round text p before r below = elim (cases_lt (r + 1) round) [
   | inl less ↦ p.goes r less
@@ -140,7 +144,7 @@ pub writes_rest : (wanted : Wanted) (parts : List Told) (round : ℕ) (text rest
     is_over_before round parts ≡ false → Writes wanted parts round rest end → Writes wanted parts 0 (text ++ rest) end
 writes_rest wanted parts round text rest end p before w =
     subst (λ (front : List ℕ). Writes wanted parts 0 (front ++ rest) end) (sym p.is_text)
-    (writes_back wanted parts round rest end p.has (λ r below. goes_on wanted parts r (p.wide r below) (p.more r below) (all_go wanted parts round text p before r below)) w)
+    (writes_back wanted parts round rest end p.has p.said (λ r below. goes_on wanted parts r (p.wide r below) (p.more r below) (all_go wanted parts round text p before r below)) w)
 
 -- where no part goes on behind the last block
 pub writes_over : (wanted : Wanted) (parts : List Told) (round : ℕ) (text : List ℕ) → Passes wanted parts round text → is_over_before round parts ≡ true →
@@ -150,19 +154,21 @@ writes_over wanted parts zero text p before = absurd (false≢true before)
 writes_over wanted parts (suc round) text p before =
     let end = end_of_all parts in
     let there : end_at wanted round parts ≡ Some end = rw (p.wide round (omega arith), p.more round (omega arith), before) refl in
-    let here = ends round end (p.has round (omega arith)) there in
+    let here = ends round end (p.has round (omega arith)) (p.said round (omega arith)) there in
     let first = writes_back wanted parts round (block_text round wanted.shape parts ++ end_text end) (Some end) (λ r below. p.has r (omega (arith, below)))
+    (λ r below. p.said r (omega (arith, below)))
     (λ r below. goes_on wanted parts r (p.wide r (omega (arith, below))) (p.more r (omega (arith, below))) (p.goes r (omega (arith, below)))) here in
     subst (λ (front : List ℕ). Writes wanted parts 0 (front ++ end_text end) (Some end)) (sym p.is_text)
     (subst (λ (whole : List ℕ). Writes wanted parts 0 whole (Some end)) (sym (append_assoc (blocks_text round wanted.shape parts) (block_text round wanted.shape parts) (end_text end))) first)
 
 -- a block more
 pub passes_more : (wanted : Wanted) (parts : List Told) (round : ℕ) (text : List ℕ) → Passes wanted parts round text → is_over_before round parts ≡ false →
-    list_all (has_block round) parts ≡ true → is_narrow_at wanted round parts ≡ false → wanted.last round ≡ false →
+    list_all (has_block round) parts ≡ true → CanSay round wanted.shape parts → is_narrow_at wanted round parts ≡ false → wanted.last round ≡ false →
     Passes wanted parts (round + 1) (text ++ block_text round wanted.shape parts)
 unfolding blocks_text
-passes_more wanted parts round text p before has narrow last = record {
+passes_more wanted parts round text p before has said narrow last = record {
   has = λ r below. there (λ (r : ℕ). list_all (has_block r) parts ≡ true) r below p.has has;
+  said = λ r below. there (λ (r : ℕ). CanSay r wanted.shape parts) r below p.said said;
   wide = λ r below. there (λ (r : ℕ). is_narrow_at wanted r parts ≡ false) r below p.wide narrow;
   more = λ r below. there (λ (r : ℕ). wanted.last r ≡ false) r below p.more last;
   goes = λ r below. all_go wanted parts round text p before r (omega (arith, below));
@@ -321,23 +327,23 @@ pub same_over_before : (from round : ℕ) (wholes parts : List Told) → AllTell
 same_over_before from zero wholes parts h = refl
 same_over_before from (suc round) wholes parts h = same_over_all from round wholes parts h
 
-ends_at : (wanted : Wanted) (parts : List Told) (round : ℕ) (end : ReportEnd) → list_all (has_block round) parts ≡ true →
+ends_at : (wanted : Wanted) (parts : List Told) (round : ℕ) (end : ReportEnd) → list_all (has_block round) parts ≡ true → CanSay round wanted.shape parts →
     end_at wanted round parts ≡ Some end → Writes wanted parts round (block_text round wanted.shape parts ++ end_text end) (Some end)
-ends_at wanted parts round end has there = ends round end has there
+ends_at wanted parts round end has said there = ends round end has said there
 
 -- the block of the round is the last
 pub round_ends : (old new : Course) (wholes : List Told) (text before : List ℕ) (end : ReportEnd) → new.task ≡ old.task → new.end ≡ Some end →
     IsAhead old wholes text → is_over_before old.round wholes ≡ false → list_all (has_block old.round) old.parts ≡ true →
-    end_at (wanted_of old.task) old.round old.parts ≡ Some end →
+    CanSay old.round old.task.shape old.parts → end_at (wanted_of old.task) old.round old.parts ≡ Some end →
     Moves new wholes text before ((before ++ block_text old.round old.task.shape old.parts) ++ end_text end)
-round_ends old new wholes text before end t e ahead goes has there =
+round_ends old new wholes text before end t e ahead goes has said there =
     let wanted = wanted_of old.task in
     let block = block_text old.round old.task.shape old.parts in
     let same = same_text old.round old.round old.task.shape wholes old.parts (omega arith) ahead.kept in
     let has_all : list_all (has_block old.round) wholes ≡ true = sym (same_has old.round old.round wholes old.parts ahead.kept) ∙ has in
     let there_too : end_at wanted old.round wholes ≡ Some end = sym (same_end_at wanted old.round wholes old.parts ahead.kept) ∙ there in
     let last : Writes wanted wholes old.round (block_text old.round old.task.shape wholes ++ end_text end) (Some end) =
-    ends_at wanted wholes old.round end has_all there_too in
+    ends_at wanted wholes old.round end has_all (said_too old.round old.task.shape wholes old.parts ahead.kept said) there_too in
     let whole : Writes wanted wholes 0 (text ++ (block ++ end_text end)) (Some end) =
     subst (λ (b : List ℕ). Writes wanted wholes 0 (text ++ (b ++ end_text end)) (Some end)) (sym same)
     (writes_rest wanted wholes old.round text (block_text old.round old.task.shape wholes ++ end_text end) (Some end) ahead.passed goes last) in
@@ -367,14 +373,15 @@ more_behind wanted round parts none = (open_parts (is_narrow_at wanted round par
 -- the report goes on behind the block of the round
 pub round_goes : (old new : Course) (wholes : List Told) (text before : List ℕ) → new.task ≡ old.task → new.end ≡ None → GoesOnTo old new →
     IsAhead old wholes text → is_over_before old.round wholes ≡ false → list_all (has_block old.round) old.parts ≡ true →
-    end_at (wanted_of old.task) old.round old.parts ≡ None → Moves new wholes text before (before ++ block_text old.round old.task.shape old.parts)
-round_goes old new wholes text before t e on ahead goes has none =
+    CanSay old.round old.task.shape old.parts → end_at (wanted_of old.task) old.round old.parts ≡ None → Moves new wholes text before (before ++ block_text old.round old.task.shape old.parts)
+round_goes old new wholes text before t e on ahead goes has said none =
     let wanted = wanted_of old.task in
     let block = block_text old.round old.task.shape old.parts in
     let same = same_text old.round old.round old.task.shape wholes old.parts (omega arith) ahead.kept in
     let opened = open_parts (is_narrow_at wanted old.round wholes) (wanted.last old.round) (list_all (is_over old.round) wholes) (end_of_all wholes)
     (sym (same_end_at wanted old.round wholes old.parts ahead.kept) ∙ none) in
-    let more = passes_more wanted wholes old.round text ahead.passed goes (sym (same_has old.round old.round wholes old.parts ahead.kept) ∙ has) opened.narrow opened.last in
+    let more = passes_more wanted wholes old.round text ahead.passed goes (sym (same_has old.round old.round wholes old.parts ahead.kept) ∙ has)
+    (said_too old.round old.task.shape wholes old.parts ahead.kept said) opened.narrow opened.last in
     let next : suc old.round ≡ new.round = omega (arith, on.round) in
     record {
       more = block;
@@ -462,8 +469,9 @@ adds_rests mid new lines text before after t all writes h =
 -- ---- a block that is not written
 
 pub stops_here : (why : BlockFault) (old : Course) (wholes : List Told) (text before : List ℕ) → list_all (has_block old.round) old.parts ≡ true →
-    IsBlockFault why old.round old.task.shape old.parts → IsAhead old wholes text → StopsBy why old.task wholes text before before
-stops_here why old wholes text before has fault ahead = by_case why (block_fault_too why old.round old.task.shape wholes old.parts ahead.kept fault)
+    IsBlockFault why old.round old.task.shape old.parts → IsAhead old wholes text → is_over_before old.round wholes ≡ false →
+    StopsBy why old.task wholes text before before
+stops_here why old wholes text before has fault ahead goes = by_case why (block_fault_too why old.round old.task.shape wholes old.parts ahead.kept fault)
   where
     stopped : (why : BlockFault) → IsBlockFault why old.round old.task.shape wholes → Stops old.task wholes text before before why
     stopped why refused = record {
@@ -471,6 +479,7 @@ stops_here why old wholes text before has fault ahead = by_case why (block_fault
       more = [];
       put = sym (append-nil before);
       passed = subst (λ (t : List ℕ). Passes (wanted_of old.task) wholes old.round t) (sym (append-nil text)) ahead.passed;
+      goes = goes;
       has = sym (same_has old.round old.round wholes old.parts ahead.kept) ∙ has;
       fault = refused;
     }
@@ -492,6 +501,7 @@ stops_behind why task wholes text more before mid after put h = by_case why h
       more = more ++ h.more;
       put = h.put ∙ ap (λ (t : List ℕ). t ++ h.more) put ∙ append_assoc before more h.more;
       passed = subst (λ (t : List ℕ). Passes (wanted_of task) wholes h.round t) (append_assoc text more h.more) h.passed;
+      goes = h.goes;
       has = h.has;
       fault = h.fault;
     }
@@ -501,9 +511,6 @@ stops_behind why task wholes text more before mid after put h = by_case why h
     by_case (OtherDecimals item) h = stopped (OtherDecimals item) h
     by_case (TooWide item) h = stopped (TooWide item) h
     by_case NoMemory h = tt
-
-pub no_memory : (why : BlockFault) (task : Task) (wholes : List Told) (text before after : List ℕ) → why ≡ NoMemory → StopsBy why task wholes text before after
-no_memory why task wholes text before after e = subst (λ (w : BlockFault). StopsBy w task wholes text before after) (sym e) tt
 
 pub line_fault : (why : InputFault) (old : Course) (lines : List (List ℕ)) (text line : List ℕ) → old.end ≡ None →
     IsRefused why old.task.query old.task.shape old.task.count old.parts line → Stands old lines text → IsLineFault old.task lines line why
@@ -591,20 +598,17 @@ pub ok_both : {E : Type 0} {P Q R : Type 0} (r : Result (Unit {0}) E) → OnOk r
 ok_both (Ok done) p q f = f p q
 ok_both (Err why) p q f = tt
 
-pub err_each : {E : Type 0} {P Q : E → Type 0} (r : Result (Unit {0}) E) → IfErr r P → ((why : E) → P why → Q why) → IfErr r Q
-err_each (Ok done) p f = tt
-err_each (Err why) p f = f why p
-
 -- the block and the end are put behind the text
 pub wrote_end : (old new : Course) (end : ReportEnd) (r : Result (Unit {0}) BlockFault) (before mid after block : List ℕ) → new.task ≡ old.task →
     mid ≡ before ++ block → block ≡ block_text old.round old.task.shape old.parts → OnOk r (new.end ≡ Some end) → OnOk r (after ≡ mid ++ end_text end) →
-    list_all (has_block old.round) old.parts ≡ true → end_at (wanted_of old.task) old.round old.parts ≡ Some end →
+    list_all (has_block old.round) old.parts ≡ true → CanSay old.round old.task.shape old.parts →
+    end_at (wanted_of old.task) old.round old.parts ≡ Some end →
     OnOk r ((wholes : List Told) (text : List ℕ) → IsAhead old wholes text → is_over_before old.round wholes ≡ false → Moves new wholes text before after)
-wrote_end old new end r before mid after block t m b ended put has last =
+wrote_end old new end r before mid after block t m b ended put has said last =
     ok_both r ended put (λ e p wholes text ahead goes.
     let whole : after ≡ (before ++ block_text old.round old.task.shape old.parts) ++ end_text end =
     p ∙ ap (λ (x : List ℕ). x ++ end_text end) (m ∙ ap (λ (x : List ℕ). before ++ x) b) in
-    subst (λ (x : List ℕ). Moves new wholes text before x) (sym whole) (round_ends old new wholes text before end t e ahead goes has last))
+    subst (λ (x : List ℕ). Moves new wholes text before x) (sym whole) (round_ends old new wholes text before end t e ahead goes has said last))
 
 pub on_goes : (old new : Course) (r : Result (Unit {0}) BlockFault) → OnOk r (new.round ≡ old.round + 1) → OnOk r (AllTellFrom new.round old.parts new.parts) →
     end_at (wanted_of old.task) old.round old.parts ≡ None → OnOk r (GoesOnTo old new)
@@ -613,12 +617,13 @@ on_goes old new r round kept none =
 
 pub wrote_block : (old new : Course) (r : Result (Unit {0}) BlockFault) (before mid block : List ℕ) → new.task ≡ old.task → new.end ≡ None →
     mid ≡ before ++ block → block ≡ block_text old.round old.task.shape old.parts → OnOk r (GoesOnTo old new) →
-    list_all (has_block old.round) old.parts ≡ true → end_at (wanted_of old.task) old.round old.parts ≡ None →
+    list_all (has_block old.round) old.parts ≡ true → CanSay old.round old.task.shape old.parts →
+    end_at (wanted_of old.task) old.round old.parts ≡ None →
     OnOk r ((wholes : List Told) (text : List ℕ) → IsAhead old wholes text → is_over_before old.round wholes ≡ false → Moves new wholes text before mid)
-wrote_block old new r before mid block t e m b on has none =
+wrote_block old new r before mid block t e m b on has said none =
     ok_both r on on (λ g h wholes text ahead goes.
     let whole : mid ≡ before ++ block_text old.round old.task.shape old.parts = m ∙ ap (λ (x : List ℕ). before ++ x) b in
-    subst (λ (x : List ℕ). Moves new wholes text before x) (sym whole) (round_goes old new wholes text before t e g ahead goes has none))
+    subst (λ (x : List ℕ). Moves new wholes text before x) (sym whole) (round_goes old new wholes text before t e g ahead goes has said none))
 
 pub wrote_over : (old new : Course) (end : ReportEnd) (r : Result (Unit {0}) BlockFault) (before after : List ℕ) → new.task ≡ old.task →
     end ≡ end_of_all old.parts → is_over_before old.round old.parts ≡ true → OnOk r (new.end ≡ Some end) → OnOk r (after ≡ before ++ end_text end) →
@@ -628,11 +633,6 @@ wrote_over old new end r before after t same over ended put =
     let whole : after ≡ before ++ end_text (end_of_all old.parts) = p ∙ ap (λ (x : ReportEnd). before ++ end_text x) same in
     subst (λ (x : List ℕ). Rests new wholes text before x) (sym whole)
     (over_ends old new wholes text before t (e ∙ ap (λ (x : ReportEnd). Some x) same) over ahead))
-
--- no memory came of it
-pub none_stops : (task : Task) (r : Result (Unit {0}) BlockFault) (old : Course) (before after : List ℕ) → IfErr r (λ why. why ≡ NoMemory) →
-    IfErr r (λ why. (wholes : List Told) (text : List ℕ) → IsAhead old wholes text → StopsBy why task wholes text before after)
-none_stops task r old before after h = err_each r h (λ why e wholes text ahead. no_memory why task wholes text before after e)
 
 -- the rounds have come to an end
 pub rounds_rest : (old new : Course) (before after : List ℕ) → (is_none new.end && list_all (has_block new.round) new.parts) ≡ false →
@@ -659,13 +659,13 @@ rounds_move old mid new before between after e first second wholes text ahead =
 -- a block more is not written
 pub rounds_stop : (why : BlockFault) (old mid : Course) (before between after : List ℕ) → mid.task ≡ old.task → mid.end ≡ None →
     ((wholes : List Told) (text : List ℕ) → IsAhead old wholes text → Moves mid wholes text before between) →
-    ((wholes : List Told) (text : List ℕ) → IsAhead mid wholes text → StopsBy why mid.task wholes text between after) →
+    ((wholes : List Told) (text : List ℕ) → IsAhead mid wholes text → is_over_before mid.round wholes ≡ false → StopsBy why mid.task wholes text between after) →
     (wholes : List Told) (text : List ℕ) → IsAhead old wholes text → StopsBy why old.task wholes text before after
 rounds_stop why old mid before between after t e moves stops wholes text ahead =
     let done = moves wholes text ahead in
     let opened = subst (λ (o : Option ReportEnd). IsWritten o mid wholes (text ++ done.more)) e done.written in
     subst (λ (task : Task). StopsBy why task wholes text before after) t
-    (stops_behind why mid.task wholes text done.more before between after done.put (stops wholes (text ++ done.more) opened.0))
+    (stops_behind why mid.task wholes text done.more before between after done.put (stops wholes (text ++ done.more) opened.0 opened.1))
 
 -- the round that follows is not behind the last, where the report goes on
 pub still_goes : (old new : Course) → GoesOnTo old new → is_over_before new.round new.parts ≡ false

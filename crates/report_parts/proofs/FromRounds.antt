@@ -14,14 +14,14 @@ use Rattle.query_model.specs.declared.query.ItemKind.TheVariants.{Avg}
 use Rattle.report_text.specs.Extras.{IsRowsLine, extra_line}
 use Rattle.report_text.specs.Lines.{IsRoundLine, item_line}
 use Rattle.report_text.specs.declared.groups.GroupLine.{GroupLine}
+use Rattle.report_parts.proofs.Said.{fault_as, said_as}
 use Rattle.report_parts.specs.Ends.{end_of_all, ends_narrow}
+use Rattle.report_parts.specs.Faults.{CanSay, IsBlockFault}
 use Rattle.report_parts.specs.Passed.{AllTellFrom, TellsFrom}
-use Rattle.part_groups.specs.Combined.{IsCombineFault}
 use Rattle.part_groups.specs.Whole.{groups_over}
 use Rattle.report_parts.specs.Blocks.{groups_of, entries_of, no_block}
-use Rattle.report_parts.specs.Combined.{AreAlikeEntries, FitEntries}
 use Rattle.report_parts.specs.Entries.{answers_of, ends_with_extra, last_entry, no_entry}
-use Rattle.report_parts.specs.Reports.{IsBlockFault, IsFaultBy, IsTotalsFault, block_by, block_over, entries_over, of_groups}
+use Rattle.report_parts.specs.Reports.{block_by, block_over, entries_over}
 use Rattle.report_parts.specs.Rounds.{all_groups_in, groups_in, entries_in, entry_in, has_block, is_over}
 use Rattle.report_parts.specs.Tags.{AreInOrder, CannotTake, IsLineRefused, IsRefused, TakesTagged, against, behind_tag, by_order, tag_of, told_of, with_part}
 use Rattle.report_parts.specs.Told.{Answers, BeginsGroup, Closes, Extends, GoesOn, GroupsGoOn, OrElse, PassesBehind, PassesBehindSection, PassesInside, Takes, TakesAt, TakesBehind, TakesBehindAnswer, TakesBetween, TakesInside, TakesRest, Told, at_place, block_done, closed, closed_by, completed, completed_by, is_whole, nothing_told, opened_by, settled, with_answer, with_current, with_extra, with_group}
@@ -32,7 +32,6 @@ use Rattle.report_parts.specs.declared.closing.Closing.{Closing}
 use Rattle.report_parts.specs.declared.closing.Closing.TheVariants.{Unknown}
 use Rattle.report_parts.specs.declared.entry.Entry.{Entry}
 use Rattle.report_parts.specs.declared.fault.BlockFault.{BlockFault}
-use Rattle.report_parts.specs.declared.fault.BlockFault.TheVariants.{OtherColumn, NoMemory as NoBlock, OtherDecimals, TooWide}
 use Rattle.report_parts.specs.declared.fault.InputFault.{InputFault}
 use Rattle.report_parts.specs.declared.fault.InputFault.TheVariants.{Line, NoTab, NoTag, OtherPart}
 use Rattle.report_parts.specs.declared.fault.LineFault.{LineFault}
@@ -645,29 +644,15 @@ refused_too (Line why) query shape most round wholes parts line h refused = (
       (told_of_too round (tag_of line) wholes parts h) refused.1,
 )
 
--- a block that is not written
-totals_fault_too : (why : BlockFault) (round : ℕ) (kinds : List ItemKind) (wholes parts : List Told) → AllTellFrom round wholes parts →
-    IsTotalsFault why round kinds parts → IsTotalsFault why round kinds wholes
-totals_fault_too (OtherColumn column) round kinds wholes parts h refused = absurd refused
-totals_fault_too (OtherDecimals item) round kinds wholes parts h refused =
-    subst (λ (entries : List Entry). ¬ AreAlikeEntries entries) (same_in round round item wholes parts (omega arith) h) refused
-totals_fault_too (TooWide item) round kinds wholes parts h refused = record {
-  kind = refused.kind;
-  there = refused.there;
-  alike = subst (λ (entries : List Entry). AreAlikeEntries entries) (same_in round round item wholes parts (omega arith) h) refused.alike;
-  wide = subst (λ (entries : List Entry). ¬ FitEntries refused.kind entries) (same_in round round item wholes parts (omega arith) h) refused.wide;
-}
-totals_fault_too NoBlock round kinds wholes parts h refused = tt
-
-fault_too_by : (columns : ℕ) (why : BlockFault) (round : ℕ) (kinds : List ItemKind) (wholes parts : List Told) → AllTellFrom round wholes parts →
-    IsFaultBy columns why round kinds parts → IsFaultBy columns why round kinds wholes
-fault_too_by zero why round kinds wholes parts h refused = totals_fault_too why round kinds wholes parts h refused
-fault_too_by (suc columns) why round kinds wholes parts h refused =
-    subst (λ (all : List (List GroupTold)). IsCombineFault (of_groups why) (suc columns) kinds all) (same_groups round round wholes parts (omega arith) h) refused
+-- a block that can be written, and one that is not
+pub said_too : (round : ℕ) (shape : Shape) (wholes parts : List Told) → AllTellFrom round wholes parts → CanSay round shape parts → CanSay round shape wholes
+said_too round shape wholes parts h said =
+    said_as round shape.kinds parts wholes (λ item. sym (same_in round round item wholes parts (omega arith) h)) (sym (same_groups round round wholes parts (omega arith) h)) shape.columns said
 
 pub block_fault_too : (why : BlockFault) (round : ℕ) (shape : Shape) (wholes parts : List Told) → AllTellFrom round wholes parts →
     IsBlockFault why round shape parts → IsBlockFault why round shape wholes
-block_fault_too why round shape wholes parts h refused = fault_too_by shape.columns why round shape.kinds wholes parts h refused
+block_fault_too why round shape wholes parts h refused =
+    fault_as round shape.kinds parts wholes (λ item. sym (same_in round round item wholes parts (omega arith) h)) (sym (same_groups round round wholes parts (omega arith) h)) shape.columns why refused
 
 -- ---- a block among those that are kept
 

@@ -1,26 +1,25 @@
 -- That what all parts have told stays in the combined report.
-use Rattle.std.proofs.Common.{◌≡◌, ℕ, zero, suc, ◌+◌, true, List, [], ◌∷◌, ◌++◌, codes, get_or, refl, sym, ap, subst, ◌∙◌, arith}
+use Rattle.std.proofs.Common.{◌≡◌, ℕ, zero, suc, ◌+◌, true, List, [], ◌∷◌, ◌++◌, codes, get_or, refl, ap, ◌∙◌, arith}
 use Rattle.std.proofs.lemmas.Bool.{and_parts}
 use Rattle.std.specs.List.{list_all}
 use Rattle.query_model.specs.declared.query.ItemKind.{ItemKind}
+use Rattle.report_parts.proofs.Said.{fault_as, said_as}
 use Rattle.report_parts.proofs.Stays.{blocks_stay}
-use Rattle.part_groups.specs.Combined.{IsCombineFault}
 use Rattle.part_groups.specs.Whole.{groups_over}
 use Rattle.part_groups.specs.declared.group.Group.{Group as GroupTold}
 use Rattle.report_text.specs.Lines.{round_words}
 use Rattle.report_parts.specs.Blocks.{groups_of, entries_of}
-use Rattle.report_parts.specs.Combined.{AreAlikeEntries, FitEntries}
 use Rattle.report_parts.specs.Entries.{no_entry}
+use Rattle.report_parts.specs.Faults.{CanSay, IsBlockFault}
 use Rattle.report_parts.specs.Laws.{AllReach, KeepsBlock, Reaches, ReportsOnlyGrow}
 use Rattle.report_parts.specs.Laws.Reaches.{goes, stays}
-use Rattle.report_parts.specs.Reports.{AreTold, IsBlockFault, IsFaultBy, IsTotalsFault, block_by, block_lines, block_over, block_text, blocks_text, entries_over, of_groups}
+use Rattle.report_parts.specs.Reports.{AreTold, block_by, block_lines, block_over, block_text, blocks_text, entries_over}
 use Rattle.report_parts.specs.Rounds.{all_groups_in, groups_in, entries_in, entry_in, has_block}
 use Rattle.report_parts.specs.Told.{Told}
 use Rattle.report_parts.specs.declared.block.Block.{Block}
 use Rattle.report_parts.specs.declared.block.Block.TheVariants.{Groups, Totals}
 use Rattle.report_parts.specs.declared.entry.Entry.{Entry}
 use Rattle.report_parts.specs.declared.fault.BlockFault.{BlockFault}
-use Rattle.report_parts.specs.declared.fault.BlockFault.TheVariants.{NoMemory, OtherColumn, OtherDecimals, TooWide}
 use Rattle.report_parts.specs.declared.shape.Shape.{Shape}
 
 -- a part keeps the block that it has told
@@ -93,32 +92,17 @@ same_blocks query shape zero parts laters h are = refl
 same_blocks query shape (suc rounds) parts laters h are =
     rw (same_blocks query shape rounds parts laters h (λ round below. are round (omega (arith, below))), same_block query shape rounds parts laters h (are rounds (omega arith))) refl
 
--- a block that is not written
-totals_fault_stays : (query : List ℕ) (shape : Shape) (why : BlockFault) (round : ℕ) (kinds : List ItemKind) (parts laters : List Told) →
-    AllReach query shape parts laters → list_all (has_block round) parts ≡ true → IsTotalsFault why round kinds parts → IsTotalsFault why round kinds laters
-totals_fault_stays query shape (OtherColumn column) round kinds parts laters h has refused = absurd refused
-totals_fault_stays query shape (OtherDecimals item) round kinds parts laters h has refused =
-    subst (λ (entries : List Entry). ¬ AreAlikeEntries entries) (sym (same_entries query shape round item parts laters h has)) refused
-totals_fault_stays query shape (TooWide item) round kinds parts laters h has refused =
-    let same = sym (same_entries query shape round item parts laters h has) in
-    record {
-      kind = refused.kind;
-      there = refused.there;
-      alike = subst (λ (entries : List Entry). AreAlikeEntries entries) same refused.alike;
-      wide = subst (λ (entries : List Entry). ¬ FitEntries refused.kind entries) same refused.wide;
-    }
-totals_fault_stays query shape NoMemory round kinds parts laters h has refused = tt
-
-fault_stays_by : (query : List ℕ) (shape : Shape) (columns : ℕ) (why : BlockFault) (round : ℕ) (kinds : List ItemKind) (parts laters : List Told) →
-    AllReach query shape parts laters → list_all (has_block round) parts ≡ true → IsFaultBy columns why round kinds parts →
-    IsFaultBy columns why round kinds laters
-fault_stays_by query shape zero why round kinds parts laters h has refused = totals_fault_stays query shape why round kinds parts laters h has refused
-fault_stays_by query shape (suc columns) why round kinds parts laters h has refused =
-    subst (λ (all : List (List GroupTold)). IsCombineFault (of_groups why) (suc columns) kinds all) (sym (same_groups query shape round parts laters h has)) refused
+-- a block that can be written, and one that is not
+pub said_stays : (query : List ℕ) (shape : Shape) (round : ℕ) (parts laters : List Told) → AllReach query shape parts laters →
+    list_all (has_block round) parts ≡ true → CanSay round shape parts → CanSay round shape laters
+said_stays query shape round parts laters h has said =
+    said_as round shape.kinds parts laters (λ item. same_entries query shape round item parts laters h has) (same_groups query shape round parts laters h has) shape.columns said
 
 pub fault_stays : (query : List ℕ) (shape : Shape) (why : BlockFault) (round : ℕ) (parts laters : List Told) → AllReach query shape parts laters →
     list_all (has_block round) parts ≡ true → IsBlockFault why round shape parts → IsBlockFault why round shape laters
-fault_stays query shape why round parts laters h has refused = fault_stays_by query shape shape.columns why round shape.kinds parts laters h has refused
+fault_stays query shape why round parts laters h has refused =
+    fault_as round shape.kinds parts laters (λ item. same_entries query shape round item parts laters h has) (same_groups query shape round parts laters h has) shape.columns why
+    refused
 
 pub only_grow : ReportsOnlyGrow
 only_grow query shape rounds parts laters h are = record {

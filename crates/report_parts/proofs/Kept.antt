@@ -122,8 +122,8 @@ none_behind_yet query shape false false false true round parts laters end o n h 
 nothing_yet : (wanted : Wanted) (parts : List Told) (round : ℕ) (text : List ℕ) (end : Option ReportEnd) → Writes wanted parts round text end →
     list_all (has_block round) parts ≡ false → text ≡ []
 nothing_yet wanted parts round text end (waits r h) fails = refl
-nothing_yet wanted parts round text end (ends r e has there) fails = absurd (false≢true (sym fails ∙ has))
-nothing_yet wanted parts round text end (goes r rest e has there k) fails = absurd (false≢true (sym fails ∙ has))
+nothing_yet wanted parts round text end (ends r e has said there) fails = absurd (false≢true (sym fails ∙ has))
+nothing_yet wanted parts round text end (goes r rest e has said there k) fails = absurd (false≢true (sym fails ∙ has))
 
 -- whether the block is narrow does not change
 pub same_end : (query : List ℕ) (wanted : Wanted) (round : ℕ) (parts laters : List Told) → AllReach query wanted.shape parts laters →
@@ -144,9 +144,9 @@ some_same a b e = cc
 
 pub written_stays : WrittenStays
 written_stays query wanted parts laters round text longer end later h (waits r fails) now = record { more = longer; split = refl }
-written_stays query wanted parts laters round text longer end later h (ends r e has there) (waits s fails) =
+written_stays query wanted parts laters round text longer end later h (ends r e has said there) (waits s fails) =
     absurd (false≢true (sym fails ∙ all_keep query wanted.shape round parts laters h has))
-written_stays query wanted parts laters round text longer end later h (ends r e has there) (ends s other now f) =
+written_stays query wanted parts laters round text longer end later h (ends r e has said there) (ends s other now said_now f) =
     let same : other ≡ e = some_same other e (sym f ∙ end_stays query wanted round parts laters e h has there) in
     record {
       more = [];
@@ -155,11 +155,11 @@ written_stays query wanted parts laters round text longer end later h (ends r e 
           ∙ ap (λ (block : List ℕ). block ++ end_text e) (same_block query wanted.shape round parts laters h has)
           ∙ sym (append-nil (block_text round wanted.shape parts ++ end_text e));
     }
-written_stays query wanted parts laters round text longer end later h (ends r e has there) (goes s rest behind now none k) =
+written_stays query wanted parts laters round text longer end later h (ends r e has said there) (goes s rest behind now said_now none k) =
     absurd (none-some e (sym none ∙ end_stays query wanted round parts laters e h has there))
-written_stays query wanted parts laters round text longer end later h (goes r rest behind has none k) (waits s fails) =
+written_stays query wanted parts laters round text longer end later h (goes r rest behind has said none k) (waits s fails) =
     absurd (false≢true (sym fails ∙ all_keep query wanted.shape round parts laters h has))
-written_stays query wanted parts laters round text longer end later h (goes r rest behind has none k) (ends s e now f) =
+written_stays query wanted parts laters round text longer end later h (goes r rest behind has said none k) (ends s e now said_now f) =
     let narrow = is_narrow_at wanted round parts in
     let nothing : rest ≡ [] =
     nothing_yet wanted parts (round + 1) rest behind k
@@ -173,7 +173,7 @@ written_stays query wanted parts laters round text longer end later h (goes r re
           ∙ ap (λ (block : List ℕ). block ++ tail) (sym (append-nil (block_text round wanted.shape parts)))
           ∙ ap (λ (behind : List ℕ). (block_text round wanted.shape parts ++ behind) ++ tail) (sym nothing);
     }
-written_stays query wanted parts laters round text longer end later h (goes r rest behind has none k) (goes s rest_now behind_now now none_now k_now) =
+written_stays query wanted parts laters round text longer end later h (goes r rest behind has said none k) (goes s rest_now behind_now now said_now none_now k_now) =
     let after = written_stays query wanted parts laters (round + 1) rest rest_now behind behind_now h k k_now in
     record {
       more = after.more;

@@ -10,6 +10,8 @@ pub mod Headlines
 pub mod Keyed
 pub mod Kept
 pub mod Ordered
+pub mod Reached
+pub mod Said
 pub mod Splits
 pub mod Stays
 pub mod Telling

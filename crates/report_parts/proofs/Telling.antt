@@ -206,30 +206,30 @@ ended_all task lines text end h =
 has_when_some : (wanted : Wanted) (parts : List Told) (round : ℕ) (text : List ℕ) (o : Option ReportEnd) (end : ReportEnd) → Writes wanted parts round text o → o ≡ Some end →
     list_all (has_block round) parts ≡ true
 has_when_some wanted parts round text o end (waits r h) e = absurd (none-some end e)
-has_when_some wanted parts round text o end (ends r other has there) e = has
-has_when_some wanted parts round text o end (goes r rest behind has none k) e = has
+has_when_some wanted parts round text o end (ends r other has said there) e = has
+has_when_some wanted parts round text o end (goes r rest behind has said none k) e = has
 
 stays_ended : (query : List ℕ) (wanted : Wanted) (parts laters : List Told) (round : ℕ) (text longer : List ℕ) (o later : Option ReportEnd) (end : ReportEnd) →
     AllReach query wanted.shape parts laters → Writes wanted parts round text o → o ≡ Some end → Writes wanted laters round longer later →
     (longer ≡ text) × (later ≡ Some end)
 stays_ended query wanted parts laters round text longer o later end h (waits r fails) e now = absurd (none-some end e)
-stays_ended query wanted parts laters round text longer o later end h (ends r mine has there) e (waits s fails) =
+stays_ended query wanted parts laters round text longer o later end h (ends r mine has said there) e (waits s fails) =
     absurd (false≢true (sym fails ∙ all_keep query wanted.shape round parts laters h has))
-stays_ended query wanted parts laters round text longer o later end h (ends r mine has there) e (ends s other now f) =
+stays_ended query wanted parts laters round text longer o later end h (ends r mine has said there) e (ends s other now said_now f) =
     let same : other ≡ mine = some_same other mine (sym f ∙ end_stays query wanted round parts laters mine h has there) in (
       ap (λ (x : ReportEnd). block_text round wanted.shape laters ++ end_text x) same
           ∙ ap (λ (block : List ℕ). block ++ end_text mine) (same_block query wanted.shape round parts laters h has),
       ap (λ (x : ReportEnd). Some x) same ∙ e,
     )
-stays_ended query wanted parts laters round text longer o later end h (ends r mine has there) e (goes s rest behind now none k) =
+stays_ended query wanted parts laters round text longer o later end h (ends r mine has said there) e (goes s rest behind now said_now none k) =
     absurd (none-some mine (sym none ∙ end_stays query wanted round parts laters mine h has there))
-stays_ended query wanted parts laters round text longer o later end h (goes r rest behind has none k) e (waits s fails) =
+stays_ended query wanted parts laters round text longer o later end h (goes r rest behind has said none k) e (waits s fails) =
     absurd (false≢true (sym fails ∙ all_keep query wanted.shape round parts laters h has))
-stays_ended query wanted parts laters round text longer o later end h (goes r rest behind has none k) e (ends s mine now f) =
+stays_ended query wanted parts laters round text longer o later end h (goes r rest behind has said none k) e (ends s mine now said_now f) =
     let gone = none_behind_yet query wanted.shape (is_narrow_at wanted round parts) (wanted.last round) (list_all (is_over round) parts) (list_all (is_over round) laters) round parts laters mine
     refl refl h none (sym (same_end query wanted round parts laters h has) ∙ f) in
     absurd (false≢true (sym gone ∙ has_when_some wanted parts (round + 1) rest behind end k e))
-stays_ended query wanted parts laters round text longer o later end h (goes r rest behind has none k) e (goes s rest_now behind_now now none_now k_now) =
+stays_ended query wanted parts laters round text longer o later end h (goes r rest behind has said none k) e (goes s rest_now behind_now now said_now none_now k_now) =
     let after = stays_ended query wanted parts laters (round + 1) rest rest_now behind behind_now end h k e k_now in (
       ap (λ (block : List ℕ). block ++ rest_now) (same_block query wanted.shape round parts laters h has)
           ∙ ap (λ (x : List ℕ). block_text round wanted.shape parts ++ x) after.0,

@@ -5,9 +5,10 @@ use Rattle.std.specs.declared.option.Option.TheVariants.{Some, None}
 use Rattle.std.specs.List.{list_all}
 use Rattle.report_text.specs.Lines.{parts_line}
 use Rattle.report_text.specs.declared.lines.ReportEnd.{ReportEnd}
+use Rattle.report_parts.specs.Faults.{CanSay, IsBlockFault}
 use Rattle.report_parts.specs.Narrowness.{is_narrow}
 use Rattle.report_parts.specs.Passed.{AllTellFrom}
-use Rattle.report_parts.specs.Reports.{IsBlockFault, blocks_text}
+use Rattle.report_parts.specs.Reports.{blocks_text}
 use Rattle.report_parts.specs.Rounds.{has_block, is_over}
 use Rattle.report_parts.specs.Tags.{IsRefused, TakesTagged, tag_of}
 use Rattle.report_parts.specs.Told.{Told}
@@ -84,9 +85,10 @@ pub record Course : Type 0 where
   pub round : ℕ
   pub end : Option ReportEnd
 
--- so many blocks were written, and the report goes on behind each
+-- so many blocks were written, each of which can be, and the report goes on behind each
 pub record Passes (wanted : Wanted) (parts : List Told) (round : ℕ) (text : List ℕ) : Type 0 where
   pub has : (r : ℕ) → r < round → list_all (has_block r) parts ≡ true
+  pub said : (r : ℕ) → r < round → CanSay r wanted.shape parts
   pub wide : (r : ℕ) → r < round → is_narrow_at wanted r parts ≡ false
   pub more : (r : ℕ) → r < round → wanted.last r ≡ false
   pub goes : (r : ℕ) → r + 1 < round → list_all (is_over r) parts ≡ false
@@ -171,12 +173,13 @@ pub record IsLineFault (task : Task) (lines : List (List ℕ)) (line : List ℕ)
   pub told : Tell task [] lines parts
   pub refused : IsRefused why task.query task.shape task.count parts line
 
--- the blocks before a round are written, and that of the round is not
+-- the blocks before a round are written, the report goes on behind them, and the block of the round is not written
 pub record Stops (task : Task) (parts : List Told) (text before after : List ℕ) (why : BlockFault) : Type 0 where
   pub round : ℕ
   pub more : List ℕ
   pub put : after ≡ before ++ more
   pub passed : Passes (wanted_of task) parts round (text ++ more)
+  pub goes : is_over_before round parts ≡ false
   pub has : list_all (has_block round) parts ≡ true
   pub fault : IsBlockFault why round task.shape parts
 

@@ -3,6 +3,7 @@ pub mod Combined
 pub mod Course
 pub mod Ends
 pub mod Entries
+pub mod Faults
 pub mod GroupHeadline
 pub mod Headline
 pub mod Keyed

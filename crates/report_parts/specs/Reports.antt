@@ -1,5 +1,5 @@
 -- The text of a combined report, by what its parts have told.
-use Rattle.std.specs.Prelude.{◌≡◌, slice_get, ℕ, zero, suc, ◌+◌, ◌<◌, true, List, [], ◌∷◌, ◌++◌, codes, length}
+use Rattle.std.specs.Prelude.{◌≡◌, ℕ, zero, suc, ◌+◌, ◌<◌, true, List, [], ◌∷◌, ◌++◌, codes, length}
 use Rattle.std.specs.List.{All, list_all}
 use Rattle.std.specs.declared.option.Option.{Option}
 use Rattle.std.specs.declared.option.Option.TheVariants.{Some, None}
@@ -7,11 +7,9 @@ use Rattle.query_model.specs.declared.query.ItemKind.{ItemKind}
 use Rattle.report_text.specs.Extras.{extra_line}
 use Rattle.report_text.specs.Lines.{item_line, parts_line, round_words}
 use Rattle.report_text.specs.declared.answers.Answer.{Answer}
-use Rattle.report_parts.specs.Combined.{AreAlikeEntries, FitEntries, HasEntryTexts, entry_over}
-use Rattle.part_groups.specs.Combined.{IsCombineFault, IsShown}
+use Rattle.report_parts.specs.Combined.{HasEntryTexts, entry_over}
+use Rattle.part_groups.specs.Combined.{IsShown}
 use Rattle.part_groups.specs.Whole.{groups_over}
-use Rattle.part_groups.specs.declared.fault.CombineFault.{CombineFault as GroupsFault}
-use Rattle.part_groups.specs.declared.fault.CombineFault.TheVariants as groups
 use Rattle.part_groups.specs.declared.group.Group.{Group}
 use Rattle.report_text.specs.Groups.{group_line}
 use Rattle.report_parts.specs.Rounds.{all_groups_in, entries_in, has_block}
@@ -19,8 +17,6 @@ use Rattle.report_parts.specs.Told.{Told}
 use Rattle.report_parts.specs.declared.block.Block.{Block}
 use Rattle.report_parts.specs.declared.block.Block.TheVariants.{Groups, Totals}
 use Rattle.report_parts.specs.declared.entry.Entry.{Entry}
-use Rattle.report_parts.specs.declared.fault.BlockFault.{BlockFault}
-use Rattle.report_parts.specs.declared.fault.BlockFault.TheVariants.{NoMemory, OtherColumn, OtherDecimals, TooWide}
 use Rattle.report_parts.specs.declared.shape.Shape.{Shape}
 
 -- what is said over all parts in a round, of the items from that one on
@@ -86,32 +82,3 @@ report_text query count rounds shape parts =
 -- all parts tell what they know in each of so many rounds
 abbrev pub AreTold : ℕ → List Told → Type 0
 AreTold rounds parts = (round : ℕ) → round < rounds → list_all (has_block round) parts ≡ true
-
--- ---- why a block is not written
-
--- the item has that kind, what the parts say of it has one form, and over all parts it does not fit
-pub record IsTooWide (round item : ℕ) (kinds : List ItemKind) (parts : List Told) : Type 0 where
-  pub kind : ItemKind
-  pub there : slice_get kinds item ≡ Some kind
-  pub alike : AreAlikeEntries (entries_in round item parts)
-  pub wide : ¬ FitEntries kind (entries_in round item parts)
-
-abbrev pub IsTotalsFault : BlockFault → ℕ → List ItemKind → List Told → Type 0
-IsTotalsFault (OtherColumn column) round kinds parts = ⊥
-IsTotalsFault (OtherDecimals item) round kinds parts = ¬ AreAlikeEntries (entries_in round item parts)
-IsTotalsFault (TooWide item) round kinds parts = IsTooWide round item kinds parts
-IsTotalsFault NoMemory round kinds parts = Unit {0}
-
--- a fault of groups
-abbrev pub of_groups : BlockFault → GroupsFault
-of_groups (OtherColumn column) = groups.OtherColumn column
-of_groups (OtherDecimals item) = groups.OtherItem item
-of_groups (TooWide item) = groups.TooWide item
-of_groups NoMemory = groups.NoMemory
-
-abbrev pub IsFaultBy : ℕ → BlockFault → ℕ → List ItemKind → List Told → Type 0
-IsFaultBy zero why round kinds parts = IsTotalsFault why round kinds parts
-IsFaultBy (suc columns) why round kinds parts = IsCombineFault (of_groups why) (suc columns) kinds (all_groups_in round parts)
-
-abbrev pub IsBlockFault : BlockFault → ℕ → Shape → List Told → Type 0
-IsBlockFault why round shape parts = IsFaultBy shape.columns why round shape.kinds parts

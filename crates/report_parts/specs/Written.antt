@@ -6,6 +6,7 @@ use Rattle.std.specs.List.{list_all}
 use Rattle.report_text.specs.Lines.{end_line}
 use Rattle.report_text.specs.declared.lines.ReportEnd.{ReportEnd}
 use Rattle.report_parts.specs.Ends.{end_behind}
+use Rattle.report_parts.specs.Faults.{CanSay}
 use Rattle.report_parts.specs.Laws.{AllReach}
 use Rattle.report_parts.specs.Reports.{block_over, block_text}
 use Rattle.report_parts.specs.Rounds.{has_block}
@@ -31,13 +32,14 @@ abbrev pub end_text : ReportEnd → List ℕ
 end_text end = end_line end ++ codes "\n"
 
 -- the text of the rounds from that one on, and how it ends, if it does: a block as soon as all parts have told theirs, up to the first
--- that is narrow, is the last wanted, or behind which no part goes on
+-- that is narrow, is the last wanted, or behind which no part goes on. Each of these blocks can be written
 pub data Writes (wanted : Wanted) (parts : List Told) : ℕ → List ℕ → Option ReportEnd → Type 0 where
   waits : (round : ℕ) → list_all (has_block round) parts ≡ false → Writes wanted parts round [] None
-  ends : (round : ℕ) (end : ReportEnd) → list_all (has_block round) parts ≡ true → end_at wanted round parts ≡ Some end →
+  ends : (round : ℕ) (end : ReportEnd) → list_all (has_block round) parts ≡ true → CanSay round wanted.shape parts →
+      end_at wanted round parts ≡ Some end →
       Writes wanted parts round (block_text round wanted.shape parts ++ end_text end) (Some end)
   goes : (round : ℕ) (rest : List ℕ) (end : Option ReportEnd) → list_all (has_block round) parts ≡ true →
-      end_at wanted round parts ≡ None → Writes wanted parts (round + 1) rest end →
+      CanSay round wanted.shape parts → end_at wanted round parts ≡ None → Writes wanted parts (round + 1) rest end →
       Writes wanted parts round (block_text round wanted.shape parts ++ rest) end
 
 -- the one text begins the other

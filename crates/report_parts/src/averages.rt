@@ -1,6 +1,6 @@
 //! The answer of an average over all parts.
 
-ghost use Rattle.std.specs.Prelude.{◌≡◌, ◌≢◌, Err, IfOk, map, max};
+ghost use Rattle.std.specs.Prelude.{◌≡◌, ◌≢◌, Err, IfOk, OnOk, map, max};
 ghost use Rattle.query_model.specs.Bounds.{fractions_of};
 ghost use Rattle.shard_bounds.specs.Averages.{FitsAverage, combined_average};
 ghost use Rattle.report_parts.specs.Combined.{average_of, average_over, exact_over, ratio_of, shown_average};
@@ -80,6 +80,7 @@ fn shown_average(decimals: u8, bound: &AverageBound) -> ShownAverage
 // The answer over all parts.
 pub(crate) fn average_over(alloc: Global, answers: &[Answer]) -> Result<Answer, CombineFault>
     ensures combined { IfOk result (λ answer. answer ≡ average_over answers.now) }
+    ensures fit { OnOk result (FitsAverage (combined_average (map average_of answers.now))) }
     ensures wide { result ≡ Err CombineFault.TooWide → ¬ FitsAverage (combined_average (map average_of answers.now)) }
     ensures alike { result ≢ Err CombineFault.OtherDecimals }
 {

@@ -1,11 +1,11 @@
 //! The text of a block.
 
-ghost use Rattle.std.specs.Prelude.{◌≡◌, ◌≤◌, ◌++◌, IfErr, IfOk, List, OnOk, Some, codes, decimal, length, slice_get};
+ghost use Rattle.std.specs.Prelude.{◌≡◌, ◌≤◌, ◌++◌, IfErr, IfOk, OnOk, codes, decimal, length};
 ghost use Rattle.std.specs.List.{All};
-ghost use Rattle.query_model.specs.declared.query.ItemKind.{ItemKind};
 ghost use Rattle.report_parts.specs.Combined.{HasEntryTexts, HasExtraText, entry_over};
 ghost use Rattle.report_parts.specs.Course.{opening_text};
-ghost use Rattle.report_parts.specs.Reports.{IsTotalsFault, entries_over, entry_lines, extra_lines, item_lines};
+ghost use Rattle.report_parts.specs.Faults.{CanBeSaid, CanSayBefore, IsItemFault, IsTotalsFault};
+ghost use Rattle.report_parts.specs.Reports.{entries_over, entry_lines, extra_lines, item_lines};
 ghost use Rattle.report_parts.specs.Rounds.{entries_in};
 ghost use Rattle.report_text.specs.Lines.{parts_line, round_words};
 
@@ -28,8 +28,8 @@ fn item_over(
 ) -> Result<Entry, BlockFault>
     ensures texts { IfOk result HasEntryTexts }
     ensures entry { IfOk result (λ entry. entry ≡ entry_over kind (entries_in round item parts.now)) }
-    ensures fault { IfErr result (λ why.
-        (kinds : List ItemKind) → slice_get kinds item ≡ Some kind → IsTotalsFault why round kinds parts.now) }
+    ensures said { OnOk result (CanBeSaid kind (entries_in round item parts.now)) }
+    ensures fault { IfErr result (λ why. IsItemFault why item kind (entries_in round item parts.now)) }
 {
     match combine_item(alloc, kind, round, item, parts) {
         Ok(entry) => Ok(entry),
@@ -49,6 +49,7 @@ pub(crate) fn entries_over(
     ensures entries { IfOk result (λ entries. entries.items ≡ entries_over round 0 kinds.now parts.now) }
     ensures count { IfOk result (λ entries. length kinds.now ≡ length entries.items) }
     ensures texts { IfOk result (λ entries. All HasEntryTexts entries.items) }
+    ensures said { OnOk result (CanSayBefore (length kinds.now) round kinds.now parts.now) }
     ensures fault { IfErr result (λ why. IsTotalsFault why round kinds.now parts.now) }
 {
     let mut entries = Vec::with_capacity(alloc, kinds.len())?;

@@ -6,8 +6,9 @@ ghost use Rattle.std.specs.List.{list_all};
 ghost use Rattle.report_parts.specs.Course.{GoesOnTo, IsAhead, IsCourseFault, Moves, Rests, Stands};
 ghost use Rattle.report_parts.specs.Course.{StopsBy, TakesOn, is_last, is_over_before, wanted_of};
 ghost use Rattle.report_parts.specs.Ends.{IsEndFault, end_of_all, first_open};
+ghost use Rattle.report_parts.specs.Faults.{CanSay, IsBlockFault};
 ghost use Rattle.report_parts.specs.Passed.{AllTellFrom};
-ghost use Rattle.report_parts.specs.Reports.{IsBlockFault, block_text};
+ghost use Rattle.report_parts.specs.Reports.{block_text};
 ghost use Rattle.report_parts.specs.Rounds.{has_block};
 ghost use Rattle.report_parts.specs.Tags.{IsRefused, TakesTagged, part_at};
 ghost use Rattle.report_parts.specs.Told.{Told};
@@ -185,6 +186,7 @@ impl Combination {
     // The block of the round, and how the report ends behind it, if it does.
     fn block(&self, alloc: Global) -> Result<Ahead, BlockFault>
         ensures block { IfOk result (λ ahead. ahead.block.items ≡ block_text self.now.round self.now.task.shape self.now.parts) }
+        ensures said { OnOk result (CanSay self.now.round self.now.task.shape self.now.parts) }
         ensures end { IfOk result (λ ahead. ahead.end ≡ end_at (wanted_of self.now.task) self.now.round self.now.parts) }
         ensures fault { IfErr result (λ why. IsBlockFault why self.now.round self.now.task.shape self.now.parts) }
     {
@@ -208,7 +210,7 @@ impl Combination {
             → is_over_before self.old.round wholes ≡ false → Moves self.new wholes before text.old.items text.new.items) }
         ensures goes { OnOk result (self.new.end ≡ None → GoesOnTo self.old self.new) }
         ensures fault { IfErr result (λ why. (wholes : List Told) (before : List ℕ) → IsAhead self.old wholes before
-            → StopsBy why self.old.task wholes before text.old.items text.new.items) }
+            → is_over_before self.old.round wholes ≡ false → StopsBy why self.old.task wholes before text.old.items text.new.items) }
     {
         let ahead = self.block(alloc)?;
         text.extend_from_slice(&ahead.block)?;

@@ -1,9 +1,10 @@
 //! What a line says of an answer over all parts.
 
-ghost use Rattle.std.specs.Prelude.{◌≡◌, ◌≢◌, ◌≤◌, Err, IfOk, None, Some};
+ghost use Rattle.std.specs.Prelude.{◌≡◌, ◌≢◌, ◌≤◌, Err, IfOk, None, OnOk, Some};
 ghost use Rattle.report_parts.specs.Combined.{AreAlikeEntries, FitEntries, FitsExtra, FitsOver, HasEntryTexts};
 ghost use Rattle.report_parts.specs.Combined.{answer_over, decimals_in, entry_over, extra_over, shared_form};
 ghost use Rattle.report_text.specs.Answers.{CanBeWritten};
+ghost use Rattle.report_parts.specs.Faults.{CanBeSaid};
 ghost use Rattle.report_parts.specs.Rounds.{entries_in};
 
 use crate::averages::{average_over, exact_over};
@@ -22,6 +23,7 @@ fn answer_over(alloc: Global, kind: ItemKind, answers: &[Answer]) -> Result<Answ
     requires { decimals_in (shared_form answers.now) ≤ 18 }
     ensures written { IfOk result CanBeWritten }
     ensures combined { IfOk result (λ answer. answer ≡ answer_over kind answers.now) }
+    ensures fit { OnOk result (FitsOver kind answers.now) }
     ensures wide { result ≡ Err CombineFault.TooWide → ¬ FitsOver kind answers.now }
     ensures alike { result ≢ Err CombineFault.OtherDecimals }
 {
@@ -39,6 +41,7 @@ fn extra_over(alloc: Global, kind: ItemKind, answers: &[Answer]) -> Result<Answe
     requires { decimals_in (shared_form answers.now) ≤ 18 }
     ensures written { IfOk result CanBeWritten }
     ensures combined { IfOk result (λ answer. answer ≡ extra_over kind answers.now) }
+    ensures fit { OnOk result (FitsExtra kind answers.now) }
     ensures wide { result ≡ Err CombineFault.TooWide → ¬ FitsExtra kind answers.now }
     ensures alike { result ≢ Err CombineFault.OtherDecimals }
 {
@@ -62,6 +65,7 @@ fn both_over(
     ensures written { IfOk result HasEntryTexts }
     ensures answer { IfOk result (λ entry. entry.answer ≡ answer_over kind answers.now) }
     ensures extra { IfOk result (λ entry. entry.extra ≡ Some (extra_over kind extras.now)) }
+    ensures fit { OnOk result (FitsOver kind answers.now × FitsExtra kind extras.now) }
     ensures wide { result ≡ Err CombineFault.TooWide → ¬ (FitsOver kind answers.now × FitsExtra kind extras.now) }
     ensures alike { result ≢ Err CombineFault.OtherDecimals }
 {
@@ -78,6 +82,7 @@ fn alone(alloc: Global, kind: ItemKind, answers: &[Answer]) -> Result<Entry, Com
     requires { decimals_in (shared_form answers.now) ≤ 18 }
     ensures written { IfOk result HasEntryTexts }
     ensures answer { IfOk result (λ entry. entry ≡ record { answer = answer_over kind answers.now; extra = None }) }
+    ensures fit { OnOk result (FitsOver kind answers.now) }
     ensures wide { result ≡ Err CombineFault.TooWide → ¬ FitsOver kind answers.now }
     ensures alike { result ≢ Err CombineFault.OtherDecimals }
 {
@@ -90,7 +95,7 @@ fn alone(alloc: Global, kind: ItemKind, answers: &[Answer]) -> Result<Entry, Com
 // What the entries of all parts say of the item over all.
 fn entry_over(alloc: Global, kind: ItemKind, entries: &[Entry]) -> Result<Entry, CombineFault>
     ensures written { IfOk result HasEntryTexts }
-    ensures alike { IfOk result (λ entry. AreAlikeEntries entries.now) }
+    ensures said { OnOk result (CanBeSaid kind entries.now) }
     ensures combined { IfOk result (λ entry. entry ≡ entry_over kind entries.now) }
     ensures other { result ≡ Err CombineFault.OtherDecimals → ¬ AreAlikeEntries entries.now }
     ensures wide { result ≡ Err CombineFault.TooWide → AreAlikeEntries entries.now × ¬ FitEntries kind entries.now }
@@ -119,7 +124,7 @@ pub fn combine_item(
     parts: &[Part],
 ) -> Result<Entry, CombineFault>
     ensures written { IfOk result HasEntryTexts }
-    ensures alike { IfOk result (λ entry. AreAlikeEntries (entries_in round item parts.now)) }
+    ensures said { OnOk result (CanBeSaid kind (entries_in round item parts.now)) }
     ensures combined { IfOk result (λ entry. entry ≡ entry_over kind (entries_in round item parts.now)) }
     ensures other { result ≡ Err CombineFault.OtherDecimals → ¬ AreAlikeEntries (entries_in round item parts.now) }
     ensures wide { result ≡ Err CombineFault.TooWide

@@ -1,7 +1,7 @@
 //! Why a line is refused, and why answers are not combined.
 
 ghost use Rattle.std.specs.Prelude.{◌≡◌};
-ghost use Rattle.report_parts.specs.Reports.{of_groups};
+ghost use Rattle.report_parts.specs.Faults.{of_groups};
 ghost use Rattle.report_parts.specs.declared.fault.BlockFault.TheVariants.{NoMemory as NoBlock};
 ghost use Rattle.report_parts.specs.declared.fault.CombineFault.TheVariants.{NoMemory};
 ghost use Rattle.report_parts.specs.declared.fault.CourseFault.TheVariants.{Block, Input};

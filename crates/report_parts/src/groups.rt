@@ -3,12 +3,13 @@
 ghost use Rattle.std.specs.Prelude.{◌≡◌, ◌<◌, ◌++◌, IfErr, IfOk, OnOk, codes};
 ghost use Rattle.std.specs.List.{All};
 ghost use Rattle.part_groups.specs.Cells.{slices};
-ghost use Rattle.part_groups.specs.Combined.{IsCombineFault, IsShown};
+ghost use Rattle.part_groups.specs.Combined.{IsCombineFault, IsShown, ShareForms};
 ghost use Rattle.part_groups.specs.Whole.{AreKeyed, groups_over};
 ghost use Rattle.report_text.specs.Answers.{CanBeWritten};
 ghost use Rattle.report_text.specs.Groups.{group_line};
 ghost use Rattle.report_text.specs.Lines.{item_line};
-ghost use Rattle.report_parts.specs.Reports.{answer_lines, group_lines, of_groups};
+ghost use Rattle.report_parts.specs.Faults.{of_groups};
+ghost use Rattle.report_parts.specs.Reports.{answer_lines, group_lines};
 ghost use Rattle.report_parts.specs.Rounds.{all_groups_in};
 
 use crate::blocks::push_line;
@@ -42,6 +43,7 @@ pub(crate) fn groups_over(
     requires keyed { AreKeyed columns (all_groups_in round parts.now) }
     ensures groups { IfOk result (λ groups. groups.items ≡ groups_over columns kinds.now (all_groups_in round parts.now)) }
     ensures shown { IfOk result (λ groups. All IsShown groups.items) }
+    ensures share { OnOk result (ShareForms columns kinds.now (all_groups_in round parts.now)) }
     ensures fault { IfErr result (λ why. IsCombineFault (of_groups why) columns kinds.now (all_groups_in round parts.now)) }
 {
     combined_is_whole();

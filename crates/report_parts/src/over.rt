@@ -2,7 +2,8 @@
 
 ghost use Rattle.std.specs.Prelude.{◌≡◌, ◌++◌, IfErr, IfOk, OnOk, codes};
 ghost use Rattle.part_groups.specs.Whole.{AreKeyed};
-ghost use Rattle.report_parts.specs.Reports.{HasBlockTexts, IsBlockFault, block_lines, block_over};
+ghost use Rattle.report_parts.specs.Faults.{CanSay, IsBlockFault};
+ghost use Rattle.report_parts.specs.Reports.{HasBlockTexts, block_lines, block_over};
 ghost use Rattle.report_parts.specs.Rounds.{all_groups_in};
 ghost use Rattle.report_text.specs.Lines.{round_words};
 
@@ -27,6 +28,7 @@ pub(crate) fn block_over(
     requires { AreKeyed shape.now.columns (all_groups_in round parts.now) }
     ensures block { IfOk result (λ block. block ≡ block_over round shape.now parts.now) }
     ensures texts { IfOk result (HasBlockTexts shape.now.kinds) }
+    ensures said { OnOk result (CanSay round shape.now parts.now) }
     ensures fault { IfErr result (λ why. IsBlockFault why round shape.now parts.now) }
 {
     let kinds = shape.kinds.as_slice();

@@ -1,6 +1,6 @@
 //! The answer of a number of rows, a sum or an extreme over all parts.
 
-ghost use Rattle.std.specs.Prelude.{◌≡◌, ◌≢◌, Err, IfOk, map};
+ghost use Rattle.std.specs.Prelude.{◌≡◌, ◌≢◌, Err, IfOk, OnOk, map};
 ghost use Rattle.report_text.specs.Answers.{CanBeWritten};
 ghost use Rattle.report_parts.specs.Combined.{FitsValues, bound_of, value_over};
 
@@ -44,6 +44,7 @@ pub(crate) fn combine_values(
 ) -> Result<Answer, CombineFault>
     ensures written { IfOk result CanBeWritten }
     ensures combined { IfOk result (λ answer. answer ≡ value_over kind answers.now) }
+    ensures fit { OnOk result (FitsValues kind answers.now) }
     ensures wide { result ≡ Err CombineFault.TooWide → ¬ FitsValues kind answers.now }
     ensures alike { result ≢ Err CombineFault.OtherDecimals }
 {
