@@ -50,7 +50,7 @@ stops_of task lines body before after fault h own as_stops = record {
     parts = h.parts;
     told = h.told;
     all = h.all;
-    stops = as_stops own.more (record { round = own.round; more = own.more; put = refl; passed = own.passed; has = own.has; fault = own.fault });
+    stops = as_stops own.more (record { round = own.round; more = own.more; put = refl; passed = own.passed; goes = own.goes; has = own.has; fault = own.fault });
   };
 }
 

@@ -1,15 +1,19 @@
 -- That what the bytes of an input show is told.
-use Rattle.std.proofs.Common.{◌≡◌, ◌≢◌, ℕ, ◌+◌, ◌<◌, ◌≤◌, false, List, [], ◌∷◌, ◌++◌, length, Some, None, refl, sym, ap, ◌∙◌, subst, inl, inr, ◌⊎◌, arith, append_assoc, append-nil, length-append}
+use Rattle.std.proofs.Common.{◌≡◌, ◌≢◌, ℕ, ◌+◌, ◌<◌, ◌≤◌, false, List, [], ◌∷◌, ◌++◌, length, Option, Some, None, refl, sym, ap, ◌∙◌, subst, inl, inr, ◌⊎◌, arith, append_assoc, append-nil, length-append}
 use Rattle.std.proofs.lemmas.Option.{none-some}
 use Rattle.std.specs.Io.KnownBytes.{IsAtEnd}
 use Rattle.outer_world.specs.Device.{Rose, SinkState, SourceState}
 use Rattle.query_kinds.specs.Kinds.{Asks, AsksOther, IsNoQuery, KindsAreOne}
+use Rattle.report_text.specs.declared.lines.ReportEnd.{ReportEnd}
+use Rattle.report_parts.proofs.Reached.{as_stops, never_combined, stops_once}
 use Rattle.report_parts.proofs.Telling.{ended_stays, telling_one, tells_split}
-use Rattle.report_parts.specs.Course.{Combines, IsLineFault, IsStopped, TakesLine, Task, Tell}
+use Rattle.report_parts.specs.Course.{Combines, IsLineFault, IsStopped, Stops, TakesLine, Task, Tell}
 use Rattle.report_parts.specs.Ends.{first_open}
 use Rattle.report_parts.specs.Tags.{HasTab, IsRefused, IsTag, behind_tag, part_at, tag_of, told_of}
 use Rattle.report_parts.specs.Told.{Takes, TakesAt, Told as PartTold, at_place, nothing_told}
 use Rattle.report_parts.specs.declared.combination.Until.{Until}
+use Rattle.report_parts.specs.declared.fault.BlockFault.{BlockFault}
+use Rattle.report_parts.specs.declared.fault.BlockFault.TheVariants as b
 use Rattle.report_parts.specs.declared.fault.InputFault.{InputFault}
 use Rattle.report_parts.specs.declared.fault.InputFault.TheVariants as i
 use Rattle.report_parts.specs.declared.fault.LineFault.TheVariants as l
@@ -19,11 +23,11 @@ use Rattle.report_parts.specs.declared.shape.Shape.{Shape}
 use Rattle.source_lines.specs.Lines.{has_line, line_length, most_bytes, most_line}
 use Rattle.report_stream.proofs.LineTexts.{all_before, front_line, last_line, line_more, no_earlier, not_long, not_rest, plain, same_line, which_goes_on}
 use Rattle.report_stream.proofs.Taken.{asks_some, no_tab as no_tab_behind, not_refused, refuses_block, refuses_line, tell_started}
-use Rattle.report_stream.proofs.Tasks.{IsOpen, Told, either, first_not_refused, some_lines, task_of_more, told_by, written_open}
+use Rattle.report_stream.proofs.Tasks.{IsOpen, Told, block_open, either, first_not_refused, some_lines, task_of_more, told_by, written_open}
 use Rattle.report_stream.specs.Faults.{of_block, of_input}
-use Rattle.report_stream.specs.Shown.{ComesNext, FaultsAreTold, GoesRight, GoesTooFar, IsNext, IsRest, IsTold, ShowsFault}
+use Rattle.report_stream.specs.Shown.{ComesNext, FaultsAreTold, GoesRight, GoesTooFar, IsNext, IsRest, IsTold, IsUnwritten, ShowsFault}
 use Rattle.report_stream.specs.Shown.{ends_early, first_too_long, first_without_tab, first_without_tag, more_parts, no_line, no_query, no_tab, no_tag, no_totals}
-use Rattle.report_stream.specs.Shown.{other_count, other_line, other_query, too_long}
+use Rattle.report_stream.specs.Shown.{other_block, other_count, other_line, other_query, too_long}
 use Rattle.report_stream.specs.Streams.{AreLines, Combined, Ends, IsFirstRefused, IsFull, IsLine, IsTask, ReadsLines, RefusesBlock, RefusesFirst, RefusesLength, RefusesLine, StreamCause, first_line, lines_text}
 use Rattle.report_stream.specs.declared.fault.LineRefusal.{LineRefusal}
 use Rattle.report_stream.specs.declared.fault.LineRefusal.TheVariants as r
@@ -119,22 +123,30 @@ module _ (kinds : KindsAreOne) (count : ℕ) (until : Until) (bytes : List ℕ) 
     some : own ≢ []
     some = some_lines count until own g.task g.is_task
 
-    -- no line comes that the parts take
-    abbrev Stuck : Type 0
-    Stuck = (line behind : List ℕ) (next : List PartTold) → rest ≡ line ++ 10 ∷ behind → IsLine line → TakesLine g.task g.combines.parts line next → ⊥
+    -- the parts take the line that comes next
+    taken_next : (line : List ℕ) (others : List (List ℕ)) (parts : List PartTold) → Tell g.task [] (own ++ line ∷ others) parts →
+        (next : List PartTold) × TakesLine g.task g.combines.parts line next
+    taken_next line others parts told =
+        let (mid, before, (next, takes, after)) = tells_split g.task [] own (line ∷ others) parts told in
+        (next, subst (λ (ps : List PartTold). TakesLine g.task ps line next) (telling_one g.task [] own g.combines.parts mid g.combines.told before) takes)
 
-    not_told : Stuck → (lines : List (List ℕ)) (x : List ℕ) → Behind lines x → (task : Task) (parts : List PartTold) → IsTask count until (first_line lines) task → Tell task [] lines parts → ⊥
-    not_told stuck lines x h task parts is told =
+    -- no line comes that leads on
+    abbrev Stuck : Type 0
+    Stuck = (line behind : List ℕ) (others : List (List ℕ)) (body : List ℕ) (end : Option ReportEnd) → rest ≡ line ++ 10 ∷ behind → IsLine line →
+        Combines g.task (own ++ line ∷ others) body end → ⊥
+
+    not_told : Stuck → (lines : List (List ℕ)) (x : List ℕ) → Behind lines x → (task : Task) (body : List ℕ) (end : Option ReportEnd) →
+        IsTask count until (first_line lines) task → Combines task lines body end → ⊥
+    not_told stuck lines x h task body end is combines =
         let same = task_of_more kinds count until own (h.line ∷ h.others) g.task task g.is_task (subst (λ (ls : List (List ℕ)). IsTask count until (first_line ls) task) h.lines_are is) in
-        let all : Tell g.task [] (own ++ h.line ∷ h.others) parts =
-        subst (λ (t : Task). Tell t [] (own ++ h.line ∷ h.others) parts) (sym same) (subst (λ (ls : List (List ℕ)). Tell task [] ls parts) h.lines_are told) in
-        let (mid, before, (next, takes, after)) = tells_split g.task [] own (h.line ∷ h.others) parts all in
-        let parts_same = telling_one g.task [] own g.combines.parts mid g.combines.told before in
-        stuck h.line h.after next h.rest_is h.is_line (subst (λ (ps : List PartTold). TakesLine g.task ps h.line next) parts_same takes)
+        let all : Combines g.task (own ++ h.line ∷ h.others) body end =
+        subst (λ (t : Task). Combines t (own ++ h.line ∷ h.others) body end) (sym same)
+        (subst (λ (ls : List (List ℕ)). Combines task ls body end) h.lines_are combines) in
+        stuck h.line h.after h.others body end h.rest_is h.is_line all
 
     not_open : Stuck → (lines : List (List ℕ)) (x : List ℕ) → Behind lines x → IsOpen kinds count until lines → ⊥
     not_open stuck lines x h (inl none) = nothing_longer own h.line h.others (sym none ∙ h.lines_are)
-    not_open stuck lines x h (inr (task, body, is, combines)) = not_told stuck lines x h task combines.parts is combines.told
+    not_open stuck lines x h (inr (task, body, is, combines)) = not_told stuck lines x h task body None is combines
 
     -- a line more was read
     one_more : (lines : List (List ℕ)) (line y : List ℕ) → IsLine line → ((lines ≡ own) × (line ++ 10 ∷ y ≡ rest)) ⊎ Behind lines (line ++ 10 ∷ y) → Behind (lines ++ line ∷ []) y
@@ -168,6 +180,8 @@ module _ (kinds : KindsAreOne) (count : ℕ) (until : Until) (bytes : List ℕ) 
       stuck : Stuck
       line : (line behind : List ℕ) (number : ℕ) (why : LineRefusal) (f : InputFault) → rest ≡ line ++ 10 ∷ behind → IsLine line → number ≡ length own + 1 →
           Line number why ≡ of_input number f → IsRefused f g.task.query g.task.shape g.task.count g.combines.parts line → Line number why ≡ fault
+      block : (line behind : List ℕ) (number : ℕ) (why : LineRefusal) (f : BlockFault) (body more : List ℕ) → rest ≡ line ++ 10 ∷ behind → IsLine line →
+          number ≡ length own + 1 → Line number why ≡ of_block number f → IsStopped g.task (own ++ line ∷ []) body [] more f → Line number why ≡ fault
       long : (read behind : List ℕ) (number : ℕ) (why : LineRefusal) → read ++ behind ≡ rest → most_line < line_length read → number ≡ length own + 1 →
           why ≡ r.TooLong → Line number why ≡ fault
       early : (place : ℕ) (tag : List ℕ) → IsRest rest → first_open g.combines.parts ≡ Some place → tag ≡ (part_at place g.combines.parts).tag → EndsEarly tag ≡ fault
@@ -194,7 +208,7 @@ module _ (kinds : KindsAreOne) (count : ℕ) (until : Until) (bytes : List ℕ) 
 
           by : Where d.lines (d.last ++ 10 ∷ y) → ⊥
           by (inl h) = before h
-          by (inr h) = not_told here.stuck (d.lines ++ d.last ∷ []) y (one_more d.lines d.last y is h) d.task d.combines.parts d.is_task d.combines.told
+          by (inr h) = not_told here.stuck (d.lines ++ d.last ∷ []) y (one_more d.lines d.last y is h) d.task d.body (Some d.end) d.is_task d.combines
 
       stops_first : (number : ℕ) (why : LineRefusal) → RefusesFirst input input' out out' number why → ⊥
       stops_first number why h = by (where_is [] (h.first ++ 10 ∷ y) tt (split_line [] h.first h.rest h.read))
@@ -234,7 +248,7 @@ module _ (kinds : KindsAreOne) (count : ℕ) (until : Until) (bytes : List ℕ) 
               (subst (λ (ps : List PartTold). IsRefused h.fault g.task.query g.task.shape g.task.count ps h.line) parts refused.refused)
           by (inr (inr b)) = absurd (not_open here.stuck h.lines (h.line ++ 10 ∷ y) b (written_open kinds count until out out' h.lines h.written))
 
-      stops_block : (number : ℕ) (why : LineRefusal) → RefusesBlock count until input input' out out' number why → ⊥
+      stops_block : (number : ℕ) (why : LineRefusal) → RefusesBlock count until input input' out out' number why → Line number why ≡ fault
       stops_block number why h = by (where_is h.lines (h.line ++ 10 ∷ y) (last_line h.lines h.line h.read.are_lines).0 (split_line h.lines h.line h.rest h.read))
         where
           y : List ℕ
@@ -243,16 +257,24 @@ module _ (kinds : KindsAreOne) (count : ℕ) (until : Until) (bytes : List ℕ) 
           is : IsLine h.line
           is = (last_line h.lines h.line h.read.are_lines).1
 
-          by : Where h.lines (h.line ++ 10 ∷ y) → ⊥
+          by : Where h.lines (h.line ++ 10 ∷ y) → Line number why ≡ fault
           by (inl b) =
               let e = same_next h.lines h.line y is b in
               let same = next_task h.lines b.others h.line h.task e h.is_task in
               let told : Tell g.task [] ((h.lines ++ h.line ∷ []) ++ b.others) g.combines.parts =
               subst (λ (ls : List (List ℕ)). Tell g.task [] ls g.combines.parts) (sym (append_assoc h.lines (h.line ∷ []) b.others)) (next_told h.lines b.others h.line e) in
-              refuses_block g.task h.lines b.others h.line h.body h.more g.combines.parts h.fault g.fit told
+              absurd (refuses_block g.task h.lines b.others h.line h.body h.more g.combines.parts h.fault g.fit told
               (λ n. absurd (let f : Line number why ≡ NoMemory = h.is ∙ ap (of_block number) n in cc))
-              (subst (λ (t : Task). IsStopped t (h.lines ++ h.line ∷ []) h.body [] h.more h.fault) same h.stopped)
-          by (inr b) = not_told here.stuck (h.lines ++ h.line ∷ []) y (one_more h.lines h.line y is b) h.task h.stopped.parts h.is_task h.stopped.told
+              (subst (λ (t : Task). IsStopped t (h.lines ++ h.line ∷ []) h.body [] h.more h.fault) same h.stopped))
+          by (inr (inl (e, f))) =
+              let mine : IsTask count until (first_line (own ++ h.line ∷ [])) h.task = subst (λ (ls : List (List ℕ)). IsTask count until (first_line (ls ++ h.line ∷ [])) h.task) e h.is_task in
+              let same = task_of_more kinds count until own (h.line ∷ []) g.task h.task g.is_task mine in
+              let stopped : IsStopped g.task (own ++ h.line ∷ []) h.body [] h.more h.fault =
+              subst (λ (t : Task). IsStopped t (own ++ h.line ∷ []) h.body [] h.more h.fault) (sym same)
+              (subst (λ (ls : List (List ℕ)). IsStopped h.task (ls ++ h.line ∷ []) h.body [] h.more h.fault) e h.stopped) in
+              here.block h.line y number why h.fault h.body h.more (sym f) is (h.counted ∙ ap (λ (ls : List (List ℕ)). length ls + 1) e) h.is stopped
+          by (inr (inr b)) =
+              absurd (not_open here.stuck h.lines (h.line ++ 10 ∷ y) b (block_open kinds count until h.lines h.line h.task h.body h.is_task h.earlier))
 
       stops_length : (number : ℕ) (why : LineRefusal) → RefusesLength count until input input' out out' number why → Line number why ≡ fault
       stops_length number why h = by (where_is h.lines x h.read.are_lines (split_by h.lines h.rest h.read))
@@ -293,7 +315,7 @@ module _ (kinds : KindsAreOne) (count : ℕ) (until : Until) (bytes : List ℕ) 
       stopped : (why : StreamFault) → StreamCause count until input input' out out' why → Out fault why
       stopped (Line number why) (inl h) = absurd (stops_first number why h)
       stopped (Line number why) (inr (inl h)) = inl (stops_line number why h)
-      stopped (Line number why) (inr (inr (inl h))) = absurd (stops_block number why h)
+      stopped (Line number why) (inr (inr (inl h))) = inl (stops_block number why h)
       stopped (Line number why) (inr (inr (inr h))) = inl (stops_length number why h)
       stopped (EndsEarly tag) h =
           let there = ends_there h.ends.lines h.ends.ends in
@@ -334,8 +356,9 @@ module _ (kinds : KindsAreOne) (count : ℕ) (until : Until) (bytes : List ℕ) 
       ((number : ℕ) → first_open g.combines.parts ≡ None → number ≡ length g.combines.parts → OtherCount number ≡ fault) →
       Here kinds count until bytes few input input' out out' left own rest g fault
   rest_here own rest g fault is early other = record {
-    stuck = λ line behind next e line_is takes. not_rest rest line behind e line_is is.no_line;
+    stuck = λ line behind others body end e line_is combines. not_rest rest line behind e line_is is.no_line;
     line = λ line behind number why f e line_is counted same refused. absurd (not_rest rest line behind e line_is is.no_line);
+    block = λ line behind number why f body more e line_is counted same stopped. absurd (not_rest rest line behind e line_is is.no_line);
     long = λ read behind number why e many counted said.
         let before = no_earlier read behind in
         let same = ap line_length e in
@@ -353,10 +376,11 @@ module _ (kinds : KindsAreOne) (count : ℕ) (until : Until) (bytes : List ℕ) 
       IsRefused f g.task.query g.task.shape g.task.count g.combines.parts line → Line number why ≡ fault) →
       Here kinds count until bytes few input input' out out' left own rest g fault
   line_here own rest line behind g fault comes none refused = record {
-    stuck = λ other after next e is takes. none next (subst (λ (v : List ℕ). TakesLine g.task g.combines.parts v next) (sym (same line other behind after comes.is_line is (sym comes.split ∙ e))) takes);
+    stuck = λ other after others body end e is combines. not_taken other after others combines.parts e is combines.told;
     line = λ other after number why f e is counted said refuted.
         refused number why f counted said
         (subst (λ (v : List ℕ). IsRefused f g.task.query g.task.shape g.task.count g.combines.parts v) (sym (same line other behind after comes.is_line is (sym comes.split ∙ e))) refuted);
+    block = λ other after number why f body more e is counted said stopped. absurd (not_taken other after [] stopped.parts e is stopped.told);
     long = λ read after number why e many counted said. absurd (not_long read after line behind (e ∙ comes.split) comes.is_line many);
     early = λ place tag refuted open_there tagged. absurd (not_rest rest line behind comes.split comes.is_line refuted.no_line);
     other = λ number refuted ended counted. absurd (not_rest rest line behind comes.split comes.is_line refuted.no_line);
@@ -364,6 +388,12 @@ module _ (kinds : KindsAreOne) (count : ℕ) (until : Until) (bytes : List ℕ) 
     where
       same : (a b x y : List ℕ) → IsLine a → IsLine b → a ++ 10 ∷ x ≡ b ++ 10 ∷ y → a ≡ b
       same a b x y h k e = (same_line a b x y (plain a h.plain) (plain b k.plain) e).0
+
+      not_taken : (other after : List ℕ) (others : List (List ℕ)) (parts : List PartTold) → rest ≡ other ++ 10 ∷ after → IsLine other →
+          Tell g.task [] (own ++ other ∷ others) parts → ⊥
+      not_taken other after others parts e is told =
+          let (next, takes) = taken_next kinds count until bytes few input input' out out' left own rest g other others parts told in
+          none next (subst (λ (v : List ℕ). TakesLine g.task g.combines.parts v next) (sym (same line other behind after comes.is_line is (sym comes.split ∙ e))) takes)
 
   some_tag : {a b : ℕ} → Some a ≡ Some b → a ≡ b
   some_tag e = cc
@@ -508,12 +538,51 @@ module _ (kinds : KindsAreOne) (count : ℕ) (until : Until) (bytes : List ℕ) 
       IsTold count until input input' out out' (Line number r.TooLong)
   length_told own rest g number far counted =
       is_told kinds count until bytes few input input' out out' left own rest g (Line number r.TooLong) (record {
-        stuck = λ line behind next e line_is takes. no_line_there rest line behind far e line_is;
+        stuck = λ line behind others body end e line_is combines. no_line_there rest line behind far e line_is;
         line = λ line behind n why f e line_is at said refuted. absurd (no_line_there rest line behind far e line_is);
+        block = λ line behind n why f body more e line_is at said stopped. absurd (no_line_there rest line behind far e line_is);
         long = λ read behind n why e many at said. line_number n number why r.TooLong (at ∙ sym counted) said;
         early = λ place tag refuted open_there tagged. absurd (no_rest rest far refuted);
         other = λ n refuted ended at. absurd (no_rest rest far refuted);
       })
+
+  -- the line completes a block that cannot be written
+  block_told : (own : List (List ℕ)) (rest line behind : List ℕ) (g : GoesRight count until bytes own rest) (number : ℕ) (fault : BlockFault) → IsNext rest line behind →
+      IsUnwritten g.task (own ++ line ∷ []) fault → number ≡ length own + 1 → IsTold count until input input' out out' (of_block number fault)
+  block_told own rest line behind g number fault comes un counted =
+      is_told kinds count until bytes few input input' out out' left own rest g (of_block number fault) (record {
+        stuck = λ other after others body end e is combines. on others body end
+            (subst (λ (v : List ℕ). Combines g.task (own ++ v ∷ others) body end) (same other after e is) combines);
+        line = λ other after n why f e is at said refused.
+            absurd (refuses_line g.task own [] line un.parts f (asks_some g.task.query g.task.shape.kinds g.task.shape.columns g.is_task.asks) un.told
+            (λ m. absurd (let none : Line n why ≡ NoMemory = said ∙ ap (of_input n) m in cc)) (record {
+              parts = g.combines.parts;
+              told = g.combines.told;
+              refused = subst (λ (v : List ℕ). IsRefused f g.task.query g.task.shape g.task.count g.combines.parts v) (same other after e is) refused;
+            }));
+        block = λ other after n why f body more e is at said stopped.
+            said ∙ ap (λ (k : ℕ). of_block k f) (at ∙ sym counted)
+            ∙ ap (of_block number) (sym (one f body more (λ m. absurd (let none : Line n why ≡ NoMemory = said ∙ ap (of_block n) m in cc))
+            (subst (λ (v : List ℕ). IsStopped g.task (own ++ v ∷ []) body [] more f) (same other after e is) stopped)));
+        long = λ read after n why e many at said. absurd (not_long read after line behind (e ∙ comes.split) comes.is_line many);
+        early = λ place tag refuted open_there tagged. absurd (not_rest rest line behind comes.split comes.is_line refuted.no_line);
+        other = λ n refuted ended at. absurd (not_rest rest line behind comes.split comes.is_line refuted.no_line);
+      })
+    where
+      same : (other after : List ℕ) → rest ≡ other ++ 10 ∷ after → IsLine other → other ≡ line
+      same other after e is = (same_line other line after behind (plain other is.plain) (plain line comes.is_line.plain) (sym e ∙ comes.split)).0
+
+      on : (others : List (List ℕ)) (body : List ℕ) (end : Option ReportEnd) → Combines g.task (own ++ line ∷ others) body end → ⊥
+      on others body end combines =
+          never_combined g.task (own ++ line ∷ []) others un.parts [] [] un.body body end fault un.told un.all un.stops un.exact
+          (subst (λ (ls : List (List ℕ)). Combines g.task ls body end) (sym (append_assoc own (line ∷ []) others)) combines)
+
+      one : (f : BlockFault) (body more : List ℕ) → f ≢ b.NoMemory → IsStopped g.task (own ++ line ∷ []) body [] more f → fault ≡ f
+      one f body more some stopped =
+          let parts = telling_one g.task [] (own ++ line ∷ []) un.parts stopped.parts un.told stopped.told in
+          stops_once g.task un.parts [] body [] [] un.body more fault f un.stops
+          (subst (λ (ps : List PartTold). Stops g.task ps body [] more f) parts (as_stops f g.task stopped.parts body [] more some stopped.stops))
+          un.exact some un.first
 
   -- ---- where no line was taken
 
@@ -727,6 +796,8 @@ module _ (kinds : KindsAreOne) (count : ℕ) (until : Until) (bytes : List ℕ) 
   shown_told fault (other_query lines rest line behind g number comes new room another counted) =
       query_told lines rest line behind g number comes new room another counted
   shown_told fault (more_parts lines rest line behind g number comes new many query counted) = more_told lines rest line behind g number comes new many query counted
+  shown_told fault (other_block lines rest line behind g number block why comes un counted is) =
+      subst (λ (f : StreamFault). IsTold count until input input' out out' f) (sym is) (block_told lines rest line behind g number block comes un counted)
   shown_told fault (other_line lines rest line behind g number comes begun cannot counted) = line_told lines rest line behind g number comes begun cannot counted
 
 pub are_told : KindsAreOne → FaultsAreTold

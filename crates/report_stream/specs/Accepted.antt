@@ -6,7 +6,7 @@ use Rattle.outer_world.specs.Device.{Rose, SinkState, SourceState}
 use Rattle.outer_world.specs.Whole.{Writes}
 use Rattle.report_text.specs.declared.lines.ReportEnd.{ReportEnd}
 use Rattle.report_parts.specs.Course.{Combines, Passes, Task, wanted_of}
-use Rattle.report_parts.specs.Reports.{IsBlockFault}
+use Rattle.report_parts.specs.Faults.{IsBlockFault}
 use Rattle.report_parts.specs.Rounds.{has_block}
 use Rattle.report_parts.specs.Told.{Told}
 use Rattle.report_parts.specs.declared.combination.Until.{Until}

@@ -1,16 +1,20 @@
 -- What bytes of an input show: why they are refused, where the lines before are right.
-use Rattle.std.specs.Prelude.{◌≡◌, ◌≢◌, ◌⊎◌, ℕ, ◌+◌, ◌<◌, ◌≤◌, false, List, ◌∷◌, ◌++◌, length}
+use Rattle.std.specs.Prelude.{◌≡◌, ◌≢◌, ◌⊎◌, ℕ, ◌+◌, ◌<◌, ◌≤◌, false, List, [], ◌∷◌, ◌++◌, length}
 use Rattle.std.specs.declared.option.Option.TheVariants.{Some, None}
 use Rattle.outer_world.specs.Device.{Rose, SinkState, SourceState}
 use Rattle.query_kinds.specs.Kinds.{AsksOther, IsNoQuery}
-use Rattle.report_parts.specs.Course.{Combines, Task}
+use Rattle.report_parts.specs.Course.{Combines, Stops, Task, Tell}
 use Rattle.report_parts.specs.Ends.{first_open}
+use Rattle.report_parts.specs.Faults.{IsBlockFault, IsExact}
 use Rattle.report_parts.specs.Tags.{CannotTake, HasTab, IsTag, IsTagged, behind_tag, part_at, tag_of, told_of}
-use Rattle.report_parts.specs.Told.{nothing_told}
+use Rattle.report_parts.specs.Told.{Told, nothing_told}
 use Rattle.report_parts.specs.declared.combination.Until.{Until}
+use Rattle.report_parts.specs.declared.fault.BlockFault.{BlockFault}
+use Rattle.report_parts.specs.declared.fault.BlockFault.TheVariants as b
 use Rattle.report_parts.specs.declared.part.Place.TheVariants.{Query}
 use Rattle.source_lines.specs.Lines.{has_line, line_length, most_bytes, most_line}
 use Rattle.report_stream.specs.Accepted.{BlocksFit}
+use Rattle.report_stream.specs.Faults.{of_block}
 use Rattle.report_stream.specs.Streams.{AreLines, Combined, IsLine, IsTask, StreamCause, first_line, lines_text}
 use Rattle.report_stream.specs.declared.fault.LineRefusal.TheVariants as r
 use Rattle.report_stream.specs.declared.fault.StreamFault.{StreamFault}
@@ -44,6 +48,17 @@ pub record ComesNext (rest line behind : List ℕ) : Type 0 where
 -- more bytes than a line may have come before a line feed, or the end
 abbrev pub GoesTooFar : List ℕ → Type 0
 GoesTooFar rest = most_line < line_length rest
+
+-- behind these lines a block that all parts have told cannot be written, for this reason, which is told exactly; no block before it has a
+-- fault
+pub record IsUnwritten (task : Task) (lines : List (List ℕ)) (fault : BlockFault) : Type 0 where
+  pub parts : List Told
+  pub told : Tell task [] lines parts
+  pub all : length parts ≡ task.count
+  pub body : List ℕ
+  pub stops : Stops task parts [] [] body fault
+  pub exact : IsExact fault task.shape.columns
+  pub first : (round : ℕ) (why : BlockFault) → round < stops.round → why ≢ b.NoMemory → IsBlockFault why round task.shape parts → ⊥
 
 pub data ShowsFault (wanted : ℕ) (until : Until) (bytes : List ℕ) : StreamFault → Type 0 where
   no_line : IsRest bytes → ShowsFault wanted until bytes (OtherCount 0)
@@ -82,6 +97,10 @@ pub data ShowsFault (wanted : ℕ) (until : Until) (bytes : List ℕ) : StreamFa
       ComesNext rest line behind → (told_of (tag_of line) g.combines.parts).place ≢ Query →
       CannotTake g.task.query g.task.shape (told_of (tag_of line) g.combines.parts) (behind_tag line) → number ≡ length lines + 1 →
       ShowsFault wanted until bytes (Line number r.OtherLine)
+  -- the line completes a block that cannot be written
+  other_block : (lines : List (List ℕ)) (rest line behind : List ℕ) (g : GoesRight wanted until bytes lines rest) (number : ℕ)
+      (fault : BlockFault) (why : StreamFault) → IsNext rest line behind → IsUnwritten g.task (lines ++ line ∷ []) fault →
+      number ≡ length lines + 1 → why ≡ of_block number fault → ShowsFault wanted until bytes why
 
 -- the report is not written to its end, and nothing but this is told, or that memory ran out, unless a device fails
 pub record IsTold (wanted : ℕ) (until : Until) (input input' : SourceState) (out out' : SinkState) (fault : StreamFault) : Type 0 where
