@@ -2,7 +2,8 @@
 """How long a block of `daq combine` stands behind the last line that it needs: delay.py PROGRAM PARTS.
 
 Writes the lines of a round of all parts to a pipe, but for the last, waits a moment, writes that line, and takes the time until the block was
-read, for 200 rounds. Prints the median, the longest but one in a hundred, and the longest, in milliseconds.
+read, for 200 rounds. A block whose last item is a COUNT needs no line behind it. Prints the median, the longest but one in a hundred, and the
+longest, in milliseconds.
 """
 import subprocess
 import sys
@@ -14,7 +15,7 @@ ROUNDS, PAUSE = 200, 0.005
 def main(program, count):
     tags = [b"part%d\t" % number for number in range(count)]
     run = subprocess.Popen([program, "combine", str(count), "/dev/stdin"], stdin=subprocess.PIPE, stdout=subprocess.PIPE)
-    run.stdin.write(b"".join(tag + b"query SELECT SUM(c) FROM t\n" for tag in tags))
+    run.stdin.write(b"".join(tag + b"query SELECT COUNT(c) FROM t\n" for tag in tags))
     delays = []
     for number in range(ROUNDS):
         item = b"1 [%d, %d]\n" % (number, 10**9 - number)
