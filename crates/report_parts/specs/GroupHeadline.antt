@@ -43,15 +43,15 @@ pub record IsGroupIn (round : ℕ) (shape : Shape) (parts : List Told) (key : Ke
 abbrev pub cells_at : ℕ → Told → List Cell
 cells_at block told = map cell_by (groups_of (slice_index_or told.blocks block no_block))
 
--- there is a block, and no block says less than it, or one before it, said
-pub record DoBlocksNest (IsNext : List Cell → List Cell → Type 0) (told : Told) : Type 0 where
+-- there is a block, and each stands so to itself and to each before it
+pub record DoBlocksNest (IsBehind : List Cell → List Cell → Type 0) (told : Told) : Type 0 where
   pub some : 0 < length told.blocks
-  pub nests : (block next : ℕ) → block ≤ next → next < length told.blocks → IsNext (cells_at block told) (cells_at next told)
+  pub nests : (block next : ℕ) → block ≤ next → next < length told.blocks → IsBehind (cells_at block told) (cells_at next told)
 
 -- so it is of each part
 abbrev pub DoAllNest : (List Cell → List Cell → Type 0) → List Told → Type 0
-DoAllNest IsNext [] = Unit {0}
-DoAllNest IsNext (part ∷ parts) = DoBlocksNest IsNext part × DoAllNest IsNext parts
+DoAllNest IsBehind [] = Unit {0}
+DoAllNest IsBehind (part ∷ parts) = DoBlocksNest IsBehind part × DoAllNest IsBehind parts
 
 -- ---- what is certain of a key
 
