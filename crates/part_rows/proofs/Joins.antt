@@ -12,16 +12,16 @@ use Rattle.part_rows.specs.Worlds.{AreNamedOnce, IsIn, World}
 use Rattle.part_rows.proofs.Counts.{as_number, step}
 use Rattle.part_rows.proofs.Lists.{in_map}
 
-in_left : {X : Type 0} (x : X) (xs ys : List X) → IsIn x xs → IsIn x (xs ++ ys)
+pub in_left : {X : Type 0} (x : X) (xs ys : List X) → IsIn x xs → IsIn x (xs ++ ys)
 in_left x [] ys i = absurd i
 in_left x (z ∷ zs) ys (inl e) = inl e
 in_left x (z ∷ zs) ys (inr i) = inr (in_left x zs ys i)
 
-in_right : {X : Type 0} (x : X) (xs ys : List X) → IsIn x ys → IsIn x (xs ++ ys)
+pub in_right : {X : Type 0} (x : X) (xs ys : List X) → IsIn x ys → IsIn x (xs ++ ys)
 in_right x [] ys i = i
 in_right x (z ∷ zs) ys i = inr (in_right x zs ys i)
 
-in_either : {X : Type 0} (x : X) (xs ys : List X) → IsIn x (xs ++ ys) → IsIn x xs ⊎ IsIn x ys
+pub in_either : {X : Type 0} (x : X) (xs ys : List X) → IsIn x (xs ++ ys) → IsIn x xs ⊎ IsIn x ys
 in_either x [] ys i = inr i
 in_either x (z ∷ zs) ys (inl e) = inl (inl e)
 in_either x (z ∷ zs) ys (inr i) =

@@ -4,6 +4,7 @@ mod Exact
 mod Joins
 mod Later
 mod Lists
+mod Nesting
 mod Orders
 mod Ranking
 mod Ranks

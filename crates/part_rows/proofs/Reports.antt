@@ -34,7 +34,7 @@ use Rattle.part_rows.proofs.Ranking.{count_filtered}
 -- ---- lists of what is chosen from some numbers
 
 -- it comes from an element that passes
-record Chosen {X Y : Type 0} (f : X → Y) (p : X → Bool) (xs : List X) (y : Y) : Type 0 where
+pub record Chosen {X Y : Type 0} (f : X → Y) (p : X → Bool) (xs : List X) (y : Y) : Type 0 where
   pub element : X
   pub is : IsIn element xs
   pub passes : IsTrue (p element)
@@ -43,7 +43,7 @@ record Chosen {X Y : Type 0} (f : X → Y) (p : X → Bool) (xs : List X) (y : Y
 farther : {X Y : Type 0} (f : X → Y) (p : X → Bool) (x : X) (xs : List X) (y : Y) → Chosen f p xs y → Chosen f p (x ∷ xs) y
 farther f p x xs y c = record { element = c.element; is = inr c.is; passes = c.passes; same = c.same }
 
-chosen : {X Y : Type 0} (f : X → Y) (p : X → Bool) (xs : List X) (y : Y) → IsIn y (map f (filter p xs)) → Chosen f p xs y
+pub chosen : {X Y : Type 0} (f : X → Y) (p : X → Bool) (xs : List X) (y : Y) → IsIn y (map f (filter p xs)) → Chosen f p xs y
 chosen f p [] y i = absurd i
 chosen f p (x ∷ xs) y i =
     elim (cases_Bool (p x)) [
@@ -54,7 +54,7 @@ chosen f p (x ∷ xs) y i =
       | inr s ↦ farther f p x xs y (chosen f p xs y (subst (λ b. IsIn y (map f (cond b (x ∷ filter p xs) (filter p xs)))) s i))
     ]
 
-choose : {X Y : Type 0} (f : X → Y) (p : X → Bool) (x : X) (xs : List X) → IsIn x xs → IsTrue (p x) → IsIn (f x) (map f (filter p xs))
+pub choose : {X Y : Type 0} (f : X → Y) (p : X → Bool) (x : X) (xs : List X) → IsIn x xs → IsTrue (p x) → IsIn (f x) (map f (filter p xs))
 choose f p x [] i t = absurd i
 choose f p x (z ∷ zs) (inl e) t =
     subst (λ b. IsIn (f x) (map f (cond b (z ∷ filter p zs) (filter p zs)))) (sym t ∙ ap p e) (inl (ap f e))
@@ -185,14 +185,18 @@ value_at_most (Text s) (Text u) t = le (slice_cmp nat_cmp s u) t
 up_to : (a b : ℤ) → a ≤ℤ b → is_gt (int_cmp a b) ≡ false
 up_to a b t = grind (arith, ints)
 
+-- numbers in order have values in order
+pub value_in_order : (part : Part) → IsKeyed part → (a b : ℤ) → a ≤ℤ b → IsTrue (at_most (part.value a) (part.value b))
+value_in_order part keyed a b t = value_at_most (part.value a) (part.value b) (ap is_gt (keyed.ordered a b) ∙ up_to a b t)
+
 allowed : (part : Part) → IsKeyed part → (range : Range) (k : Option ℤ) → IsInRange range k → IsTrue (allows (span_of part.value range) (option_map part.value k))
 allowed part keyed range None t = t
 allowed part keyed range (Some x) t =
     subst (λ b. IsTrue (is_between (cond b (Some (record { low = part.value range.numbers.low; high = part.value range.numbers.high })) None) (part.value x)))
     (sym t.0)
     (and_from (at_most (part.value range.numbers.low) (part.value x)) (at_most (part.value x) (part.value range.numbers.high))
-    (value_at_most (part.value range.numbers.low) (part.value x) (ap is_gt (keyed.ordered range.numbers.low x) ∙ up_to range.numbers.low x t.1.above))
-    (value_at_most (part.value x) (part.value range.numbers.high) (ap is_gt (keyed.ordered x range.numbers.high) ∙ up_to x range.numbers.high t.1.below)))
+    (value_in_order part keyed range.numbers.low x t.1.above)
+    (value_in_order part keyed x range.numbers.high t.1.below))
 
 -- ---- the report
 
@@ -217,13 +221,13 @@ record Setting (part : Part) (known : Knowledge) (cells : Cells) : Type 0 where
 abbrev passes : Part → Cells → ℕ → Bool
 passes part cells r = holds part.pred (row_of part.frame cells r)
 
-abbrev is_told : Part → Knowledge → ℕ → Bool
+abbrev pub is_told : Part → Knowledge → ℕ → Bool
 is_told part known r = not (is_excluded (standing_in part known r))
 
 abbrev ahead_of : Part → Cells → ℕ → ℕ
 ahead_of part cells r = rows_with part.frame (λ y. beats part.pred part.order part.frame cells y r)
 
-of_table : (frame : Frame) (r : ℕ) → IsIn r (rows_of frame) → r < frame.rows
+pub of_table : (frame : Frame) (r : ℕ) → IsIn r (rows_of frame) → r < frame.rows
 of_table frame r i = let h = in_range 0 frame.rows r i in omega (arith, h.1)
 
 certain : (part : Part) (known : Knowledge) (cells : Cells) → Setting part known cells → (row : PartRow) → IsIn row (report part known) →

@@ -8,7 +8,7 @@ use Rattle.std.specs.Ordering.{int_cmp}
 use Rattle.daq_table.specs.Tables.{Cells, Frame, row_of, rows_of}
 use Rattle.query_model.specs.declared.bounds.Standing.{Standing}
 use Rattle.query_model.specs.declared.bounds.Standing.TheVariants.{Certain, Possible, Excluded}
-use Rattle.query_model.specs.Knowledge.{IsCompletion, IsKnowledge, Knowledge, ranges_of}
+use Rattle.query_model.specs.Knowledge.{CanTake, IsAllRead, IsCompletion, IsKnowledge, Knowledge, ranges_of, taken}
 use Rattle.query_model.specs.Meaning.{holds}
 use Rattle.query_model.specs.Queries.{Condition}
 use Rattle.query_model.specs.Ranking.{Order, standing_of}
@@ -18,6 +18,7 @@ use Rattle.shard_groups.specs.declared.keys.Span.{Span}
 use Rattle.part_rows.specs.declared.row.FirstRows.{FirstRows}
 use Rattle.part_rows.specs.declared.row.PartRow.{PartRow}
 use Rattle.part_rows.specs.declared.row.RowName.{RowName}
+use Rattle.part_rows.specs.Laws.{AreLater, IsExact}
 use Rattle.part_rows.specs.Marks.{Mark, value_cmp}
 use Rattle.part_rows.specs.Worlds.{AreNamedOnce, IsIn, IsWorld, World, names_of}
 
@@ -109,3 +110,24 @@ ReportsJoin =
     (asked : FirstRows) (own : ℕ → Bool) (rows others : List PartRow) (world rest : World) →
     AreOfParts own rows world → AreOfParts (λ part. not (own part)) others rest →
     Holds asked rows world → Holds asked others rest → Holds asked (rows ++ others) (world ++ rest)
+
+-- the report with one more plane of the table is a later one, as is the same again
+pub record ReportNests (part : Part) (known : Knowledge) : Type 0 where
+  pub stays : AreLater part.order.down (report part known) (report part known)
+  pub plane : (c : ℕ) (bits : List Bool) → CanTake part.frame known c bits →
+      AreLater part.order.down (report part known) (report part (taken known c bits))
+
+abbrev pub ReportsNest : Type 0
+ReportsNest = (part : Part) (known : Knowledge) → IsKeyed part → IsKnowledge part.frame known → ReportNests part known
+
+-- later reports of some parts and of others are later ones together
+abbrev pub LaterReportsJoin : Type 0
+LaterReportsJoin =
+    (down : Bool) (olds rows other_olds others : List PartRow) →
+    AreLater down olds rows → AreLater down other_olds others → AreLater down (olds ++ other_olds) (rows ++ others)
+
+-- with all planes read each listed row is certain, and has one key
+abbrev pub ReportsBecomeExact : Type 0
+ReportsBecomeExact =
+    (part : Part) (known : Knowledge) → IsKeyed part → IsKnowledge part.frame known → IsAllRead part.frame known →
+    (row : PartRow) → IsIn row (report part known) → IsExact part.order.down row

@@ -1,9 +1,11 @@
 //! The laws of standings over all parts. Each stands on a function that does nothing.
 
 ghost use Rattle.part_rows.specs.Laws.{OrderIsFree, StandingsAreRight, StandingsBecomeExact, StandingsNest};
-ghost use Rattle.part_rows.specs.Tables.{ReportsHold, ReportsJoin};
+ghost use Rattle.part_rows.specs.Tables.{LaterReportsJoin, ReportsBecomeExact, ReportsHold, ReportsJoin, ReportsNest};
 
-use query_model::completions_are_selections;
+use query_model::{
+    completions_are_selections, ranges_become_exact, ranges_nest, taken_is_knowledge,
+};
 
 /// In each world in which the parts' reports hold a certain row is among the first of all parts, and an excluded row and one that no
 /// report lists are not.
@@ -38,3 +40,25 @@ pub fn reports_hold()
 pub fn reports_join()
     ensures { ReportsJoin }
 {}
+
+/// With one more plane of a table what is listed of it is a later report.
+pub fn reports_nest()
+    ensures { ReportsNest }
+{
+    query_model::standings_nest();
+    ranges_nest();
+    taken_is_knowledge();
+}
+
+/// Later reports of some parts and of others are later ones together.
+pub fn later_reports_join()
+    ensures { LaterReportsJoin }
+{}
+
+/// With all planes of a table read each row that is listed of it is certain, and has one key.
+pub fn reports_become_exact()
+    ensures { ReportsBecomeExact }
+{
+    query_model::standings_become_exact();
+    ranges_become_exact();
+}

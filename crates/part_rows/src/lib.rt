@@ -8,8 +8,8 @@ mod row;
 mod standings;
 
 pub use laws::{
-    order_is_free, reports_hold, reports_join, standings_are_right, standings_become_exact,
-    standings_nest,
+    later_reports_join, order_is_free, reports_become_exact, reports_hold, reports_join,
+    reports_nest, standings_are_right, standings_become_exact, standings_nest,
 };
 pub use row::{FirstRows, PartRow, RowName};
 pub use standings::judge;
