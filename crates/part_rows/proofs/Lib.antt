@@ -11,3 +11,4 @@ mod Ranks
 mod Reports
 mod Right
 mod Standing
+mod Trees

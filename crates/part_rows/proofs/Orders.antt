@@ -96,7 +96,7 @@ key_total down = record { antisymm = key_back down; trans = key_chain down; cong
 
 -- ---- rows
 
-name_total : IsTotalOrder name_cmp
+pub name_total : IsTotalOrder name_cmp
 name_total =
     then_total (then_total (on_total (λ n. n.part) nat_cmp_total) (on_total (λ n. n.tag) nat_list_cmp_total))
     (on_total (λ n. n.number) nat_cmp_total)

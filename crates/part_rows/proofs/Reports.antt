@@ -154,7 +154,7 @@ ahead_is part cells keyed r y =
 
 -- ---- as many rows come first
 
-count_mapped : {X Y : Type 0} (f : X → Y) (q : Y → Bool) (xs : List X) → count_by q (map f xs) ≡ count_by (λ x. q (f x)) xs
+pub count_mapped : {X Y : Type 0} (f : X → Y) (q : Y → Bool) (xs : List X) → count_by q (map f xs) ≡ count_by (λ x. q (f x)) xs
 count_mapped f q [] = refl
 count_mapped f q (x ∷ xs) = omega (arith, step q (f x) (map f xs), step (λ z. q (f z)) x xs, count_mapped f q xs)
 
@@ -200,12 +200,12 @@ allowed part keyed range (Some x) t =
 
 -- ---- the report
 
-means_certain : (o : Standing) → IsTrue (is_certain o) → o ≡ Certain
+pub means_certain : (o : Standing) → IsTrue (is_certain o) → o ≡ Certain
 means_certain Certain t = refl
 means_certain Possible t = absurd (false≢true t)
 means_certain Excluded t = absurd (false≢true t)
 
-is_listed_by : (o : Standing) → o ≢ Excluded → IsTrue (not (is_excluded o))
+pub is_listed_by : (o : Standing) → o ≢ Excluded → IsTrue (not (is_excluded o))
 is_listed_by Certain n = refl
 is_listed_by Possible n = refl
 is_listed_by Excluded n = absurd (n refl)

@@ -3,4 +3,5 @@ pub mod Marks
 pub mod Ranked
 pub mod Standings
 pub mod Tables
+pub mod Trees
 pub mod Worlds

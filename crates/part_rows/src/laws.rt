@@ -2,6 +2,7 @@
 
 ghost use Rattle.part_rows.specs.Laws.{OrderIsFree, StandingsAreRight, StandingsBecomeExact, StandingsNest};
 ghost use Rattle.part_rows.specs.Tables.{LaterReportsJoin, ReportsBecomeExact, ReportsHold, ReportsJoin, ReportsNest};
+ghost use Rattle.part_rows.specs.Trees.{ToldRowsHold};
 
 use query_model::{
     completions_are_selections, ranges_become_exact, ranges_nest, taken_is_knowledge,
@@ -62,3 +63,8 @@ pub fn reports_become_exact()
     query_model::standings_become_exact();
     ranges_become_exact();
 }
+
+/// What is told of several parts, each row that is not excluded, holds as the report of one part, under names in the same order.
+pub fn told_rows_hold()
+    ensures { ToldRowsHold }
+{}

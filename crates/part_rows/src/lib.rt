@@ -9,7 +9,7 @@ mod standings;
 
 pub use laws::{
     later_reports_join, order_is_free, reports_become_exact, reports_hold, reports_join,
-    reports_nest, standings_are_right, standings_become_exact, standings_nest,
+    reports_nest, standings_are_right, standings_become_exact, standings_nest, told_rows_hold,
 };
 pub use row::{FirstRows, PartRow, RowName};
 pub use standings::judge;
