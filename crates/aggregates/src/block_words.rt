@@ -9,6 +9,7 @@ ghost use Rattle.aggregates.specs.ExtremeRows.{has_place, AreZero};
 use std::simd::prelude::*;
 
 /// Whether the words have no row.
+#[inline(always)]
 pub fn is_empty(words: &[u64; 8]) -> bool
     ensures { IsTrue result ↔ AreZero words.now }
 {
@@ -16,6 +17,7 @@ pub fn is_empty(words: &[u64; 8]) -> bool
 }
 
 // Whether both words have the same rows.
+#[inline(always)]
 pub(crate) fn are_same(words: &[u64; 8], others: &[u64; 8]) -> bool
     ensures { IsTrue result → words.now ≡ others.now }
 {
@@ -23,6 +25,7 @@ pub(crate) fn are_same(words: &[u64; 8], others: &[u64; 8]) -> bool
 }
 
 // The rows that both words have.
+#[inline(always)]
 pub(crate) fn and_words(words: &[u64; 8], others: &[u64; 8]) -> [u64; 8]
     ensures { result ≡ zip2 bit_and words.now others.now }
 {
@@ -30,6 +33,7 @@ pub(crate) fn and_words(words: &[u64; 8], others: &[u64; 8]) -> [u64; 8]
 }
 
 // The rows that one of both has.
+#[inline(always)]
 pub(crate) fn or_words(words: &[u64; 8], others: &[u64; 8]) -> [u64; 8]
     ensures { result ≡ zip2 bit_or words.now others.now }
 {
@@ -37,6 +41,7 @@ pub(crate) fn or_words(words: &[u64; 8], others: &[u64; 8]) -> [u64; 8]
 }
 
 // The rows that the other words have not.
+#[inline(always)]
 pub(crate) fn and_not_words(words: &[u64; 8], others: &[u64; 8]) -> [u64; 8]
     ensures { result ≡ zip2 and_not words.now others.now }
 {

@@ -37,6 +37,7 @@ fn extreme_digit(extreme: Extreme, zeros: &[u64; 8], ones: &[u64; 8]) -> bool
 }
 
 // Keeps the candidates that have their extreme digit, and tells that digit.
+#[inline(always)]
 fn narrow(extreme: Extreme, candidates: &[u64; 8], digits: &[u64; 8]) -> ([u64; 8], bool)
     requires { ¬ AreZero candidates.now }
     ensures { IsNarrowed extreme candidates.now digits.now result.0 result.1 }

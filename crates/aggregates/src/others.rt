@@ -26,6 +26,7 @@ pub struct OtherRows {
 }
 
 // The rows of a block that are in `beyond`, or, `with_level`, in `level`.
+#[inline(always)]
 fn marks_in(beyond: &Mask, level: &Mask, with_level: bool, block: usize) -> [u64; 8]
     requires level { length level.now ≡ length beyond.now }
     requires block { 512 * block < length beyond.now }
@@ -41,6 +42,7 @@ fn marks_in(beyond: &Mask, level: &Mask, with_level: bool, block: usize) -> [u64
 }
 
 // Those of them that are among these.
+#[inline(always)]
 fn marked_in(
     beyond: &Mask,
     level: &Mask,
