@@ -1,11 +1,11 @@
 -- What stands beside averages.
-use Rattle.std.proofs.Common.{◌≡◌, ◌≢◌, ℕ, ◌+◌, nat_lt, Bool, false, true, not, cond, List, [], ◌∷◌, length, map, Some, None, refl, sym, ap, ◌∙◌, subst, Option, inl}
+use Rattle.std.proofs.Common.{◌≡◌, ◌≢◌, ℕ, ◌+◌, nat_lt, Bool, false, true, not, cond, List, [], ◌∷◌, length, map, Some, None, refl, sym, ap, ◌∙◌, subst, Option, inl, inr}
 use Rattle.std.proofs.lemmas.List.{length-map}
 use Rattle.std.specs.List.{list_all, position, position_or_len}
 use Rattle.query_model.specs.declared.query.ItemKind.{ItemKind}
 use Rattle.sql_text.specs.Answer.{IsText}
 use Rattle.sql_text.specs.Tree.{Item, Items, Nothing, Query, Star}
-use Rattle.query_kinds.specs.Beside.{AsksBeside, BesidesAreOne, IsNoTotals, beside_in}
+use Rattle.query_kinds.specs.Beside.{AsksBeside, AsksNoTotals, BesidesAreOne, IsNoTotals, TellsBeside, beside_in}
 use Rattle.query_kinds.specs.Kinds.{Asks, IsOfItems, IsTotals, is_aggregate, kind_of}
 use Rattle.query_kinds.specs.declared.beside.Beside.{Beside}
 use Rattle.query_kinds.proofs.OneKind.{items_same, lines_same, totals_same}
@@ -39,11 +39,23 @@ not_all query items head some other totals =
 -- ---- one list of places
 
 module _ (one_query : (text : List ℕ) (p q : Query) → IsText text p → IsText text q → p ≡ q) where
-  same : (line : List ℕ) (one other : List (Option Beside)) → AsksBeside line one → AsksBeside line other → one ≡ other
-  same line one other a b =
+  both : (line : List ℕ) (one other : List (Option Beside)) → AsksBeside line one → AsksBeside line other → one ≡ other
+  both line one other a b =
       let query = lines_same one_query line a.query b.query a.is_line b.is_line in
       let items = totals_same b.query a.items b.items (subst (λ q. IsTotals q a.items) query a.totals) b.totals in
       a.each ∙ ap (λ (is : List Item). map (beside_in is) is) items ∙ sym b.each
+
+  -- a query is of totals or not
+  apart : (line : List ℕ) (besides : List (Option Beside)) → AsksBeside line besides → AsksNoTotals line → ⊥
+  apart line besides a b =
+      let query = lines_same one_query line a.query b.query a.is_line b.is_line in
+      b.no_totals a.items (subst (λ q. IsTotals q a.items) query a.totals)
+
+  same : (line : List ℕ) (one other : List (Option Beside)) → TellsBeside line one → TellsBeside line other → one ≡ other
+  same line one other (inl a) (inl b) = both line one other a b
+  same line one other (inl a) (inr (b, none)) = absurd (apart line one a b)
+  same line one other (inr (a, none)) (inl b) = absurd (apart line other b a)
+  same line one other (inr (a, none)) (inr (b, nought)) = none ∙ sym nought
 
   as_many : (line : List ℕ) (kinds : List ItemKind) (columns : ℕ) (besides : List (Option Beside)) → Asks line kinds columns → AsksBeside line besides →
       length besides ≡ length kinds

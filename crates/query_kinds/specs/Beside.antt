@@ -1,5 +1,5 @@
 -- The sums and the numbers of values that a query of totals asks for beside its averages.
-use Rattle.std.specs.Prelude.{◌≡◌, ℕ, ◌==◌, Bool, false, ◌&&◌, List, length, map}
+use Rattle.std.specs.Prelude.{◌≡◌, ◌⊎◌, ℕ, ◌==◌, Bool, false, ◌&&◌, List, [], length, map}
 use Rattle.std.specs.declared.option.Option.{Option}
 use Rattle.std.specs.declared.option.Option.TheVariants.{Some, None}
 use Rattle.std.specs.List.{position}
@@ -69,9 +69,13 @@ IsBesideFault line faults.NoQuery = IsNoQuery line
 IsBesideFault line faults.NoTotals = AsksNoTotals line
 IsBesideFault line faults.NoMemory = Unit {0}
 
+-- what stands beside the items of the query whose line this is; of one that asks for groups or for rows nothing is told
+abbrev pub TellsBeside : List ℕ → List (Option Beside) → Type 0
+TellsBeside line besides = AsksBeside line besides ⊎ (AsksNoTotals line × (besides ≡ []))
+
 -- ---- laws
 
 pub record BesidesAreOne : Type 0 where
-  pub same : (line : List ℕ) (one other : List (Option Beside)) → AsksBeside line one → AsksBeside line other → one ≡ other
+  pub same : (line : List ℕ) (one other : List (Option Beside)) → TellsBeside line one → TellsBeside line other → one ≡ other
   pub as_many : (line : List ℕ) (kinds : List ItemKind) (columns : ℕ) (besides : List (Option Beside)) → Asks line kinds columns →
       AsksBeside line besides → length besides ≡ length kinds

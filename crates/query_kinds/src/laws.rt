@@ -12,7 +12,7 @@ pub fn kinds_are_one()
     one_answer();
 }
 
-/// What stands beside its items is one list at most, with a place for each item.
+/// What is told to stand beside its items is one list, with a place for each item of totals.
 pub fn besides_are_one()
     ensures { BesidesAreOne }
 {
