@@ -19,6 +19,7 @@ pub(crate) struct BlockTruths {
 }
 
 // True is the one truth at each row.
+#[inline(always)]
 pub(crate) fn all() -> BlockTruths
     ensures { (row : ℕ) → row < 512 → HasTruths row (record { may_hold = true; may_fail = false; may_be_null = false }) result }
 {
@@ -38,6 +39,7 @@ pub(crate) fn none() -> BlockTruths {
     }
 }
 
+#[inline(always)]
 pub(crate) fn not(truths: &BlockTruths) -> BlockTruths
     ensures { (row : ℕ) (t : Truths) → HasTruths row t truths.now → HasTruths row (not_over t) result }
 {
@@ -48,6 +50,7 @@ pub(crate) fn not(truths: &BlockTruths) -> BlockTruths
     }
 }
 
+#[inline(always)]
 pub(crate) fn and(left: &BlockTruths, right: &BlockTruths) -> BlockTruths
     ensures { (row : ℕ) (a b : Truths) → row < 512 → HasTruths row a left.now → HasTruths row b right.now
         → HasTruths row (and_over a b) result }
@@ -63,6 +66,7 @@ pub(crate) fn and(left: &BlockTruths, right: &BlockTruths) -> BlockTruths
     }
 }
 
+#[inline(always)]
 pub(crate) fn or(left: &BlockTruths, right: &BlockTruths) -> BlockTruths
     ensures { (row : ℕ) (a b : Truths) → row < 512 → HasTruths row a left.now → HasTruths row b right.now
         → HasTruths row (or_over a b) result }
@@ -79,6 +83,7 @@ pub(crate) fn or(left: &BlockTruths, right: &BlockTruths) -> BlockTruths
 }
 
 // Beside another condition that may fail in any case, is nowhere null, and may hold at these rows: it only adds them.
+#[inline(always)]
 pub(crate) fn or_at_best(truths: &BlockTruths, rows: &[u64; 8]) -> BlockTruths
     ensures { (row : ℕ) (t : Truths) → row < 512 → HasTruths row t truths.now
         → HasTruths row (or_over t (at_best (bit_in row rows.now))) result }
@@ -90,6 +95,7 @@ pub(crate) fn or_at_best(truths: &BlockTruths, rows: &[u64; 8]) -> BlockTruths
 }
 
 // The rows at which true is the one truth.
+#[inline(always)]
 pub(crate) fn must_hold(truths: &BlockTruths) -> [u64; 8]
     ensures { (row : ℕ) (t : Truths) → row < 512 → HasTruths row t truths.now → bit_in row result ≡ is_certain (truth_among t) }
 {

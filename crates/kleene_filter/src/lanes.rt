@@ -8,6 +8,7 @@ use plane_kernels::Mask;
 use std::simd::prelude::*;
 
 // The rows of both.
+#[inline(always)]
 pub(crate) fn both(rows: &[u64; 8], others: &[u64; 8]) -> [u64; 8]
     ensures { (row : ℕ) → row < 512 → bit_in row result ≡ (bit_in row rows.now && bit_in row others.now) }
 {
@@ -15,6 +16,7 @@ pub(crate) fn both(rows: &[u64; 8], others: &[u64; 8]) -> [u64; 8]
 }
 
 // The rows of either.
+#[inline(always)]
 pub(crate) fn either(rows: &[u64; 8], others: &[u64; 8]) -> [u64; 8]
     ensures { (row : ℕ) → row < 512 → bit_in row result ≡ (bit_in row rows.now || bit_in row others.now) }
 {
@@ -22,6 +24,7 @@ pub(crate) fn either(rows: &[u64; 8], others: &[u64; 8]) -> [u64; 8]
 }
 
 // The rows that are not among these.
+#[inline(always)]
 pub(crate) fn unset(rows: &[u64; 8]) -> [u64; 8]
     ensures { (row : ℕ) → row < 512 → bit_in row result ≡ not (bit_in row rows.now) }
 {
@@ -29,6 +32,7 @@ pub(crate) fn unset(rows: &[u64; 8]) -> [u64; 8]
 }
 
 // The rows, or none.
+#[inline(always)]
 pub(crate) fn chosen(is_chosen: bool, rows: &[u64; 8]) -> [u64; 8]
     ensures { (row : ℕ) → bit_in row result ≡ (is_chosen && bit_in row rows.now) }
 {
@@ -36,6 +40,7 @@ pub(crate) fn chosen(is_chosen: bool, rows: &[u64; 8]) -> [u64; 8]
 }
 
 // The rows, where those of one of the eight words are the bits of this one.
+#[inline(always)]
 pub(crate) fn with_word(rows: &[u64; 8], at: usize, word: u64) -> [u64; 8]
     requires { at < 8 }
     ensures here { (row : ℕ) → row / 64 ≡ at → bit_in row result ≡ digit_at (row % 64) word }
@@ -47,6 +52,7 @@ pub(crate) fn with_word(rows: &[u64; 8], at: usize, word: u64) -> [u64; 8]
 }
 
 // The rows of a block that are in the mask.
+#[inline(always)]
 pub(crate) fn read_block(mask: &Mask, block: usize) -> [u64; 8]
     requires { 512 * block < length mask.now }
     ensures { (row : ℕ) → row < 512 → 512 * block + row < length mask.now
@@ -56,6 +62,7 @@ pub(crate) fn read_block(mask: &Mask, block: usize) -> [u64; 8]
 }
 
 // Makes the mask's rows of a block these, and leaves the others.
+#[inline(always)]
 pub(crate) fn write_block(mask: &mut Mask, block: usize, rows: &[u64; 8])
     requires { 512 * block < length mask.old }
     ensures { IsPut block rows.now mask.old mask.new }
@@ -64,6 +71,7 @@ pub(crate) fn write_block(mask: &mut Mask, block: usize, rows: &[u64; 8])
 }
 
 // Whether both words have the same rows.
+#[inline(always)]
 pub(crate) fn are_same(words: &[u64; 8], others: &[u64; 8]) -> bool
     ensures { IsTrue result → words.now ≡ others.now }
 {
@@ -71,6 +79,7 @@ pub(crate) fn are_same(words: &[u64; 8], others: &[u64; 8]) -> bool
 }
 
 // Makes the mask's rows of a block these, where it has others, and gives them as they stand there then: none behind the last row.
+#[inline(always)]
 pub(crate) fn renew_block(
     mask: &mut Mask,
     block: usize,

@@ -26,6 +26,7 @@ pub(crate) fn null_truths(column: &Known, block: usize) -> BlockTruths
 }
 
 // The truths of a test of the values, out of the rows at which a number may pass it and those at which one may fail it.
+#[inline(always)]
 pub(crate) fn number_truths(
     column: &Known,
     block: usize,

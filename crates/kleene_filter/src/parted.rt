@@ -195,6 +195,7 @@ impl Sides {
     }
 
     // The sides of a block's rows.
+    #[inline(always)]
     fn in_block(&self, op: Comparison, block: usize) -> BlockSides
         requires { HasRow (512 * block) self.now }
         ensures { AreBlockSides op self.now block result }
@@ -219,6 +220,7 @@ impl Sides {
     }
 
     // The truths of the comparison at a block's rows.
+    #[inline(always)]
     pub(crate) fn truths(
         &self,
         op: Comparison,
@@ -297,6 +299,7 @@ impl Sides {
 
 impl BlockSides {
     // The rows at which the comparison may hold.
+    #[inline(always)]
     fn may_hold(&self) -> [u64; 8]
         ensures { (row : ℕ) → row < 512 → bit_in row result
             ≡ holds_at self.now.at_equal (bit_in row self.now.passed) (bit_in row self.now.equal) }
@@ -308,6 +311,7 @@ impl BlockSides {
     }
 
     // The rows at which it may fail.
+    #[inline(always)]
     fn may_fail(&self) -> [u64; 8]
         ensures { (row : ℕ) → row < 512 → bit_in row result
             ≡ fails_at self.now.at_equal (bit_in row self.now.passed) (bit_in row self.now.equal) }

@@ -52,6 +52,7 @@ pub(crate) fn even_mask(alloc: Global, rows: usize, bit: bool) -> Result<Mask, A
 
 // How many rows a mask has of which so many were counted, after those of a block changed. A plane moves rows of one mask alone where one
 // comparison reads its column.
+#[inline(always)]
 pub(crate) fn recounted(count: u64, old: &[u64; 8], new: &[u64; 8]) -> u64
     requires counted { sum_by ones old.now ≤ count }
     requires few { count ≤ 16777216 }
@@ -65,6 +66,7 @@ pub(crate) fn recounted(count: u64, old: &[u64; 8], new: &[u64; 8]) -> u64
 }
 
 // Marks a block as decided where both masks have the same rows of it.
+#[inline(always)]
 fn settle_block(masks: &TruthMasks, undecided: &mut Mask, block: usize)
     requires rows { length masks.now.may ≡ length masks.now.must }
     requires settled { AreSettled masks.now.must masks.now.may undecided.old }
@@ -90,6 +92,7 @@ fn settle_blocks(masks: &TruthMasks, undecided: &mut Mask)
 
 impl TruthMasks {
     // The rows of a block of 512 that each mask has.
+    #[inline(always)]
     pub(crate) fn rows_in(&self, block: usize) -> BlockRows
         requires must { 512 * block < length self.now.must }
         requires may { 512 * block < length self.now.may }
@@ -105,6 +108,7 @@ impl TruthMasks {
 
 impl BlockRows {
     // Whether the rows that are possible are those that are certain.
+    #[inline(always)]
     pub(crate) fn are_decided(&self) -> bool
         ensures { IsTrue result → self.now.certain ≡ self.now.possible }
     {
