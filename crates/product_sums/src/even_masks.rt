@@ -5,6 +5,7 @@ ghost use Rattle.std.specs.Prelude.{◌≡◌, length, count_by, IsTrue};
 use plane_kernels::Mask;
 
 // Whether both words have the same rows.
+#[inline(always)]
 fn are_same(words: &[u64; 8], others: &[u64; 8]) -> bool
     ensures { IsTrue result → words.now ≡ others.now }
 {

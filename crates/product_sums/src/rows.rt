@@ -10,12 +10,14 @@ use plane_kernels::{Mask, Plane, count_both, count_ones};
 use std::marker::Model;
 use std::simd::prelude::*;
 
+#[inline(always)]
 fn and_not_words(words: &[u64; 8], others: &[u64; 8]) -> [u64; 8]
     ensures { result ≡ zip2 and_not words.now others.now }
 {
     (u64x8::from_array(*words) & !u64x8::from_array(*others)).to_array()
 }
 
+#[inline(always)]
 fn and_words(words: &[u64; 8], others: &[u64; 8]) -> [u64; 8]
     ensures { result ≡ zip2 bit_and words.now others.now }
 {
@@ -43,6 +45,7 @@ impl Model for Rows {
 
 impl Rows {
     // The rows of a mask.
+    #[inline(always)]
     pub(crate) fn of_mask(mask: &Mask, block: usize) -> Rows
         requires { 512 * block < length mask.now }
         ensures { result ≡ take 512 (drop (512 * block) mask.now) }
@@ -54,6 +57,7 @@ impl Rows {
     }
 
     // The rows with a bit of 1 in a plane.
+    #[inline(always)]
     pub(crate) fn of_plane(plane: &Plane, block: usize) -> Rows
         requires { 512 * block < length plane.now }
         ensures { result ≡ take 512 (drop (512 * block) plane.now) }
@@ -65,6 +69,7 @@ impl Rows {
     }
 
     // The rows of both.
+    #[inline(always)]
     pub(crate) fn and(&self, other: &Rows) -> Rows
         requires { length other.now ≡ length self.now }
         ensures { result ≡ zip2 (λ a b. a && b) self.now other.now }
@@ -76,6 +81,7 @@ impl Rows {
     }
 
     // The rows that the other has not.
+    #[inline(always)]
     pub(crate) fn and_not(&self, other: &Rows) -> Rows
         requires { length other.now ≡ length self.now }
         ensures { result ≡ zip2 (λ a b. a && not b) self.now other.now }
@@ -87,6 +93,7 @@ impl Rows {
     }
 
     // How many rows there are.
+    #[inline(always)]
     pub(crate) fn count(&self) -> u64
         ensures { result ≡ count_by (λ b. b) self.now }
     {
@@ -94,6 +101,7 @@ impl Rows {
     }
 
     // How many of them have a bit of 1 in other words of the block.
+    #[inline(always)]
     pub(crate) fn count_words(&self, others: &[u64; 8]) -> u64
         requires { IsPadded (length self.now) others.now }
         ensures { result ≡ count_by (λ b. b) (zip2 (λ a b. a && b) self.now (rows_of (length self.now) others.now)) }

@@ -28,6 +28,7 @@ impl<'a> Model for PartRows<'a> {
 }
 
 // Those rows of a block that have the bit of 1 in a plane, if there is one.
+#[inline(always)]
 fn keep_ones(rows: Rows, plane: Option<&Plane>, block: usize) -> Rows
     requires { IfSome plane (λ bits. (512 * block < length bits.now) × (length (block_of block bits.now) ≡ length rows)) }
     ensures { result ≡ among rows (option_map (λ bits. block_of block bits.now) plane.entry) }
@@ -39,6 +40,7 @@ fn keep_ones(rows: Rows, plane: Option<&Plane>, block: usize) -> Rows
 }
 
 // Those that a mask has, if there is one.
+#[inline(always)]
 fn keep_rows(rows: Rows, mask: Option<&Mask>, block: usize) -> Rows
     requires { IfSome mask (λ bits. (512 * block < length bits.now) × (length (block_of block bits.now) ≡ length rows)) }
     ensures { result ≡ among rows (option_map (λ bits. block_of block bits.now) mask.entry) }
@@ -86,6 +88,7 @@ impl<'a> PartRows<'a> {
     }
 
     // Those of a block of 512 rows.
+    #[inline(always)]
     pub(crate) fn block(&self, block: usize) -> Rows
         requires { 512 * block < length self.now }
         ensures { result ≡ block_of block self.now }
@@ -158,6 +161,7 @@ impl<'a> SomeRows<'a> {
     }
 
     // Those of a block of 512 rows.
+    #[inline(always)]
     pub(crate) fn block(&self, block: usize) -> Rows
         requires { 512 * block < length self.now }
         ensures { result ≡ block_of block self.now }
