@@ -1,6 +1,6 @@
 mod Carried
 mod Hulls
-mod Overall
+pub mod Overall
 mod PartKeys
 mod Shared
 mod Textless

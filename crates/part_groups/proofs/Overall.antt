@@ -1,6 +1,6 @@
 -- What is found of what the parts tell is a combined report, where they write each column and each item in one form.
-use Rattle.std.proofs.Common.{◌≡◌, ◌≢◌, ◌∙◌, ◌==◌, ℕ, zero, suc, ◌+◌, ◌<◌, Bool, true, false, List, [], ◌∷◌, length, map, refl, arith, sym, ap, subst, Option, Some, None, if◌then◌else◌}
-use Rattle.std.proofs.lemmas.Bool.{eqb-false}
+use Rattle.std.proofs.Common.{◌≡◌, ◌≢◌, ◌∙◌, ◌⊎◌, ◌==◌, ℕ, zero, suc, ◌+◌, ◌<◌, Bool, true, false, List, [], ◌∷◌, length, map, refl, arith, sym, ap, subst, inl, inr, Option, Some, None, if◌then◌else◌}
+use Rattle.std.proofs.lemmas.Bool.{eqb-false, false≢true}
 use Rattle.std.specs.List.{list_all, range_with_len}
 use Rattle.std.proofs.lemmas.List.FromFn.{length-map-range_with_len}
 use Rattle.interval_calc.specs.Intervals.{Fraction}
@@ -23,9 +23,12 @@ use Rattle.shard_groups.specs.declared.cells.ItemBound.{ItemBound}
 use Rattle.shard_groups.specs.declared.cells.ItemBound.TheVariants as code
 use Rattle.shard_groups.specs.declared.keys.Span.{Span}
 use Rattle.part_groups.specs.Cells.{Told, keys_of, said_by, told, told_by}
-use Rattle.part_groups.specs.Forms.{AreAlike, AreSharedForms, form_at, shared_form, told_over}
+use Rattle.part_groups.specs.Combined.{IsCombineFault}
+use Rattle.part_groups.specs.Faults.{IsFirstOther}
+use Rattle.part_groups.specs.Forms.{AreAlike, AreSharedForms, are_alike, form_at, shared_form, told_over}
 use Rattle.part_groups.specs.Shown.{group_in}
-use Rattle.part_groups.specs.Whole.{WholeIsCombined, cell_by, cells_by, forms_over, item_by, told_line}
+use Rattle.part_groups.specs.Whole.{AreWrittenAlike, WholeIsCombined, cell_by, cells_by, forms_over, item_by, told_line}
+use Rattle.part_groups.specs.declared.fault.CombineFault.TheVariants.{OtherColumn, OtherItem}
 use Rattle.part_groups.specs.declared.forms.EndsForm.{EndsForm}
 use Rattle.part_groups.specs.declared.forms.Places.{Places}
 use Rattle.part_groups.specs.declared.forms.Places.TheVariants.{Columns, Items}
@@ -200,3 +203,37 @@ whole_is_combined are_found count kinds parts alike =
       are_lines = record { cells = shards; tell = told_parts parts; combined = combined are_found kinds shards };
       shown = shown columns items kinds shards lines;
     }
+
+-- ---- other forms
+
+below_or : (n k : ℕ) → n < k + 1 → (n < k) ⊎ (n ≡ k)
+below_or n k h = grind (arith, h)
+
+first_if : (alike : Bool) (places : Places) (count : ℕ) (parts : List (List Group)) → are_alike (told_over places count parts) ≡ alike →
+    ((number : ℕ) → number < count → AreAlike places number parts) →
+    ((number : ℕ) → number < count + 1 → AreAlike places number parts) ⊎ ((number : ℕ) × IsFirstOther places number (count + 1) parts)
+first_if true places count parts e all = inl (λ number below. elim (below_or number count below) [
+  | inl less ↦ all number less
+  | inr same ↦ subst (λ (n : ℕ). AreAlike places n parts) (sym same) e
+])
+first_if false places count parts e all = inr (count, record { there = omega arith; other = λ t. false≢true (sym e ∙ t); before = all })
+
+first_other : (places : Places) (count : ℕ) (parts : List (List Group)) →
+    ((number : ℕ) → number < count → AreAlike places number parts) ⊎ ((number : ℕ) × IsFirstOther places number count parts)
+first_other places zero parts = inl (λ number below. absurd (omega (arith, below)))
+first_other places (suc count) parts = elim (first_other places count parts) [
+  | inl all ↦ subst (λ (n : ℕ). ((number : ℕ) → number < n → AreAlike places number parts) ⊎ ((number : ℕ) × IsFirstOther places number n parts))
+      (let next : count + 1 ≡ suc count = omega arith in next) (first_if (are_alike (told_over places count parts)) places count parts refl all)
+  | inr (number, f) ↦ inr (number, record { there = let h = f.there in omega (arith, h); other = f.other; before = f.before })
+]
+
+-- the first column or item that the parts write in two forms, if they do
+pub alike_or_other : (count : ℕ) (kinds : List ItemKind) (parts : List (List Group)) → AreWrittenAlike count kinds parts
+    ⊎ (((column : ℕ) × IsCombineFault (OtherColumn column) count kinds parts) ⊎ ((item : ℕ) × IsCombineFault (OtherItem item) count kinds parts))
+alike_or_other count kinds parts = elim (first_other Columns count parts) [
+  | inr (column, f) ↦ inr (inl (column, f))
+  | inl columns ↦ elim (first_other Items (length kinds) parts) [
+    | inl items ↦ inl (record { columns = columns; items = items })
+    | inr (item, f) ↦ inr (inr (item, ((forms_over Columns count parts, forms_shared Columns count parts columns), f)))
+  ]
+]

@@ -1,22 +1,25 @@
 -- That a combined report by groups is certain of all rows together, where what the parts say is of their own.
-use Rattle.std.proofs.Common.{◌≡◌, ◌≢◌, ℕ, ◌+◌, ◌-◌, ◌<◌, min, ℤ, List, [], ◌∷◌, length, slice_get, Some, sym, ap, subst, arith, All}
+use Rattle.std.proofs.Common.{◌≡◌, ◌≢◌, ◌⊎◌, ℕ, ◌+◌, ◌-◌, ◌<◌, min, ℤ, List, [], ◌∷◌, length, slice_get, Some, sym, ap, subst, inl, inr, arith, All}
 use Rattle.std.proofs.lemmas.List.Elements.{All-head, All-nil, All-tail}
 use Rattle.query_model.specs.declared.query.ItemKind.{ItemKind}
 use Rattle.query_model.specs.declared.query.ItemKind.TheVariants.{Avg}
 use Rattle.shard_groups.specs.Keys.{Key}
 use Rattle.shard_groups.specs.Laws.{AreLater, AreLaterAverages, IsLater, IsLaterAverage}
+use Rattle.part_groups.proofs.Overall.{alike_or_other}
 use Rattle.part_groups.specs.Combined.{IsCombinedReport}
 use Rattle.part_groups.specs.Laws.{AreAllOf, AreOf, GroupsContain, GroupsContainAverages, GroupsNest, GroupsNestAverages, GroupsTell, GroupsTellAverages, GroupsTellKeys}
 use Rattle.part_groups.specs.Whole.{AreKeyed, IsKeyed, WholeIsCombined, cells_by}
 use Rattle.part_groups.specs.declared.group.Group.{Group}
-use Rattle.report_parts.proofs.GroupsOver.{by_groups}
+use Rattle.report_parts.proofs.GroupsOver.{by_groups, fault_by_groups}
 use Rattle.report_parts.proofs.Keyed.{keyed_here, tagged_keyed}
 use Rattle.report_parts.specs.Blocks.{groups_of}
 use Rattle.report_parts.specs.Course.{Task, Tell}
-use Rattle.report_parts.specs.GroupHeadline.{AreAlikeIn, CombinedGroupsAreCertain, DoAllNest, IsCertainOfAverage, IsCertainOfKey, printed_groups}
+use Rattle.report_parts.specs.GroupHeadline.{AreAlikeIn, CombinedGroupsAreCertain, DoAllNest, HasFaultIn, IsCertainOfAverage, IsCertainOfKey, printed_groups}
 use Rattle.report_parts.specs.Keyed.{AreKeyedFrom, IsKeyedFrom}
 use Rattle.report_parts.specs.Rounds.{all_groups_in}
 use Rattle.report_parts.specs.Told.{Told}
+use Rattle.report_parts.specs.declared.fault.BlockFault.TheVariants.{OtherColumn, OtherDecimals}
+use Rattle.report_parts.specs.declared.shape.Shape.{Shape}
 
 -- ---- each line of a group has keys
 
@@ -53,6 +56,15 @@ combined law task parts some round alike =
     let kinds = task.shape.kinds in
     subst (IsCombinedReport columns kinds (all_groups_in round parts)) (sym (ap groups_of (by_groups columns round kinds parts some)))
     (law columns kinds (all_groups_in round parts) alike)
+
+-- ---- the forms
+
+forms : (shape : Shape) (parts : List Told) → 0 < shape.columns → (round : ℕ) → AreAlikeIn round shape parts ⊎ HasFaultIn round shape parts
+forms shape parts some round = elim (alike_or_other shape.columns shape.kinds (all_groups_in round parts)) [
+  | inl alike ↦ inl alike
+  | inr (inl (column, fault)) ↦ inr (OtherColumn column, λ e. cc, fault_by_groups shape.columns (OtherColumn column) round shape.kinds parts some fault)
+  | inr (inr (item, fault)) ↦ inr (OtherDecimals item, λ e. cc, fault_by_groups shape.columns (OtherDecimals item) round shape.kinds parts some fault)
+]
 
 -- ---- the next round
 
@@ -112,6 +124,7 @@ module _ (whole : WholeIsCombined) (task : Task) (lines : List (List ℕ)) (part
 pub groups_certain : WholeIsCombined → GroupsTellKeys → GroupsContain → GroupsNest → GroupsTell → GroupsContainAverages → GroupsNestAverages → GroupsTellAverages →
     CombinedGroupsAreCertain
 groups_certain whole keys contains nests tells contains_averages nests_averages tells_averages task lines parts told some = record {
+  forms = forms task.shape parts some;
   keys = λ key counts round alike counted.
       keys task.shape.columns task.shape.kinds (all_groups_in round parts) (printed_groups round task.shape parts) key counts (are_of task lines parts told round)
       (combined whole task parts some round alike) counted;

@@ -1,5 +1,5 @@
 -- What a combined report by groups says of a table that is cut into parts: of each key, over the rows of all parts together.
-use Rattle.std.specs.Prelude.{◌≡◌, ◌≢◌, ℕ, ◌+◌, ◌<◌, ◌≤◌, ℤ, List, [], ◌∷◌, IsTrue, length, map, slice_get, slice_index_or}
+use Rattle.std.specs.Prelude.{◌≡◌, ◌≢◌, ◌⊎◌, ℕ, ◌+◌, ◌<◌, ◌≤◌, ℤ, List, [], ◌∷◌, IsTrue, length, map, slice_get, slice_index_or}
 use Rattle.std.specs.declared.option.Option.TheVariants.{Some}
 use Rattle.query_model.specs.Bounds.{Admits, AdmitsAverage}
 use Rattle.query_model.specs.declared.query.ItemKind.{ItemKind}
@@ -16,9 +16,11 @@ use Rattle.part_groups.specs.Whole.{AreWrittenAlike, cell_by}
 use Rattle.part_groups.specs.declared.group.Group.{Group}
 use Rattle.report_parts.specs.Blocks.{groups_of, no_block}
 use Rattle.report_parts.specs.Course.{Task, Tell}
-use Rattle.report_parts.specs.Reports.{block_over}
+use Rattle.report_parts.specs.Reports.{IsBlockFault, block_over}
 use Rattle.report_parts.specs.Rounds.{all_groups_in}
 use Rattle.report_parts.specs.Told.{Told}
+use Rattle.report_parts.specs.declared.fault.BlockFault.{BlockFault}
+use Rattle.report_parts.specs.declared.fault.BlockFault.TheVariants.{NoMemory}
 use Rattle.report_parts.specs.declared.shape.Shape.{Shape}
 
 -- ---- what is printed
@@ -31,7 +33,11 @@ printed_groups round shape parts = groups_of (block_over round shape parts)
 abbrev pub AreAlikeIn : ℕ → Shape → List Told → Type 0
 AreAlikeIn round shape parts = AreWrittenAlike shape.columns shape.kinds (all_groups_in round parts)
 
--- this group is printed in such a round, and has the key
+-- or the block of the round has a fault, for which it is not printed
+abbrev pub HasFaultIn : ℕ → Shape → List Told → Type 0
+HasFaultIn round shape parts = (why : BlockFault) × (why ≢ NoMemory) × IsBlockFault why round shape parts
+
+-- this group is printed in a round in which the parts write so, and has the key
 pub record IsGroupIn (round : ℕ) (shape : Shape) (parts : List Told) (key : Key) (group : Group) : Type 0 where
   pub alike : AreAlikeIn round shape parts
   pub printed : IsGroupOf group (printed_groups round shape parts)
@@ -78,9 +84,11 @@ pub record IsCertainOfAverage (round item : ℕ) (key : Key) (shape : Shape) (pa
   pub exact : AreAllAveragesToldIn item key (all_groups_in round parts) tables →
       (group : Group) → IsGroupIn round shape parts key group → TellsAverage (average_in item group) (shards.average_over tables)
 
--- what is printed of groups is certain of the rows of all parts together, where what the parts say is of their own: a key of the whole
--- result is in one group, a key of a present group is in the result, and its answers are certain
+-- in each round the parts write alike, or its block has a fault. Where they do, what is printed of groups is certain of all rows together,
+-- where what the parts say is of their own: a key of the whole result is in one group, a key of a present group is in the result, and its
+-- answers are certain
 pub record AreGroupsCertain (shape : Shape) (parts : List Told) : Type 0 where
+  pub forms : (round : ℕ) → AreAlikeIn round shape parts ⊎ HasFaultIn round shape parts
   pub keys : (key : Key) (counts : List ℕ) (round : ℕ) → AreAlikeIn round shape parts →
       AreCountedIn key (all_groups_in round parts) counts → AreKeysShown key counts (printed_groups round shape parts)
   pub items : (item : ℕ) (kind : ItemKind) (key : Key) (tables : List (List ℤ)) (round : ℕ) → kind ≢ Avg →

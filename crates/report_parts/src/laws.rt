@@ -131,9 +131,10 @@ pub fn combined_exact_averages_are_certain()
     hulls_nest();
 }
 
-/// The same of groups: where the lines of the parts write each column and each item in one form, each key of the whole result is in one
-/// group that is printed, each key of a present group is in the result, and what the group says contains the key's answer over the rows of
-/// all parts, lies within what the round before says of it, and is the answer where each part says its own.
+/// The same of groups: in each round the parts write each column and each item in one form, or its block has a fault. Where they do, each
+/// key of the whole result is in one group that is printed, each key of a present group is in the result, and what the group says contains
+/// the key's answer over the rows of all parts, lies within what the round before says of it, and is the answer where each part says its
+/// own.
 pub fn combined_groups_are_certain()
     ensures { CombinedGroupsAreCertain }
 {
