@@ -1,5 +1,6 @@
 pub mod MarkFacts
 pub mod StateFacts
+pub mod TakenFields
 pub mod FieldFacts
 pub mod RefusalFacts
 pub mod RowFacts
@@ -13,7 +14,8 @@ pub mod LoadFacts
 pub mod LineFacts
 pub mod ReadSteps
 pub mod StopFacts
-pub mod AnyFacts
+pub mod OddFacts
+pub mod PartFacts
 pub mod NumberFacts
 pub mod RaisedFacts
 pub mod PlainFacts

@@ -1,4 +1,4 @@
--- How the machine reads lines whose fields have no quote inside.
+-- How the machine reads lines, field by field.
 use Rattle.std.proofs.Common.{◌≡◌, ◌≢◌, ℕ, ◌+◌, ◌-◌, ◌<◌, ◌≤◌, Bool, true, false, All, inl, inr, Some, None, List, [], ◌∷◌, ◌++◌, length, take, drop, get_or, nat_eq, refl, sym, ap, subst, ◌∙◌, arith}
 use Rattle.std.proofs.lemmas.Bool.Decides.{nat_tests}
 use Rattle.std.proofs.lemmas.List.{drop_all, drop_more, get_or-drop, length-drop, take_more}
@@ -10,8 +10,10 @@ use Rattle.csv.specs.declared.parser.Config.{Config}
 use Rattle.csv.specs.declared.parser.State.{State}
 use Rattle.csv.specs.declared.parser.State.TheVariants as st
 use Rattle.csv.specs.declared.parser.Action.TheVariants as act
-use Rattle.csv_load.specs.Lines.{EndsAt, IsBetween, IsBreak, IsField, JoinsField, JoinsQuoted, ReadsField, StopsField, bare, empty, quoted, record_at}
+use Rattle.csv_load.specs.Lines.{EndsAt, IsBetween, IsBreak, JoinsField, JoinsQuoted, MayEnd, ReadsField, StopsField, record_at, state_within}
 use Rattle.csv_load.specs.Records.{Fields}
+use Rattle.csv_load.specs.declared.odd_field.Within.{Within}
+use Rattle.csv_load.specs.declared.odd_field.Within.TheVariants.{Start, Bare, Quoted, Closed}
 
 differ : (c k : ℕ) → c ≢ k → nat_eq c k ≡ false
 differ c k h = grind (arith, nat_tests, h)
@@ -81,14 +83,14 @@ parted text at end le = let there : at + (end - at) ≡ end = omega (arith, le) 
 
 -- a field's bytes, and then what is behind them
 record Begins (field tail : List ℕ) : Type 0 where
-  state : State
-  is_field : IsField state field
-  read : (fields : Fields) → next_record default_config st.StartField fields [] (field ++ tail) ≡ next_record default_config state fields field tail
+  place : Within
+  closed : MayEnd place
+  read : (fields : Fields) → next_record default_config st.StartField fields [] (field ++ tail) ≡ next_record default_config (state_within place) fields field tail
 
 bare_begins : (field tail : List ℕ) → All JoinsField field → Begins field tail
 unfolding next_record Runs
-bare_begins [] tail p = record { state = st.StartField; is_field = empty; read = λ fields. refl }
-bare_begins (c ∷ field) tail p = record { state = st.InField; is_field = bare (c ∷ field); read = λ fields. rw begins (run-copies default_config st.InField fields (c ∷ []) field tail r.1) }
+bare_begins [] tail p = record { place = Start; closed = tt; read = λ fields. refl }
+bare_begins (c ∷ field) tail p = record { place = Bare; closed = tt; read = λ fields. rw begins (run-copies default_config st.InField fields (c ∷ []) field tail r.1) }
   where
     r : Runs default_config st.InField (c ∷ field)
     r = joins (c ∷ field) p
@@ -105,9 +107,9 @@ bare_field text at end le within stops joins =
       behind = le;
       within = within;
       stops = stops;
-      state = begins.state;
-      is_field = begins.is_field;
-      read = λ fields. subst (λ xs. next_record default_config st.StartField fields [] xs ≡ next_record default_config begins.state fields (take (end - at) (drop at text)) (drop end text))
+      place = begins.place;
+      closed = λ _. begins.closed;
+      read = λ fields. subst (λ xs. next_record default_config st.StartField fields [] xs ≡ next_record default_config (state_within begins.place) fields (take (end - at) (drop at text)) (drop end text))
           (sym (parted text at end le)) (begins.read fields);
     }
 
@@ -124,8 +126,8 @@ quotes_field text at close lt opens le closes closed stops joins = record {
   behind = omega (arith, le);
   within = omega (arith, closes);
   stops = stops;
-  state = st.AfterQuote;
-  is_field = quoted (take (close - (at + 1)) (drop (at + 1) text));
+  place = Closed;
+  closed = λ _. tt;
   read = λ fields. subst (λ xs. next_record default_config st.StartField fields [] xs ≡ next_record default_config st.AfterQuote fields (take (close - (at + 1)) (drop (at + 1) text)) (drop (close + 1) text))
       (sym whole) (quotes_read fields (take (close - (at + 1)) (drop (at + 1) text)) (drop (close + 1) text) joins);
 }
@@ -141,32 +143,36 @@ quotes_field text at close lt opens le closes closed stops joins = record {
 
 -- ---- where a field ends
 
-at_end : (s : State) (bytes : List ℕ) (fields : Fields) → IsField s bytes → next_record default_config s fields bytes [] ≡ Some (fields ++ bytes ∷ [], st.StartRecord, [])
+at_end : (place : Within) (bytes : List ℕ) (fields : Fields) → next_record default_config (state_within place) fields bytes [] ≡ Some (fields ++ bytes ∷ [], st.StartRecord, [])
 unfolding next_record
-at_end s bytes fields empty = refl
-at_end s bytes fields (bare bs) = refl
-at_end s bytes fields (quoted bs) = refl
+at_end Start bytes fields = refl
+at_end Bare bytes fields = refl
+at_end Quoted bytes fields = refl
+at_end Closed bytes fields = refl
 
-at_comma : (s : State) (bytes : List ℕ) (fields : Fields) (rest : List ℕ) → IsField s bytes
-    → next_record default_config s fields bytes (44 ∷ rest) ≡ next_record default_config st.StartField (fields ++ bytes ∷ []) [] rest
+at_comma : (place : Within) (bytes : List ℕ) (fields : Fields) (rest : List ℕ) → MayEnd place
+    → next_record default_config (state_within place) fields bytes (44 ∷ rest) ≡ next_record default_config st.StartField (fields ++ bytes ∷ []) [] rest
 unfolding next_record
-at_comma s bytes fields rest empty = refl
-at_comma s bytes fields rest (bare bs) = refl
-at_comma s bytes fields rest (quoted bs) = refl
+at_comma Start bytes fields rest h = refl
+at_comma Bare bytes fields rest h = refl
+at_comma Quoted bytes fields rest h = absurd h
+at_comma Closed bytes fields rest h = refl
 
-at_feed : (s : State) (bytes : List ℕ) (fields : Fields) (rest : List ℕ) → IsField s bytes
-    → next_record default_config s fields bytes (10 ∷ rest) ≡ Some (fields ++ bytes ∷ [], st.StartRecord, rest)
+at_feed : (place : Within) (bytes : List ℕ) (fields : Fields) (rest : List ℕ) → MayEnd place
+    → next_record default_config (state_within place) fields bytes (10 ∷ rest) ≡ Some (fields ++ bytes ∷ [], st.StartRecord, rest)
 unfolding next_record
-at_feed s bytes fields rest empty = refl
-at_feed s bytes fields rest (bare bs) = refl
-at_feed s bytes fields rest (quoted bs) = refl
+at_feed Start bytes fields rest h = refl
+at_feed Bare bytes fields rest h = refl
+at_feed Quoted bytes fields rest h = absurd h
+at_feed Closed bytes fields rest h = refl
 
-at_return : (s : State) (bytes : List ℕ) (fields : Fields) (rest : List ℕ) → IsField s bytes
-    → next_record default_config s fields bytes (13 ∷ rest) ≡ Some (fields ++ bytes ∷ [], st.AfterCr, rest)
+at_return : (place : Within) (bytes : List ℕ) (fields : Fields) (rest : List ℕ) → MayEnd place
+    → next_record default_config (state_within place) fields bytes (13 ∷ rest) ≡ Some (fields ++ bytes ∷ [], st.AfterCr, rest)
 unfolding next_record
-at_return s bytes fields rest empty = refl
-at_return s bytes fields rest (bare bs) = refl
-at_return s bytes fields rest (quoted bs) = refl
+at_return Start bytes fields rest h = refl
+at_return Bare bytes fields rest h = refl
+at_return Quoted bytes fields rest h = absurd h
+at_return Closed bytes fields rest h = refl
 
 stands : (text : List ℕ) (end byte : ℕ) → end < length text → get_or text end 0 ≡ byte → drop end text ≡ byte ∷ drop (end + 1) text
 stands text end byte lt e = drop_more text end 0 lt ∙ ap (λ b. b ∷ drop (end + 1) text) e
@@ -176,7 +182,7 @@ pub last_field : (text : List ℕ) (fields : Fields) (at : ℕ) (bytes : List �
     → next_record default_config st.StartField fields [] (drop at text) ≡ Some (fields ++ bytes ∷ [], st.StartRecord, drop end text)
 last_field text fields at bytes end field e =
     let none : drop end text ≡ [] = drop_all end text (omega (arith, e)) in
-    field.read fields ∙ rw none (at_end field.state bytes fields field.is_field)
+    field.read fields ∙ rw none (at_end field.place bytes fields)
 
 -- the last field of a line
 pub line_field : (text : List ℕ) (fields : Fields) (from at : ℕ) (bytes : List ℕ) (end : ℕ) → ReadsField text at bytes end → end < length text → get_or text end 0 ≢ 44
@@ -189,19 +195,19 @@ line_field text fields from at bytes end field lt other begun = by (field.stops 
       within = omega (arith, lt);
       state = st.StartRecord;
       between = inl refl;
-      read = begun ∙ field.read fields ∙ rw (stands text end 10 lt e) (at_feed field.state bytes fields (drop (end + 1) text) field.is_field);
+      read = begun ∙ field.read fields ∙ rw (stands text end 10 lt e) (at_feed field.place bytes fields (drop (end + 1) text) (field.closed lt));
     }
     by (inr (inr e)) = record {
       within = omega (arith, lt);
       state = st.AfterCr;
       between = inr refl;
-      read = begun ∙ field.read fields ∙ rw (stands text end 13 lt e) (at_return field.state bytes fields (drop (end + 1) text) field.is_field);
+      read = begun ∙ field.read fields ∙ rw (stands text end 13 lt e) (at_return field.place bytes fields (drop (end + 1) text) (field.closed lt));
     }
 
 -- a field before a comma
 pub comma_field : (text : List ℕ) (fields : Fields) (at : ℕ) (bytes : List ℕ) (end : ℕ) → ReadsField text at bytes end → end < length text → get_or text end 0 ≡ 44
     → next_record default_config st.StartField fields [] (drop at text) ≡ next_record default_config st.StartField (fields ++ bytes ∷ []) [] (drop (end + 1) text)
-comma_field text fields at bytes end field lt e = field.read fields ∙ rw (stands text end 44 lt e) (at_comma field.state bytes fields (drop (end + 1) text) field.is_field)
+comma_field text fields at bytes end field lt e = field.read fields ∙ rw (stands text end 44 lt e) (at_comma field.place bytes fields (drop (end + 1) text) (field.closed lt))
 
 -- ---- records
 

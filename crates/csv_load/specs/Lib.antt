@@ -1,4 +1,5 @@
 pub mod Records
+pub mod Parts
 pub mod Kept
 pub mod Columns
 pub mod Lines

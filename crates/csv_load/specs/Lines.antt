@@ -1,18 +1,15 @@
--- The lines of a text: those whose fields have no quote inside, and those in any form.
-use Rattle.std.specs.Prelude.{◌≡◌, ◌≢◌, ◌==◌, ◌||◌, ◌⊎◌, Bool, ℕ, ◌≤◌, ◌<◌, List, [], length, drop, slice_index_or, Option, Some, None}
-use Rattle.csv.specs.Machine.{Read, next_record}
+-- The lines of a text, field by field.
+use Rattle.std.specs.Prelude.{◌≡◌, ◌≢◌, ◌==◌, ◌||◌, ◌⊎◌, Bool, ℕ, ◌≤◌, ◌<◌, ⊤, List, [], ◌∷◌, ◌++◌, length, drop, slice_index_or, Option, Some, None}
+use Rattle.csv.specs.Machine.{Read, next_record, step}
 use Rattle.csv.specs.Reading.{default_config}
-use Rattle.csv.specs.declared.parser.Action.{Action}
 use Rattle.csv.specs.declared.parser.Action.TheVariants as act
 use Rattle.csv.specs.declared.parser.State.{State}
 use Rattle.csv.specs.declared.parser.State.TheVariants as st
 use Rattle.csv_load.specs.Records.{Fields}
-use Rattle.csv_load.specs.declared.any_record.Effect.{Effect}
-use Rattle.csv_load.specs.declared.any_record.Effect.TheVariants.{Passes, Joins, EndsField, EndsRecord}
-use Rattle.csv_load.specs.declared.any_record.Within.{Within}
-use Rattle.csv_load.specs.declared.any_record.Within.TheVariants.{Start, Bare, Quoted, Closed}
-use Rattle.csv_load.specs.declared.lines.Line.{Line}
-use Rattle.csv_load.specs.declared.lines.Line.TheVariants.{End, Ends, Other}
+use Rattle.csv_load.specs.declared.odd_field.Effect.{Effect}
+use Rattle.csv_load.specs.declared.odd_field.Effect.TheVariants.{Passes, Joins, Ends}
+use Rattle.csv_load.specs.declared.odd_field.Within.{Within}
+use Rattle.csv_load.specs.declared.odd_field.Within.TheVariants.{Start, Bare, Quoted, Closed}
 
 -- a byte at which a line ends: LF or CR
 abbrev pub IsBreak : ℕ → Type 0
@@ -37,21 +34,41 @@ pub record JoinsField (byte : ℕ) : Type 0 where
 abbrev pub JoinsQuoted : ℕ → Type 0
 JoinsQuoted byte = byte ≢ 34
 
--- behind a field that may end here: nothing of it was read, or it has no quotes, or these are closed
-pub data IsField : State → List ℕ → Type 0 where
-  empty : IsField st.StartField []
-  bare : (bytes : List ℕ) → IsField st.InField bytes
-  quoted : (bytes : List ℕ) → IsField st.AfterQuote bytes
+-- where the machine of records is, by the place in a field
+abbrev pub state_within : Within → State
+state_within Start = st.StartField
+state_within Bare = st.InField
+state_within Quoted = st.InQuoted
+state_within Closed = st.AfterQuote
+
+-- a place in a field where it may end before the text does
+abbrev pub MayEnd : Within → Type 0
+MayEnd Start = ⊤
+MayEnd Bare = ⊤
+MayEnd Quoted = ⊥
+MayEnd Closed = ⊤
+
+-- what a byte does there by the machine of records; a field ends before the byte that stops it
+abbrev pub Does : Within → ℕ → Effect → Type 0
+Does place byte (Passes next) = step default_config (state_within place) byte ≡ (state_within next, act.Skip)
+Does place byte (Joins next) = step default_config (state_within place) byte ≡ (state_within next, act.Copy)
+Does place byte Ends = StopsField byte × MayEnd place
 
 -- the field at a place has these bytes and ends at another place: at a comma, a line break or the end of the text
 pub record ReadsField (text : List ℕ) (at : ℕ) (bytes : List ℕ) (end : ℕ) : Type 0 where
   pub behind : at ≤ end
   pub within : end ≤ length text
   pub stops : end < length text → StopsField (slice_index_or text end 0)
-  pub state : State
-  pub is_field : IsField state bytes
+  pub place : Within
+  pub closed : end < length text → MayEnd place
   pub read : (fields : Fields) → next_record default_config st.StartField fields [] (drop at text)
-      ≡ next_record default_config state fields bytes (drop end text)
+      ≡ next_record default_config (state_within place) fields bytes (drop end text)
+
+-- the field at a place is one more, and ends at another place
+pub record AddsField (text : List ℕ) (at : ℕ) (old new : Fields) (end : ℕ) : Type 0 where
+  pub bytes : List ℕ
+  pub reads : ReadsField text at bytes end
+  pub added : new ≡ old ++ bytes ∷ []
 
 -- between two records
 abbrev pub IsBetween : State → Type 0
@@ -68,29 +85,7 @@ pub record EndsAt (text : List ℕ) (from : ℕ) (fields : Fields) (next : ℕ) 
   pub between : IsBetween state
   pub read : record_at text from ≡ Some (fields, state, drop next text)
 
--- the next line that is not empty begins at a place
-pub record BeginsAt (text : List ℕ) (from at : ℕ) : Type 0 where
-  pub within : at < length text
-  pub passed : record_at text from ≡ record_at text at
-  pub no_feed : slice_index_or text at 0 ≢ 10
-  pub no_return : slice_index_or text at 0 ≢ 13
-
--- there is no further record, or the next one has these fields and ends before a place, or is not read and begins at a place
-abbrev pub ReadsLine : List ℕ → ℕ → Fields → Line → Type 0
-ReadsLine text from fields End = record_at text from ≡ None
-ReadsLine text from fields (Ends next) = EndsAt text from fields next
-ReadsLine text from fields (Other at) = BeginsAt text from at
-
--- where the machine of records is, by the place in a field
-abbrev pub state_within : Within → State
-state_within Start = st.StartField
-state_within Bare = st.InField
-state_within Quoted = st.InQuoted
-state_within Closed = st.AfterQuote
-
--- what a byte does by the machine of records
-abbrev pub Does : State × Action → Effect → Type 0
-Does did (Passes within) = did ≡ (state_within within, act.Skip)
-Does did (Joins within) = did ≡ (state_within within, act.Copy)
-Does did EndsField = did ≡ (st.StartField, act.EndField)
-Does did EndsRecord = IsBetween did.0 × (did.1 ≡ act.EndRecord)
+-- there is no further record, or the next one has these fields and ends before a place
+abbrev pub ReadsLine : List ℕ → ℕ → Fields → Option ℕ → Type 0
+ReadsLine text from fields None = record_at text from ≡ None
+ReadsLine text from fields (Some next) = EndsAt text from fields next

@@ -1,6 +1,5 @@
 -- The records of a CSV text, which may begin with marks.
-use Rattle.std.specs.Borrow.{Bor}
-use Rattle.std.specs.Prelude.{ℕ, Bool, false, map, List, [], ◌∷◌, if◌then◌else◌}
+use Rattle.std.specs.Prelude.{ℕ, Bool, false, List, [], ◌∷◌, if◌then◌else◌}
 use Rattle.csv.specs.Reading.{AreRecords, Reached, default_config, is_bom}
 use Rattle.csv.specs.declared.parser.State.{State}
 use Rattle.csv.specs.declared.parser.State.TheVariants as st
@@ -8,10 +7,6 @@ use Rattle.csv.specs.declared.parser.State.TheVariants as st
 -- a record: the bytes of each of its fields
 abbrev pub Fields : Type 0
 Fields = List (List ℕ)
-
--- the fields that slices hold
-abbrev pub held : List (Bor (List ℕ)) → Fields
-held slices = map (λ s. s.now) slices
 
 -- whether the text begins with a mark EF BB BF
 abbrev pub starts_with_mark : List ℕ → Bool

@@ -1,16 +1,17 @@
 //! Tables from CSV texts under a schema: each fault exactly where it belongs, and else the table that the text stands for.
 #![tactic(auto)]
 
-mod any_record;
 mod building;
 mod column;
 mod exactness;
 mod fault;
+mod fields;
 mod filling;
 mod limits;
 mod lines;
 mod loading;
 mod marks;
+mod odd_field;
 mod place;
 mod plain_cells;
 mod ranks;

@@ -1,23 +1,14 @@
-//! Lines of a text whose records are cut at commas: no field has a quote inside.
+//! Lines of a text, cut at commas.
 
 ghost use Rattle.std.specs.Prelude.{◌≡◌, ◌≢◌, ◌-◌, ◌<◌, ◌≤◌};
 ghost use Rattle.std.specs.Prelude.{length, map, take, drop, slice_index_or, All, IfOk, IfSome, IsFalse, IsTrue};
 ghost use Rattle.std.specs.Simd.Lanes.{mask_l};
-ghost use Rattle.csv_load.specs.Lines.{IsBreak, JoinsField, JoinsQuoted, ReadsField, ReadsLine, StopsField, may_stop, record_at};
-ghost use Rattle.csv_load.specs.Records.{held};
+ghost use Rattle.csv_load.specs.Lines.{AddsField, IsBreak, JoinsField, JoinsQuoted, ReadsField, ReadsLine, StopsField, may_stop, record_at};
 
+use crate::fields::RecordFields;
+use crate::odd_field::read_odd_field;
 use std::alloc::AllocError;
 use std::simd::prelude::*;
-
-/// What stands at a place of a text between records.
-pub(crate) enum Line {
-    /// No further record.
-    End,
-    /// A record, and the place where the next line begins.
-    Ends(usize),
-    /// A line with a quote inside a field, which is not read: the place where it begins.
-    Other(usize),
-}
 
 // A field, and the place where it ends: at a comma, a line break or the end of the text.
 #[derive(Clone, Copy)]
@@ -136,7 +127,7 @@ fn quoted_field(text: &[u8], at: usize) -> Option<Field<'_>>
 }
 
 // The field that begins at that place, in quotes or not, if it has no quote inside.
-fn read_field(text: &[u8], at: usize) -> Option<Field<'_>>
+fn plain_field(text: &[u8], at: usize) -> Option<Field<'_>>
     requires { at ≤ length text.now }
     ensures { IfSome result (λ field. ReadsField text.now at field.bytes.now field.end) }
 {
@@ -153,32 +144,53 @@ fn read_field(text: &[u8], at: usize) -> Option<Field<'_>>
     }
 }
 
-/// The fields of the next line that is not empty, if there is one and none of its fields has a quote inside.
+// Adds the field that begins at that place, by a buffer for one with a quote inside, and answers where it ends.
+fn add_field<'t>(
+    text: &'t [u8],
+    at: usize,
+    fields: &mut RecordFields<'t>,
+    odd: &mut Vec<u8>,
+) -> Result<usize, AllocError>
+    requires { at ≤ length text.now }
+    ensures { IfOk result (AddsField text.now at fields.old fields.new) }
+{
+    match plain_field(text, at) {
+        Some(field) => {
+            fields.push(field.bytes)?;
+            Ok(field.end)
+        }
+        None => {
+            let end = read_odd_field(text, at, odd)?;
+            fields.push_apart(odd)?;
+            Ok(end)
+        }
+    }
+}
+
+/// Reads the fields of the next line that is not empty, and answers where the line after it begins. None where there is no
+/// such line.
 pub(crate) fn read_line<'t>(
     text: &'t [u8],
     from: usize,
-    fields: &mut Vec<&'t [u8]>,
-) -> Result<Line, AllocError>
+    fields: &mut RecordFields<'t>,
+    odd: &mut Vec<u8>,
+) -> Result<Option<usize>, AllocError>
     requires { from ≤ length text.now }
-    ensures { IfOk result (λ line. ReadsLine text.now from (held fields.new.items) line) }
+    ensures { IfOk result (ReadsLine text.now from fields.new) }
 {
     fields.clear();
-    let start = line_start(text, from);
-    if start == text.len() {
-        return Ok(Line::End);
+    let mut at = line_start(text, from);
+    if at == text.len() {
+        return Ok(None);
     }
-    let mut at = start;
     'fields: loop {
-        let Some(field) = read_field(text, at) else {
-            return Ok(Line::Other(start));
-        };
-        fields.push(field.bytes)?;
-        if field.end == text.len() {
-            return Ok(Line::Ends(field.end));
+        let end = add_field(text, at, fields, odd)?;
+        if end == text.len() {
+            return Ok(Some(end));
         }
-        at = field.end + 1;
-        if text[field.end] != b',' {
-            return Ok(Line::Ends(at));
+        at = end + 1;
+        if text[end] != b',' {
+            return Ok(Some(at));
         }
     }
 }

@@ -5,14 +5,13 @@ ghost use Rattle.csv_load.specs.Faults.{Refuses};
 ghost use Rattle.csv_load.specs.States.{AreStates, HasRead, RefusesNext, TakesSome};
 ghost use Rattle.csv_load.specs.declared.fault.TableFault.TheVariants.{NoMemory};
 
-use crate::any_record::{listed, read_any_record};
 use crate::column::Column;
 use crate::fault::TableFault;
+use crate::fields::RecordFields;
 use crate::limits::Limits;
-use crate::lines::{Line, read_line};
+use crate::lines::read_line;
 use crate::marks::past_marks;
 use crate::record::take_record;
-use csv::ByteRecord;
 use daq_table::{Schema, SchemaColumn};
 use std::alloc::{AllocError, Global};
 
@@ -27,14 +26,13 @@ fn empty_columns(alloc: Global, schema: &[SchemaColumn]) -> Result<Vec<Column>, 
     Ok(columns)
 }
 
-// A text of records, and room for the fields of one: in the text, or apart where one has a quote inside.
+// A text of records, and room for the fields of one and for a field with a quote inside.
 #[derive(Drop)]
 struct Records<'t> {
     alloc: Global,
     text: &'t [u8],
-    fields: Vec<&'t [u8]>,
-    record: ByteRecord,
-    field: Vec<u8>,
+    fields: RecordFields<'t>,
+    odd: Vec<u8>,
 }
 
 impl<'t> Records<'t> {
@@ -44,9 +42,8 @@ impl<'t> Records<'t> {
         Records {
             alloc,
             text,
-            fields: Vec::new(alloc),
-            record: ByteRecord::new(alloc),
-            field: Vec::new(alloc),
+            fields: RecordFields::new(alloc),
+            odd: Vec::new(alloc),
         }
     }
 
@@ -68,19 +65,11 @@ impl<'t> Records<'t> {
         ensures err { IfErr result (λ fault. (fault ≡ NoMemory)
             ⊎ RefusesNext schema.now.items limits.now records self.old.text.now from columns.old fault) }
     {
-        match read_line(self.text, from, &mut self.fields)? {
-            Line::End => Ok(None),
-            Line::Ends(next) => {
-                take_record(self.alloc, columns, &self.fields, schema, limits, records)?;
-                Ok(Some(next))
-            }
-            Line::Other(start) => {
-                let next = read_any_record(self.text, start, &mut self.record, &mut self.field)?;
-                let fields = listed(self.alloc, &self.record)?;
-                take_record(self.alloc, columns, &fields, schema, limits, records)?;
-                Ok(Some(next))
-            }
-        }
+        let Some(next) = read_line(self.text, from, &mut self.fields, &mut self.odd)? else {
+            return Ok(None);
+        };
+        take_record(self.alloc, columns, &self.fields, schema, limits, records)?;
+        Ok(Some(next))
     }
 }
 

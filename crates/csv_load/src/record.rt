@@ -5,38 +5,30 @@ ghost use Rattle.std.specs.Prelude.{◌^◌, length, slice_get, slice_index_or, 
 ghost use Rattle.daq_table.specs.Schemas.{item_names, kept_places};
 ghost use Rattle.csv_load.specs.Faults.{IsFirstDifference};
 ghost use Rattle.csv_load.specs.Kept.{kept_fields, place_of};
-ghost use Rattle.csv_load.specs.Records.{held};
 ghost use Rattle.csv_load.specs.States.{RefusesAt, RefusesHeader, RefusesRecord, RefusesRow, TakesRecord, TakesRow, TookAll};
 
 use crate::column::Column;
 use crate::fault::TableFault;
+use crate::fields::RecordFields;
 use crate::limits::Limits;
 use crate::place::Place;
 use daq_table::{Schema, SchemaItem};
 use std::alloc::Global;
 
-// A field of the record.
-fn field_at<'f>(fields: &'f [&[u8]], place: usize) -> &'f [u8]
-    requires { place < length (held fields.now) }
-    ensures { result.now ≡ slice_index_or (held fields.now) place [] }
-{
-    fields[place]
-}
-
 // Whether that field of the record is the text.
-fn has_field(fields: &[&[u8]], place: usize, text: &[u8]) -> bool
-    ensures { IsTrue result ↔ (slice_get (held fields.now) place ≡ Some text.now) }
+fn has_field(fields: &RecordFields, place: usize, text: &[u8]) -> bool
+    ensures { IsTrue result ↔ (slice_get fields.now place ≡ Some text.now) }
 {
     if place >= fields.len() {
         return false;
     }
-    field_at(fields, place) == text
+    fields.get(place) == text
 }
 
 // The first place where the header and the names of the schema's items differ.
-fn first_difference(header: &[&[u8]], items: &[SchemaItem]) -> Option<usize>
-    ensures { MatchOption result (held header.now ≡ item_names items.now)
-        (IsFirstDifference (held header.now) (item_names items.now)) }
+fn first_difference(header: &RecordFields, items: &[SchemaItem]) -> Option<usize>
+    ensures { MatchOption result (header.now ≡ item_names items.now)
+        (IsFirstDifference header.now (item_names items.now)) }
 {
     for (place, item) in items.iter().enumerate() {
         if !has_field(header, place, item.name()) {
@@ -51,9 +43,9 @@ fn first_difference(header: &[&[u8]], items: &[SchemaItem]) -> Option<usize>
 }
 
 // Takes the header, if it is the names of the schema's items.
-fn take_header(header: &[&[u8]], items: &[SchemaItem]) -> Result<(), TableFault>
-    ensures ok { OnOk result (held header.now ≡ item_names items.now) }
-    ensures err { IfErr result (RefusesHeader items.now (held header.now)) }
+fn take_header(header: &RecordFields, items: &[SchemaItem]) -> Result<(), TableFault>
+    ensures ok { OnOk result (header.now ≡ item_names items.now) }
+    ensures err { IfErr result (RefusesHeader items.now header.now) }
 {
     match first_difference(header, items) {
         Some(column) => Err(TableFault::HeaderDiffers { column }),
@@ -72,27 +64,27 @@ fn place_at(schema: &Schema, column: usize) -> usize
 }
 
 // The field of a column.
-fn field_of<'f>(fields: &'f [&[u8]], schema: &Schema, column: usize) -> &'f [u8]
+fn field_of<'f>(fields: &'f RecordFields, schema: &Schema, column: usize) -> &'f [u8]
     requires column { column < length schema.now.columns }
-    requires full { length (held fields.now) ≡ length schema.now.items }
-    ensures { result.now ≡ slice_index_or (kept_fields schema.now.items (held fields.now)) column [] }
+    requires full { length fields.now ≡ length schema.now.items }
+    ensures { result.now ≡ slice_index_or (kept_fields schema.now.items fields.now) column [] }
 {
-    field_at(fields, place_at(schema, column))
+    fields.get(place_at(schema, column))
 }
 
 // Hands each column its field, up to the first that is refused.
 fn take_fields(
     alloc: Global,
     columns: &mut [Column],
-    fields: &[&[u8]],
+    fields: &RecordFields,
     schema: &Schema,
     limit: u64,
     entry: usize,
 ) -> Result<(), TableFault>
     requires wide { length columns.old ≡ length schema.now.columns }
-    requires full { length (held fields.now) ≡ length schema.now.items }
-    ensures ok { OnOk result (TookAll limit columns.old (kept_fields schema.now.items (held fields.now)) columns.new) }
-    ensures err { IfErr result (RefusesAt (kept_places schema.now.items) limit entry columns.old (held fields.now)) }
+    requires full { length fields.now ≡ length schema.now.items }
+    ensures ok { OnOk result (TookAll limit columns.old (kept_fields schema.now.items fields.now) columns.new) }
+    ensures err { IfErr result (RefusesAt (kept_places schema.now.items) limit entry columns.old fields.now) }
 {
     for (number, column) in columns.iter_mut().enumerate() {
         let text = field_of(fields, schema, number);
@@ -113,15 +105,15 @@ fn take_fields(
 fn take_row(
     alloc: Global,
     columns: &mut [Column],
-    fields: &[&[u8]],
+    fields: &RecordFields,
     schema: &Schema,
     limits: &Limits,
     rows: usize,
 ) -> Result<(), TableFault>
     requires small { rows + 1 < 2 ^ 32 }
     requires wide { length columns.old ≡ length schema.now.columns }
-    ensures ok { OnOk result (TakesRow schema.now.items limits.now rows columns.old (held fields.now) columns.new) }
-    ensures err { IfErr result (RefusesRow schema.now.items limits.now rows columns.old (held fields.now)) }
+    ensures ok { OnOk result (TakesRow schema.now.items limits.now rows columns.old fields.now columns.new) }
+    ensures err { IfErr result (RefusesRow schema.now.items limits.now rows columns.old fields.now) }
 {
     let entry = rows + 1;
     if entry as u64 > limits.rows {
@@ -146,15 +138,15 @@ fn take_row(
 pub(crate) fn take_record(
     alloc: Global,
     columns: &mut [Column],
-    fields: &[&[u8]],
+    fields: &RecordFields,
     schema: &Schema,
     limits: &Limits,
     records: usize,
 ) -> Result<(), TableFault>
     requires small { records < 2 ^ 32 }
     requires wide { length columns.old ≡ length schema.now.columns }
-    ensures ok { OnOk result (TakesRecord schema.now.items limits.now records columns.old (held fields.now) columns.new) }
-    ensures err { IfErr result (RefusesRecord schema.now.items limits.now records columns.old (held fields.now)) }
+    ensures ok { OnOk result (TakesRecord schema.now.items limits.now records columns.old fields.now columns.new) }
+    ensures err { IfErr result (RefusesRecord schema.now.items limits.now records columns.old fields.now) }
 {
     if records == 0 {
         take_header(fields, schema.items.as_slice())

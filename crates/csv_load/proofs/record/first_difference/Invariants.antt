@@ -1,7 +1,6 @@
 use Rattle.std.proofs.Common.{◌≡◌, take}
-use Rattle.csv_load.specs.Records.{held}
 use Rattle.daq_table.specs.Schemas.{item_names}
 use Rattle.csv_load.proofs.record.first_difference.Given as goal
 
 abbrev pub invariant-loop-place : goal.invariant-loop-place
-invariant-loop-place l = take l.place (held l.header) ≡ take l.place (item_names l.items)
+invariant-loop-place l = take l.place l.header ≡ take l.place (item_names l.items)

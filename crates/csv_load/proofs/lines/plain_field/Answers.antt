@@ -1,5 +1,5 @@
 use Rattle.csv_load.proofs.LineFacts.{bare_field}
-use Rattle.csv_load.proofs.lines.read_field.Goals as goal
+use Rattle.csv_load.proofs.lines.plain_field.Goals as goal
 
 pub returns-then-ends_field : goal.returns-then-ends_field
 returns-then-ends_field c =
