@@ -1,7 +1,6 @@
 //! Marks at the start of a text.
 
 ghost use Rattle.std.specs.Prelude.{◌≡◌};
-ghost use Rattle.csv.specs.Reading.{strip_bom};
 ghost use Rattle.csv_load.specs.Records.{starts_with_mark, without_marks};
 
 // Whether the text begins with a mark.
@@ -11,10 +10,9 @@ fn has_mark(bytes: &[u8]) -> bool
     bytes.starts_with(b"\xEF\xBB\xBF")
 }
 
-/// The text after all marks EF BB BF at its start, of which the reader of records thus never sees one.
+/// The text after all marks EF BB BF at its start.
 pub(crate) fn past_marks(bytes: &[u8]) -> &[u8]
-    ensures rest { result.now ≡ without_marks bytes.now }
-    ensures plain { strip_bom result.now ≡ result.now }
+    ensures { result.now ≡ without_marks bytes.now }
 {
     let mut rest = bytes;
     while has_mark(rest) {

@@ -8,7 +8,7 @@ use Rattle.csv_load.proofs.reading.read_columns.Goals as goal
 
 pub records-init : goal.records-init
 records-init c =
-    none_read c.args.bytes.now c.args.schema.now.items c.args.limits.now c.new-reader.result.text.now c.in_ok-columns.columns.items (c.new-reader.ensures ∙ c.past_marks.ensures.rest)
+    none_read c.args.bytes.now c.args.schema.now.items c.args.limits.now c.new-reader.result.text.now c.in_ok-columns.columns.items (c.new-reader.ensures ∙ c.past_marks.ensures)
     (rw (← c.args.schema.now.kept, ← c.as_slice.ensures) c.in_ok-columns.ensures)
 
 pub take_next-requires-clause-small : goal.take_next-requires-clause-small
