@@ -10,6 +10,7 @@ use Rattle.sql_text.specs.declared.tree.Num.{Num}
 use Rattle.query_kinds.specs.Beside.{IsBesideFault}
 use Rattle.query_kinds.specs.Kinds.{IsByGroups, IsKindsFault, IsNoQuery, IsNoShape, IsOfItems, IsOfShape, IsQueryLine, IsTotals}
 use Rattle.query_kinds.specs.Kinds.{KindsAreOne, columns_named, fault_of, is_aggregate, kind_of}
+use Rattle.query_kinds.specs.Rows.{IsRowsFault}
 
 -- ---- the shape of a query
 
@@ -85,6 +86,14 @@ beside_fault line text (f.Syntax at) spelled only = none_line line text spelled 
 beside_fault line text (f.TooDeep at) spelled only = none_line line text spelled only
 beside_fault line text (f.LiteralTooLarge at) spelled only = none_line line text spelled only
 beside_fault line text f.NoMemory spelled only = tt
+
+pub rows_fault : (line text : List ℕ) (fault : SqlFault) → line ≡ codes "query " ++ text →
+    ((q : Query) → IsText text q → Answers q (Err fault)) → IsRowsFault line (fault_of fault)
+rows_fault line text f.TooLong spelled only = none_line line text spelled only
+rows_fault line text (f.Syntax at) spelled only = none_line line text spelled only
+rows_fault line text (f.TooDeep at) spelled only = none_line line text spelled only
+rows_fault line text (f.LiteralTooLarge at) spelled only = none_line line text spelled only
+rows_fault line text f.NoMemory spelled only = tt
 
 -- ---- one shape
 

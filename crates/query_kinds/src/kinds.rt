@@ -7,6 +7,7 @@ ghost use Rattle.sql_text.specs.Tree.{item_of, name_of, query_of};
 ghost use Rattle.query_kinds.specs.Beside.{IsBesideFault};
 ghost use Rattle.query_kinds.specs.Kinds.{Asks, IsKindsFault, IsNoShape, IsOfItems, IsQueryLine};
 ghost use Rattle.query_kinds.specs.Kinds.{columns_named, fault_of, is_aggregate, kind_of, kind_of_call};
+ghost use Rattle.query_kinds.specs.Rows.{IsRowsFault};
 
 use crate::fault::KindsFault;
 use query_model::ItemKind;
@@ -177,6 +178,7 @@ pub(crate) fn read_line(alloc: Global, line: &[u8]) -> Result<Tree, KindsFault>
     ensures query { IfOk result (λ tree. IsQueryLine line.now (query_of tree)) }
     ensures fault { IfErr result (IsKindsFault line.now) }
     ensures beside { IfErr result (IsBesideFault line.now) }
+    ensures rows { IfErr result (IsRowsFault line.now) }
 {
     match text_behind(line) {
         Some(text) => match parse(alloc, text) {

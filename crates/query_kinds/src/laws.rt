@@ -2,6 +2,7 @@
 
 ghost use Rattle.query_kinds.specs.Beside.{BesidesAreOne};
 ghost use Rattle.query_kinds.specs.Kinds.{KindsAreOne};
+ghost use Rattle.query_kinds.specs.Rows.{RowsAreOne};
 
 use sql_text::one_answer;
 
@@ -15,6 +16,13 @@ pub fn kinds_are_one()
 /// What is told to stand beside its items is one list, with a place for each item of totals.
 pub fn besides_are_one()
     ensures { BesidesAreOne }
+{
+    one_answer();
+}
+
+/// A line asks for first rows in one way at most, and then for no totals and no groups.
+pub fn rows_are_one()
+    ensures { RowsAreOne }
 {
     one_answer();
 }

@@ -1,5 +1,5 @@
 use Rattle.std.proofs.Common.{rules}
-use Rattle.query_kinds.proofs.OneKind.{beside_fault, line_fault}
+use Rattle.query_kinds.proofs.OneKind.{beside_fault, line_fault, rows_fault}
 use Rattle.query_kinds.proofs.kinds.read_line.Goals as goal
 
 pub returns-in-Err-clause-fault : goal.returns-in-Err-clause-fault
@@ -10,4 +10,9 @@ returns-in-Err-clause-fault c =
 pub returns-in-Err-clause-beside : goal.returns-in-Err-clause-beside
 returns-in-Err-clause-beside c =
     let own = beside_fault c.args.line.now c.in-Some.text.now c.in-Err.fault c.in-Some.ensures.0 c.in-Err.ensures.only in
+    search (rules, own)
+
+pub returns-in-Err-clause-rows : goal.returns-in-Err-clause-rows
+returns-in-Err-clause-rows c =
+    let own = rows_fault c.args.line.now c.in-Some.text.now c.in-Err.fault c.in-Some.ensures.0 c.in-Err.ensures.only in
     search (rules, own)
