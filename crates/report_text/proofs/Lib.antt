@@ -12,5 +12,6 @@ pub mod OneGroup
 pub mod Outside
 pub mod ReadKeys
 pub mod RoundLines
+pub mod RowCounts
 pub mod RowTexts
 pub mod ShownTexts

@@ -12,5 +12,6 @@ pub mod Numbers
 pub mod Parted
 pub mod Quotes
 pub mod Reading
+pub mod RowBlocks
 pub mod Rows
 pub mod Words

@@ -18,6 +18,7 @@ mod layouts;
 mod lines;
 mod numbers;
 mod quotes;
+mod row_blocks;
 mod rows;
 
 pub use answers::{Answer, read_answer, written_answer};
@@ -32,4 +33,5 @@ pub use lines::{
     ReportEnd, is_round_line, read_end, read_item, read_parts, text_of_item, written_item,
 };
 pub use numbers::{Number, read_number};
+pub use row_blocks::RowsBlock;
 pub use rows::{RowLine, RowName, TopLine, read_row, read_top, written_row, written_top};

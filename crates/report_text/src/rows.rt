@@ -73,7 +73,7 @@ fn read_counts(text: &[u8]) -> Option<TopLine>
 /// How many rows there are, by the line before them: it is read back as it was written, and what is read is written as it stood.
 pub fn read_top(line: &[u8]) -> Option<TopLine>
     ensures read { (top : TopLine) → IsTopLine top → top_line top ≡ line.now → result ≡ Some top }
-    ensures written { IfSome result (λ top. top_line top ≡ line.now) }
+    ensures written { IfSome result (λ top. IsTopLine top × (top_line top ≡ line.now)) }
 {
     let top = read_counts(behind(line, b"top ")?)?;
     if written_top(top).bytes() == line {
