@@ -33,11 +33,11 @@ use Rattle.report_laws.proofs.Keys.{keys_shown}
 
 -- ---- the ranges of a cell are in order
 
-abbrev AreOrdered : List Range → Type 0
+abbrev pub AreOrdered : List Range → Type 0
 AreOrdered [] = Unit {0}
 AreOrdered (range ∷ ranges) = (range.numbers.low ≤ℤ range.numbers.high) × AreOrdered ranges
 
-parts_ordered : (frame : Frame) (known : Knowledge) (cs qs : List ℕ) → IsTrue (are_legal (map (part_under frame known) cs) qs) → AreOrdered (ranges_of_prefixes (map (part_under frame known) cs) qs)
+pub parts_ordered : (frame : Frame) (known : Knowledge) (cs qs : List ℕ) → IsTrue (are_legal (map (part_under frame known) cs) qs) → AreOrdered (ranges_of_prefixes (map (part_under frame known) cs) qs)
 parts_ordered frame known [] qs h = tt
 parts_ordered frame known (c ∷ cs) [] h = absurd (false≢true h)
 parts_ordered frame known (c ∷ cs) (q ∷ qs) h =
@@ -47,7 +47,7 @@ parts_ordered frame known (c ∷ cs) (q ∷ qs) h =
 
 -- ---- they are parts of columns that are read back
 
-abbrev AllArePlain : Head → Type 0
+abbrev pub AllArePlain : Head → Type 0
 AllArePlain head = (i : ℕ) (column : ColumnHead) → slice_get head.columns i ≡ Some column → IsPlainColumn column
 
 same_default : (is : List ℕ) (k d : ℕ) → k < length is → get_or is k d ≡ get_or is k 0
@@ -66,7 +66,7 @@ plain_by head (Some column) i numbers plain is lt shows ordered = record {
   below = shows.high_end.below;
 }
 
-are_plain : (head : Head) (query : TypedQuery) (columns : List ℕ) (ranges : List Range) → AllArePlain head → CanShowKey head query columns ranges → AreOrdered ranges →
+pub are_plain : (head : Head) (query : TypedQuery) (columns : List ℕ) (ranges : List Range) → AllArePlain head → CanShowKey head query columns ranges → AreOrdered ranges →
     ArePlainParts head query columns ranges
 are_plain head query [] [] plain shows ordered = tt
 are_plain head query [] (range ∷ ranges) plain shows ordered = absurd shows

@@ -9,6 +9,7 @@ use Rattle.std.specs.Int.{w128}
 use Rattle.std.specs.List.{All}
 use Rattle.std.specs.Ordering.{int_eq}
 use Rattle.std.specs.Simd.Lanes.{zip2}
+use Rattle.std.specs.Str.{bytes_eq}
 use Rattle.interval_calc.specs.Intervals.{Interval}
 use Rattle.interval_calc.proofs.LeastSpans.{between_fits}
 use Rattle.daq_table.specs.ColumnFacts.{are_ranks, fits_names, is_ascending}
@@ -24,9 +25,12 @@ use Rattle.query_model.specs.declared.query.TypedQuery.{TypedQuery}
 use Rattle.daq_report.specs.Ends.{decimals_of}
 use Rattle.daq_report.specs.Groups.{dotted}
 use Rattle.daq_report.specs.Groups as report
-use Rattle.daq_report.specs.Intervals.{column_of, interval_text}
+use Rattle.daq_report.specs.Intervals.{column_of, ends_text, interval_text, value_of}
+use Rattle.report_text.specs.Forms.{text_in}
+use Rattle.report_text.specs.Intervals.{ends_between, key_interval}
 use Rattle.report_text.specs.Keys.{AreShownEnds, IsShownSpan, listed, span_text, text_of_ends}
 use Rattle.report_text.specs.declared.keys.ShownEnds.{ShownEnds}
+use Rattle.report_text.specs.declared.keys.ShownEnds.TheVariants.{NoText, Texts, Values}
 use Rattle.report_laws.specs.Groups.{ArePlainParts, HasPlainPart, KeysAreShown, ends_of, name_at, span_by, span_of, spans_of, text_ends}
 use Rattle.report_laws.proofs.Names.{ordered_ranks, same_ranks}
 
@@ -48,19 +52,30 @@ have_names names j k le lt =
     let last = there names k lt in
     record { low = first.0; high = last.0; is_low = first.1; is_high = last.1 }
 
+-- equal ends are laid out as one
+abbrev IsLayout : (Bool → List ℕ → List ℕ → List ℕ) → Type 0
+IsLayout lay = (a b : List ℕ) → lay true a b ≡ a
+
+-- values in that layout
+abbrev laid : (Bool → List ℕ → List ℕ → List ℕ) → ShownEnds → List ℕ
+laid lay (Values ends) = lay (int_eq ends.low ends.high) (text_in ends.form ends.low) (text_in ends.form ends.high)
+laid lay (Texts ends) = lay (bytes_eq ends.low ends.high) (quoted_text ends.low) (quoted_text ends.high)
+laid lay NoText = codes "-"
+
 -- the texts of two ranks are shown so, and can be read
 record AreTextsShown (names : List (List ℕ)) (low high : ℤ) : Type 0 where
-  pub text : dotted (int_eq low high) (text_of_rank names low) (text_of_rank names high) ≡ text_of_ends (text_ends (name_at names low) (name_at names high))
+  pub text : (lay : Bool → List ℕ → List ℕ → List ℕ) → IsLayout lay →
+      lay (int_eq low high) (text_of_rank names low) (text_of_rank names high) ≡ laid lay (text_ends (name_at names low) (name_at names high))
   pub are_shown : AreShownEnds (text_ends (name_at names low) (name_at names high))
 
 ranks_shown : (names : List (List ℕ)) → IsTrue (is_ascending names) → (j k : ℕ) → j ≤ k → HaveNames names j k → AreTextsShown names (pos j) (pos k)
 ranks_shown names h j k le at = record {
-  text =
-      ap (λ (o : Option (List ℕ)). dotted (int_eq (pos j) (pos k)) (text_of_name o) (text_of_name (slice_get names k))) at.is_low
-      ∙ ap (λ (o : Option (List ℕ)). dotted (int_eq (pos j) (pos k)) (quoted_text at.low) (text_of_name o)) at.is_high
-      ∙ ap (λ (same : Bool). dotted same (quoted_text at.low) (quoted_text at.high)) (same_ranks names h j k at.low at.high le at.is_low at.is_high)
-      ∙ ap (λ (o : Option (List ℕ)). text_of_ends (text_ends (Some at.low) o)) (sym at.is_high)
-      ∙ ap (λ (o : Option (List ℕ)). text_of_ends (text_ends o (slice_get names k))) (sym at.is_low);
+  text = λ lay alone.
+      (ap (λ (o : Option (List ℕ)). lay (int_eq (pos j) (pos k)) (text_of_name o) (text_of_name (slice_get names k))) at.is_low
+      ∙ ap (λ (o : Option (List ℕ)). lay (int_eq (pos j) (pos k)) (quoted_text at.low) (text_of_name o)) at.is_high
+      ∙ ap (λ (same : Bool). lay same (quoted_text at.low) (quoted_text at.high)) (same_ranks names h j k at.low at.high le at.is_low at.is_high)
+      ∙ ap (λ (o : Option (List ℕ)). laid lay (text_ends (Some at.low) o)) (sym at.is_high)
+      ∙ ap (λ (o : Option (List ℕ)). laid lay (text_ends o (slice_get names k))) (sym at.is_low));
   are_shown =
       subst (λ (o : Option (List ℕ)). AreShownEnds (text_ends o (slice_get names k))) (sym at.is_low)
       (subst (λ (o : Option (List ℕ)). AreShownEnds (text_ends (Some at.low) o)) (sym at.is_high)
@@ -74,7 +89,7 @@ texts_shown [] base top low high h ranks above ordered below =
     let last = (Decides-int_eq top (pos 0)).0 both.1 in
     let is_low : low ≡ pos 0 = omega (arith, ints, above, ordered, below, first, last) in
     let is_high : high ≡ pos 0 = omega (arith, ints, above, ordered, below, first, last) in
-    subst (λ (z : ℤ). AreTextsShown [] z high) (sym is_low) (subst (λ (z : ℤ). AreTextsShown [] (pos 0) z) (sym is_high) (record { text = refl; are_shown = tt }))
+    subst (λ (z : ℤ). AreTextsShown [] z high) (sym is_low) (subst (λ (z : ℤ). AreTextsShown [] (pos 0) z) (sym is_high) (record { text = λ lay alone. alone (codes "-") (codes "-"); are_shown = tt }))
 texts_shown (name ∷ names) base top (pos j) (pos k) h ranks above ordered below =
     let le : j ≤ k = omega (arith, ints, ordered) in
     let last : int_lt top (pos (length (name ∷ names))) ≡ true = (and_parts (int_le (pos 0) base) (int_lt top (pos (length (name ∷ names)))) ranks).1 in
@@ -87,7 +102,8 @@ texts_shown (name ∷ names) base top (negsuc j) high h ranks above ordered belo
 -- ---- values of any kind
 
 record AreEndsShown (kind : Kind) (names : List (List ℕ)) (numbers : Interval) : Type 0 where
-  pub text : report.dotted (int_eq numbers.low numbers.high) (text_by_kind kind names numbers.low) (text_by_kind kind names numbers.high) ≡ text_of_ends (ends_of kind names numbers)
+  pub text : (lay : Bool → List ℕ → List ℕ → List ℕ) → IsLayout lay →
+      lay (int_eq numbers.low numbers.high) (text_by_kind kind names numbers.low) (text_by_kind kind names numbers.high) ≡ laid lay (ends_of kind names numbers)
   pub are_shown : AreShownEnds (ends_of kind names numbers)
 
 -- numbers of 128 bits in order
@@ -99,18 +115,18 @@ record AreWide (numbers : Interval) : Type 0 where
 by_kind : (kind : Kind) (names : List (List ℕ)) (base top : ℤ) (numbers : Interval) → decimals_of kind ≤ 18 → ((value : ℤ) → base ≤ℤ value → value ≤ℤ top → HasText kind value) →
     IsTrue (is_ascending names) → IsTrue (fits_names kind base top names) → base ≤ℤ numbers.low → numbers.high ≤ℤ top → AreWide numbers → AreEndsShown kind names numbers
 by_kind kinds.Int names base top numbers few texts h ranks above below wide = record {
-  text = refl;
+  text = λ lay alone. refl;
   are_shown = record { low = record { has = few; fits = wide.low }; high = record { has = few; fits = wide.high }; ordered = wide.ordered };
 }
 by_kind (kinds.Dec scale) names base top numbers few texts h ranks above below wide = record {
-  text = refl;
+  text = λ lay alone. refl;
   are_shown = record { low = record { has = few; fits = wide.low }; high = record { has = few; fits = wide.high }; ordered = wide.ordered };
 }
 by_kind kinds.Date names base top numbers few texts h ranks above below wide =
     let under : numbers.low ≤ℤ top = omega (arith, ints, below, wide) in
     let over : base ≤ℤ numbers.high = omega (arith, ints, above, wide) in
     record {
-      text = refl;
+      text = λ lay alone. refl;
       are_shown = record {
         low = record { has = texts numbers.low above under; fits = wide.low };
         high = record { has = texts numbers.high over below; fits = wide.high };
@@ -133,11 +149,32 @@ span_shown_by Never ends h = h
 span_shown_by Possibly ends h = h
 span_shown_by Always ends h = tt
 
-record IsPartShown (column : Option ColumnHead) (range : Range) : Type 0 where
+in_dots : (ends : ShownEnds) → laid dotted ends ≡ text_of_ends ends
+in_dots (Values ends) = refl
+in_dots (Texts ends) = refl
+in_dots NoText = refl
+
+in_brackets : (ends : ShownEnds) → laid ends_text ends ≡ ends_between ends
+in_brackets (Values ends) = refl
+in_brackets (Texts ends) = refl
+in_brackets NoText = refl
+
+interval_by_null : (null : Nullity) (text : List ℕ) (ends : ShownEnds) → text ≡ ends_between ends → interval_text null text ≡ key_interval (span_by null ends)
+interval_by_null Never text ends e = e
+interval_by_null Possibly text ends e = ap (λ (t : List ℕ). t ++ codes " or null") e
+interval_by_null Always text ends e = refl
+
+-- where a value lies, in brackets
+abbrev pub range_text : Option ColumnHead → Range → List ℕ
+range_text column range =
+    interval_text range.null (ends_text (int_eq range.numbers.low range.numbers.high) (value_of column range.numbers.low) (value_of column range.numbers.high))
+
+pub record IsPartShown (column : Option ColumnHead) (range : Range) : Type 0 where
   pub text : report.part_text column range ≡ span_text (span_of column range)
+  pub interval : range_text column range ≡ key_interval (span_of column range)
   pub is_shown : IsShownSpan (span_of column range)
 
-part_shown : (column : Option ColumnHead) (range : Range) → HasPlainPart column range.numbers → IsPartShown column range
+pub part_shown : (column : Option ColumnHead) (range : Range) → HasPlainPart column range.numbers → IsPartShown column range
 part_shown None range h = absurd h
 part_shown (Some column) range h =
     let numbers = range.numbers in
@@ -149,9 +186,11 @@ part_shown (Some column) range h =
       ordered = h.ordered;
     } in
     let shown = by_kind column.kind column.names column.base column.top numbers h.plain.few h.plain.texts.between column.is_column.ascending column.is_column.fits h.above h.below wide in
+    let ends = ends_of column.kind column.names numbers in
     record {
-      text = span_text_by range.null (report.span_text column numbers) (ends_of column.kind column.names numbers) shown.text;
-      is_shown = span_shown_by range.null (ends_of column.kind column.names numbers) shown.are_shown;
+      text = span_text_by range.null (report.span_text column numbers) ends (shown.text dotted (λ a b. refl) ∙ in_dots ends);
+      interval = interval_by_null range.null _ ends (shown.text ends_text (λ a b. refl) ∙ in_brackets ends);
+      is_shown = span_shown_by range.null ends shown.are_shown;
     }
 
 -- ---- keys

@@ -1,4 +1,5 @@
 pub mod Cells
 pub mod Keys
 pub mod Names
+pub mod Rows
 pub mod Shown

@@ -1,6 +1,7 @@
 //! What reports show is what is read back.
 
 ghost use Rattle.report_laws.specs.Groups.{GroupsAreShown, KeysAreShown};
+ghost use Rattle.report_laws.specs.Rows.{FirstRowsAreShown};
 ghost use Rattle.report_laws.specs.Laws.{AveragesAreShown, AveragesCanBeRead, BoundsAreShown, BoundsCanBeRead};
 ghost use Rattle.report_laws.specs.Laws.{ClipsAreShown, ExactAveragesAreShown, RowsAreShown};
 
@@ -54,3 +55,8 @@ pub fn groups_are_shown()
     illegal_cells_are_empty();
     cells_tell_keys();
 }
+
+/// So are the lines of a query of first rows: how many there are, and each row with where its sort key lies.
+pub fn first_rows_are_shown()
+    ensures { FirstRowsAreShown }
+{}
