@@ -23,10 +23,10 @@ use Rattle.report_text.specs.declared.keys.ShownSpan.{ShownSpan}
 use Rattle.report_text.specs.declared.keys.TextEnds.{TextEnds}
 use Rattle.report_text.specs.declared.keys.ValueEnds.{ValueEnds}
 
-abbrev comma : List ℕ
+abbrev pub comma : List ℕ
 comma = codes ", "
 
-abbrev word : List ℕ
+abbrev pub word : List ℕ
 word = codes " or null"
 
 -- ---- brackets
@@ -45,12 +45,12 @@ bracket_first : (rest : List ℕ) → first (codes "[" ++ rest) ≡ 91
 unfolding first
 bracket_first rest = refl
 
-no_bracket : (end : IntervalEnd) (rest : List ℕ) → IsIntervalEnd end → text_of_end end ≡ codes "[" ++ rest → ⊥
+pub no_bracket : (end : IntervalEnd) (rest : List ℕ) → IsIntervalEnd end → text_of_end end ≡ codes "[" ++ rest → ⊥
 no_bracket end rest h e =
     false≢true (sym (first_plain (text_of_end end) [] (end_is_end end h)) ∙ ap (λ (t : List ℕ). is_other (first t)) (append-nil (text_of_end end) ∙ e)
     ∙ ap is_other (bracket_first rest))
 
-no_quoted_bracket : (name rest : List ℕ) → quoted_text name ≡ codes "[" ++ rest → ⊥
+pub no_quoted_bracket : (name rest : List ℕ) → quoted_text name ≡ codes "[" ++ rest → ⊥
 no_quoted_bracket name rest e = let same : 39 ≡ 91 = ap first_byte e in omega (arith, same)
   where
     first_byte : List ℕ → ℕ
@@ -59,10 +59,10 @@ no_quoted_bracket name rest e = let same : 39 ≡ 91 = ap first_byte e in omega 
 
 -- ---- two ends
 
-value_comma : (end : IntervalEnd) → IsIntervalEnd end → LacksOutside comma false (text_of_end end)
+pub value_comma : (end : IntervalEnd) → IsIntervalEnd end → LacksOutside comma false (text_of_end end)
 value_comma end h = end_lacks 44 (32 ∷ []) end refl h
 
-text_comma : (name : List ℕ) → LacksOutside comma false (quoted_text name)
+pub text_comma : (name : List ℕ) → LacksOutside comma false (quoted_text name)
 text_comma name = quoted_lacks 44 (32 ∷ []) name refl
 
 -- these are the texts of the ends of the interval
@@ -156,7 +156,7 @@ no_null_texts true ends front e = no_null_quoted ends.low front e
 no_null_texts false ends front e = no_null_brackets (quoted_text ends.low) (quoted_text ends.high) front e
 
 -- values do not end in that word
-no_null : (ends : ShownEnds) (front : List ℕ) → AreShownEnds ends → ends_between ends ≡ front ++ word → ⊥
+pub no_null : (ends : ShownEnds) (front : List ℕ) → AreShownEnds ends → ends_between ends ≡ front ++ word → ⊥
 no_null (Values ends) front h e = no_null_values (int_eq ends.low ends.high) ends front h e
 no_null (Texts ends) front h e = no_null_texts (bytes_eq ends.low ends.high) ends front e
 no_null NoText front h e = no_null_last front [] 45 (λ same. omega (arith, same)) e
@@ -211,7 +211,7 @@ texts_null : (equal : Bool) (ends : TextEnds) (rest : List ℕ) → ends_text eq
 texts_null true ends rest e = other_first 39 _ (quote_first ends.low rest) (λ same. omega (arith, same)) e
 texts_null false ends rest e = other_first 91 _ (brackets_first (quoted_text ends.low) (quoted_text ends.high) rest) (λ same. omega (arith, same)) e
 
-not_null : (ends : ShownEnds) (rest : List ℕ) → AreShownEnds ends → ends_between ends ++ rest ≡ codes "null" → ⊥
+pub not_null : (ends : ShownEnds) (rest : List ℕ) → AreShownEnds ends → ends_between ends ++ rest ≡ codes "null" → ⊥
 not_null (Values ends) rest h e = values_null (int_eq ends.low ends.high) ends rest h e
 not_null (Texts ends) rest h e = texts_null (bytes_eq ends.low ends.high) ends rest e
 not_null NoText rest h e = other_first 45 _ (dash_first rest) (λ same. omega (arith, same)) e

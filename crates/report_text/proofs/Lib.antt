@@ -9,6 +9,7 @@ pub mod LastOutside
 pub mod NumberTexts
 pub mod OneAnswer
 pub mod OneGroup
+pub mod OneRow
 pub mod Outside
 pub mod ReadKeys
 pub mod RoundLines

@@ -38,13 +38,13 @@ same_values ends h = ap (λ (z : ℤ). text_in ends.form z) ((Decides-int_eq end
 pub same_texts : (ends : TextEnds) → bytes_eq ends.low ends.high ≡ true → quoted_text ends.low ≡ quoted_text ends.high
 same_texts ends h = ap quoted_text ((bytes_eq-Decides ends.low ends.high).0 h)
 
-values_are : (a b : ValueEnds) → low_value a ≡ low_value b → high_value a ≡ high_value b → a ≡ b
+pub values_are : (a b : ValueEnds) → low_value a ≡ low_value b → high_value a ≡ high_value b → a ≡ b
 values_are a b low high =
     ap (λ (f : Form). record { form = f; low = a.low; high = a.high }) (ap (λ (x : IntervalEnd). x.form) low)
     ∙ ap (λ (z : ℤ). record { form = b.form; low = z; high = a.high }) (ap (λ (x : IntervalEnd). x.value) low)
     ∙ ap (λ (z : ℤ). record { form = b.form; low = b.low; high = z }) (ap (λ (x : IntervalEnd). x.value) high)
 
-texts_are : (a b : TextEnds) → a.low ≡ b.low → a.high ≡ b.high → a ≡ b
+pub texts_are : (a b : TextEnds) → a.low ≡ b.low → a.high ≡ b.high → a ≡ b
 texts_are a b low high = ap (λ (t : List ℕ). record { low = t; high = a.high }) low ∙ ap (λ (t : List ℕ). record { low = b.low; high = t }) high
 
 values_one : (a b : ValueEnds) → AreValueEnds a → AreValueEnds b → text_of_ends (Values a) ≡ text_of_ends (Values b) → a ≡ b

@@ -1,5 +1,5 @@
 -- The lines of first rows, each without its line feed.
-use Rattle.std.specs.Prelude.{ℕ, ◌<◌, ◌^◌, Bool, true, false, List, ◌++◌, codes, decimal, length}
+use Rattle.std.specs.Prelude.{◌≡◌, ℕ, ◌<◌, ◌^◌, Bool, true, false, List, ◌++◌, codes, decimal, length}
 use Rattle.std.specs.declared.option.Option.{Option}
 use Rattle.std.specs.declared.option.Option.TheVariants.{Some, None}
 use Rattle.report_text.specs.Intervals.{key_interval}
@@ -50,3 +50,13 @@ pub record IsRowName (name : RowName) : Type 0 where
 pub record IsShownRow (row : RowLine) : Type 0 where
   pub name : IsRowName row.name
   pub key : IsShownSpan row.key
+
+-- ---- laws
+
+-- the line of a row says one row
+abbrev pub RowsSayOne : Type 0
+RowsSayOne = (row other : RowLine) → IsShownRow row → IsShownRow other → row_line row ≡ row_line other → row ≡ other
+
+-- the line before the rows says one number of each
+abbrev pub TopsSayOne : Type 0
+TopsSayOne = (top other : TopLine) → IsTopLine top → IsTopLine other → top_line top ≡ top_line other → top ≡ other

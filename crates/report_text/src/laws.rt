@@ -3,6 +3,7 @@
 ghost use Rattle.report_text.specs.Extras.{ExtrasSayOne};
 ghost use Rattle.report_text.specs.Groups.{GroupsSayOne};
 ghost use Rattle.report_text.specs.Lines.{LinesSayOne};
+ghost use Rattle.report_text.specs.Rows.{RowsSayOne, TopsSayOne};
 
 /// The line of an item says one answer of its kind.
 pub fn lines_say_one()
@@ -17,4 +18,14 @@ pub fn extras_say_one()
 /// And the line of a group.
 pub fn groups_say_one()
     ensures { GroupsSayOne }
+{}
+
+/// And the line of a row.
+pub fn rows_say_one()
+    ensures { RowsSayOne }
+{}
+
+/// And that of the numbers of rows.
+pub fn tops_say_one()
+    ensures { TopsSayOne }
 {}

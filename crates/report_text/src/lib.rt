@@ -28,7 +28,7 @@ pub use extras::{is_rows_line, read_extra, written_extra};
 pub use forms::{Form, has_texts};
 pub use groups::{GroupLine, ShownKeys, read_group, written_group};
 pub use keys::{ShownEnds, ShownSpan, TextEnds, ValueEnds};
-pub use laws::{extras_say_one, groups_say_one, lines_say_one};
+pub use laws::{extras_say_one, groups_say_one, lines_say_one, rows_say_one, tops_say_one};
 pub use lines::{
     ReportEnd, is_round_line, read_end, read_item, read_parts, text_of_item, written_item,
 };
