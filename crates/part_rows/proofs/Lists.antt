@@ -5,7 +5,7 @@ use Rattle.part_rows.specs.declared.row.RowName.{RowName}
 use Rattle.part_rows.specs.Worlds.{AreNamedOnce, IsIn}
 use Rattle.part_rows.proofs.Counts.{step}
 
-pub in_map : {X : Type 0} (f : X → RowName) (x : X) (xs : List X) → IsIn x xs → IsIn (f x) (map f xs)
+pub in_map : {X Y : Type 0} (f : X → Y) (x : X) (xs : List X) → IsIn x xs → IsIn (f x) (map f xs)
 in_map f x [] i = absurd i
 in_map f x (y ∷ ys) (inl e) = inl (ap f e)
 in_map f x (y ∷ ys) (inr i) = inr (in_map f x ys i)

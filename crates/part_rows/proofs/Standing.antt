@@ -2,23 +2,13 @@
 use Rattle.std.proofs.Common.{◌≡◌, ◌≢◌, ◌<◌, ◌≤◌, nat_le, nat_lt, Bool, true, false, ◌&&◌, cond, List, refl, sym, ap, arith, IsTrue, IsFalse}
 use Rattle.std.specs.List.{count_by}
 use Rattle.std.proofs.lemmas.Bool.{and_from, and_parts, false≢true, le-leb, leb-true, lt-leb, lt-ltb, ltb-true, true≢false}
-use Rattle.query_model.specs.declared.bounds.Standing.{Standing}
 use Rattle.query_model.specs.declared.bounds.Standing.TheVariants.{Certain, Possible, Excluded}
 use Rattle.part_rows.specs.declared.row.FirstRows.{FirstRows}
 use Rattle.part_rows.specs.declared.row.PartRow.{PartRow}
 use Rattle.part_rows.specs.Standings.{leaders, may_precede, rivals, standing}
+use Rattle.part_rows.specs.Tables.{is_certain, is_excluded}
 use Rattle.part_rows.specs.Worlds.{IsIn}
 use Rattle.part_rows.proofs.Lists.{count_without, without}
-
-abbrev is_certain : Standing → Bool
-is_certain Certain = true
-is_certain Possible = false
-is_certain Excluded = false
-
-abbrev is_excluded : Standing → Bool
-is_excluded Certain = false
-is_excluded Possible = false
-is_excluded Excluded = true
 
 pub certain≢excluded : Certain ≢ Excluded
 certain≢excluded e = true≢false (ap is_certain e)

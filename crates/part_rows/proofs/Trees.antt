@@ -54,11 +54,6 @@ same_name a b e =
 
 -- ---- lists
 
-into_map : {X Y : Type 0} (f : X → Y) (x : X) (xs : List X) → IsIn x xs → IsIn (f x) (map f xs)
-into_map f x [] i = absurd i
-into_map f x (y ∷ ys) (inl e) = inl (ap f e)
-into_map f x (y ∷ ys) (inr i) = inr (into_map f x ys i)
-
 -- it is what the function makes of an element
 record Mapped {X Y : Type 0} (f : X → Y) (xs : List X) (y : Y) : Type 0 where
   pub element : X
@@ -156,7 +151,7 @@ certain rename part asked rows world one right row i t =
     let has = right.certain from.element from.is so in
     record {
       mark = mark_by rename has.mark;
-      is = into_map (mark_by rename) has.mark world has.is;
+      is = in_map (mark_by rename) has.mark world has.is;
       named = ap rename has.named ∙ ap (λ (z : PartRow). z.name) (sym from.same);
       first = subst (λ n. n < asked.limit) (sym (ahead_alike rename part asked rows world one has.mark has.is)) has.first;
     }

@@ -34,7 +34,7 @@ IsFirst asked world x = count_by (λ y. comes_before asked.down y x) world < ask
 abbrev pub IsFirstOfPart : FirstRows → World → Mark → Type 0
 IsFirstOfPart asked world x = count_by (λ y. nat_eq y.name.part x.name.part && comes_before asked.down y x) world < asked.limit
 
--- a row of the world with that name
+-- a row of the world with that name, which is among the first of its part
 pub record HasMark (asked : FirstRows) (world : World) (name : RowName) : Type 0 where
   pub mark : Mark
   pub is : IsIn mark world
