@@ -8,6 +8,8 @@ mod devices;
 #[cfg(test)]
 mod files;
 #[cfg(test)]
+mod first_rows;
+#[cfg(test)]
 mod group_lines;
 #[cfg(test)]
 mod group_reports;
