@@ -6,7 +6,7 @@ use Rattle.std.specs.List.{before_first, position_or_len}
 use Rattle.report_text.specs.Words.{ends_text, interval_text}
 use Rattle.query_model.specs.declared.bounds.Nullity.{Nullity}
 use Rattle.query_model.specs.declared.bounds.Nullity.TheVariants.{Never, Possibly, Always}
-use Rattle.report_text.specs.Layouts.{Fails, IsEnd, behind_front, bracketed_text, is_other, plain_front, single_text, tail_text}
+use Rattle.report_text.specs.Layouts.{Fails, IsEnd, IsTail, behind_front, bracketed_text, is_other, plain_front, single_text, tail_text}
 
 -- it begins with a byte that passes, or is empty
 abbrev pub Begins : (ℕ → Bool) → List ℕ → Type 0
@@ -45,6 +45,23 @@ pub single_is : (null : Nullity) (end : List ℕ) → null ≢ Always → interv
 single_is Never end h = sym (append-nil end)
 single_is Possibly end h = refl
 single_is Always end h = absurd (h refl)
+
+-- so it is of the parts that were found
+pub bracketed_laid : (null : Nullity) (low high rest second last tail inner : List ℕ) → IsTail null tail → low ++ rest ≡ inner →
+    rest ≡ codes ", " ++ second → high ++ last ≡ second → last ≡ codes "]" ++ tail →
+    interval_text null (ends_text false low high) ≡ codes "[" ++ inner
+bracketed_laid null low high rest second last tail inner h first comma more bracket =
+    bracketed_is null low high h.some
+    ∙ ap (λ (t : List ℕ). codes "[" ++ t) (
+    ap (λ (t : List ℕ). low ++ (codes ", " ++ (high ++ (codes "]" ++ t)))) h.is
+    ∙ ap (λ (t : List ℕ). low ++ (codes ", " ++ (high ++ t))) (sym bracket)
+    ∙ ap (λ (t : List ℕ). low ++ (codes ", " ++ t)) more
+    ∙ ap (λ (t : List ℕ). low ++ t) (sym comma)
+    ∙ first
+    )
+
+pub single_laid : (null : Nullity) (end tail text : List ℕ) → IsTail null tail → end ++ tail ≡ text → interval_text null end ≡ text
+single_laid null end tail text h whole = single_is null end h.some ∙ ap (λ (t : List ℕ). end ++ t) h.is ∙ whole
 
 -- what is told of what stands behind the ends
 abbrev pub TellsNull : List ℕ → Option Nullity → Type 0
@@ -111,13 +128,13 @@ possibly_some = λ e. absurd cc
 
 -- behind a bracket stand two ends
 pub inner_is : (null : Nullity) (equal : Bool) (low high inner : List ℕ) → IsEnd low → interval_text null (ends_text equal low high) ≡ codes "[" ++ inner →
-    (null ≢ Always) × (bracketed_text null low high ≡ inner)
+    (equal ≡ false) × (null ≢ Always) × (bracketed_text null low high ≡ inner)
 inner_is Never true low high inner h e = absurd (heads low [] 91 inner h (append-nil low ∙ e) refl)
 inner_is Never false low high inner h e =
-    (never_some, append_cancel_left (codes "[") (bracketed_text Never low high) inner (sym (bracketed_is Never low high never_some) ∙ e))
+    (refl, never_some, append_cancel_left (codes "[") (bracketed_text Never low high) inner (sym (bracketed_is Never low high never_some) ∙ e))
 inner_is Possibly true low high inner h e = absurd (heads low (codes " or null") 91 inner h e refl)
 inner_is Possibly false low high inner h e =
-    (possibly_some, append_cancel_left (codes "[") (bracketed_text Possibly low high) inner (sym (bracketed_is Possibly low high possibly_some) ∙ e))
+    (refl, possibly_some, append_cancel_left (codes "[") (bracketed_text Possibly low high) inner (sym (bracketed_is Possibly low high possibly_some) ∙ e))
 inner_is Always equal low high inner h e = absurd (other_head 110 91 (codes "ull") inner e (λ s. bracket_is_no_n (sym s)))
 
 -- only where there is no answer the text is `null`

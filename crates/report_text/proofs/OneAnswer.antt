@@ -73,9 +73,9 @@ module _ (n m : Nullity) (h : n ≢ Always) (k : m ≢ Always) where
   some_same : (p q : Bool) (a b c d : List ℕ) → IsEnd a → IsEnd b → IsEnd c → IsEnd d → (p ≡ true → a ≡ b) → (q ≡ true → c ≡ d) →
       interval_text n (ends_text p a b) ≡ interval_text m (ends_text q c d) → Same n m a b c d
   some_same false q a b c d ha hb hc hd one two e =
-      brackets_same a b c d ha hb hc hd (inner_is m q c d (bracketed_text n a b) hc (sym e ∙ bracketed_is n a b h)).1
+      brackets_same a b c d ha hb hc hd (inner_is m q c d (bracketed_text n a b) hc (sym e ∙ bracketed_is n a b h)).2
   some_same true false a b c d ha hb hc hd one two e =
-      brackets_same a b c d ha hb hc hd (sym (inner_is n true a b (bracketed_text m c d) ha (e ∙ bracketed_is m c d k)).1)
+      brackets_same a b c d ha hb hc hd (sym (inner_is n true a b (bracketed_text m c d) ha (e ∙ bracketed_is m c d k)).2)
   some_same true true a b c d ha hb hc hd one two e =
       let both = singles_same a c ha hc (sym (single_is m c k) ∙ sym e ∙ single_is n a h) in
       record { null = both.0; low = λ _. both.1; high = λ _. sym (one refl) ∙ both.1 ∙ two refl }

@@ -1,5 +1,5 @@
 -- Which numbers the lines of a report show.
-use Rattle.std.proofs.Common.{◌≡◌, ◌≢◌, ℕ, ◌==◌, true, false, List, refl, sym, ap, subst, ◌∙◌, arith, ℤ, pos, FitsSigned}
+use Rattle.std.proofs.Common.{◌≡◌, ◌≢◌, ℕ, ◌==◌, Bool, true, false, List, refl, sym, ap, subst, ◌∙◌, arith, ℤ, pos, FitsSigned}
 use Rattle.std.proofs.lemmas.Bool.{and_parts, false≢true}
 use Rattle.std.proofs.lemmas.Bool.Decides.{Decides-eqb, Decides-int_eq}
 use Rattle.std.proofs.lemmas.Slice.Eq.{bytes_eq-Decides}
@@ -68,6 +68,18 @@ high_end shown h = end_is_end (high_of shown) (high_can shown h)
 
 pub equal_ends : (shown : ShownBound) → int_eq shown.bound.lo shown.bound.hi ≡ true → low_text shown ≡ high_text shown
 equal_ends shown h = ap (λ (z : ℤ). text_in shown.form z) ((Decides-int_eq shown.bound.lo shown.bound.hi).0 h)
+
+single_by : (null : Nullity) (shown : ShownBound) (single : Bool) → IsShownBy null shown → (null ≢ Always → single ≡ int_eq shown.bound.lo shown.bound.hi) →
+    (null ≡ Always → single ≡ true) → single ≡ int_eq shown.bound.lo shown.bound.hi
+single_by Never shown single h some nothing = some (λ e. absurd cc)
+single_by Possibly shown single h some nothing = some (λ e. absurd cc)
+single_by Always shown single h some nothing = nothing refl ∙ sym (rw (h.low, h.high) refl)
+
+-- a single end stands just where both are the same
+pub single_is : (shown : ShownBound) (null : Nullity) (single : Bool) → IsShown shown → null ≡ shown.bound.null →
+    (shown.bound.null ≢ Always → single ≡ int_eq shown.bound.lo shown.bound.hi) → (null ≡ Always → single ≡ true) →
+    single ≡ int_eq shown.bound.lo shown.bound.hi
+single_is shown null single h word some nothing = single_by shown.bound.null shown single h some (λ e. nothing (word ∙ e))
 
 ends_by : (null : Nullity) (shown : ShownBound) → null ≢ Always → IsShownBy null shown → AreEnds shown
 ends_by Never shown k h = h

@@ -1,5 +1,5 @@
 -- What a line says of an answer that is no average.
-use Rattle.std.specs.Prelude.{◌≡◌, ℕ, pos, ◌≤ℤ◌, List, FitsSigned}
+use Rattle.std.specs.Prelude.{◌≡◌, ◌≢◌, ℕ, pos, ◌≤ℤ◌, List, FitsSigned}
 use Rattle.std.specs.Int.{w128}
 use Rattle.std.specs.Ordering.{int_eq}
 use Rattle.report_text.specs.Forms.{HasTextsIn, text_in}
@@ -8,6 +8,7 @@ use Rattle.query_model.specs.declared.bounds.Nullity.{Nullity}
 use Rattle.query_model.specs.declared.bounds.Nullity.TheVariants.{Never, Possibly, Always}
 use Rattle.report_text.specs.declared.bounds.ShownBound.{ShownBound}
 use Rattle.report_text.specs.declared.forms.Form.TheVariants.{Decimals}
+use Rattle.report_text.specs.declared.layouts.Layout.{Layout}
 
 -- the texts of the ends
 abbrev pub low_text : ShownBound → List ℕ
@@ -45,3 +46,14 @@ IsShownBy Always shown = IsNothing shown
 -- a bound that a report shows
 abbrev pub IsShown : ShownBound → Type 0
 IsShown shown = IsShownBy shown.bound.null shown
+
+-- a bound with these ends
+pub record HasEnds (null : Nullity) (low high : List ℕ) (shown : ShownBound) : Type 0 where
+  pub word : shown.bound.null ≡ null
+  pub low_so : low_text shown ≡ low
+  pub high_so : high_text shown ≡ high
+
+-- the bound of a layout
+pub record IsBoundIn (layout : Layout) (shown : ShownBound) : Type 0 where
+  pub word : shown.bound.null ≡ layout.null
+  pub ends : layout.null ≢ Always → HasEnds layout.null layout.low.now layout.high.now shown

@@ -5,6 +5,7 @@ use Rattle.std.specs.declared.option.Option.TheVariants.{Some, None}
 use Rattle.std.specs.List.{before_first, position_or_len}
 use Rattle.query_model.specs.declared.bounds.Nullity.{Nullity}
 use Rattle.query_model.specs.declared.bounds.Nullity.TheVariants.{Never, Possibly, Always}
+use Rattle.report_text.specs.Words.{ends_text, interval_text}
 use Rattle.report_text.specs.declared.layouts.Layout.{Layout}
 
 -- a byte that stands in no text of a number: all but digits, `-`, `.` and `/`
@@ -41,11 +42,21 @@ bracketed_text null low high = low ++ (codes ", " ++ (high ++ (codes "]" ++ tail
 abbrev pub single_text : Nullity → List ℕ → List ℕ
 single_text null end = end ++ tail_text null
 
--- the layout has this word, and these ends where there may be an answer
-pub record IsLaid (null : Nullity) (low high : List ℕ) (layout : Layout) : Type 0 where
+-- the word of what stands behind the ends
+pub record IsTail (null : Nullity) (text : List ℕ) : Type 0 where
+  pub some : null ≢ Always
+  pub is : tail_text null ≡ text
+
+-- the text that is laid out so
+abbrev pub laid_text : Layout → List ℕ
+laid_text layout = interval_text layout.null (ends_text layout.single layout.low.now layout.high.now)
+
+-- the layout has this word and, where there may be an answer, these ends, as one or as two
+pub record IsLaid (null : Nullity) (single : Bool) (low high : List ℕ) (layout : Layout) : Type 0 where
   pub word : layout.null ≡ null
+  pub single_so : null ≢ Always → layout.single ≡ single
   pub ends : null ≢ Always → (layout.low.now ≡ low) × (layout.high.now ≡ high)
 
-abbrev pub HasLayout : Nullity → List ℕ → List ℕ → Option Layout → Type 0
-HasLayout null low high None = ⊥
-HasLayout null low high (Some layout) = IsLaid null low high layout
+abbrev pub HasLayout : Nullity → Bool → List ℕ → List ℕ → Option Layout → Type 0
+HasLayout null single low high None = ⊥
+HasLayout null single low high (Some layout) = IsLaid null single low high layout

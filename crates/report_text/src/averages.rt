@@ -1,6 +1,6 @@
 //! What a line says of an average, read back.
 
-ghost use Rattle.std.specs.Prelude.{◌≡◌, ◌≢◌, ◌≤◌, Some, IfSome, decimal, length};
+ghost use Rattle.std.specs.Prelude.{◌≡◌, ◌≢◌, ◌≤◌, Bool, Some, IfSome, decimal, length};
 ghost use Rattle.query_model.specs.declared.bounds.Nullity.TheVariants.{Always};
 ghost use Rattle.report_text.specs.Averages.{CanBeDivided, IsShownAverage, average_text, ratio_text};
 ghost use Rattle.report_text.specs.Layouts.{IsLaid};
@@ -107,8 +107,8 @@ fn between(null: Nullity, low: &[u8], high: &[u8]) -> Option<ShownAverage>
 // The average of a layout.
 fn average_of(layout: Layout<'_>) -> Option<ShownAverage>
     ensures shown { IfSome result IsShownAverage }
-    ensures read { (shown : ShownAverage) → IsShownAverage shown
-        → IsLaid shown.null (ratio_text shown.low) (ratio_text shown.high) layout.entry → result ≡ Some shown }
+    ensures read { (single : Bool) (shown : ShownAverage) → IsShownAverage shown
+        → IsLaid shown.null single (ratio_text shown.low) (ratio_text shown.high) layout.entry → result ≡ Some shown }
 {
     match layout.null {
         Nullity::Always => Some(ShownAverage {

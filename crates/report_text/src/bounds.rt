@@ -1,9 +1,10 @@
 //! What a line says of an answer that is no average, read back.
 
-ghost use Rattle.std.specs.Prelude.{◌≡◌, ◌≢◌, ◌≤◌, ◌≤ℤ◌, Some, IfSome, length};
+ghost use Rattle.std.specs.Prelude.{◌≡◌, ◌≢◌, ◌≤◌, ◌≤ℤ◌, Bool, Some, IfSome, length, true};
+ghost use Rattle.std.specs.Ordering.{int_eq};
 ghost use Rattle.query_model.specs.declared.bounds.Nullity.TheVariants.{Always};
-ghost use Rattle.report_text.specs.Bounds.{IsShown, high_text, low_text, shown_text};
-ghost use Rattle.report_text.specs.Forms.{HasTextsIn, IsIntervalEnd};
+ghost use Rattle.report_text.specs.Bounds.{HasEnds, IsBoundIn, IsShown, high_text, low_text, shown_text};
+ghost use Rattle.report_text.specs.Forms.{HasTextsIn, IsIntervalEnd, text_of_end};
 ghost use Rattle.report_text.specs.Layouts.{IsLaid};
 ghost use Rattle.report_text.specs.declared.bounds.ShownBound.{ShownBound};
 
@@ -43,6 +44,7 @@ fn ordered(null: Nullity, low: IntervalEnd, high: IntervalEnd) -> Option<ShownBo
       form = low.form;
       bound = record { null = null; lo = low.value; hi = high.value };
     }) }
+    ensures ends { IfSome result (HasEnds null (text_of_end low) (text_of_end high)) }
 {
     if !are_same_forms(low.form, high.form) || low.value > high.value {
         return None;
@@ -63,6 +65,7 @@ fn between(null: Nullity, low: &[u8], high: &[u8]) -> Option<ShownBound>
     ensures shown { IfSome result IsShown }
     ensures read { (shown : ShownBound) → IsShown shown → shown.bound.null ≡ null
         → low_text shown ≡ low.now → high_text shown ≡ high.now → result ≡ Some shown }
+    ensures ends { IfSome result (HasEnds null low.now high.now) }
 {
     let low = read_interval_end(low)?;
     let high = read_interval_end(high)?;
@@ -72,8 +75,9 @@ fn between(null: Nullity, low: &[u8], high: &[u8]) -> Option<ShownBound>
 // The bound of a layout.
 fn bound_of(layout: Layout<'_>) -> Option<ShownBound>
     ensures shown { IfSome result IsShown }
-    ensures read { (shown : ShownBound) → IsShown shown
-        → IsLaid shown.bound.null (low_text shown) (high_text shown) layout.entry → result ≡ Some shown }
+    ensures read { (single : Bool) (shown : ShownBound) → IsShown shown
+        → IsLaid shown.bound.null single (low_text shown) (high_text shown) layout.entry → result ≡ Some shown }
+    ensures is { IfSome result (IsBoundIn layout.entry) }
 {
     match layout.null {
         Nullity::Always => Some(ShownBound {
@@ -88,6 +92,14 @@ fn bound_of(layout: Layout<'_>) -> Option<ShownBound>
     }
 }
 
+// Whether a single end stands just where both are the same.
+fn is_laid_alike(single: bool, bound: &Bound) -> bool
+    ensures yes { single ≡ int_eq bound.now.lo bound.now.hi → result ≡ true }
+    ensures only { result ≡ true → single ≡ int_eq bound.now.lo bound.now.hi }
+{
+    single == (bound.lo == bound.hi)
+}
+
 /// What the text says of an answer: it is read back as it was written, and what is read is written as it stood.
 pub fn read_bound(text: &[u8]) -> Option<ShownBound>
     ensures read { (shown : ShownBound) → IsShown shown → shown_text shown ≡ text.now → result ≡ Some shown }
@@ -95,7 +107,7 @@ pub fn read_bound(text: &[u8]) -> Option<ShownBound>
 {
     let layout = lay(text)?;
     let shown = bound_of(layout)?;
-    if written_bound(&shown).bytes() == text {
+    if is_laid_alike(layout.single, &shown.bound) {
         Some(shown)
     } else {
         None

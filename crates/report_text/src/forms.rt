@@ -65,6 +65,7 @@ pub(crate) fn written_in(form: Form, value: i128) -> TextBuf
 fn read_date_end(text: &[u8]) -> Option<IntervalEnd>
     ensures read { (day : ℤ) → IsDay day → text_of_date day ≡ text.now → result ≡ Some (record { form = Date; value = day }) }
     ensures is_end { IfSome result IsIntervalEnd }
+    ensures written { IfSome result (λ end. text_of_end end ≡ text.now) }
 {
     match read_date(text) {
         Some(day) => Some(IntervalEnd {
@@ -79,6 +80,7 @@ fn read_date_end(text: &[u8]) -> Option<IntervalEnd>
 pub(crate) fn read_interval_end(text: &[u8]) -> Option<IntervalEnd>
     ensures read { (end : IntervalEnd) → IsIntervalEnd end → text_of_end end ≡ text.now → result ≡ Some end }
     ensures is_end { IfSome result IsIntervalEnd }
+    ensures written { IfSome result (λ end. text_of_end end ≡ text.now) }
 {
     match read_number(text) {
         Some(number) => Some(IntervalEnd {

@@ -1,19 +1,20 @@
 //! The layout of an interval in a line: one end or two, and whether there may be no answer.
 
-ghost use Rattle.std.specs.Prelude.{◌≡◌, ◌≢◌, ◌≤◌, ◌++◌, [], ℕ, List, Bool, true, false, Some, codes, length, position, MatchOption};
+ghost use Rattle.std.specs.Prelude.{◌≡◌, ◌≢◌, ◌≤◌, ◌++◌, [], ℕ, List, Bool, true, false, Some, codes, length, position, IfSome, MatchOption};
 ghost use Rattle.std.specs.List.{position_or_len};
 ghost use Rattle.report_text.specs.Words.{ends_text, interval_text};
 ghost use Rattle.query_model.specs.declared.bounds.Nullity.{Nullity};
 ghost use Rattle.query_model.specs.declared.bounds.Nullity.TheVariants.{Always};
-ghost use Rattle.report_text.specs.Layouts.{HasLayout, IsEnd, behind_front, bracketed_text, is_other, plain_front, single_text};
+ghost use Rattle.report_text.specs.Layouts.{HasLayout, IsEnd, IsTail, behind_front, bracketed_text, is_other, laid_text, plain_front, single_text};
 
 use daq_table::TextBuf;
 use query_model::Nullity;
 
-// Two ends, which may be one, and whether there may be no answer. Where there is none the ends are empty.
+// Two ends, or a single one that is both, and whether there may be no answer. Where there is none the single end is empty.
 #[derive(Clone, Copy)]
 pub(crate) struct Layout<'a> {
     pub(crate) null: Nullity,
+    pub(crate) single: bool,
     pub(crate) low: &'a [u8],
     pub(crate) high: &'a [u8],
 }
@@ -54,6 +55,7 @@ fn front_length(text: &[u8]) -> usize
 fn around_front(text: &[u8]) -> (&[u8], &[u8])
     ensures front { result.0.now ≡ plain_front text.now }
     ensures rest { result.1.now ≡ behind_front text.now }
+    ensures whole { result.0.now ++ result.1.now ≡ text.now }
 {
     let place = front_length(text);
     (&text[..place], &text[place..])
@@ -63,6 +65,7 @@ fn around_front(text: &[u8]) -> (&[u8], &[u8])
 fn nullity(tail: &[u8]) -> Option<Nullity>
     ensures never { tail.now ≡ [] → result ≡ Some Nullity.Never }
     ensures possibly { tail.now ≡ codes " or null" → result ≡ Some Nullity.Possibly }
+    ensures is { IfSome result (λ null. IsTail null tail.now) }
 {
     if tail.is_empty() {
         return Some(Nullity::Never);
@@ -75,26 +78,36 @@ fn nullity(tail: &[u8]) -> Option<Nullity>
 
 // Two ends in brackets, behind the first of these.
 fn bracketed(inner: &[u8]) -> Option<Layout<'_>>
-    ensures { (null : Nullity) (low high : List ℕ) → IsEnd low → IsEnd high → null ≢ Always
-        → bracketed_text null low high ≡ inner.now → HasLayout null low high result }
+    ensures read { (null : Nullity) (low high : List ℕ) → IsEnd low → IsEnd high → null ≢ Always
+        → bracketed_text null low high ≡ inner.now → HasLayout null false low high result }
+    ensures laid { IfSome result (λ layout. laid_text layout ≡ codes "[" ++ inner.now) }
+    ensures nothing { IfSome result (λ layout. layout.null ≡ Nullity.Always → layout.single ≡ true) }
 {
     let (low, rest) = around_front(inner);
     let second = behind(rest, b", ")?;
     let (high, rest) = around_front(second);
     let tail = behind(rest, b"]")?;
     let null = nullity(tail)?;
-    Some(Layout { null, low, high })
+    Some(Layout {
+        null,
+        single: false,
+        low,
+        high,
+    })
 }
 
 // One end.
 fn single(text: &[u8]) -> Option<Layout<'_>>
-    ensures { (null : Nullity) (end : List ℕ) → IsEnd end → null ≢ Always
-        → single_text null end ≡ text.now → HasLayout null end end result }
+    ensures read { (null : Nullity) (end : List ℕ) → IsEnd end → null ≢ Always
+        → single_text null end ≡ text.now → HasLayout null true end end result }
+    ensures laid { IfSome result (λ layout. laid_text layout ≡ text.now) }
+    ensures nothing { IfSome result (λ layout. layout.null ≡ Nullity.Always → layout.single ≡ true) }
 {
     let (end, rest) = around_front(text);
     let null = nullity(rest)?;
     Some(Layout {
         null,
+        single: true,
         low: end,
         high: end,
     })
@@ -102,12 +115,15 @@ fn single(text: &[u8]) -> Option<Layout<'_>>
 
 // The layout of the text of an interval, whose ends are numbers or fractions.
 pub(crate) fn lay(text: &[u8]) -> Option<Layout<'_>>
-    ensures { (null : Nullity) (equal : Bool) (low high : List ℕ) → IsEnd low → IsEnd high → (equal ≡ true → low ≡ high)
-        → interval_text null (ends_text equal low high) ≡ text.now → HasLayout null low high result }
+    ensures read { (null : Nullity) (equal : Bool) (low high : List ℕ) → IsEnd low → IsEnd high → (equal ≡ true → low ≡ high)
+        → interval_text null (ends_text equal low high) ≡ text.now → HasLayout null equal low high result }
+    ensures laid { IfSome result (λ layout. laid_text layout ≡ text.now) }
+    ensures nothing { IfSome result (λ layout. layout.null ≡ Nullity.Always → layout.single ≡ true) }
 {
     if text == b"null".as_slice() {
         return Some(Layout {
             null: Nullity::Always,
+            single: true,
             low: &[],
             high: &[],
         });
