@@ -173,6 +173,64 @@ def combined_average(parts, told):
     return hull(told)
 
 
+# ---- an average beside which the sum and the number of its values are asked
+
+
+def calls_of(query):
+    """The aggregates of a query: of each its kind and its argument."""
+    items, calls = re.sub(TEXT, "''", query).partition(" FROM ")[0], []
+    for match in CALL.finditer(items):
+        depth, end = 1, match.end()
+        while depth:
+            depth += {"(": 1, ")": -1}.get(items[end], 0)
+            end += 1
+        calls.append((match[1], items[match.end() : end - 1]))
+    return calls
+
+
+def from_sum(total, count, form):
+    """Where an average lies by its sum and its number of values, which is one at least."""
+    if total.word == "always":
+        return NOTHING
+    least, most = max(count.low, 1), max(count.high, 1)
+    low = total.low, most if total.low >= 0 else least
+    return Known(total.word, low, (total.high, least if total.high >= 0 else most), form)
+
+
+def within_both(one, other):
+    """What lies in both; of equal ends the first one's."""
+    if "always" in (one.word, other.word):
+        return NOTHING
+    word = "never" if "never" in (one.word, other.word) else "possibly"
+    low = max((one.low, other.low), key=lambda end: Fraction(*end))
+    return Known(word, low, min((one.high, other.high), key=lambda end: Fraction(*end)), other.form)
+
+
+def beside(total, count, average):
+    """The narrower of the two. It looks exact only where the sum and the number are known."""
+    differ = "always" not in (total.word, average.word) and total.form.name != average.form.name
+    if differ or count.low >= 2**64 or count.high >= 2**64:
+        return average
+    known = from_sum(total, count, average.form)
+    both = within_both(known, average)
+    if both.word == "never" and both.low == both.high and not known.is_exact():
+        number, rows = both.high
+        if -(2**126) <= number < 2**126 and rows < 2**63:
+            both.high = 2 * number, 2 * rows
+    return both
+
+
+def narrowed(query, block):
+    """The block, with each average narrowed by the sum and the number of the same argument, where both stand in it."""
+    calls, whole = calls_of(query), []
+    for (kind, argument), (answer, extra) in zip(calls, block):
+        others = ("SUM", argument), ("COUNT", argument)
+        if kind == "AVG" and all(call in calls for call in others):
+            answer = beside(*(block[calls.index(call)][0] for call in others), answer)
+        whole.append((answer, extra))
+    return whole
+
+
 def hull(told):
     """From the least low to the greatest high; of equal lows that of the first part, of equal highs that of the last."""
     word = "never" if any(part.word == "never" for part in told) else "possibly"
@@ -595,6 +653,7 @@ class Combined:
                 block.append(combined_entry(kind, [b[place] for b in blocks]))
             except Refused as why:
                 raise Refused(str(why) % (place + 1))
+        block = narrowed(self.query, block)
         self.lines.append("round %d" % self.number)
         for number, (kind, entry) in enumerate(zip(parts[0].kinds, block), 1):
             self.lines += entry_lines(number, kind, entry)

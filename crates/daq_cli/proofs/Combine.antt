@@ -5,7 +5,7 @@ use Rattle.outer_world.specs.Device.{Rose, SinkState, SourceState}
 use Rattle.outer_world.specs.Whole.{Writes}
 use Rattle.report_parts.specs.Course.{Tell}
 use Rattle.report_parts.specs.GroupHeadline.{CombinedGroupsAreCertain}
-use Rattle.report_parts.specs.Headline.{CombinedAveragesAreCertain, CombinedClipsAreCertain, CombinedExactAveragesAreCertain, CombinedIsCertain}
+use Rattle.report_parts.specs.Headline.{CombinedAveragesAreCertain, CombinedBesidesAreCertain, CombinedClipsAreCertain, CombinedExactAveragesAreCertain, CombinedIsCertain}
 use Rattle.report_parts.specs.Told.{Told}
 use Rattle.report_stream.proofs.LineTexts.{read_before}
 use Rattle.report_stream.specs.Streams.{Combined, HasWritten, IsCutOff, ReadsLines, StreamCause, TellsBody}
@@ -106,15 +106,16 @@ pub combine_stops : (c : Combine) (i i' j : SourceState) (o o' p : SinkState) (w
 combine_stops c i i' j o o' p why e f cause = subst (λ x. CombineCause c x j o' p why) e (subst (λ x. CombineCause c i j x p why) f cause)
 
 -- what is written is certain, where the reports of the parts are
-pub combine_done : CombinedIsCertain → CombinedAveragesAreCertain → CombinedClipsAreCertain → CombinedExactAveragesAreCertain → CombinedGroupsAreCertain →
+pub combine_done : CombinedIsCertain → CombinedAveragesAreCertain → CombinedBesidesAreCertain → CombinedClipsAreCertain → CombinedExactAveragesAreCertain → CombinedGroupsAreCertain →
     (c : Combine) (input input' : SourceState) (out out' : SinkState) → Combined c.parts (until_of c) input input' out out' → CombinesReports c input input' out out'
-combine_done certain averages clips exact groups c input input' out out' combined = record {
+combine_done certain averages besides clips exact groups c input input' out out' combined = record {
   combined = combined;
   headline = record {
-    items = λ item kind tables round other there all. certain item kind combined.task.shape.kinds combined.combines.parts tables round other there all;
-    averages = λ item tables round there all. averages item combined.task.shape.kinds combined.combines.parts tables round there all;
-    clips = λ item kind tables round other there all. clips item kind combined.task.shape.kinds combined.combines.parts tables round other there all;
-    exact_averages = λ item tables round there all. exact item combined.task.shape.kinds combined.combines.parts tables round there all;
+    items = λ item kind tables round other there all. certain item kind combined.task.shape combined.combines.parts tables round other there all;
+    averages = λ item tables round there none all. averages item combined.task.shape combined.combines.parts tables round there none all;
+    besides = λ item beside tables round there stands all both. besides item beside combined.task.shape combined.combines.parts tables round there stands all both;
+    clips = λ item kind tables round other there all. clips item kind combined.task.shape combined.combines.parts tables round other there all;
+    exact_averages = λ item tables round there all. exact item combined.task.shape combined.combines.parts tables round there all;
   };
   groups = groups combined.task (combined.lines ++ combined.last ∷ []) combined.combines.parts combined.combines.told;
 }

@@ -34,7 +34,7 @@ nest law kind olds news other are h =
     subst (λ (b : Bound). IsNested b (bound_of (answer_over kind news))) (sym (is_combined kind olds other))
     (subst (λ (b : Bound). IsNested (combined kind (map bound_of olds)) b) (sym (is_combined kind news other)) (law kind (map bound_of olds) (map bound_of news) other are h))
 
-divisible : (answer : Answer) → IsDivisible (average_of answer)
+pub divisible : (answer : Answer) → IsDivisible (average_of answer)
 divisible (Value shown) = record { lo = omega arith; hi = omega arith }
 divisible (Average shown) = record { lo = omega arith; hi = omega arith }
 

@@ -21,7 +21,7 @@ use Rattle.report_parts.specs.Passed.{AllTellFrom, TellsFrom}
 use Rattle.part_groups.specs.Whole.{groups_over}
 use Rattle.report_parts.specs.Blocks.{groups_of, entries_of, no_block}
 use Rattle.report_parts.specs.Entries.{answers_of, ends_with_extra, last_entry, no_entry}
-use Rattle.report_parts.specs.Reports.{block_by, block_over, entries_over}
+use Rattle.report_parts.specs.Reports.{block_beside, block_by, block_over, entries_over}
 use Rattle.report_parts.specs.Rounds.{all_groups_in, groups_in, entries_in, entry_in, has_block, is_over}
 use Rattle.report_parts.specs.Tags.{AreInOrder, CannotTake, IsLineRefused, IsRefused, TakesTagged, against, behind_tag, by_order, tag_of, told_of, with_part}
 use Rattle.report_parts.specs.Told.{Answers, BeginsGroup, Closes, Extends, GoesOn, GroupsGoOn, OrElse, PassesBehind, PassesBehindSection, PassesInside, Takes, TakesAt, TakesBehind, TakesBehindAnswer, TakesBetween, TakesInside, TakesRest, Told, at_place, block_done, closed, closed_by, completed, completed_by, is_whole, nothing_told, opened_by, settled, with_answer, with_current, with_extra, with_group}
@@ -145,7 +145,7 @@ same_block_by from round (suc columns) kinds wholes parts le h =
 
 pub same_block_over : (from round : ℕ) (shape : Shape) (wholes parts : List Told) → from ≤ round → AllTellFrom from wholes parts →
     block_over round shape parts ≡ block_over round shape wholes
-same_block_over from round shape wholes parts le h = same_block_by from round shape.columns shape.kinds wholes parts le h
+same_block_over from round shape wholes parts le h = ap (block_beside shape.besides) (same_block_by from round shape.columns shape.kinds wholes parts le h)
 
 -- ---- a line more
 

@@ -13,7 +13,7 @@ use Rattle.report_parts.specs.Entries.{no_entry}
 use Rattle.report_parts.specs.Faults.{CanSay, IsBlockFault}
 use Rattle.report_parts.specs.Laws.{AllReach, KeepsBlock, Reaches, ReportsOnlyGrow}
 use Rattle.report_parts.specs.Laws.Reaches.{goes, stays}
-use Rattle.report_parts.specs.Reports.{AreTold, block_by, block_lines, block_over, block_text, blocks_text, entries_over}
+use Rattle.report_parts.specs.Reports.{AreTold, block_beside, block_by, block_lines, block_over, block_text, blocks_text, entries_over}
 use Rattle.report_parts.specs.Rounds.{all_groups_in, groups_in, entries_in, entry_in, has_block}
 use Rattle.report_parts.specs.Told.{Told}
 use Rattle.report_parts.specs.declared.block.Block.{Block}
@@ -78,7 +78,7 @@ same_block_by query shape (suc columns) round kinds parts laters h has =
 
 pub same_block_over : (query : List ℕ) (shape : Shape) (round : ℕ) (parts laters : List Told) → AllReach query shape parts laters →
     list_all (has_block round) parts ≡ true → block_over round shape laters ≡ block_over round shape parts
-same_block_over query shape round parts laters h has = same_block_by query shape shape.columns round shape.kinds parts laters h has
+same_block_over query shape round parts laters h has = ap (block_beside shape.besides) (same_block_by query shape shape.columns round shape.kinds parts laters h has)
 
 pub same_block : (query : List ℕ) (shape : Shape) (round : ℕ) (parts laters : List Told) → AllReach query shape parts laters →
     list_all (has_block round) parts ≡ true → block_text round shape laters ≡ block_text round shape parts

@@ -1,5 +1,5 @@
 -- That a combined report is certain of all rows together, where each part's report is certain of its own.
-use Rattle.std.proofs.Common.{◌≡◌, ◌≢◌, ℕ, zero, suc, ◌+◌, ◌-◌, ◌<◌, min, ℤ, true, List, [], ◌∷◌, length, map, get_or, slice_get, Some, is_some, refl, sym, ap, subst, ◌∙◌, inl, inr, arith}
+use Rattle.std.proofs.Common.{◌≡◌, ◌≢◌, ℕ, zero, suc, ◌+◌, ◌-◌, ◌<◌, min, ℤ, true, List, [], ◌∷◌, length, map, get_or, slice_get, Some, None, Option, is_some, refl, sym, ap, subst, ◌∙◌, inl, inr, arith}
 use Rattle.std.proofs.lemmas.Int.{ints}
 use Rattle.std.proofs.lemmas.Option.{none-some}
 use Rattle.query_model.specs.Bounds.{AverageBound, IsNested, IsNestedAverage}
@@ -10,18 +10,23 @@ use Rattle.shard_bounds.specs.Combined.{AreBoundsOf}
 use Rattle.shard_bounds.specs.Laws.{AreAdmitted, AreAveragesAdmitted, AreAveragesReported, AreNested, AreNestedAverages, AreNestedReports, AveragesNest, HullsContain, HullsNest, IsNestedReport}
 use Rattle.shard_bounds.specs.Laws.{CombinationsContain, CombinationsNest, CombinationsReportAverages, CombinationsTell, CombinationsTellAverages}
 use Rattle.shard_bounds.proofs.AverageOrders.{nested-refl}
+use Rattle.query_kinds.specs.declared.beside.Beside.{Beside}
 use Rattle.report_text.specs.declared.answers.Answer.{Answer}
+use Rattle.report_text.specs.declared.answers.Answer.TheVariants.{Average, Value}
+use Rattle.report_text.specs.declared.bounds.ShownBound.{ShownBound}
 use Rattle.report_parts.proofs.FromRounds.{cases_lt}
 use Rattle.report_parts.proofs.Certain.{all_divisible, averages, contain, nest, tell}
+use Rattle.report_parts.specs.Beside.{answer_beside, entries_by, entry_by}
 use Rattle.report_parts.specs.Blocks.{entries_of, no_block}
 use Rattle.report_parts.specs.Combined.{answer_over, average_of, bound_of, entry_over, extra_of_all, extra_over}
-use Rattle.report_parts.specs.Entries.{entry_at, extras_of, have_extras, or_no_answer}
-use Rattle.report_parts.specs.Headline.{AreCertainAverages, AreCertainBlocks, AreClippedOf, AreExactOf, AverageNests, DoAveragesNest, IsCertainOver, IsClippedOf, IsExactOf, OfEach, extra_at}
+use Rattle.report_parts.specs.Entries.{answers_of, entry_at, extras_of, have_extras, or_no_answer}
+use Rattle.report_parts.specs.Headline.{AreCertainAverages, AreCertainBlocks, AreClippedOf, AreExactOf, AverageNests, DoAveragesNest, IsCertainOver, IsClippedOf, IsExactOf, OfEach, extra_at, printed_in}
 use Rattle.report_parts.specs.Headline.{CombinedAveragesAreCertain, CombinedClipsAreCertain, CombinedExactAveragesAreCertain, CombinedIsCertain}
 use Rattle.report_parts.specs.Reports.{entries_over}
 use Rattle.report_parts.specs.Rounds.{answers_in, entries_in, entry_in, extras_in}
 use Rattle.report_parts.specs.Told.{Told}
 use Rattle.report_parts.specs.declared.entry.Entry.{Entry}
+use Rattle.report_parts.specs.declared.shape.Shape.{Shape}
 
 -- ---- what is printed
 
@@ -38,11 +43,55 @@ printed_from round (suc item) from (first ∷ kinds) kind parts e =
     printed_from round item (from + 1) kinds kind parts e
     ∙ ap (λ (n : ℕ). Some (entry_over kind (entries_in round n parts))) next
 
-printed_first : (round item : ℕ) (kinds : List ItemKind) (kind : ItemKind) (parts : List Told) → slice_get kinds item ≡ Some kind →
+pub printed_first : (round item : ℕ) (kinds : List ItemKind) (kind : ItemKind) (parts : List Told) → slice_get kinds item ≡ Some kind →
     slice_get (entries_over round 0 kinds parts) item ≡ Some (entry_over kind (entries_in round item parts))
 printed_first round item kinds kind parts e =
     let here : 0 + item ≡ item = omega arith in
     printed_from round item 0 kinds kind parts e ∙ ap (λ (n : ℕ). Some (entry_over kind (entries_in round n parts))) here
+
+-- what stands beside an item leaves its line behind as it is, and each answer that is no average
+extra_stays : (block : List Entry) (beside : Option Beside) (entry : Entry) → (entry_by block beside entry).extra ≡ entry.extra
+extra_stays block None entry = refl
+extra_stays block (Some beside) entry = refl
+
+value_stays : (sum count : Answer) (shown : ShownBound) → answer_beside sum count (Value shown) ≡ Value shown
+value_stays (Value sum) (Value count) shown = refl
+value_stays (Value sum) (Average count) shown = refl
+value_stays (Average sum) count shown = refl
+
+answer_stays : (block : List Entry) (beside : Option Beside) (kind : ItemKind) (entries : List Entry) → kind ≢ Avg →
+    (entry_by block beside (entry_over kind entries)).answer ≡ answer_over kind (answers_of entries)
+answer_stays block None kind entries other = refl
+answer_stays block (Some beside) Count entries other = value_stays _ _ _
+answer_stays block (Some beside) Sum entries other = value_stays _ _ _
+answer_stays block (Some beside) Min entries other = value_stays _ _ _
+answer_stays block (Some beside) Max entries other = value_stays _ _ _
+answer_stays block (Some beside) Avg entries other = absurd (other refl)
+
+printed_by : (block : List Entry) (besides : List (Option Beside)) (from item : ℕ) (entries : List Entry) (entry : Entry) → slice_get entries item ≡ Some entry →
+    slice_get (entries_by block besides from entries) item ≡ Some (entry_by block (get_or besides (from + item) None) entry)
+printed_by block besides from item [] entry e = absurd (none-some _ e)
+printed_by block besides from zero (first ∷ entries) entry e =
+    let same : first ≡ entry = cc in
+    let here : from ≡ from + 0 = omega arith in
+    ap (λ (x : Entry). Some (entry_by block (get_or besides from None) x)) same
+    ∙ ap (λ (n : ℕ). Some (entry_by block (get_or besides n None) entry)) here
+printed_by block besides from (suc item) (first ∷ entries) entry e =
+    let next : from + 1 + item ≡ from + suc item = omega arith in
+    printed_by block besides (from + 1) item entries entry e
+    ∙ ap (λ (n : ℕ). Some (entry_by block (get_or besides n None) entry)) next
+
+-- what is said of an item in a round, where this stands beside it
+abbrev pub said_in : Option Beside → ℕ → ℕ → ItemKind → List ItemKind → List Told → Entry
+said_in beside round item kind kinds parts = entry_by (entries_over round 0 kinds parts) beside (entry_over kind (entries_in round item parts))
+
+pub printed_item : (round item : ℕ) (shape : Shape) (kind : ItemKind) (parts : List Told) → slice_get shape.kinds item ≡ Some kind →
+    slice_get (printed_in round shape parts) item ≡ Some (said_in (get_or shape.besides item None) round item kind shape.kinds parts)
+printed_item round item shape kind parts e =
+    let here : 0 + item ≡ item = omega arith in
+    let block = entries_over round 0 shape.kinds parts in
+    printed_by block shape.besides 0 item block (entry_over kind (entries_in round item parts)) (printed_first round item shape.kinds kind parts e)
+    ∙ ap (λ (n : ℕ). Some (entry_by block (get_or shape.besides n None) (entry_over kind (entries_in round item parts)))) here
 
 -- ---- each part in a round
 
@@ -66,7 +115,7 @@ all_in reads round item parts = map reads (entries_in round item parts)
 abbrev AreCertainBy : Reading → ℕ → ItemKind → List Told → List (List ℤ) → Type 0
 AreCertainBy reads item kind parts tables = OfEach (λ told values. AreCertainBlocks kind (length told.blocks) (λ block. read_at reads item told block) values) parts tables
 
-admitted : (reads : Reading) (round item : ℕ) (kind : ItemKind) (parts : List Told) (tables : List (List ℤ)) → AreCertainBy reads item kind parts tables →
+pub admitted : (reads : Reading) (round item : ℕ) (kind : ItemKind) (parts : List Told) (tables : List (List ℤ)) → AreCertainBy reads item kind parts tables →
     AreAdmitted kind (map bound_of (all_in reads round item parts)) tables
 admitted reads round item kind [] [] h = tt
 admitted reads round item kind [] (values ∷ tables) h = absurd h
@@ -108,7 +157,7 @@ nested reads round item kind (part ∷ parts) [] h = absurd h
 nested reads round item kind (part ∷ parts) (values ∷ tables) h =
     (next_in reads (λ a b. IsNested (bound_of a) (bound_of b)) (λ a. stays_nested (bound_of a)) round item part h.0.nests, nested reads round item kind parts tables h.1)
 
-certain_by : CombinationsContain → CombinationsNest → CombinationsTell → (reads : Reading) (round item : ℕ) (kind : ItemKind) (parts : List Told) (tables : List (List ℤ)) →
+pub certain_by : CombinationsContain → CombinationsNest → CombinationsTell → (reads : Reading) (round item : ℕ) (kind : ItemKind) (parts : List Told) (tables : List (List ℤ)) →
     kind ≢ Avg → AreCertainBy reads item kind parts tables → IsCertainOver kind (all_in reads round item parts) (all_in reads (round + 1) item parts) tables
 certain_by contains nests tells reads round item kind parts tables other h = record {
   contains = contain contains kind (all_in reads round item parts) tables other (admitted reads round item kind parts tables h);
@@ -118,10 +167,10 @@ certain_by contains nests tells reads round item kind parts tables other h = rec
 }
 
 pub certain : CombinationsContain → CombinationsNest → CombinationsTell → CombinedIsCertain
-certain contains nests tells item kind kinds parts tables round other there h = record {
-  entry = entry_over kind (entries_in round item parts);
-  printed = printed_first round item kinds kind parts there;
-  is = refl;
+certain contains nests tells item kind shape parts tables round other there h = record {
+  entry = said_in (get_or shape.besides item None) round item kind shape.kinds parts;
+  printed = printed_item round item shape kind parts there;
+  is = answer_stays (entries_over round 0 shape.kinds parts) (get_or shape.besides item None) kind (entries_in round item parts) other;
   certain = certain_by contains nests tells (λ entry. entry.answer) round item kind parts tables other h;
 }
 
@@ -158,11 +207,12 @@ each_certain item kind (part ∷ parts) [] h = absurd h
 each_certain item kind (part ∷ parts) (values ∷ tables) h = (h.0.certain, each_certain item kind parts tables h.1)
 
 pub clips_certain : CombinationsContain → CombinationsNest → CombinationsTell → CombinedClipsAreCertain
-clips_certain contains nests tells item kind kinds parts tables round other there h = record {
-  entry = entry_over kind (entries_in round item parts);
-  printed = printed_first round item kinds kind parts there;
+clips_certain contains nests tells item kind shape parts tables round other there h = record {
+  entry = said_in (get_or shape.besides item None) round item kind shape.kinds parts;
+  printed = printed_item round item shape kind parts there;
   is =
-      told_behind kind (entries_in round item parts) (shown_in (IsClippedOf item kind) round item parts tables (λ t v k. k.certain.some) (λ t v k. k.shown) h)
+      extra_stays (entries_over round 0 shape.kinds parts) (get_or shape.besides item None) (entry_over kind (entries_in round item parts))
+      ∙ told_behind kind (entries_in round item parts) (shown_in (IsClippedOf item kind) round item parts tables (λ t v k. k.certain.some) (λ t v k. k.shown) h)
       ∙ ap (λ (answer : Answer). Some answer) (as_answers kind (extras_in round item parts) other);
   certain = certain_by contains nests tells (λ entry. or_no_answer entry.extra) round item kind parts tables other (each_certain item kind parts tables h);
 }
@@ -185,10 +235,12 @@ exact_nested round item (part ∷ parts) (values ∷ tables) h = (
 )
 
 pub exact_certain : HullsContain → HullsNest → CombinedExactAveragesAreCertain
-exact_certain contains nests item kinds parts tables round there h = record {
-  entry = entry_over Avg (entries_in round item parts);
-  printed = printed_first round item kinds Avg parts there;
-  is = told_behind Avg (entries_in round item parts) (shown_in (IsExactOf item) round item parts tables (λ t v k. k.some) (λ t v k. k.shown) h);
+exact_certain contains nests item shape parts tables round there h = record {
+  entry = said_in (get_or shape.besides item None) round item Avg shape.kinds parts;
+  printed = printed_item round item shape Avg parts there;
+  is =
+      extra_stays (entries_over round 0 shape.kinds parts) (get_or shape.besides item None) (entry_over Avg (entries_in round item parts))
+      ∙ told_behind Avg (entries_in round item parts) (shown_in (IsExactOf item) round item parts tables (λ t v k. k.some) (λ t v k. k.shown) h);
   contains = contains (map average_of (extras_in round item parts)) tables (all_divisible (extras_in round item parts)) (exact_admitted round item parts tables h);
   nests = nests (map average_of (extras_in round item parts)) (map average_of (extras_in (round + 1) item parts))
       (all_divisible (extras_in round item parts)) (all_divisible (extras_in (round + 1) item parts)) (exact_nested round item parts tables h);
@@ -196,7 +248,7 @@ exact_certain contains nests item kinds parts tables round there h = record {
 
 -- ---- averages
 
-reported : (round item : ℕ) (parts : List Told) (tables : List (List ℤ)) → AreCertainAverages item parts tables →
+pub reported : (round item : ℕ) (parts : List Told) (tables : List (List ℤ)) → AreCertainAverages item parts tables →
     AreAveragesReported (map average_of (answers_in round item parts)) tables
 reported round item [] [] h = tt
 reported round item [] (values ∷ tables) h = absurd h
@@ -212,15 +264,16 @@ next_report : (round item : ℕ) (part : Told) → AverageNests item part →
 next_report round item part h =
     next_in (λ entry. entry.answer) (λ a b. IsNestedReport (average_of a) (average_of b)) (λ a. kept_report (average_of a)) round item part h
 
-next_reports : (round item : ℕ) (parts : List Told) → DoAveragesNest item parts →
+pub next_reports : (round item : ℕ) (parts : List Told) → DoAveragesNest item parts →
     AreNestedReports (map average_of (answers_in round item parts)) (map average_of (answers_in (round + 1) item parts))
 next_reports round item [] h = tt
 next_reports round item (part ∷ parts) h = (next_report round item part h.0, next_reports round item parts h.1)
 
 pub averages_certain : CombinationsReportAverages → AveragesNest → CombinationsTellAverages → CombinedAveragesAreCertain
-averages_certain law narrow tells item kinds parts tables round there h = record {
+averages_certain law narrow tells item shape parts tables round there none h = record {
   entry = entry_over Avg (entries_in round item parts);
-  printed = printed_first round item kinds Avg parts there;
+  printed = printed_item round item shape Avg parts there
+      ∙ ap (λ (beside : Option Beside). Some (said_in beside round item Avg shape.kinds parts)) none;
   is = refl;
   contains = averages law (answers_in round item parts) tables (reported round item parts tables h);
   nests = λ k. narrow (map average_of (answers_in round item parts)) (map average_of (answers_in (round + 1) item parts))

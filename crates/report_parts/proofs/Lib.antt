@@ -16,3 +16,4 @@ pub mod Splits
 pub mod Stays
 pub mod Telling
 pub mod Turns
+pub mod BesideHeadline

@@ -1,23 +1,27 @@
 -- What a combined report says of a table that is cut into parts, where each part's report is certain of its own rows.
-use Rattle.std.specs.Prelude.{◌≡◌, ◌≢◌, ℕ, ◌+◌, ◌<◌, ℤ, is_some, true, List, [], ◌∷◌, length, map, slice_get, slice_index_or}
+use Rattle.std.specs.Prelude.{◌≡◌, ◌≢◌, ℕ, ◌+◌, ◌<◌, ℤ, is_some, true, IsTrue, List, [], ◌∷◌, length, map, slice_get, slice_index_or}
 use Rattle.std.specs.declared.option.Option.{Option}
-use Rattle.std.specs.declared.option.Option.TheVariants.{Some}
+use Rattle.std.specs.declared.option.Option.TheVariants.{None, Some}
+use Rattle.narrow_averages.specs.Beside.{is_counted}
+use Rattle.query_kinds.specs.declared.beside.Beside.{Beside}
 use Rattle.query_model.specs.Answers.{answer, average}
 use Rattle.query_model.specs.Bounds.{Admits, AdmitsAverage, IsNested, IsNestedAverage}
 use Rattle.query_model.specs.declared.query.ItemKind.{ItemKind}
-use Rattle.query_model.specs.declared.query.ItemKind.TheVariants.{Avg}
+use Rattle.query_model.specs.declared.query.ItemKind.TheVariants.{Avg, Count, Sum}
 use Rattle.report_text.specs.declared.answers.Answer.{Answer}
 use Rattle.shard_bounds.specs.Averages.{ReportsAverage, TellsAverage, combined_average, hull_of_averages}
 use Rattle.shard_bounds.specs.Combined as shards
 use Rattle.shard_bounds.specs.Combined.{IsBoundOf}
 use Rattle.shard_bounds.specs.Laws.{AreAveragesTold, AreTold, IsNestedReport, Tells}
 use Rattle.report_parts.specs.Blocks.{entries_of, no_block}
-use Rattle.report_parts.specs.Combined.{answer_over, average_of, bound_of, exact_over}
+use Rattle.report_parts.specs.Beside.{entries_beside}
+use Rattle.report_parts.specs.Combined.{AreAlike, answer_over, average_of, bound_of, exact_over}
 use Rattle.report_parts.specs.Entries.{entry_at, or_no_answer}
 use Rattle.report_parts.specs.Reports.{entries_over}
 use Rattle.report_parts.specs.Rounds.{answers_in, extras_in}
 use Rattle.report_parts.specs.Told.{Told}
 use Rattle.report_parts.specs.declared.entry.Entry.{Entry}
+use Rattle.report_parts.specs.declared.shape.Shape.{Shape}
 
 -- what a block says of an item, and what its line behind tells
 abbrev pub answer_at : ℕ → ℕ → Told → Answer
@@ -57,19 +61,23 @@ pub record IsCertainOver (kind : ItemKind) (answers nexts : List Answer) (tables
   pub nests : IsNested (bound_of (answer_over kind answers)) (bound_of (answer_over kind nexts))
   pub exact : AreTold kind (map bound_of answers) tables → Tells (bound_of (answer_over kind answers)) (shards.answer_over kind tables)
 
+-- what is printed of the items in a round, where the query is of totals
+abbrev pub printed_in : ℕ → Shape → List Told → List Entry
+printed_in round shape parts = entries_beside shape.besides (entries_over round 0 shape.kinds parts)
+
 -- what is printed of the item in a round, beside the next round's
-pub record IsCertainIn (round item : ℕ) (kind : ItemKind) (kinds : List ItemKind) (parts : List Told)
-    (tables : List (List ℤ)) : Type 0 where
+pub record IsCertainIn (round item : ℕ) (kind : ItemKind) (shape : Shape) (parts : List Told) (tables : List (List ℤ)) : Type 0 where
   pub entry : Entry
-  pub printed : slice_get (entries_over round 0 kinds parts) item ≡ Some entry
+  pub printed : slice_get (printed_in round shape parts) item ≡ Some entry
   pub is : entry.answer ≡ answer_over kind (answers_in round item parts)
   pub certain : IsCertainOver kind (answers_in round item parts) (answers_in (round + 1) item parts) tables
 
 -- the headline for parts: of each item but an average
 abbrev pub CombinedIsCertain : Type 0
 CombinedIsCertain =
-    (item : ℕ) (kind : ItemKind) (kinds : List ItemKind) (parts : List Told) (tables : List (List ℤ)) (round : ℕ) →
-    kind ≢ Avg → slice_get kinds item ≡ Some kind → AreCertainOf item kind parts tables → IsCertainIn round item kind kinds parts tables
+    (item : ℕ) (kind : ItemKind) (shape : Shape) (parts : List Told) (tables : List (List ℤ)) (round : ℕ) →
+    kind ≢ Avg → slice_get shape.kinds item ≡ Some kind → AreCertainOf item kind parts tables →
+    IsCertainIn round item kind shape parts tables
 
 -- ---- its clipped bound, in the line behind
 
@@ -82,17 +90,17 @@ abbrev pub AreClippedOf : ℕ → ItemKind → List Told → List (List ℤ) →
 AreClippedOf item kind parts tables = OfEach (IsClippedOf item kind) parts tables
 
 -- the line is printed, and what it says is certain
-pub record IsClippedIn (round item : ℕ) (kind : ItemKind) (kinds : List ItemKind) (parts : List Told)
-    (tables : List (List ℤ)) : Type 0 where
+pub record IsClippedIn (round item : ℕ) (kind : ItemKind) (shape : Shape) (parts : List Told) (tables : List (List ℤ)) : Type 0 where
   pub entry : Entry
-  pub printed : slice_get (entries_over round 0 kinds parts) item ≡ Some entry
+  pub printed : slice_get (printed_in round shape parts) item ≡ Some entry
   pub is : entry.extra ≡ Some (answer_over kind (extras_in round item parts))
   pub certain : IsCertainOver kind (extras_in round item parts) (extras_in (round + 1) item parts) tables
 
 abbrev pub CombinedClipsAreCertain : Type 0
 CombinedClipsAreCertain =
-    (item : ℕ) (kind : ItemKind) (kinds : List ItemKind) (parts : List Told) (tables : List (List ℤ)) (round : ℕ) →
-    kind ≢ Avg → slice_get kinds item ≡ Some kind → AreClippedOf item kind parts tables → IsClippedIn round item kind kinds parts tables
+    (item : ℕ) (kind : ItemKind) (shape : Shape) (parts : List Told) (tables : List (List ℤ)) (round : ℕ) →
+    kind ≢ Avg → slice_get shape.kinds item ≡ Some kind → AreClippedOf item kind parts tables →
+    IsClippedIn round item kind shape parts tables
 
 -- ---- averages
 
@@ -114,11 +122,11 @@ abbrev pub DoAveragesNest : ℕ → List Told → Type 0
 DoAveragesNest item [] = Unit {0}
 DoAveragesNest item (part ∷ parts) = AverageNests item part × DoAveragesNest item parts
 
--- what is printed shows a bound that contains the average over the rows of all parts together; the next round's lies within it, where those
+-- where nothing stands beside it, what is printed shows a bound that contains the average over the rows of all parts together; the next round's lies within it, where those
 -- of the parts do; and where each part says its sum and its number of values in the round, it says those of all
-pub record IsAverageIn (round item : ℕ) (kinds : List ItemKind) (parts : List Told) (tables : List (List ℤ)) : Type 0 where
+pub record IsAverageIn (round item : ℕ) (shape : Shape) (parts : List Told) (tables : List (List ℤ)) : Type 0 where
   pub entry : Entry
-  pub printed : slice_get (entries_over round 0 kinds parts) item ≡ Some entry
+  pub printed : slice_get (printed_in round shape parts) item ≡ Some entry
   pub is : entry.answer ≡ answer_over Avg (answers_in round item parts)
   pub contains : AdmitsAverage (combined_average (map average_of (answers_in round item parts))) (shards.average_over tables)
   pub nests : DoAveragesNest item parts →
@@ -129,8 +137,45 @@ pub record IsAverageIn (round item : ℕ) (kinds : List ItemKind) (parts : List 
 
 abbrev pub CombinedAveragesAreCertain : Type 0
 CombinedAveragesAreCertain =
-    (item : ℕ) (kinds : List ItemKind) (parts : List Told) (tables : List (List ℤ)) (round : ℕ) →
-    slice_get kinds item ≡ Some Avg → AreCertainAverages item parts tables → IsAverageIn round item kinds parts tables
+    (item : ℕ) (shape : Shape) (parts : List Told) (tables : List (List ℤ)) (round : ℕ) →
+    slice_get shape.kinds item ≡ Some Avg → slice_index_or shape.besides item None ≡ None → AreCertainAverages item parts tables →
+    IsAverageIn round item shape parts tables
+
+-- ---- averages beside which the sum and the number of their values are asked
+
+-- these stand there; each part is certain of them, and the sum is written as the average's sums are
+pub record AreCertainBeside (item : ℕ) (beside : Beside) (kinds : List ItemKind) (parts : List Told) (tables : List (List ℤ))
+    : Type 0 where
+  pub sum_there : slice_get kinds beside.sum ≡ Some Sum
+  pub count_there : slice_get kinds beside.count ≡ Some Count
+  pub sums : AreCertainOf beside.sum Sum parts tables
+  pub counts : AreCertainOf beside.count Count parts tables
+  pub alike : (round : ℕ) →
+      AreAlike (answer_over Avg (answers_in round item parts) ∷ answer_over Sum (answers_in round beside.sum parts) ∷ [])
+
+-- so many values are counted in 64 bits
+abbrev pub IsCountedIn : ℕ → Beside → List Told → Type 0
+IsCountedIn round beside parts = IsTrue (is_counted (bound_of (answer_over Count (answers_in round beside.count parts))))
+
+-- what is printed contains the average over the rows of all parts together, the next round's lies within it where those of the parts do, and
+-- it lies within the bound that the parts' averages give; where each part says its sum and its number of values, it says those of all
+pub record IsBesideIn (round item : ℕ) (beside : Beside) (shape : Shape) (parts : List Told) (tables : List (List ℤ)) : Type 0 where
+  pub entry : Entry
+  pub next : Entry
+  pub printed : slice_get (printed_in round shape parts) item ≡ Some entry
+  pub printed_next : slice_get (printed_in (round + 1) shape parts) item ≡ Some next
+  pub contains : AdmitsAverage (average_of entry.answer) (shards.average_over tables)
+  pub nests : DoAveragesNest item parts → IsNestedAverage (average_of entry.answer) (average_of next.answer)
+  pub narrow : IsNestedAverage (combined_average (map average_of (answers_in round item parts))) (average_of entry.answer)
+  pub exact : IsCountedIn round beside parts → AreTold Sum (map bound_of (answers_in round beside.sum parts)) tables →
+      AreTold Count (map bound_of (answers_in round beside.count parts)) tables →
+      TellsAverage (average_of entry.answer) (shards.average_over tables)
+
+abbrev pub CombinedBesidesAreCertain : Type 0
+CombinedBesidesAreCertain =
+    (item : ℕ) (beside : Beside) (shape : Shape) (parts : List Told) (tables : List (List ℤ)) (round : ℕ) →
+    slice_get shape.kinds item ≡ Some Avg → slice_index_or shape.besides item None ≡ Some beside → AreCertainAverages item parts tables →
+    AreCertainBeside item beside shape.kinds parts tables → IsBesideIn round item beside shape parts tables
 
 -- ---- the exact ends of an average, in the line behind
 
@@ -148,9 +193,9 @@ AreExactOf item parts tables = OfEach (IsExactOf item) parts tables
 
 -- the line is printed: from the least to the greatest of the parts' averages lies the average over the rows of all parts together, and the
 -- next round's line lies within it
-pub record IsExactIn (round item : ℕ) (kinds : List ItemKind) (parts : List Told) (tables : List (List ℤ)) : Type 0 where
+pub record IsExactIn (round item : ℕ) (shape : Shape) (parts : List Told) (tables : List (List ℤ)) : Type 0 where
   pub entry : Entry
-  pub printed : slice_get (entries_over round 0 kinds parts) item ≡ Some entry
+  pub printed : slice_get (printed_in round shape parts) item ≡ Some entry
   pub is : entry.extra ≡ Some (exact_over (extras_in round item parts))
   pub contains : AdmitsAverage (hull_of_averages (map average_of (extras_in round item parts))) (shards.average_over tables)
   pub nests : IsNestedAverage (hull_of_averages (map average_of (extras_in round item parts)))
@@ -158,5 +203,5 @@ pub record IsExactIn (round item : ℕ) (kinds : List ItemKind) (parts : List To
 
 abbrev pub CombinedExactAveragesAreCertain : Type 0
 CombinedExactAveragesAreCertain =
-    (item : ℕ) (kinds : List ItemKind) (parts : List Told) (tables : List (List ℤ)) (round : ℕ) →
-    slice_get kinds item ≡ Some Avg → AreExactOf item parts tables → IsExactIn round item kinds parts tables
+    (item : ℕ) (shape : Shape) (parts : List Told) (tables : List (List ℤ)) (round : ℕ) →
+    slice_get shape.kinds item ≡ Some Avg → AreExactOf item parts tables → IsExactIn round item shape parts tables

@@ -4,6 +4,7 @@ use Rattle.std.specs.List.{All, list_all}
 use Rattle.std.specs.declared.option.Option.{Option}
 use Rattle.std.specs.declared.option.Option.TheVariants.{Some, None}
 use Rattle.query_model.specs.declared.query.ItemKind.{ItemKind}
+use Rattle.query_kinds.specs.declared.beside.Beside.{Beside}
 use Rattle.report_text.specs.Extras.{extra_line}
 use Rattle.report_text.specs.Lines.{item_line, parts_line, round_words}
 use Rattle.report_text.specs.declared.answers.Answer.{Answer}
@@ -12,6 +13,7 @@ use Rattle.part_groups.specs.Combined.{IsShown}
 use Rattle.part_groups.specs.Whole.{groups_over}
 use Rattle.part_groups.specs.declared.group.Group.{Group}
 use Rattle.report_text.specs.Groups.{group_line}
+use Rattle.report_parts.specs.Beside.{entries_beside}
 use Rattle.report_parts.specs.Rounds.{all_groups_in, entries_in, has_block}
 use Rattle.report_parts.specs.Told.{Told}
 use Rattle.report_parts.specs.declared.block.Block.{Block}
@@ -43,8 +45,13 @@ abbrev pub block_by : ℕ → ℕ → List ItemKind → List Told → Block
 block_by zero round kinds parts = Totals (entries_over round 0 kinds parts)
 block_by (suc columns) round kinds parts = Groups (groups_over (suc columns) kinds (all_groups_in round parts))
 
+-- with each average of totals narrowed by what stands beside it
+abbrev pub block_beside : List (Option Beside) → Block → Block
+block_beside besides (Totals entries) = Totals (entries_beside besides entries)
+block_beside besides (Groups groups) = Groups groups
+
 abbrev pub block_over : ℕ → Shape → List Told → Block
-block_over round shape parts = block_by shape.columns round shape.kinds parts
+block_over round shape parts = block_beside shape.besides (block_by shape.columns round shape.kinds parts)
 
 -- the lines of answers, numbered from that number on
 abbrev pub answer_lines : ℕ → List Answer → List ℕ

@@ -25,7 +25,7 @@ pub(crate) fn fraction_of(ratio: Ratio) -> Fraction
 }
 
 // The bound of an average that an answer tells; another answer tells none.
-fn average_of(answer: &Answer) -> AverageBound
+pub(crate) fn average_of(answer: &Answer) -> AverageBound
     ensures { fractions_of result ≡ average_of answer.now }
 {
     match answer {
@@ -67,7 +67,7 @@ fn ratio_of(decimals: u8, fraction: Fraction) -> Ratio
 }
 
 // The average that a line shows.
-fn shown_average(decimals: u8, bound: &AverageBound) -> ShownAverage
+pub(crate) fn shown_average(decimals: u8, bound: &AverageBound) -> ShownAverage
     ensures { result ≡ shown_average decimals (fractions_of bound.now) }
 {
     ShownAverage {

@@ -2,13 +2,14 @@
 
 ghost use Rattle.report_parts.specs.Course.{OrderIsFree, StandsIsCombined, TextIsOne};
 ghost use Rattle.report_parts.specs.GroupHeadline.{CombinedGroupsAreCertain};
-ghost use Rattle.report_parts.specs.Headline.{CombinedAveragesAreCertain, CombinedClipsAreCertain};
+ghost use Rattle.report_parts.specs.Headline.{CombinedAveragesAreCertain, CombinedBesidesAreCertain, CombinedClipsAreCertain};
 ghost use Rattle.report_parts.specs.Headline.{CombinedExactAveragesAreCertain, CombinedIsCertain};
 ghost use Rattle.report_parts.specs.Laws.{AnswersContain, AnswersNest, AnswersTell, AveragesContain};
 ghost use Rattle.report_parts.specs.Laws.{LinesOnlyAdd, ReportsOnlyGrow, ToldBlocksStay};
 ghost use Rattle.report_parts.specs.Telling.{EndedStays, TellingIsOne};
 ghost use Rattle.report_parts.specs.Written.{WrittenStays};
 
+use narrow_averages::besides_stand;
 use part_groups::{
     groups_contain, groups_contain_averages, groups_nest, groups_nest_averages, groups_tell,
     groups_tell_averages, groups_tell_keys, whole_is_combined,
@@ -104,7 +105,7 @@ pub fn combined_clips_are_certain()
     combinations_tell();
 }
 
-/// The same of averages: what is printed contains the average over the rows of all parts, lies within what the block before prints where
+/// The same of averages beside which nothing stands: what is printed contains the average over the rows of all parts, lies within what the block before prints where
 /// those of the parts do, and is the sum and the number of all values where each part says its own.
 pub fn combined_averages_are_certain()
     ensures { CombinedAveragesAreCertain }
@@ -112,6 +113,19 @@ pub fn combined_averages_are_certain()
     combinations_report_averages();
     averages_nest();
     combinations_tell_averages();
+}
+
+/// So it is of an average beside which the sum and the number of its values are asked: what is printed contains it, lies within what the block
+/// before prints and within what the parts' averages give, and is the sum over the number of all values where each part says its own two.
+pub fn combined_besides_are_certain()
+    ensures { CombinedBesidesAreCertain }
+{
+    combinations_contain();
+    combinations_nest();
+    combinations_tell();
+    combinations_report_averages();
+    averages_nest();
+    besides_stand();
 }
 
 /// Where what each part says contains the part's average, and one fraction alone is its sum over its number of values, what is combined

@@ -7,6 +7,7 @@ ghost use Rattle.report_parts.specs.Reports.{HasBlockTexts, block_lines, block_o
 ghost use Rattle.report_parts.specs.Rounds.{all_groups_in};
 ghost use Rattle.report_text.specs.Lines.{round_words};
 
+use crate::beside::entries_beside;
 use crate::block::Block;
 use crate::blocks::{entries_over, push_items, written_start};
 use crate::fault::BlockFault;
@@ -34,6 +35,7 @@ pub(crate) fn block_over(
     let kinds = shape.kinds.as_slice();
     if shape.columns == 0 {
         let entries = entries_over(alloc, round, kinds, parts)?;
+        let entries = entries_beside(alloc, shape.besides.as_slice(), &entries)?;
         return Ok(Block::Totals(Listed::new(entries)));
     }
     let groups = groups_over(alloc, round, shape.columns, kinds, parts)?;

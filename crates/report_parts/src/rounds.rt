@@ -65,7 +65,7 @@ const NO_ENTRY: Entry = Entry {
 };
 
 // What a block says of an item.
-fn entry_at(item: usize, block: &[Entry]) -> Entry
+pub(crate) fn entry_at(item: usize, block: &[Entry]) -> Entry
     ensures { result ≡ entry_at item block.now }
 {
     if item < block.len() {

@@ -4,14 +4,13 @@ use Rattle.std.proofs.lemmas.Option.{none-some}
 use Rattle.std.specs.Io.KnownBytes.{IsAtEnd}
 use Rattle.outer_world.specs.Device.{Rose, SinkState, SourceState}
 use Rattle.outer_world.specs.Whole.{Writes}
-use Rattle.query_kinds.specs.Kinds.{KindsAreOne}
 use Rattle.report_parts.proofs.Telling.{ended_stays}
 use Rattle.report_parts.specs.Course.{Combines, IsLineFault, IsStopped, Task, Tell}
 use Rattle.report_parts.specs.declared.combination.Until.{Until}
 use Rattle.source_lines.specs.Lines.{line_length, most_bytes}
 use Rattle.report_stream.proofs.LineTexts.{GoOn, all_before, ends_there, front_line, last_line, line_more, lines_behind, no_earlier, not_long, not_rest, plain, same_line, which_goes_on}
 use Rattle.report_stream.proofs.Taken.{asks_some, refuses_block, refuses_line}
-use Rattle.report_stream.proofs.Tasks.{IsOpen, Told, block_open, either, first_not_refused, some_lines, task_of_more, told_by, written_open}
+use Rattle.report_stream.proofs.Tasks.{IsOpen, QueriesAreOne, Told, block_open, either, first_not_refused, some_lines, task_of_more, told_by, written_open}
 use Rattle.report_stream.specs.Accepted.{AreReports, ReportsAreAnswered, ReportsAreOne}
 use Rattle.report_stream.specs.Faults.{of_block, of_input}
 use Rattle.report_stream.specs.Streams.{AreLines, Combined, Ends, IsFull, IsLine, IsTask, ReadsLines, RefusesBlock, RefusesFirst, RefusesLength, RefusesLine, StreamCause, combined_text, first_line, lines_text, whole}
@@ -19,7 +18,7 @@ use Rattle.report_stream.specs.declared.fault.LineRefusal.{LineRefusal}
 use Rattle.report_stream.specs.declared.fault.StreamFault.{StreamFault}
 use Rattle.report_stream.specs.declared.fault.StreamFault.TheVariants.{EndsEarly, Line, NoMemory, OtherCount, ReadFault, TooLong, WriteFault}
 
-module _ (kinds : KindsAreOne) (count : ℕ) (until : Until) where
+module _ (kinds : QueriesAreOne) (count : ℕ) (until : Until) where
   -- ---- the report is one
 
   longer_same : (bytes text other : List ℕ) (h : AreReports count until bytes text) (k : AreReports count until bytes other) → GoOn h.lines h.rest k.lines k.rest → other ≡ text
@@ -223,10 +222,10 @@ module _ (kinds : KindsAreOne) (count : ℕ) (until : Until) where
           either (which_goes_on own x m.lines m.rest d.read.are_lines m.are_lines (sym (split_by own d.rest d.read) ∙ m.split))
           (λ g. done_more own x d refl g) (λ g. done_less own x d refl g)
 
-pub are_one : KindsAreOne → ReportsAreOne
+pub are_one : QueriesAreOne → ReportsAreOne
 are_one kinds count until bytes text other h k = reports_once kinds count until bytes text other h k
 
-pub are_answered : KindsAreOne → ReportsAreAnswered
+pub are_answered : QueriesAreOne → ReportsAreAnswered
 are_answered kinds count until input input' out out' bytes text left m = record {
   done = done_so kinds count until bytes text m input input' out out' left;
   stopped = excused kinds count until bytes text m input input' out out' left;

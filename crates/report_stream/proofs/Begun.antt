@@ -1,6 +1,7 @@
 -- The first line, and what it asks.
 use Rattle.std.proofs.Common.{◌≡◌, ℕ, ◌≤◌, true, None, List, [], ◌∷◌, refl, sym, subst, ◌∙◌, inl}
 use Rattle.outer_world.specs.Device.{SinkState, SourceState}
+use Rattle.query_kinds.specs.Beside.{TellsBeside}
 use Rattle.query_kinds.specs.Kinds.{Asks}
 use Rattle.report_parts.specs.declared.shape.Shape.{Shape}
 use Rattle.report_parts.specs.Course.{Course, Stands, Task, opening_text}
@@ -71,6 +72,8 @@ task_of count until first query shape task h q k n w l = record {
   query = q ∙ h.is_query;
   asks = subst (λ (own : Shape). Asks task.query own.kinds own.columns) (sym k)
       (subst (λ (own : List ℕ). Asks own shape.kinds shape.columns) (sym q) h.asks);
+  besides = subst (λ (own : Shape). TellsBeside task.query own.besides) (sym k)
+      (subst (λ (own : List ℕ). TellsBeside own shape.besides) (sym q) h.besides);
   count = n;
   width = w;
   last = l;

@@ -3,7 +3,7 @@ use Rattle.std.proofs.Common.{◌≡◌, ◌≢◌, ℕ, ◌+◌, ◌<◌, ◌�
 use Rattle.std.proofs.lemmas.Option.{none-some}
 use Rattle.std.specs.Io.KnownBytes.{IsAtEnd}
 use Rattle.outer_world.specs.Device.{Rose, SinkState, SourceState}
-use Rattle.query_kinds.specs.Kinds.{Asks, AsksOther, IsNoQuery, KindsAreOne}
+use Rattle.query_kinds.specs.Kinds.{Asks, AsksOther, IsNoQuery}
 use Rattle.report_text.specs.declared.lines.ReportEnd.{ReportEnd}
 use Rattle.report_parts.proofs.Reached.{as_stops, never_combined, stops_once}
 use Rattle.report_parts.proofs.Telling.{ended_stays, telling_one, tells_split}
@@ -23,7 +23,7 @@ use Rattle.report_parts.specs.declared.shape.Shape.{Shape}
 use Rattle.source_lines.specs.Lines.{has_line, line_length, most_bytes, most_line}
 use Rattle.report_stream.proofs.LineTexts.{all_before, front_line, last_line, line_more, no_earlier, not_long, not_rest, plain, same_line, which_goes_on}
 use Rattle.report_stream.proofs.Taken.{asks_some, no_tab as no_tab_behind, not_refused, refuses_block, refuses_line, tell_started}
-use Rattle.report_stream.proofs.Tasks.{IsOpen, Told, block_open, either, first_not_refused, some_lines, task_of_more, told_by, written_open}
+use Rattle.report_stream.proofs.Tasks.{IsOpen, QueriesAreOne, Told, block_open, either, first_not_refused, some_lines, task_of_more, told_by, written_open}
 use Rattle.report_stream.specs.Faults.{of_block, of_input}
 use Rattle.report_stream.specs.Shown.{ComesNext, FaultsAreTold, GoesRight, GoesTooFar, IsNext, IsRest, IsTold, IsUnwritten, ShowsFault}
 use Rattle.report_stream.specs.Shown.{ends_early, first_too_long, first_without_tab, first_without_tag, more_parts, no_line, no_query, no_tab, no_tag, no_totals}
@@ -48,7 +48,7 @@ rest_of read rest e none short =
 
 -- ---- a run over an input that tells all
 
-module _ (kinds : KindsAreOne) (count : ℕ) (until : Until) (bytes : List ℕ) (few : length bytes ≤ most_bytes)
+module _ (kinds : QueriesAreOne) (count : ℕ) (until : Until) (bytes : List ℕ) (few : length bytes ≤ most_bytes)
     (input input' : SourceState) (out out' : SinkState) (left : input.left ≡ Some bytes) where
   read_told : (lines : List (List ℕ)) (rest : List ℕ) → ReadsLines input input' lines rest → Told input'.left bytes (lines_text lines ++ rest)
   read_told lines rest read = told_by input.left input'.left bytes (lines_text lines ++ rest) left read.came
@@ -348,7 +348,7 @@ no_rest rest far is = let all = all_before rest is.no_line in let short = is.sho
 
 -- ---- what is shown
 
-module _ (kinds : KindsAreOne) (count : ℕ) (until : Until) (bytes : List ℕ) (few : length bytes ≤ most_bytes)
+module _ (kinds : QueriesAreOne) (count : ℕ) (until : Until) (bytes : List ℕ) (few : length bytes ≤ most_bytes)
     (input input' : SourceState) (out out' : SinkState) (left : input.left ≡ Some bytes) where
   -- a rest has no line
   rest_here : (own : List (List ℕ)) (rest : List ℕ) (g : GoesRight count until bytes own rest) (fault : StreamFault) → IsRest rest →
@@ -778,11 +778,11 @@ module _ (kinds : KindsAreOne) (count : ℕ) (until : Until) (bytes : List ℕ) 
   shown_told fault (other_count lines rest g number is none counted) = other_told lines rest g number is none counted
   shown_told fault (no_query first behind comes none) =
       first_told first behind comes.next
-      (λ task is. kinds.not_none (behind_tag first) task.shape.kinds task.shape.columns (subst (λ (q : List ℕ). Asks q task.shape.kinds task.shape.columns) is.query is.asks) none)
+      (λ task is. kinds.kinds.not_none (behind_tag first) task.shape.kinds task.shape.columns (subst (λ (q : List ℕ). Asks q task.shape.kinds task.shape.columns) is.query is.asks) none)
       (Line 1 r.NoQuery) (query_only first comes.tagged.0 comes.tagged.1 none)
   shown_told fault (no_totals first behind comes other) =
       first_told first behind comes.next
-      (λ task is. kinds.not_other (behind_tag first) task.shape.kinds task.shape.columns (subst (λ (q : List ℕ). Asks q task.shape.kinds task.shape.columns) is.query is.asks) other)
+      (λ task is. kinds.kinds.not_other (behind_tag first) task.shape.kinds task.shape.columns (subst (λ (q : List ℕ). Asks q task.shape.kinds task.shape.columns) is.query is.asks) other)
       (Line 1 r.NoTotals) (totals_only first comes.tagged.0 comes.tagged.1 other)
   shown_told fault (first_without_tab first behind comes none) =
       first_told first behind comes
@@ -800,5 +800,5 @@ module _ (kinds : KindsAreOne) (count : ℕ) (until : Until) (bytes : List ℕ) 
       subst (λ (f : StreamFault). IsTold count until input input' out out' f) (sym is) (block_told lines rest line behind g number block comes un counted)
   shown_told fault (other_line lines rest line behind g number comes begun cannot counted) = line_told lines rest line behind g number comes begun cannot counted
 
-pub are_told : KindsAreOne → FaultsAreTold
+pub are_told : QueriesAreOne → FaultsAreTold
 are_told kinds count until input input' out out' bytes fault left few shows = shown_told kinds count until bytes few input input' out out' left fault shows

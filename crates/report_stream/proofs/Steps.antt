@@ -14,7 +14,7 @@ use Rattle.report_stream.specs.Faults.{of_input, of_kinds}
 use Rattle.report_stream.specs.Steps.{IsFirstFault}
 
 abbrev none_asked : Shape
-none_asked = record { kinds = []; columns = 0 }
+none_asked = record { kinds = []; columns = 0; besides = [] }
 
 -- the line of the query opens the report of a part
 opens : (first : List ℕ) → CannotTake (behind_tag first) none_asked (nothing_told (tag_of first)) (behind_tag first) → ⊥

@@ -3,7 +3,9 @@ use Rattle.std.proofs.Common.{◌≡◌, ◌≢◌, ℕ, Option, List, [], ◌�
 use Rattle.std.proofs.lemmas.Option.{none-some, same_Some}
 use Rattle.std.specs.Io.KnownBytes.{Consumes}
 use Rattle.outer_world.specs.Device.{SinkState}
+use Rattle.query_kinds.specs.Beside.{BesidesAreOne, TellsBeside}
 use Rattle.query_kinds.specs.Kinds.{Asks, KindsAreOne}
+use Rattle.query_kinds.specs.declared.beside.Beside.{Beside}
 use Rattle.query_model.specs.declared.query.ItemKind.{ItemKind}
 use Rattle.report_parts.specs.Course.{Combines, Task}
 use Rattle.report_parts.specs.declared.combination.Until.{Until}
@@ -33,17 +35,25 @@ told_by (Some xs) (Some ys) bytes read e c = record { behind = ys; is_left = ref
 
 -- ---- what is asked
 
-same_shape : (a b : Shape) → a.kinds ≡ b.kinds → a.columns ≡ b.columns → a ≡ b
-same_shape a b kinds columns =
-    ap (λ (x : List ItemKind). record { kinds = x; columns = a.columns }) kinds ∙ ap (λ (n : ℕ). record { kinds = b.kinds; columns = n }) columns
+-- a line of a query tells one shape
+pub record QueriesAreOne : Type 0 where
+  pub kinds : KindsAreOne
+  pub besides : BesidesAreOne
 
-pub same_task : KindsAreOne → (count : ℕ) (until : Until) (first : List ℕ) (a b : Task) → IsTask count until first a → IsTask count until first b → a ≡ b
+same_shape : (a b : Shape) → a.kinds ≡ b.kinds → a.columns ≡ b.columns → a.besides ≡ b.besides → a ≡ b
+same_shape a b kinds columns besides =
+    ap (λ (x : List ItemKind). record { kinds = x; columns = a.columns; besides = a.besides }) kinds
+    ∙ ap (λ (n : ℕ). record { kinds = b.kinds; columns = n; besides = a.besides }) columns
+    ∙ ap (λ (x : List (Option Beside)). record { kinds = b.kinds; columns = b.columns; besides = x }) besides
+
+pub same_task : QueriesAreOne → (count : ℕ) (until : Until) (first : List ℕ) (a b : Task) → IsTask count until first a → IsTask count until first b → a ≡ b
 same_task kinds count until first a b h k =
     let query = h.query ∙ sym k.query in
     let mine : Asks b.query a.shape.kinds a.shape.columns = subst (λ (q : List ℕ). Asks q a.shape.kinds a.shape.columns) query h.asks in
-    let same = kinds.same b.query a.shape.kinds b.shape.kinds a.shape.columns b.shape.columns mine k.asks in
+    let besides = kinds.besides.same b.query a.shape.besides b.shape.besides (subst (λ (q : List ℕ). TellsBeside q a.shape.besides) query h.besides) k.besides in
+    let same = kinds.kinds.same b.query a.shape.kinds b.shape.kinds a.shape.columns b.shape.columns mine k.asks in
     ap (λ (q : List ℕ). record { query = q; shape = a.shape; count = a.count; width = a.width; last = a.last }) query
-    ∙ ap (λ (x : Shape). record { query = b.query; shape = x; count = a.count; width = a.width; last = a.last }) (same_shape a.shape b.shape same.0 same.1)
+    ∙ ap (λ (x : Shape). record { query = b.query; shape = x; count = a.count; width = a.width; last = a.last }) (same_shape a.shape b.shape same.0 same.1 besides)
     ∙ ap (λ (n : ℕ). record { query = b.query; shape = b.shape; count = n; width = a.width; last = a.last }) (h.count ∙ sym k.count)
     ∙ ap (λ (n : ℕ). record { query = b.query; shape = b.shape; count = b.count; width = n; last = a.last }) (h.width ∙ sym k.width)
     ∙ ap (λ (o : Option ℕ). record { query = b.query; shape = b.shape; count = b.count; width = b.width; last = o }) (h.last ∙ sym k.last)
@@ -57,7 +67,7 @@ pub first_of_more : (lines more : List (List ℕ)) → lines ≢ [] → first_li
 first_of_more [] more some = absurd (some refl)
 first_of_more (line ∷ lines) more some = refl
 
-module _ (kinds : KindsAreOne) (count : ℕ) (until : Until) where
+module _ (kinds : QueriesAreOne) (count : ℕ) (until : Until) where
   -- the task of the first lines is that of all
   pub task_of_more : (lines more : List (List ℕ)) (a b : Task) → IsTask count until (first_line lines) a → IsTask count until (first_line (lines ++ more)) b → a ≡ b
   task_of_more lines more a b h k =
@@ -81,8 +91,8 @@ module _ (kinds : KindsAreOne) (count : ℕ) (until : Until) where
   pub first_not_refused : (why : LineRefusal) (first : List ℕ) (task : Task) → IsTask count until first task → IsFirstRefused why first → ⊥
   first_not_refused r.NoTab first task is none = asks_some task.query task.shape.kinds task.shape.columns is.asks (is.query ∙ no_tab first none)
   first_not_refused r.NoTag first task is (tab, none) = none is.is_tag
-  first_not_refused r.NoQuery first task is (tagged, none) = kinds.not_none (behind_tag first) task.shape.kinds task.shape.columns (subst (λ (q : List ℕ). Asks q task.shape.kinds task.shape.columns) is.query is.asks) none
-  first_not_refused r.NoTotals first task is (tagged, other) = kinds.not_other (behind_tag first) task.shape.kinds task.shape.columns (subst (λ (q : List ℕ). Asks q task.shape.kinds task.shape.columns) is.query is.asks) other
+  first_not_refused r.NoQuery first task is (tagged, none) = kinds.kinds.not_none (behind_tag first) task.shape.kinds task.shape.columns (subst (λ (q : List ℕ). Asks q task.shape.kinds task.shape.columns) is.query is.asks) none
+  first_not_refused r.NoTotals first task is (tagged, other) = kinds.kinds.not_other (behind_tag first) task.shape.kinds task.shape.columns (subst (λ (q : List ℕ). Asks q task.shape.kinds task.shape.columns) is.query is.asks) other
   first_not_refused r.MoreParts first task is h = absurd h
   first_not_refused r.OtherQuery first task is h = absurd h
   first_not_refused r.OtherLine first task is h = absurd h

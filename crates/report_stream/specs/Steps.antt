@@ -3,6 +3,7 @@ use Rattle.std.specs.Prelude.{◌≡◌, ◌⊎◌, ℕ, List, []}
 use Rattle.std.specs.declared.option.Option.TheVariants.{Some, None}
 use Rattle.outer_world.specs.Device.{SinkState, SourceState}
 use Rattle.outer_world.specs.Whole.{Writes}
+use Rattle.query_kinds.specs.Beside.{TellsBeside}
 use Rattle.query_kinds.specs.Kinds.{Asks}
 use Rattle.report_parts.specs.Course.{Course, IsCourseFault, Stands, TakesOn}
 use Rattle.report_parts.specs.Ends.{IsEndFault, first_open}
@@ -27,6 +28,7 @@ pub record IsAsked (first query : List ℕ) (shape : Shape) : Type 0 where
   pub is_tag : IsTag (tag_of first)
   pub is_query : query ≡ behind_tag first
   pub asks : Asks query shape.kinds shape.columns
+  pub besides : TellsBeside query shape.besides
 
 abbrev pub IsFirstFault : List ℕ → StreamFault → Type 0
 IsFirstFault first (Line number why) = (number ≡ 1) × IsFirstRefused why first

@@ -6,6 +6,7 @@ use Rattle.std.specs.declared.option.Option.TheVariants.{Some, None}
 use Rattle.std.specs.declared.result.Result.{Result}
 use Rattle.outer_world.specs.Device.{Rose, SinkState, SourceState}
 use Rattle.outer_world.specs.Whole.{Writes}
+use Rattle.query_kinds.specs.Beside.{TellsBeside}
 use Rattle.query_kinds.specs.Kinds.{Asks, AsksOther, IsNoQuery}
 use Rattle.report_text.specs.declared.lines.ReportEnd.{ReportEnd}
 use Rattle.report_parts.specs.Course.{Combines, IsLineFault, IsStopped, Task, Tell, opening_text}
@@ -56,6 +57,7 @@ pub record IsTask (wanted : ℕ) (until : Until) (first : List ℕ) (task : Task
   pub is_tag : IsTag (tag_of first)
   pub query : task.query ≡ behind_tag first
   pub asks : Asks task.query task.shape.kinds task.shape.columns
+  pub besides : TellsBeside task.query task.shape.besides
   pub count : task.count ≡ wanted
   pub width : task.width ≡ until.width
   pub last : task.last ≡ until.rounds

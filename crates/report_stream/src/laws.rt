@@ -3,13 +3,14 @@
 ghost use Rattle.report_stream.specs.Accepted.{ReportsAreAnswered, ReportsAreOne};
 ghost use Rattle.report_stream.specs.Shown.{FaultsAreTold};
 
-use query_kinds::kinds_are_one;
+use query_kinds::{besides_are_one, kinds_are_one};
 
 /// Bytes have one combined report at most.
 pub fn reports_are_one()
     ensures { ReportsAreOne }
 {
     kinds_are_one();
+    besides_are_one();
 }
 
 /// Where an input tells bytes that are accepted, what is written is their combined report, and nothing but want of memory and faults of
@@ -18,6 +19,7 @@ pub fn reports_are_answered()
     ensures { ReportsAreAnswered }
 {
     kinds_are_one();
+    besides_are_one();
 }
 
 /// Where right lines are followed by bytes that are refused, only that refusal stops the report, unless memory runs out or a device
@@ -26,4 +28,5 @@ pub fn faults_are_told()
     ensures { FaultsAreTold }
 {
     kinds_are_one();
+    besides_are_one();
 }

@@ -1,6 +1,8 @@
 //! Reads line by line, writes each block as soon as the lines tell it, and reads no further behind the end.
 
 ghost use Rattle.std.specs.Prelude.{◌≡◌, ◌<◌, ◌≤◌, None, Ok, IfErr, IfOk, OnOk, false, length, true};
+ghost use Rattle.query_kinds.specs.Beside.{TellsBeside};
+ghost use Rattle.query_kinds.specs.Kinds.{IsKindsFault};
 ghost use Rattle.report_stream.specs.Steps.{IsAsked, IsEarly, IsEnd, IsFirstFault, IsOpen, PutsOut, RefusesBlocks, StopsAt, StopsTake};
 ghost use Rattle.report_stream.specs.Streams.{Combined, StreamCause};
 ghost use Rattle.source_lines.specs.Lines.{Ends, Stands as HasRead, has_line};
@@ -8,12 +10,25 @@ ghost use Rattle.source_lines.specs.Lines.{Ends, Stands as HasRead, has_line};
 use crate::fault::{LineRefusal, StreamFault, Tag, of_input, of_kinds, of_source};
 use daq_table::Listed;
 use outer_world::{Sink, Source, write_whole};
-use query_kinds::query_shape;
+use query_kinds::{Beside, KindsFault, averages_beside, query_shape};
 use report_parts::{
     Asked, BlockFault, Combination, CourseFault, EndFault, Shape, Until, untagged, written_opening,
 };
 use source_lines::SourceLines;
 use std::alloc::Global;
+
+// What stands beside the items of the query, where it asks for totals.
+fn read_besides(alloc: Global, query: &[u8]) -> Result<Vec<Option<Beside>>, KindsFault>
+    ensures besides { IfOk result (λ besides. TellsBeside query.now besides.items) }
+    ensures fault { IfErr result (IsKindsFault query.now) }
+{
+    match averages_beside(alloc, query) {
+        Ok(besides) => Ok(besides),
+        Err(KindsFault::NoTotals) => Ok(Vec::new(alloc)),
+        Err(KindsFault::NoQuery) => Err(KindsFault::NoQuery),
+        Err(KindsFault::NoMemory) => Err(KindsFault::NoMemory),
+    }
+}
 
 // What the first line asks of all parts.
 #[tactic(auto, using(crate::proofs::Steps::first_refused, crate::proofs::Steps::kinds_refused))]
@@ -29,11 +44,16 @@ fn read_asked(alloc: Global, first: &[u8]) -> Result<Asked, StreamFault>
         Ok(asked) => asked,
         Err(fault) => return Err(of_kinds(fault)),
     };
+    let besides = match read_besides(alloc, query) {
+        Ok(besides) => besides,
+        Err(fault) => return Err(of_kinds(fault)),
+    };
     let mut text = Vec::new(alloc);
     text.extend_from_slice(query)?;
     let shape = Shape {
         kinds: Listed::new(asked.kinds),
         columns: asked.columns,
+        besides: Listed::new(besides),
     };
     Ok(Asked { query: text, shape })
 }

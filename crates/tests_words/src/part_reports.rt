@@ -19,6 +19,7 @@ fn shape(alloc: Global, columns: usize) -> Result<Shape, AllocError> {
     Ok(Shape {
         kinds: Listed::new(Vec::from_slice(alloc, &KINDS)?),
         columns,
+        besides: Listed::new(Vec::new(alloc)),
     })
 }
 

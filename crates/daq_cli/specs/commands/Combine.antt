@@ -1,16 +1,18 @@
 -- `combine`: the reports of the parts of a table, line by line, become one report of the whole.
-use Rattle.std.specs.Prelude.{◌≡◌, ◌≢◌, ℕ, ◌<◌, ◌≤◌, ℤ, List, [], length, slice_get, Some}
+use Rattle.std.specs.Prelude.{◌≡◌, ◌≢◌, ℕ, ◌<◌, ◌≤◌, ℤ, List, [], length, slice_get, slice_index_or, Some, None}
 use Rattle.std.specs.declared.option.Option.{Option}
 use Rattle.command_line.specs.Commands.{Combine}
 use Rattle.outer_world.specs.Device.{SinkState, SourceState}
+use Rattle.query_kinds.specs.declared.beside.Beside.{Beside}
 use Rattle.query_model.specs.declared.query.ItemKind.{ItemKind}
 use Rattle.query_model.specs.declared.query.ItemKind.TheVariants.{Avg}
 use Rattle.report_parts.specs.Course.{Task, Tell}
 use Rattle.report_parts.specs.GroupHeadline.{AreGroupsCertain}
-use Rattle.report_parts.specs.Headline.{AreCertainAverages, AreCertainOf, AreClippedOf, AreExactOf}
-use Rattle.report_parts.specs.Headline.{IsAverageIn, IsCertainIn, IsClippedIn, IsExactIn}
+use Rattle.report_parts.specs.Headline.{AreCertainAverages, AreCertainBeside, AreCertainOf, AreClippedOf, AreExactOf}
+use Rattle.report_parts.specs.Headline.{IsAverageIn, IsBesideIn, IsCertainIn, IsClippedIn, IsExactIn}
 use Rattle.report_parts.specs.Told.{Told}
 use Rattle.report_parts.specs.declared.combination.Until.{Until}
+use Rattle.report_parts.specs.declared.shape.Shape.{Shape}
 use Rattle.source_lines.specs.Lines.{most_bytes}
 use Rattle.report_stream.specs.Accepted.{AreReports}
 use Rattle.report_stream.specs.Shown.{ShowsFault}
@@ -42,22 +44,26 @@ CombineAccepts c told text = (bytes : List ℕ) × (told ≡ Some bytes) × AreR
 
 -- where the report of each part is certain of an item over the part's own rows, so is each block that is printed over the rows of all parts
 -- together: it contains the answer, lies within the block before, and is the answer where each part says its own. So it is of the clipped
--- bounds in the lines behind. What a line behind says of an average contains it, and lies within what the block before says
-pub record AreCertainTogether (kinds : List ItemKind) (parts : List Told) : Type 0 where
-  pub items : (item : ℕ) (kind : ItemKind) (tables : List (List ℤ)) (round : ℕ) → kind ≢ Avg → slice_get kinds item ≡ Some kind →
-      AreCertainOf item kind parts tables → IsCertainIn round item kind kinds parts tables
-  pub averages : (item : ℕ) (tables : List (List ℤ)) (round : ℕ) → slice_get kinds item ≡ Some Avg → AreCertainAverages item parts tables →
-      IsAverageIn round item kinds parts tables
-  pub clips : (item : ℕ) (kind : ItemKind) (tables : List (List ℤ)) (round : ℕ) → kind ≢ Avg → slice_get kinds item ≡ Some kind →
-      AreClippedOf item kind parts tables → IsClippedIn round item kind kinds parts tables
-  pub exact_averages : (item : ℕ) (tables : List (List ℤ)) (round : ℕ) → slice_get kinds item ≡ Some Avg → AreExactOf item parts tables →
-      IsExactIn round item kinds parts tables
+-- bounds in the lines behind. What a line behind says of an average contains it, and lies within what the block before says. Of an average
+-- beside which the sum and the number of its values are asked it holds where the parts are certain of these too
+pub record AreCertainTogether (shape : Shape) (parts : List Told) : Type 0 where
+  pub items : (item : ℕ) (kind : ItemKind) (tables : List (List ℤ)) (round : ℕ) → kind ≢ Avg → slice_get shape.kinds item ≡ Some kind →
+      AreCertainOf item kind parts tables → IsCertainIn round item kind shape parts tables
+  pub averages : (item : ℕ) (tables : List (List ℤ)) (round : ℕ) → slice_get shape.kinds item ≡ Some Avg →
+      slice_index_or shape.besides item None ≡ None → AreCertainAverages item parts tables → IsAverageIn round item shape parts tables
+  pub besides : (item : ℕ) (beside : Beside) (tables : List (List ℤ)) (round : ℕ) → slice_get shape.kinds item ≡ Some Avg →
+      slice_index_or shape.besides item None ≡ Some beside → AreCertainAverages item parts tables →
+      AreCertainBeside item beside shape.kinds parts tables → IsBesideIn round item beside shape parts tables
+  pub clips : (item : ℕ) (kind : ItemKind) (tables : List (List ℤ)) (round : ℕ) → kind ≢ Avg → slice_get shape.kinds item ≡ Some kind →
+      AreClippedOf item kind parts tables → IsClippedIn round item kind shape parts tables
+  pub exact_averages : (item : ℕ) (tables : List (List ℤ)) (round : ℕ) → slice_get shape.kinds item ≡ Some Avg →
+      AreExactOf item parts tables → IsExactIn round item shape parts tables
 
 -- the combined report of the lines that were read was written to its end. Each interval in it is certain, where those of the parts are; of
 -- a query by groups, so is each group
 pub record CombinesReports (c : Combine) (input input' : SourceState) (out out' : SinkState) : Type 0 where
   pub combined : Combined c.parts (until_of c) input input' out out'
-  pub headline : AreCertainTogether combined.task.shape.kinds combined.combines.parts
+  pub headline : AreCertainTogether combined.task.shape combined.combines.parts
   pub groups : 0 < combined.task.shape.columns → AreGroupsCertain combined.task.shape combined.combines.parts
 
 -- why a `combine` stops, and with that what was read and written

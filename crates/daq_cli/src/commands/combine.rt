@@ -8,7 +8,7 @@ use crate::refusal::{Refusal, refused_reports};
 use command_line::Combine;
 use outer_world::{Sink, Source};
 use report_parts::{
-    Until, combined_averages_are_certain, combined_clips_are_certain,
+    Until, combined_averages_are_certain, combined_besides_are_certain, combined_clips_are_certain,
     combined_exact_averages_are_certain, combined_groups_are_certain, combined_is_certain,
 };
 use report_stream::combine_reports;
@@ -29,6 +29,7 @@ pub(crate) fn carry_out<S: Source, K: Sink>(
 {
     combined_is_certain();
     combined_averages_are_certain();
+    combined_besides_are_certain();
     combined_clips_are_certain();
     combined_exact_averages_are_certain();
     combined_groups_are_certain();
