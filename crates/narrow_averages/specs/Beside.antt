@@ -1,5 +1,6 @@
 -- The bound of an average beside which the sum and the number of its values are told.
-use Rattle.std.specs.Prelude.{ℕ, ℤ, pos, ◌+◌, ◌^◌, ◌+ℤ◌, neg_ℤ, int_le, int_lt, nat_lt, Bool, true, false, ◌&&◌, ◌==◌, List, [], ◌∷◌, map, IsTrue, if◌then◌else◌}
+use Rattle.std.specs.Prelude.{ℕ, ℤ, pos, ◌+◌, ◌^◌, ◌+ℤ◌, neg_ℤ, int_le, int_lt, nat_lt, Bool, true, false, ◌&&◌, ◌==◌}
+use Rattle.std.specs.Prelude.{List, [], ◌∷◌, map, IsTrue, if◌then◌else◌}
 use Rattle.std.specs.declared.option.Option.{Option}
 use Rattle.std.specs.Ordering.{int_eq}
 use Rattle.interval_calc.specs.Intervals.{Fraction}
@@ -25,7 +26,8 @@ can_double fraction = int_le (neg_ℤ (pos (2 ^ 126))) fraction.num && (int_lt f
 
 -- the same number, written as twice the sum over twice the number of values, where these fit
 abbrev pub otherwise : Fraction → Fraction
-otherwise fraction = if can_double fraction then record { num = fraction.num +ℤ fraction.num; den = fraction.den + fraction.den } else fraction
+otherwise fraction =
+    if can_double fraction then record { num = fraction.num +ℤ fraction.num; den = fraction.den + fraction.den } else fraction
 
 abbrev pub apart_by : Nullity → Bool → AverageBound → AverageBound
 apart_by Never true bound = record { null = Never; lo = bound.lo; hi = otherwise bound.hi }

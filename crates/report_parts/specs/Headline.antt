@@ -122,8 +122,9 @@ abbrev pub DoAveragesNest : ℕ → List Told → Type 0
 DoAveragesNest item [] = Unit {0}
 DoAveragesNest item (part ∷ parts) = AverageNests item part × DoAveragesNest item parts
 
--- where nothing stands beside it, what is printed shows a bound that contains the average over the rows of all parts together; the next round's lies within it, where those
--- of the parts do; and where each part says its sum and its number of values in the round, it says those of all
+-- where nothing stands beside it, what is printed shows a bound that contains the average over the rows of all parts
+-- together; the next round's lies within it, where those of the parts do; and where each part says its sum and its number of values in the
+-- round, it says those of all
 pub record IsAverageIn (round item : ℕ) (shape : Shape) (parts : List Told) (tables : List (List ℤ)) : Type 0 where
   pub entry : Entry
   pub printed : slice_get (printed_in round shape parts) item ≡ Some entry
@@ -157,8 +158,8 @@ pub record AreCertainBeside (item : ℕ) (beside : Beside) (kinds : List ItemKin
 abbrev pub IsCountedIn : ℕ → Beside → List Told → Type 0
 IsCountedIn round beside parts = IsTrue (is_counted (bound_of (answer_over Count (answers_in round beside.count parts))))
 
--- what is printed contains the average over the rows of all parts together, the next round's lies within it where those of the parts do, and
--- it lies within the bound that the parts' averages give; where each part says its sum and its number of values, it says those of all
+-- what is printed contains the average over the rows of all parts together, the next round's lies within it where those of the parts do,
+-- and it lies within the bound that the parts' averages give; where each part says its sum and its number of values, it says those of all
 pub record IsBesideIn (round item : ℕ) (beside : Beside) (shape : Shape) (parts : List Told) (tables : List (List ℤ)) : Type 0 where
   pub entry : Entry
   pub next : Entry

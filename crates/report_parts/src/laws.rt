@@ -105,8 +105,8 @@ pub fn combined_clips_are_certain()
     combinations_tell();
 }
 
-/// The same of averages beside which nothing stands: what is printed contains the average over the rows of all parts, lies within what the block before prints where
-/// those of the parts do, and is the sum and the number of all values where each part says its own.
+/// The same of averages beside which nothing stands: what is printed contains the average over the rows of all parts, lies
+/// within what the block before prints where those of the parts do, and is the sum and the number of all values where each part says its own.
 pub fn combined_averages_are_certain()
     ensures { CombinedAveragesAreCertain }
 {
@@ -115,8 +115,8 @@ pub fn combined_averages_are_certain()
     combinations_tell_averages();
 }
 
-/// So it is of an average beside which the sum and the number of its values are asked: what is printed contains it, lies within what the block
-/// before prints and within what the parts' averages give, and is the sum over the number of all values where each part says its own two.
+/// So it is of an average beside which the sum and the number of its values are asked: what is printed contains it, lies within what
+/// the block before prints and within what the parts' averages give, and is the sum over the number of all values where each part says its own two.
 pub fn combined_besides_are_certain()
     ensures { CombinedBesidesAreCertain }
 {
