@@ -16,8 +16,10 @@ use Rattle.report_parts.specs.Blocks.{groups_of}
 use Rattle.report_parts.specs.Course.{Task, Tell}
 use Rattle.report_parts.specs.GroupHeadline.{AreAlikeIn, CombinedGroupsAreCertain, DoAllNest, HasFaultIn, IsCertainOfAverage, IsCertainOfKey, printed_groups}
 use Rattle.report_parts.specs.Keyed.{AreKeyedFrom, IsKeyedFrom}
+use Rattle.report_parts.specs.Reports.{block_beside}
 use Rattle.report_parts.specs.Rounds.{all_groups_in}
 use Rattle.report_parts.specs.Told.{Told}
+use Rattle.report_parts.specs.declared.block.Block.{Block}
 use Rattle.report_parts.specs.declared.fault.BlockFault.TheVariants.{OtherColumn, OtherDecimals}
 use Rattle.report_parts.specs.declared.shape.Shape.{Shape}
 
@@ -54,7 +56,7 @@ combined : WholeIsCombined → (task : Task) (parts : List Told) → 0 < task.sh
 combined law task parts some round alike =
     let columns = task.shape.columns in
     let kinds = task.shape.kinds in
-    subst (IsCombinedReport columns kinds (all_groups_in round parts)) (sym (ap groups_of (by_groups columns round kinds parts some)))
+    subst (IsCombinedReport columns kinds (all_groups_in round parts)) (sym (ap (λ (b : Block). groups_of (block_beside task.shape.besides b)) (by_groups columns round kinds parts some)))
     (law columns kinds (all_groups_in round parts) alike)
 
 -- ---- the forms

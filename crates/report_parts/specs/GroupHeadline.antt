@@ -16,7 +16,8 @@ use Rattle.part_groups.specs.Whole.{AreWrittenAlike, cell_by}
 use Rattle.part_groups.specs.declared.group.Group.{Group}
 use Rattle.report_parts.specs.Blocks.{groups_of, no_block}
 use Rattle.report_parts.specs.Course.{Task, Tell}
-use Rattle.report_parts.specs.Reports.{IsBlockFault, block_over}
+use Rattle.report_parts.specs.Faults.{IsBlockFault}
+use Rattle.report_parts.specs.Reports.{block_over}
 use Rattle.report_parts.specs.Rounds.{all_groups_in}
 use Rattle.report_parts.specs.Told.{Told}
 use Rattle.report_parts.specs.declared.fault.BlockFault.{BlockFault}
