@@ -3,6 +3,7 @@ mod Ends
 mod Exact
 mod Joins
 mod Later
+mod Lines
 mod Lists
 mod Nesting
 mod Orders
@@ -11,4 +12,5 @@ mod Ranks
 mod Reports
 mod Right
 mod Standing
+mod Told
 mod Trees

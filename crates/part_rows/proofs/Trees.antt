@@ -55,12 +55,12 @@ same_name a b e =
 -- ---- lists
 
 -- it is what the function makes of an element
-record Mapped {X Y : Type 0} (f : X → Y) (xs : List X) (y : Y) : Type 0 where
+pub record Mapped {X Y : Type 0} (f : X → Y) (xs : List X) (y : Y) : Type 0 where
   pub element : X
   pub is : IsIn element xs
   pub same : y ≡ f element
 
-out_of_map : {X Y : Type 0} (f : X → Y) (xs : List X) (y : Y) → IsIn y (map f xs) → Mapped f xs y
+pub out_of_map : {X Y : Type 0} (f : X → Y) (xs : List X) (y : Y) → IsIn y (map f xs) → Mapped f xs y
 out_of_map f [] y i = absurd i
 out_of_map f (x ∷ xs) y (inl e) = record { element = x; is = inl refl; same = e }
 out_of_map f (x ∷ xs) y (inr i) = let m = out_of_map f xs y i in record { element = m.element; is = inr m.is; same = m.same }

@@ -1,7 +1,10 @@
+pub mod Combined
+pub mod Faults
 pub mod Laws
 pub mod Marks
 pub mod Ranked
 pub mod Standings
 pub mod Tables
+pub mod Told
 pub mod Trees
 pub mod Worlds

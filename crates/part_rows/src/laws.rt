@@ -2,6 +2,7 @@
 
 ghost use Rattle.part_rows.specs.Laws.{OrderIsFree, StandingsAreRight, StandingsBecomeExact, StandingsNest};
 ghost use Rattle.part_rows.specs.Tables.{LaterReportsJoin, ReportsBecomeExact, ReportsHold, ReportsJoin, ReportsNest};
+ghost use Rattle.part_rows.specs.Told.{LinesAreRight, LinesBecomeExact, LinesNest};
 ghost use Rattle.part_rows.specs.Trees.{ToldRowsHold};
 
 use query_model::{
@@ -67,4 +68,20 @@ pub fn reports_become_exact()
 /// What is told of several parts, each row that is not excluded, holds as the report of one part, under names in the same order.
 pub fn told_rows_hold()
     ensures { ToldRowsHold }
+{}
+
+/// In each world in which the parts' reports hold a row whose line in the block over all parts says certain is among the first, and each row
+/// that is among the first has a line.
+pub fn lines_are_right()
+    ensures { LinesAreRight }
+{}
+
+/// With later reports of the parts what was certain still is, and what has a line had one before.
+pub fn lines_nest()
+    ensures { LinesNest }
+{}
+
+/// Where each listed row is certain and has one key, each line says certain.
+pub fn lines_become_exact()
+    ensures { LinesBecomeExact }
 {}

@@ -1,15 +1,23 @@
 //! The first rows in an order over all parts of a table, judged from the rows that the parts' reports list.
 #![tactic(auto)]
 
+mod combined;
+mod fault;
+mod forms;
 mod laws;
+mod listed;
 mod order;
 mod ranked;
 mod row;
 mod standings;
 
+pub use combined::{CombinedRows, combine_rows};
+pub use fault::RowsFault;
 pub use laws::{
-    later_reports_join, order_is_free, reports_become_exact, reports_hold, reports_join,
-    reports_nest, standings_are_right, standings_become_exact, standings_nest, told_rows_hold,
+    later_reports_join, lines_are_right, lines_become_exact, lines_nest, order_is_free,
+    reports_become_exact, reports_hold, reports_join, reports_nest, standings_are_right,
+    standings_become_exact, standings_nest, told_rows_hold,
 };
+pub use listed::ListedRows;
 pub use row::{FirstRows, PartRow, RowName};
 pub use standings::judge;

@@ -1,0 +1,139 @@
+//! The rows that the reports of parts list, and what is listed of each.
+
+ghost use Rattle.std.specs.Prelude.{◌≡◌, ◌++◌, IfOk, OnOk, map};
+ghost use Rattle.part_groups.specs.Cells.{span_of, values_of};
+ghost use Rattle.report_text.specs.RowBlocks.{tag_bytes};
+ghost use Rattle.part_rows.specs.Combined.{listing, listings, listings_of, row_of};
+
+use crate::row::{PartRow, RowName};
+use daq_table::Text;
+use report_text::{RowLine, ShownEnds, ShownSpan};
+use shard_groups::{Ends, KeyValue, Span};
+use std::alloc::{AllocError, Global};
+
+/// The rows that the report of a part lists, and the tag of the part.
+#[derive(Clone, Copy)]
+pub struct ListedRows<'a> {
+    pub tag: &'a [u8],
+    pub rows: &'a [RowLine],
+}
+
+/// A row that a part lists: the place and the tag of the part, and the line of the row.
+#[derive(Clone, Copy)]
+pub(crate) struct ListedRow<'a> {
+    pub(crate) part: usize,
+    pub(crate) tag: &'a [u8],
+    pub(crate) line: &'a RowLine,
+}
+
+// Appends the rows of a part.
+fn append<'a>(
+    place: usize,
+    part: ListedRows<'a>,
+    rows: &mut Vec<ListedRow<'a>>,
+) -> Result<(), AllocError>
+    ensures { OnOk result (map listing rows.new.items ≡ map listing rows.old.items ++ listings_of place part.entry) }
+{
+    for line in part.rows {
+        rows.push(ListedRow {
+            part: place,
+            tag: part.tag,
+            line,
+        })?;
+    }
+    Ok(())
+}
+
+/// The rows that all parts list, in order.
+pub(crate) fn listed_rows<'a>(
+    alloc: Global,
+    parts: &[ListedRows<'a>],
+) -> Result<Vec<ListedRow<'a>>, AllocError>
+    ensures { IfOk result (λ rows. map listing rows.items ≡ listings parts.now) }
+{
+    let mut rows = Vec::new(alloc);
+    for (place, part) in parts.iter().enumerate() {
+        append(place, *part, &mut rows)?;
+    }
+    Ok(rows)
+}
+
+// The same text.
+pub(crate) fn copied(alloc: Global, text: &[u8]) -> Result<Text, AllocError>
+    ensures { IfOk result (λ copy. copy ≡ text.now) }
+{
+    Ok(Text::new(Vec::from_slice(alloc, text)?))
+}
+
+// The values that are shown: none where a column of texts has none.
+fn values_of(alloc: Global, ends: &ShownEnds) -> Result<Option<Ends>, AllocError>
+    ensures { IfOk result (λ values. values ≡ values_of ends.now) }
+{
+    match ends {
+        ShownEnds::Values(ends) => Ok(Some(Ends {
+            low: KeyValue::Number(ends.low),
+            high: KeyValue::Number(ends.high),
+        })),
+        ShownEnds::Texts(ends) => {
+            let low = copied(alloc, ends.low.as_slice())?;
+            let high = copied(alloc, ends.high.as_slice())?;
+            Ok(Some(Ends {
+                low: KeyValue::Text(low),
+                high: KeyValue::Text(high),
+            }))
+        }
+        ShownEnds::NoText => Ok(None),
+    }
+}
+
+// The keys that are shown.
+fn span_of(alloc: Global, key: &ShownSpan) -> Result<Span, AllocError>
+    ensures { IfOk result (λ span. span ≡ span_of key.now) }
+{
+    let ends = match &key.ends {
+        Some(ends) => values_of(alloc, ends)?,
+        None => None,
+    };
+    Ok(Span {
+        null: key.null,
+        ends,
+    })
+}
+
+// The bytes of a tag. A row of one table has none.
+pub(crate) fn tag_bytes(tag: &Option<Text>) -> &[u8]
+    ensures { result.now ≡ tag_bytes tag.now }
+{
+    match tag {
+        Some(tag) => tag.as_slice(),
+        None => &[],
+    }
+}
+
+// The row as its part knows it.
+fn row_of(alloc: Global, listed: ListedRow<'_>) -> Result<PartRow, AllocError>
+    ensures { IfOk result (λ row. row ≡ row_of (listing listed.entry)) }
+{
+    let tag = copied(alloc, tag_bytes(&listed.line.name.tag))?;
+    let key = span_of(alloc, &listed.line.key)?;
+    Ok(PartRow {
+        name: RowName {
+            part: listed.part,
+            tag,
+            number: listed.line.name.number,
+        },
+        certain: listed.line.certain,
+        key,
+    })
+}
+
+/// The rows as their parts know them.
+pub(crate) fn rows_of(alloc: Global, listed: &[ListedRow<'_>]) -> Result<Vec<PartRow>, AllocError>
+    ensures { IfOk result (λ rows. rows.items ≡ map row_of (map listing listed.now)) }
+{
+    let mut rows = Vec::with_capacity(alloc, listed.len())?;
+    for row in listed {
+        rows.push(row_of(alloc, *row)?)?;
+    }
+    Ok(rows)
+}
