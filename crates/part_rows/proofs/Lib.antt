@@ -11,6 +11,7 @@ mod Ranking
 mod Ranks
 mod Reports
 mod Right
+mod Rising
 mod Standing
 mod Told
 mod Trees

@@ -65,7 +65,7 @@ out_of_map f [] y i = absurd i
 out_of_map f (x ∷ xs) y (inl e) = record { element = x; is = inl refl; same = e }
 out_of_map f (x ∷ xs) y (inr i) = let m = out_of_map f xs y i in record { element = m.element; is = inr m.is; same = m.same }
 
-out_of_filter : {X : Type 0} (p : X → Bool) (x : X) (xs : List X) → IsIn x (filter p xs) → IsIn x xs
+pub out_of_filter : {X : Type 0} (p : X → Bool) (x : X) (xs : List X) → IsIn x (filter p xs) → IsIn x xs
 out_of_filter p x [] i = absurd i
 out_of_filter p x (z ∷ zs) i =
     elim (cases_Bool (p z)) [

@@ -1,7 +1,8 @@
 //! The block of first rows over all parts.
 
 ghost use Rattle.std.specs.Prelude.{◌≡◌, ◌++◌, IfErr, IfOk, OnOk, map};
-ghost use Rattle.part_rows.specs.Combined.{block_of, combined, is_skipped, joined_tag, line_by, line_if, lines_of, listing, row_of, skipped_block, top_of};
+ghost use Rattle.part_rows.specs.Combined.{block_of, combined, is_skipped, joined_tag, line_by, line_if};
+ghost use Rattle.part_rows.specs.Combined.{lines_of, listing, row_of, skipped_block, top_of};
 ghost use Rattle.part_rows.specs.Faults.{AreAlike, AreClear, IsRowsFault, IsTagFault, is_clear};
 
 use crate::fault::RowsFault;

@@ -1,6 +1,7 @@
 //! The laws of standings over all parts. Each stands on a function that does nothing.
 
 ghost use Rattle.part_rows.specs.Laws.{OrderIsFree, StandingsAreRight, StandingsBecomeExact, StandingsNest};
+ghost use Rattle.part_rows.specs.Rising.{LinesRise};
 ghost use Rattle.part_rows.specs.Tables.{LaterReportsJoin, ReportsBecomeExact, ReportsHold, ReportsJoin, ReportsNest};
 ghost use Rattle.part_rows.specs.Told.{LinesAreRight, LinesBecomeExact, LinesNest};
 ghost use Rattle.part_rows.specs.Trees.{ToldRowsHold};
@@ -70,8 +71,8 @@ pub fn told_rows_hold()
     ensures { ToldRowsHold }
 {}
 
-/// In each world in which the parts' reports hold a row whose line in the block over all parts says certain is among the first, and each row
-/// that is among the first has a line.
+/// In each world in which the parts' reports hold a row whose line in the block over all parts says certain is among the first, and each
+/// row that is among the first has a line.
 pub fn lines_are_right()
     ensures { LinesAreRight }
 {}
@@ -84,4 +85,9 @@ pub fn lines_nest()
 /// Where each listed row is certain and has one key, each line says certain.
 pub fn lines_become_exact()
     ensures { LinesBecomeExact }
+{}
+
+/// Where the tags of the parts rise and are clear, and the lines of each rise, so do those of the block over all parts.
+pub fn lines_rise()
+    ensures { LinesRise }
 {}
