@@ -9,6 +9,7 @@ mod Nesting
 mod Orders
 mod Ranking
 mod Ranks
+mod ReadBack
 mod Reports
 mod Right
 mod Rising

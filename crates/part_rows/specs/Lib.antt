@@ -3,6 +3,7 @@ pub mod Faults
 pub mod Laws
 pub mod Marks
 pub mod Ranked
+pub mod ReadBack
 pub mod Rising
 pub mod Standings
 pub mod Tables

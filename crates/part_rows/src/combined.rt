@@ -1,6 +1,7 @@
 //! The block of first rows over all parts.
 
 ghost use Rattle.std.specs.Prelude.{◌≡◌, ◌++◌, IfErr, IfOk, OnOk, map};
+ghost use Rattle.report_text.specs.Rows.{IsTopLine};
 ghost use Rattle.part_rows.specs.Combined.{block_of, combined, is_skipped, joined_tag, line_by, line_if};
 ghost use Rattle.part_rows.specs.Combined.{lines_of, listing, row_of, skipped_block, top_of};
 ghost use Rattle.part_rows.specs.Faults.{AreAlike, AreClear, IsRowsFault, IsTagFault, is_clear};
@@ -155,7 +156,8 @@ fn lines_of(
 
 // How many rows there are.
 fn top_of(limit: u64, lines: &[RowLine]) -> TopLine
-    ensures { result ≡ top_of limit lines.now }
+    ensures top { result ≡ top_of limit lines.now }
+    ensures numbers { IsTopLine result }
 {
     let mut certain = 0;
     for line in lines {
@@ -176,7 +178,8 @@ fn judged(
     asked: FirstRows,
     listed: &[ListedRow<'_>],
 ) -> Result<CombinedRows, AllocError>
-    ensures { IfOk result (λ block. block ≡ block_of asked (map listing listed.now)) }
+    ensures block { IfOk result (λ block. block ≡ block_of asked (map listing listed.now)) }
+    ensures top { IfOk result (λ block. IsTopLine block.top) }
 {
     let rows = rows_of(alloc, listed)?;
     let lines = lines_of(alloc, asked, listed, &rows)?;
@@ -188,7 +191,8 @@ fn judged(
 
 // The block of so many rows that are not judged.
 fn skipped(alloc: Global, limit: u64, listed: usize) -> CombinedRows
-    ensures { result ≡ skipped_block limit listed }
+    ensures block { result ≡ skipped_block limit listed }
+    ensures top { IsTopLine result.top }
 {
     CombinedRows {
         top: TopLine {
@@ -209,6 +213,7 @@ pub fn combine_rows(
     parts: &[ListedRows<'_>],
 ) -> Result<CombinedRows, RowsFault>
     ensures block { IfOk result (λ block. block ≡ combined asked parts.now) }
+    ensures top { IfOk result (λ block. IsTopLine block.top) }
     ensures clear { IfOk result (λ _. AreClear parts.now) }
     ensures alike { IfOk result (λ _. AreAlike parts.now) }
     ensures fault { IfErr result (λ why. IsRowsFault why parts.now) }

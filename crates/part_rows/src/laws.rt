@@ -1,6 +1,7 @@
 //! The laws of standings over all parts. Each stands on a function that does nothing.
 
 ghost use Rattle.part_rows.specs.Laws.{OrderIsFree, StandingsAreRight, StandingsBecomeExact, StandingsNest};
+ghost use Rattle.part_rows.specs.ReadBack.{BlocksAreReadBack};
 ghost use Rattle.part_rows.specs.Rising.{LinesRise};
 ghost use Rattle.part_rows.specs.Tables.{LaterReportsJoin, ReportsBecomeExact, ReportsHold, ReportsJoin, ReportsNest};
 ghost use Rattle.part_rows.specs.Told.{LinesAreRight, LinesBecomeExact, LinesNest};
@@ -90,4 +91,10 @@ pub fn lines_become_exact()
 /// Where the tags of the parts rise and are clear, and the lines of each rise, so do those of the block over all parts.
 pub fn lines_rise()
     ensures { LinesRise }
+{}
+
+/// The block over all parts is read back as that of a report, where its rows are judged, the lines of the parts can be shown and rise, and
+/// so do the tags of the parts, which are clear.
+pub fn blocks_are_read_back()
+    ensures { BlocksAreReadBack }
 {}

@@ -4,8 +4,8 @@ use Rattle.report_text.specs.RowBlocks.{certain_rows, possible_rows}
 use Rattle.report_text.proofs.RowCounts.{possible_is}
 use Rattle.part_rows.proofs.combined.top_of.Goals as goal
 
-pub returns : goal.returns
-returns c =
+pub returns-clause-top : goal.returns-clause-top
+returns-clause-top c =
     let lines = c.args.lines.now in
     let all : length lines ≤ c.loop-line.line-index = omega (arith, c.loop-line-test.false) in
     let certain : c.loop-line.certain ≡ certain_rows lines =

@@ -1,0 +1,108 @@
+-- The block over all parts is read back as the block of a report.
+use Rattle.std.proofs.Common.{◌≡◌, ℕ, ◌+◌, ◌-◌, ◌<◌, Bool, true, not, cond, List, [], ◌∷◌, ◌++◌, length, refl, sym, ap, ◌∙◌, subst, arith, inl, inr, map, Some}
+use Rattle.std.specs.Prelude.{slice_get}
+use Rattle.std.proofs.lemmas.List.{append_assoc, append-nil, get_or-append-add, length-append}
+use Rattle.std.proofs.lemmas.Option.{none-some, slice_get-get_or}
+use Rattle.report_text.specs.RowBlocks.{is_behind, last_row, tag_bytes}
+use Rattle.report_text.specs.Rows.{IsShownRow, IsTopLine, row_line}
+use Rattle.report_text.specs.declared.rows.RowLine.{RowLine}
+use Rattle.report_text.specs.declared.rows.TopLine.{TopLine}
+use Rattle.part_rows.specs.declared.listed.ListedRows.{ListedRows}
+use Rattle.part_rows.specs.declared.row.FirstRows.{FirstRows}
+use Rattle.part_rows.specs.Combined.{Listing, block_of, joined_tag, line_by, line_of, listings, listings_from, listings_of, rows_of, skipped_block, standing_in, told_lines}
+use Rattle.part_rows.specs.ReadBack.{AreShownParts, AreTaken, BlocksAreReadBack, IsReadBack}
+use Rattle.part_rows.specs.Rising.{AreRisingLines}
+use Rattle.part_rows.specs.Tables.{is_excluded}
+use Rattle.part_rows.specs.Worlds.{IsIn}
+use Rattle.part_rows.proofs.Joins.{in_either}
+use Rattle.part_rows.proofs.Reports.{chosen}
+use Rattle.part_rows.proofs.Rising.{lines_rise}
+use Rattle.part_rows.proofs.Trees.{out_of_map}
+
+-- ---- lines that rise are taken
+
+last_is : (done : List RowLine) (row : RowLine) → last_row (done ++ row ∷ []) ≡ Some row
+last_is done row =
+    let all = done ++ row ∷ [] in
+    let long : length all ≡ length done + 1 = length-append done (row ∷ []) in
+    let place : length all - 1 ≡ length done + 0 = omega (arith, long) in
+    ap (slice_get all) place ∙ slice_get-get_or all (length done + 0) row (omega (arith, long))
+    ∙ ap (λ r. Some r) (get_or-append-add done (row ∷ []) 0 row)
+
+-- the first of them comes behind those before
+abbrev Follows : List RowLine → List RowLine → Type 0
+Follows done [] = Unit {0}
+Follows done (row ∷ rest) = is_behind (last_row done) row.name ≡ true
+
+follows_next : (done : List RowLine) (row : RowLine) (rest : List RowLine) → AreRisingLines (row ∷ rest) → Follows (done ++ row ∷ []) rest
+follows_next done row [] p = tt
+follows_next done row (next ∷ rest) p =
+    ap (λ last. is_behind last next.name) (last_is done row) ∙ p.0 next (inl refl)
+
+rows_taken : (limit : ℕ) (top : TopLine) (done rest : List RowLine) → ((line : RowLine) → IsIn line rest → IsShownRow line) → AreRisingLines rest →
+    Follows done rest →
+    AreTaken limit (record { top = Some top; rows = done }) (map row_line rest) (record { top = Some top; rows = done ++ rest })
+rows_taken limit top done [] shown p f = λ i. record { top = Some top; rows = sym (append-nil done) i }
+rows_taken limit top done (row ∷ rest) shown p f = (
+  record { top = Some top; rows = done ++ row ∷ [] },
+  inr (row, record { begun = λ e. none-some top (sym e); is_shown = shown row (inl refl); is_line = refl; behind = f }, refl),
+  subst (λ rows. AreTaken limit (record { top = Some top; rows = done ++ row ∷ [] }) (map row_line rest) (record { top = Some top; rows = rows }))
+      (append_assoc done (row ∷ []) rest)
+      (rows_taken limit top (done ++ row ∷ []) rest (λ line i. shown line (inr i)) p.1 (follows_next done row rest p)),
+)
+
+first_follows : (lines : List RowLine) → Follows [] lines
+first_follows [] = tt
+first_follows (row ∷ rest) = refl
+
+-- ---- the lines of the block can be shown
+
+joined_long : (tag inner : List ℕ) → 0 < length tag → 0 < length (joined_tag tag inner)
+joined_long tag [] long = long
+joined_long tag (byte ∷ inner) long = omega (arith, length-append tag (32 ∷ byte ∷ inner), long)
+
+-- the row has a line that can be shown
+record CanShow (row : Listing) : Type 0 where
+  tag : 0 < length row.tag
+  line : IsShownRow row.line
+
+can_show : (place : ℕ) (parts : List ListedRows) → AreShownParts parts → (row : Listing) → IsIn row (listings_from place parts) → CanShow row
+can_show place [] s row i = absurd i
+can_show place (part ∷ parts) s row i =
+    elim (in_either row (listings_of place part) (listings_from (place + 1) parts) i) [
+      | inl j ↦
+          let make : RowLine → Listing = λ line. record { part = place; tag = part.tag.now; line = line } in
+          let from = out_of_map make part.rows.now row j in
+          subst CanShow (sym from.same) (record { tag = s.tags part (inl refl); line = s.lines part (inl refl) from.element from.is })
+      | inr j ↦ can_show (place + 1) parts (record { tags = λ p k. s.tags p (inr k); lines = λ p k. s.lines p (inr k) }) row j
+    ]
+
+shown_line : (certain : Bool) (row : Listing) → CanShow row → IsShownRow (line_by certain row)
+shown_line certain row can =
+    record {
+      name = record { tag = joined_long row.tag (tag_bytes row.line.name.tag) can.tag; number = can.line.name.number };
+      key = can.line.key;
+    }
+
+shown_lines : (asked : FirstRows) (parts : List ListedRows) → AreShownParts parts → (line : RowLine) →
+    IsIn line (told_lines asked (listings parts)) → IsShownRow line
+shown_lines asked parts s line i =
+    let rows = rows_of (listings parts) in
+    let from = chosen (line_of asked rows) (λ row. not (is_excluded (standing_in asked rows row))) (listings parts) line i in
+    subst IsShownRow (sym from.same) (shown_line (line_of asked rows from.element).certain from.element (can_show 0 parts s from.element from.is))
+
+pub blocks_are_read_back : BlocksAreReadBack
+blocks_are_read_back asked parts s r none top =
+    let lines = told_lines asked (listings parts) in
+    let block = block_of asked (listings parts) in
+    let skipped = skipped_block asked.limit (length (listings parts)) in
+    let is_top : IsTopLine block.top = subst (λ b. IsTopLine (cond b skipped block).top) none top in
+    let read : IsReadBack asked.limit block = record {
+      taken = (
+        record { top = Some block.top; rows = [] },
+        inl (block.top, record { first = refl; is_top = is_top; asked = refl; is_line = refl }, refl),
+        rows_taken asked.limit block.top [] lines (shown_lines asked parts s) (lines_rise asked parts r) (first_follows lines),
+      );
+      whole = record { top = block.top; is_told = refl; certain = refl; possible = refl };
+    } in
+    subst (λ b. IsReadBack asked.limit (cond b skipped block)) (sym none) read

@@ -1,0 +1,40 @@
+-- The block over all parts, read back line by line as the block of a report.
+use Rattle.std.specs.Prelude.{◌≡◌, ℕ, ◌<◌, false, List, [], ◌∷◌, length, map}
+use Rattle.std.specs.declared.option.Option.TheVariants.{Some}
+use Rattle.report_text.specs.RowBlocks.{IsWhole, RowsTold, TakesRows, no_rows}
+use Rattle.report_text.specs.Rows.{IsShownRow, IsTopLine, row_line, top_line}
+use Rattle.report_text.specs.declared.rows.RowLine.{RowLine}
+use Rattle.part_rows.specs.declared.combined.CombinedRows.{CombinedRows}
+use Rattle.part_rows.specs.declared.listed.ListedRows.{ListedRows}
+use Rattle.part_rows.specs.declared.row.FirstRows.{FirstRows}
+use Rattle.part_rows.specs.Combined.{combined, is_skipped}
+use Rattle.part_rows.specs.Rising.{AreRisingParts}
+use Rattle.part_rows.specs.Worlds.{IsIn}
+
+-- the lines are taken one after the other
+abbrev pub AreTaken : ℕ → RowsTold → List (List ℕ) → RowsTold → Type 0
+AreTaken limit told [] end = told ≡ end
+AreTaken limit told (line ∷ lines) end = (next : RowsTold) × TakesRows limit told line next × AreTaken limit next lines end
+
+-- what a block tells, and its lines
+abbrev pub told_by : CombinedRows → RowsTold
+told_by block = record { top = Some block.top; rows = block.rows }
+
+abbrev pub lines_in : CombinedRows → List (List ℕ)
+lines_in block = top_line block.top ∷ map row_line block.rows
+
+-- all of it is taken, and it has as many rows as it says
+pub record IsReadBack (limit : ℕ) (block : CombinedRows) : Type 0 where
+  pub taken : AreTaken limit no_rows (lines_in block) (told_by block)
+  pub whole : IsWhole (told_by block)
+
+-- a report shows the lines of the parts, and a tag has a byte or more
+pub record AreShownParts (parts : List ListedRows) : Type 0 where
+  pub tags : (part : ListedRows) → IsIn part parts → 0 < length part.tag.now
+  pub lines : (part : ListedRows) → IsIn part parts → (line : RowLine) → IsIn line part.rows.now → IsShownRow line
+
+-- where rows are judged the block is one of a report, and so may be that of a part
+abbrev pub BlocksAreReadBack : Type 0
+BlocksAreReadBack =
+    (asked : FirstRows) (parts : List ListedRows) → AreShownParts parts → AreRisingParts parts → is_skipped parts ≡ false →
+    IsTopLine (combined asked parts).top → IsReadBack asked.limit (combined asked parts)
