@@ -170,7 +170,14 @@ def combined_average(parts, told):
     if all(part.is_exact() for part in parts):
         total = (sum(p.low[0] for p in told), sum(p.low[1] for p in told))
         return fitting(Known("never", total, total, form))
-    return hull(told)
+    return fitting(apart(hull(told)))
+
+
+def apart(known):
+    """The same: where both ends are one fraction the high one becomes twice the sum over twice the number, so that it does not look exact."""
+    if known.word == "never" and known.low == known.high:
+        known.high = 2 * known.high[0], 2 * known.high[1]
+    return known
 
 
 # ---- an average beside which the sum and the number of its values are asked
@@ -213,11 +220,9 @@ def beside(total, count, average):
         return average
     known = from_sum(total, count, average.form)
     both = within_both(known, average)
-    if both.word == "never" and both.low == both.high and not known.is_exact():
-        number, rows = both.high
-        if -(2**126) <= number < 2**126 and rows < 2**63:
-            both.high = 2 * number, 2 * rows
-    return both
+    number, rows = both.high
+    has_room = -(2**126) <= number < 2**126 and rows < 2**63
+    return apart(both) if has_room and not known.is_exact() else both
 
 
 def narrowed(query, block):

@@ -1,5 +1,5 @@
 -- An average beside which the sum and the number of its values are told.
-use Rattle.std.proofs.Common.{◌≡◌, ◌≢◌, ℕ, ◌+◌, ◌<◌, ◌≤◌, ℤ, pos, ◌^◌, ◌+ℤ◌, ◌*ℤ◌, ◌≤ℤ◌, ◌<ℤ◌, int_le, int_lt, FitsSigned, rules, Bool, true, false, cond, ◌&&◌, ◌==◌, List, [], ◌∷◌, map, length, ◌⊎◌, inl, inr, refl, arith, subst, sym, ap, ◌∙◌, Option, None, Some, IsTrue, IsFalse, if◌then◌else◌}
+use Rattle.std.proofs.Common.{◌≡◌, ◌≢◌, ℕ, ◌<◌, ◌≤◌, ℤ, pos, ◌^◌, ◌*ℤ◌, ◌≤ℤ◌, ◌<ℤ◌, int_le, int_lt, FitsSigned, rules, Bool, true, false, cond, ◌&&◌, ◌==◌, List, [], ◌∷◌, map, length, ◌⊎◌, inl, inr, refl, arith, subst, sym, ap, Option, None, Some, IsTrue, IsFalse, if◌then◌else◌}
 use Rattle.std.specs.Int.{w128}
 use Rattle.std.specs.Ordering.{int_eq}
 use Rattle.std.proofs.lemmas.Bool.{cases_Bool, cond_both, and_parts}
@@ -12,15 +12,15 @@ use Rattle.query_model.specs.declared.query.ItemKind.TheVariants.{Count, Sum}
 use Rattle.query_model.specs.Answers.{answer, average}
 use Rattle.query_model.specs.Bounds.{Admits, AdmitsAverage, AverageBound, IsNested, IsNestedAverage, Pair, average_bound_of, bound_of}
 use Rattle.query_model.proofs.Integers.{equal_when, when_equal}
-use Rattle.shard_bounds.specs.Averages.{AreDivisible, FitsAverage, IsDivisible, TellsAverage, average_by, average_from, exact_by, greater, is_exact, lesser, meet_by, meet_of_two, values_at}
+use Rattle.shard_bounds.specs.Averages.{AreDivisible, FitsAverage, IsDivisible, ReportsAverage, TellsAverage, apart, apart_by, average_by, average_from, exact_by, greater, is_exact, is_one_fraction, lesser, meet_by, meet_of_two, values_at}
 use Rattle.shard_bounds.specs.Combined.{combined}
 use Rattle.shard_bounds.specs.Laws.{AreAllPairs, Tells, flattened}
-use Rattle.shard_bounds.proofs.AverageOrders.{equal_numbers, nested-refl, nested-trans, same_fraction}
+use Rattle.shard_bounds.proofs.AverageOrders.{equal_numbers, same_fraction}
 use Rattle.shard_bounds.proofs.DividedSums.{sums_give_averages}
+use Rattle.shard_bounds.proofs.EqualEnds.{AreSame, apart_divides, apart_looks, apart_same, nested-refl, nested-trans, nested_admits, same}
 use Rattle.shard_bounds.proofs.Following.{averages_follow}
-use Rattle.shard_bounds.proofs.FractionOrder.{IsAtMost, at_most-refl, at_most-trans, spread, spread_left}
 use Rattle.shard_bounds.proofs.Meets.{meets_stand}
-use Rattle.narrow_averages.specs.Beside.{AdmitValues, BesidesStand, apart, apart_by, average_beside, beside_from, can_double, is_counted, is_one_fraction, otherwise}
+use Rattle.narrow_averages.specs.Beside.{AdmitValues, BesidesStand, apart_if_fit, average_beside, beside_from, can_double, is_counted}
 
 -- ---- denominators
 
@@ -59,48 +59,19 @@ meet_divides Never Possibly a b p q = record { lo = greater_divides b.lo a.lo q.
 meet_divides Possibly Never a b p q = record { lo = greater_divides b.lo a.lo q.lo p.lo; hi = lesser_divides a.hi b.hi p.hi q.hi }
 meet_divides Possibly Possibly a b p q = record { lo = greater_divides b.lo a.lo q.lo p.lo; hi = lesser_divides a.hi b.hi p.hi q.hi }
 
--- ---- ends that are written otherwise
+-- ---- ends that are put apart
 
-doubled : (f : Fraction) → IsAtMost f (record { num = f.num +ℤ f.num; den = f.den + f.den }) × IsAtMost (record { num = f.num +ℤ f.num; den = f.den + f.den }) f
-doubled f =
-    let s = spread f.num f.den f.den in
-    let t = spread_left f.num f.num f.den in
-    (omega (arith, ints), omega (arith, ints))
+if_fit_same : (bound : AverageBound) → AreSame bound (apart_if_fit bound)
+if_fit_same bound = cond_both (can_double bound.hi) (apart bound) bound (λ b. AreSame bound b) (λ t. apart_same bound) (λ f. same bound)
 
-as_much : (f : Fraction) → IsAtMost f (otherwise f) × IsAtMost (otherwise f) f
-as_much f = cond_both (can_double f) (record { num = f.num +ℤ f.num; den = f.den + f.den }) f (λ x. IsAtMost f x × IsAtMost x f)
-    (λ t. doubled f) (λ e. (at_most-refl f, at_most-refl f))
-
-not_always : (w : Nullity) → w ≡ Never → w ≢ Always
-not_always w e f = apart_words (sym e ∙ f)
-  where
-    apart_words : ◌≡◌ {A = Nullity} Never Always → ⊥
-    apart_words q = cc
-
--- each lies within the other
-record AreSame (a b : AverageBound) : Type 0 where
-  within : IsNestedAverage a b
-  round : IsNestedAverage b a
-
-same : (a : AverageBound) → AreSame a a
-same a = record { within = nested-refl a; round = nested-refl a }
-
-apart_same : (w : Nullity) (one : Bool) (bound : AverageBound) → bound.null ≡ w → AreSame bound (apart_by w one bound)
-apart_same Never true bound e = record {
-  within = record { null = λ n. absurd (n refl); full = λ n. not_always bound.null e; lo = λ n. at_most-refl bound.lo; hi = λ n. (as_much bound.hi).1 };
-  round = record { null = λ n. absurd (n e); full = λ n. λ z. cc; lo = λ n. at_most-refl bound.lo; hi = λ n. (as_much bound.hi).0 };
-}
-apart_same Never false bound e = same bound
-apart_same Possibly one bound e = same bound
-apart_same Always one bound e = same bound
+if_fit_divides : (bound : AverageBound) → IsDivisible bound → IsDivisible (apart_if_fit bound)
+if_fit_divides bound d = cond_both (can_double bound.hi) (apart bound) bound (λ b. IsDivisible b) (λ t. apart_divides bound d) (λ f. d)
 
 module _ (sum count : Bound) (other : AverageBound) where
   beside_same : AreSame (meet_of_two (average_from sum count) other) (beside_from (average_from sum count) other)
   beside_same =
-      cond_both (is_exact (average_from sum count)) (meet_of_two (average_from sum count) other) (apart (meet_of_two (average_from sum count) other))
-      (λ b. AreSame (meet_of_two (average_from sum count) other) b)
-      (λ t. same (meet_of_two (average_from sum count) other))
-      (λ f. apart_same (meet_of_two (average_from sum count) other).null (is_one_fraction (meet_of_two (average_from sum count) other)) (meet_of_two (average_from sum count) other) refl)
+      let meet = meet_of_two (average_from sum count) other in
+      cond_both (is_exact (average_from sum count)) meet (apart_if_fit meet) (λ b. AreSame meet b) (λ t. same meet) (λ f. if_fit_same meet)
 
   meet_divisible : IsDivisible other → IsDivisible (meet_of_two (average_from sum count) other)
   meet_divisible d = meet_divides (average_from sum count).null other.null (average_from sum count) other (from_divides sum.null sum count) d
@@ -118,13 +89,6 @@ module _ (sum count : Bound) (other : AverageBound) where
 
 -- ---- contains
 
--- what a bound contains, a bound round it contains
-wider : (outer inner : AverageBound) (x : Option (ℤ × ℕ)) → IsDivisible inner → IsNestedAverage outer inner → AdmitsAverage inner x → AdmitsAverage outer x
-wider outer inner None d p h = p.null h
-wider outer inner (Some (s, n)) d p h =
-    let v : Fraction = record { num = s; den = n } in
-    (p.full h.0, at_most-trans outer.lo inner.lo v d.lo (p.lo h.0) h.1, at_most-trans v inner.hi outer.hi d.hi h.2 (p.hi h.0))
-
 from_admits : (sum count : Bound) (other : AverageBound) (values : List ℤ) → AdmitValues sum count other values → AdmitsAverage (average_from sum count) (average values)
 from_admits sum count other values h = averages_follow.contain sum count values h.sum_admits h.count_admits
 
@@ -137,7 +101,7 @@ contains sum count other values d h = in_both sum count other (λ b. AdmitsAvera
     own : AdmitsAverage (beside_from (average_from sum count) other) (average values)
     own =
         let same_too = (beside_same sum count other).round in
-        wider (beside_from (average_from sum count) other) (meet_of_two (average_from sum count) other) (average values) (meet_divisible sum count other d) same_too (meet_admits sum count other values h)
+        nested_admits (beside_from (average_from sum count) other) (meet_of_two (average_from sum count) other) (average values) (meet_divisible sum count other d) same_too (meet_admits sum count other values h)
 
 -- ---- nested
 
@@ -196,21 +160,12 @@ nests sum count new_sum new_count other new_other values d p q r h =
 
 -- ---- denominators of the whole
 
-double_divides : (f : Fraction) → 0 < f.den → 0 < (otherwise f).den
-double_divides f h = cond_both (can_double f) (record { num = f.num +ℤ f.num; den = f.den + f.den }) f (λ x. 0 < x.den) (λ t. omega (arith, h)) (λ e. h)
-
-apart_divides : (w : Nullity) (one : Bool) (bound : AverageBound) → IsDivisible bound → IsDivisible (apart_by w one bound)
-apart_divides Never true bound d = record { lo = d.lo; hi = double_divides bound.hi d.hi }
-apart_divides Never false bound d = d
-apart_divides Possibly one bound d = d
-apart_divides Always one bound d = d
-
 pub beside_divides : (sum count : Bound) (other : AverageBound) → IsDivisible other → IsDivisible (average_beside sum count other)
 beside_divides sum count other d =
     let meet = meet_of_two (average_from sum count) other in
     let divides = meet_divisible sum count other d in
     in_both sum count other (λ b. IsDivisible b)
-    (λ t. cond_both (is_exact (average_from sum count)) meet (apart meet) (λ b. IsDivisible b) (λ t. divides) (λ f. apart_divides meet.null (is_one_fraction meet) meet divides))
+    (λ t. cond_both (is_exact (average_from sum count)) meet (apart_if_fit meet) (λ b. IsDivisible b) (λ t. divides) (λ f. if_fit_divides meet divides))
     (λ f. d)
 
 -- ---- as one table
@@ -249,7 +204,7 @@ looks_by Never lo hi (Some (s, n)) h = rw (h.1, h.2) (both (int_eq s s) (n == n)
 told : (from other : AverageBound) (x : Option (ℤ × ℕ)) → TellsAverage from x → AdmitsAverage other x → TellsAverage (beside_from from other) x
 told from other x h k =
     subst (λ (b : AverageBound). TellsAverage b x)
-    (sym (ap (λ c. cond c (meet_of_two from other) (apart (meet_of_two from other))) (looks_by from.null from.lo from.hi x h)))
+    (sym (ap (λ c. cond c (meet_of_two from other) (apart_if_fit (meet_of_two from other))) (looks_by from.null from.lo from.hi x h)))
     (meets_stand.tell from other x h k)
 
 tells : (sum count : Bound) (other : AverageBound) (values : List ℤ) → IsTrue (is_counted count) → Tells sum (answer Sum values) → Tells count (answer Count values) →
@@ -296,29 +251,17 @@ tell_by Never sum count (v ∷ vs) e h k t =
       same_fraction _ _ (omega (arith, ints, same_ends)) rows.1,
     )
 
--- ends that are apart do not look exact
-not_twice : (a b : ℕ) → 0 < b → IsTrue (a == (b + b)) → a ≡ b → ⊥
-not_twice a b some t e = let d = equal_numbers a (b + b) t in omega (arith, some, d, e)
-
-apart_by_told : (w : Nullity) (one : Bool) (bound : AverageBound) (x : Option (ℤ × ℕ)) → bound.null ≡ w → is_one_fraction bound ≡ one → IsDivisible bound →
-    IsTrue (can_double bound.hi) → AdmitsAverage bound x → IsTrue (is_exact (apart_by w one bound)) → TellsAverage (apart_by w one bound) x
-apart_by_told Never true bound x e one d fits h t =
-    let is : otherwise bound.hi ≡ record { num = bound.hi.num +ℤ bound.hi.num; den = bound.hi.den + bound.hi.den }
-    = ap (λ c. cond c (record { num = bound.hi.num +ℤ bound.hi.num; den = bound.hi.den + bound.hi.den }) bound.hi) fits in
-    let looks = subst (λ (f : Fraction). IsTrue (int_eq bound.lo.num f.num && (bound.lo.den == f.den))) is t in
-    let parts = and_parts (int_eq bound.lo.num (bound.hi.num +ℤ bound.hi.num)) (bound.lo.den == (bound.hi.den + bound.hi.den)) looks in
-    let same_parts = and_parts (int_eq bound.lo.num bound.hi.num) (bound.lo.den == bound.hi.den) one in
-    absurd (not_twice bound.lo.den bound.hi.den d.hi parts.1 (equal_numbers bound.lo.den bound.hi.den same_parts.1))
-apart_by_told Never false bound x e one d fits h t = absurd (no_one (is_one_fraction bound) one (subst (λ (w : Nullity). IsTrue (exact_by w (is_one_fraction bound))) e t))
+-- ends that are put apart do not look exact
+told_without : (bound : AverageBound) (x : Option (ℤ × ℕ)) → IsDivisible bound → IsTrue (can_double bound.hi) → AdmitsAverage bound x →
+    IsTrue (is_exact (apart_if_fit bound)) → TellsAverage (apart_if_fit bound) x
+told_without bound x d fits h t =
+    let is : apart_if_fit bound ≡ apart bound = ap (λ c. cond c (apart bound) bound) fits in
+    let none = apart_looks bound d (subst (λ (b : AverageBound). IsTrue (is_exact b)) is t) in
+    subst (λ (b : AverageBound). TellsAverage b x) (sym is) (no_average x h none)
   where
-    no_one : (b : Bool) → b ≡ false → IsTrue b → ⊥
-    no_one b f s = cc
-apart_by_told Possibly one bound x e is d fits h t = absurd (no (subst (λ (w : Nullity). IsTrue (exact_by w (is_one_fraction bound))) e t))
-  where
-    no : IsTrue false → ⊥
-    no s = cc
-apart_by_told Always one bound None e is d fits h t = e
-apart_by_told Always one bound (Some (s, n)) e is d fits h t = absurd (h.0 e)
+    no_average : (x : Option (ℤ × ℕ)) → AdmitsAverage bound x → bound.null ≡ Always → TellsAverage (apart bound) x
+    no_average None h e = subst (λ (w : Nullity). (apart_by w (is_one_fraction bound) bound).null ≡ Always) (sym e) e
+    no_average (Some (s, n)) h e = absurd (h.0 e)
 
 from_looks : (sum count : Bound) (other : AverageBound) (values : List ℤ) → IsDivisible other → AdmitValues sum count other values →
     IsTrue (can_double (meet_of_two (average_from sum count) other).hi) →
@@ -328,11 +271,10 @@ from_looks sum count other values d h fits t = either (cases_Bool (is_exact (ave
     either : IsTrue (is_exact (average_from sum count)) ⊎ IsFalse (is_exact (average_from sum count)) → TellsAverage (beside_from (average_from sum count) other) (average values)
     either (inl e) = told (average_from sum count) other (average values) (tell_by sum.null sum count values refl h.sum_admits h.count_admits e) h.other_admits
     either (inr f) =
-        let is : beside_from (average_from sum count) other ≡ apart (meet_of_two (average_from sum count) other)
-        = ap (λ c. cond c (meet_of_two (average_from sum count) other) (apart (meet_of_two (average_from sum count) other))) f in
+        let meet = meet_of_two (average_from sum count) other in
+        let is : beside_from (average_from sum count) other ≡ apart_if_fit meet = ap (λ c. cond c meet (apart_if_fit meet)) f in
         subst (λ (b : AverageBound). TellsAverage b (average values)) (sym is)
-        (apart_by_told (meet_of_two (average_from sum count) other).null (is_one_fraction (meet_of_two (average_from sum count) other)) (meet_of_two (average_from sum count) other)
-        (average values) refl refl (meet_divisible sum count other d) fits (meet_admits sum count other values h) (subst (λ (b : AverageBound). IsTrue (is_exact b)) is t))
+        (told_without meet (average values) (meet_divisible sum count other d) fits (meet_admits sum count other values h) (subst (λ (b : AverageBound). IsTrue (is_exact b)) is t))
 
 looks : (sum count : Bound) (other : AverageBound) (values : List ℤ) → IsDivisible other → AdmitValues sum count other values → IsTrue (is_counted count) →
     IsTrue (can_double (meet_of_two (average_from sum count) other).hi) →
@@ -342,8 +284,23 @@ looks sum count other values d h some fits t =
     subst (λ (b : AverageBound). TellsAverage b (average values)) (sym is)
     (from_looks sum count other values d h fits (subst (λ (b : AverageBound). IsTrue (is_exact b)) is t))
 
+reports : (sum count : Bound) (other : AverageBound) (values : List ℤ) → IsDivisible other → AdmitValues sum count other values →
+    ReportsAverage other (average values) → IsTrue (can_double (meet_of_two (average_from sum count) other).hi) →
+    ReportsAverage (average_beside sum count other) (average values)
+reports sum count other values d h own fits = record {
+  admits = contains sum count other values d h;
+  tells = either (cases_Bool (is_counted count));
+}
+  where
+    either : IsTrue (is_counted count) ⊎ IsFalse (is_counted count) → IsTrue (is_exact (average_beside sum count other)) →
+        TellsAverage (average_beside sum count other) (average values)
+    either (inl some) t = looks sum count other values d h some fits t
+    either (inr f) t =
+        let is = not_counted sum count other f in
+        subst (λ (b : AverageBound). TellsAverage b (average values)) (sym is) (own.tells (subst (λ (b : AverageBound). IsTrue (is_exact b)) is t))
+
 pub besides_stand : BesidesStand
-besides_stand = record { contain = contains; nest = nests; narrow = narrow; as_one = as_one; tell = tells; look = looks }
+besides_stand = record { contain = contains; nest = nests; narrow = narrow; as_one = as_one; tell = tells; report = reports }
 
 -- ---- in the code
 

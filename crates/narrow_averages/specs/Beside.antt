@@ -1,49 +1,31 @@
 -- The bound of an average beside which the sum and the number of its values are told.
-use Rattle.std.specs.Prelude.{ℕ, ℤ, pos, ◌+◌, ◌^◌, ◌+ℤ◌, neg_ℤ, int_le, int_lt, nat_lt, Bool, true, false, ◌&&◌, ◌==◌}
+use Rattle.std.specs.Prelude.{ℕ, ℤ, pos, ◌^◌, neg_ℤ, int_le, int_lt, nat_lt, Bool, ◌&&◌}
 use Rattle.std.specs.Prelude.{List, [], ◌∷◌, map, IsTrue, if◌then◌else◌}
 use Rattle.std.specs.declared.option.Option.{Option}
-use Rattle.std.specs.Ordering.{int_eq}
 use Rattle.interval_calc.specs.Intervals.{Fraction}
 use Rattle.query_model.specs.declared.bounds.Bound.{Bound}
-use Rattle.query_model.specs.declared.bounds.Nullity.{Nullity}
-use Rattle.query_model.specs.declared.bounds.Nullity.TheVariants.{Never, Possibly, Always}
 use Rattle.query_model.specs.declared.query.ItemKind.TheVariants.{Count, Sum}
 use Rattle.query_model.specs.Answers.{answer, average}
 use Rattle.query_model.specs.Bounds.{Admits, AdmitsAverage, AverageBound, IsNested, IsNestedAverage, Pair, average_bound_of, bound_of}
-use Rattle.shard_bounds.specs.Averages.{AreDivisible, IsDivisible, TellsAverage, average_from, is_exact, meet_of_two}
+use Rattle.shard_bounds.specs.Averages.{AreDivisible, IsDivisible, ReportsAverage, TellsAverage, apart, average_from, is_exact, meet_of_two}
 use Rattle.shard_bounds.specs.Combined.{combined}
 use Rattle.shard_bounds.specs.Laws.{AreAllPairs, Tells, flattened}
 
--- ---- ends that are one fraction
-
--- both ends are the same sum over the same number of values
-abbrev pub is_one_fraction : AverageBound → Bool
-is_one_fraction bound = int_eq bound.lo.num bound.hi.num && (bound.lo.den == bound.hi.den)
+-- ---- ends that are put apart where they can be
 
 -- twice its sum is a number of 128 bits, and twice its number of values one of 64
 abbrev pub can_double : Fraction → Bool
 can_double fraction = int_le (neg_ℤ (pos (2 ^ 126))) fraction.num && (int_lt fraction.num (pos (2 ^ 126)) && nat_lt fraction.den (2 ^ 63))
 
--- the same number, written as twice the sum over twice the number of values, where these fit
-abbrev pub otherwise : Fraction → Fraction
-otherwise fraction =
-    if can_double fraction then record { num = fraction.num +ℤ fraction.num; den = fraction.den + fraction.den } else fraction
-
-abbrev pub apart_by : Nullity → Bool → AverageBound → AverageBound
-apart_by Never true bound = record { null = Never; lo = bound.lo; hi = otherwise bound.hi }
-apart_by Never false bound = bound
-apart_by Possibly one bound = bound
-apart_by Always one bound = bound
-
--- the same bound, but its ends are not one fraction, as are a sum and a number of values that are told
-abbrev pub apart : AverageBound → AverageBound
-apart bound = apart_by bound.null (is_one_fraction bound) bound
+-- apart, where the high end written otherwise fits
+abbrev pub apart_if_fit : AverageBound → AverageBound
+apart_if_fit bound = if can_double bound.hi then apart bound else bound
 
 -- ---- the average beside its sum and its number of values
 
 -- what lies in the bound from the sum and the number and in another one; it looks exact only where they tell both
 abbrev pub beside_from : AverageBound → AverageBound → AverageBound
-beside_from from other = if is_exact from then meet_of_two from other else apart (meet_of_two from other)
+beside_from from other = if is_exact from then meet_of_two from other else apart_if_fit (meet_of_two from other)
 
 -- numbers of values have 64 bits
 abbrev pub is_counted : Bound → Bool
@@ -83,7 +65,7 @@ pub record BesidesStand : Type 0 where
   pub tell : (sum count : Bound) (other : AverageBound) (values : List ℤ) → IsTrue (is_counted count) → Tells sum (answer Sum values) →
       Tells count (answer Count values) → AdmitsAverage other (average values) →
       TellsAverage (average_beside sum count other) (average values)
-  -- where it looks exact, it says the sum and the number of the values
-  pub look : (sum count : Bound) (other : AverageBound) (values : List ℤ) → IsDivisible other → AdmitValues sum count other values →
-      IsTrue (is_counted count) → IsTrue (can_double (meet_of_two (average_from sum count) other).hi) →
-      IsTrue (is_exact (average_beside sum count other)) → TellsAverage (average_beside sum count other) (average values)
+  -- where the other bound is a report of the average, so is this one: it looks exact only where it says the sum and the number of the values
+  pub report : (sum count : Bound) (other : AverageBound) (values : List ℤ) → IsDivisible other → AdmitValues sum count other values →
+      ReportsAverage other (average values) → IsTrue (can_double (meet_of_two (average_from sum count) other).hi) →
+      ReportsAverage (average_beside sum count other) (average values)

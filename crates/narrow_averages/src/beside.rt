@@ -2,30 +2,12 @@
 
 ghost use Rattle.std.specs.Prelude.{◌≡◌};
 ghost use Rattle.query_model.specs.Bounds.{fractions_of};
-ghost use Rattle.shard_bounds.specs.Averages.{fraction_of, is_exact};
-ghost use Rattle.narrow_averages.specs.Beside.{apart, average_beside, beside_from, can_double, is_counted, is_one_fraction, otherwise};
+ghost use Rattle.shard_bounds.specs.Averages.{fraction_of};
+ghost use Rattle.narrow_averages.specs.Beside.{apart_if_fit, average_beside, beside_from, can_double, is_counted};
 
 use interval_calc::Fraction;
-use query_model::{AverageBound, Bound, Nullity};
-use shard_bounds::{average_from, meet_of_two};
-
-// Whether both ends are the same sum over the same number of values.
-fn is_one_fraction(bound: &AverageBound) -> bool
-    ensures { result ≡ is_one_fraction (fractions_of bound.now) }
-{
-    bound.lo.num == bound.hi.num && bound.lo.den == bound.hi.den
-}
-
-// Whether a bound says the sum and the number of the values, or that there are none.
-fn is_exact(bound: &AverageBound) -> bool
-    ensures { result ≡ is_exact (fractions_of bound.now) }
-{
-    match bound.null {
-        Nullity::Never => is_one_fraction(bound),
-        Nullity::Possibly => false,
-        Nullity::Always => true,
-    }
-}
+use query_model::{AverageBound, Bound};
+use shard_bounds::{apart, average_from, is_exact, meet_of_two};
 
 const LARGEST: i128 = 1 << 126;
 
@@ -36,37 +18,14 @@ fn can_double(fraction: Fraction) -> bool
     -LARGEST <= fraction.num && fraction.num < LARGEST && fraction.den < 1 << 63
 }
 
-// The same number, as twice the sum over twice the number of values, where these fit.
-fn otherwise(fraction: Fraction) -> Fraction
-    ensures { fraction_of result ≡ otherwise (fraction_of fraction) }
+// The same bound, but it does not look exact where there is an average for certain, if the high end can be written otherwise.
+fn apart_if_fit(bound: AverageBound) -> AverageBound
+    ensures { fractions_of result ≡ apart_if_fit (fractions_of bound) }
 {
-    if can_double(fraction) {
-        Fraction {
-            num: fraction.num + fraction.num,
-            den: fraction.den + fraction.den,
-        }
+    if can_double(bound.hi) {
+        apart(bound).unwrap_or(bound)
     } else {
-        fraction
-    }
-}
-
-// The same bound, but its ends are not one fraction, where there is an average for certain.
-fn apart(bound: &AverageBound) -> AverageBound
-    ensures { fractions_of result ≡ apart (fractions_of bound.now) }
-{
-    match bound.null {
-        Nullity::Never => {
-            if is_one_fraction(bound) {
-                AverageBound {
-                    null: Nullity::Never,
-                    lo: bound.lo,
-                    hi: otherwise(bound.hi),
-                }
-            } else {
-                *bound
-            }
-        }
-        Nullity::Possibly | Nullity::Always => *bound,
+        bound
     }
 }
 
@@ -75,7 +34,11 @@ fn beside_from(from: &AverageBound, other: &AverageBound) -> AverageBound
     ensures { fractions_of result ≡ beside_from (fractions_of from.now) (fractions_of other.now) }
 {
     let meet = meet_of_two(from, other);
-    if is_exact(from) { meet } else { apart(&meet) }
+    if is_exact(from) {
+        meet
+    } else {
+        apart_if_fit(meet)
+    }
 }
 
 const MOST_VALUES: i128 = 1 << 64;

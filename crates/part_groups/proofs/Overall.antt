@@ -1,18 +1,17 @@
 -- What is found of what the parts tell is a combined report, where they write each column and each item in one form.
-use Rattle.std.proofs.Common.{◌≡◌, ◌≢◌, ◌∙◌, ◌⊎◌, ◌==◌, ℕ, zero, suc, ◌+◌, ◌<◌, Bool, true, false, List, [], ◌∷◌, length, map, refl, arith, sym, ap, subst, inl, inr, Option, Some, None, if◌then◌else◌}
-use Rattle.std.proofs.lemmas.Bool.{eqb-false, false≢true}
-use Rattle.std.specs.List.{list_all, range_with_len}
+use Rattle.std.proofs.Common.{◌≡◌, ◌∙◌, ◌⊎◌, ℕ, zero, suc, ◌+◌, ◌<◌, Bool, true, false, List, [], ◌∷◌, length, map, refl, arith, sym, ap, subst, inl, inr, Option, Some, None, if◌then◌else◌}
+use Rattle.std.proofs.lemmas.Bool.{false≢true}
+use Rattle.std.specs.List.{range_with_len}
 use Rattle.std.proofs.lemmas.List.FromFn.{length-map-range_with_len}
-use Rattle.interval_calc.specs.Intervals.{Fraction}
 use Rattle.query_model.specs.Bounds.{AverageBound}
 use Rattle.query_model.specs.declared.bounds.AverageBound as bounds
-use Rattle.query_model.specs.declared.bounds.Nullity.TheVariants.{Never}
 use Rattle.query_model.specs.declared.query.ItemKind.{ItemKind}
 use Rattle.query_model.specs.declared.query.ItemKind.TheVariants.{Count, Sum, Min, Max, Avg}
 use Rattle.report_text.specs.declared.answers.Answer.{Answer}
 use Rattle.report_text.specs.declared.answers.Answer.TheVariants as report
+use Rattle.shard_bounds.proofs.EqualEnds.{combined_divides}
 use Rattle.shard_bounds.proofs.Hulls.{hulls_divide}
-use Rattle.shard_bounds.specs.Averages.{AreDivisible, IsDivisible, added_up, exactly, hull_of_averages, is_exact, no_average, sums_of}
+use Rattle.shard_bounds.specs.Averages.{AreDivisible, IsDivisible}
 use Rattle.shard_groups.specs.Found.{LinesAreFound, line_over, lines_over}
 use Rattle.shard_groups.specs.Groups.{AreLinesOver, IsCombined, Said, all_keys, average_at, average_over, average_share, average_share_by, bound_over, cells_within, is_present, keys_in, loosened, only, said_from, said_of, said_over, uncertain_average}
 use Rattle.shard_groups.specs.Keys.{is_within}
@@ -64,21 +63,9 @@ shares_divide item line [] = tt
 shares_divide item line (shard ∷ shards) =
     (share_divides item line (cells_within line shard) (are_divisible item (cells_within line shard)), shares_divide item line shards)
 
-exactly_by : (none : Bool) (sum : Fraction) → (sum.den == 0) ≡ none → IsDivisible (if none then no_average else record { null = Never; lo = sum; hi = sum })
-exactly_by true sum e = record { lo = omega arith; hi = omega arith }
-exactly_by false sum e = let some : sum.den ≢ 0 = eqb-false sum.den 0 e in record { lo = omega (arith, some); hi = omega (arith, some) }
-
-exactly_divides : (sum : Fraction) → IsDivisible (exactly sum)
-exactly_divides sum = exactly_by (sum.den == 0) sum refl
-
-combined_by : (exact : Bool) (averages : List AverageBound) → AreDivisible averages →
-    IsDivisible (if exact then exactly (added_up (sums_of averages)) else hull_of_averages averages)
-combined_by true averages d = exactly_divides (added_up (sums_of averages))
-combined_by false averages d = hulls_divide averages d
-
 over_divides : (item : ℕ) (line : List Span) (shards : List (List Cell)) → IsDivisible (average_over item line shards)
 over_divides item line shards =
-    let averages = map (average_share item line) shards in combined_by (list_all is_exact averages) averages (shares_divide item line shards)
+    combined_divides (map (average_share item line) shards) (shares_divide item line shards)
 
 -- ---- the cell of a line
 

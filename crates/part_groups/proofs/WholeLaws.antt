@@ -1,20 +1,20 @@
 -- The laws of the lines over all parts, of the groups that show them.
 use Rattle.std.proofs.Common.{◌≡◌, ◌∙◌, ℕ, Bool, List, ◌∷◌, [], map, sym, ap, subst, inl, inr, length, suc, ◌+◌, refl, Option}
-use Rattle.query_model.specs.Bounds.{Admits, AdmitsAverage, AverageBound, IsNested, IsNestedAverage}
+use Rattle.query_model.specs.Bounds.{Admits, AverageBound, IsNested, IsNestedAverage}
 use Rattle.query_model.specs.declared.bounds.Bound.{Bound}
 use Rattle.query_model.specs.declared.query.ItemKind.{ItemKind}
 use Rattle.shard_bounds.specs.Combined as answers
 use Rattle.shard_bounds.specs.Combined.{answer_over}
 use Rattle.shard_bounds.specs.Laws.{Tells}
 use Rattle.shard_groups.proofs.Spans.{holds_more}
-use Rattle.shard_bounds.specs.Averages.{TellsAverage}
+use Rattle.shard_bounds.specs.Averages.{ReportsAverage, TellsAverage}
 use Rattle.shard_groups.specs.declared.cells.Cell.{Cell}
 use Rattle.shard_groups.specs.Groups.{AreLinesOver, Said, all_keys, average_over, bound_over, is_present, keys_in, said_from, said_of}
 use Rattle.shard_groups.specs.Keys.{Key, holds}
-use Rattle.shard_groups.specs.Laws.{AreLater, AreLaterAverages, IsCellOf, LinesContain, LinesContainAverages, LinesNest, LinesNestAverages, LinesTell, LinesTellAverages, LinesTellKeys}
+use Rattle.shard_groups.specs.Laws.{AreLater, AreLaterAverages, IsCellOf, LinesContain, LinesReportAverages, LinesNest, LinesNestAverages, LinesTell, LinesTellAverages, LinesTellKeys}
 use Rattle.part_groups.specs.Cells.{told}
 use Rattle.part_groups.specs.Combined.{IsCombinedReport}
-use Rattle.part_groups.specs.Laws.{AreAllOf, GroupsContain, GroupsContainAverages, GroupsHaveColumns, GroupsNest, GroupsNestAverages, GroupsTell, GroupsTellAverages, GroupsTellKeys, IsGroupOf, average_in, bound_in, keys_by}
+use Rattle.part_groups.specs.Laws.{AreAllOf, GroupsContain, GroupsReportAverages, GroupsHaveColumns, GroupsNest, GroupsNestAverages, GroupsTell, GroupsTellAverages, GroupsTellKeys, IsGroupOf, average_in, bound_in, keys_by}
 use Rattle.part_groups.specs.Shown.{group_in, shown_from}
 use Rattle.shard_groups.specs.declared.keys.Span.{Span}
 use Rattle.part_groups.specs.declared.forms.EndsForm.{EndsForm}
@@ -169,16 +169,16 @@ groups_nest_averages law count kinds before parts olds groups item key old group
           (subst (λ (b : AverageBound). IsNestedAverage (average_over item first.line.keys cells) b) (sym same) nested.average);
     }
 
-pub groups_contain_averages : LinesContainAverages → GroupsContainAverages
-groups_contain_averages law count kinds parts groups item key tables group are report at sure is has =
+pub groups_report_averages : LinesReportAverages → GroupsReportAverages
+groups_report_averages law count kinds parts groups item key tables group are report at sure is has =
     let there = of_line count kinds parts groups are report group is in
     let cells = report.are_lines.cells in
     let combined = report.are_lines.combined in
-    let admits = law item key cells tables (keys_in report.lines) there.line.keys combined.lines (one_of report.lines there.line there.is)
+    let reports = law item key cells tables (keys_in report.lines) there.line.keys combined.lines (one_of report.lines there.line there.is)
     (sym (there.keys key) ∙ has) (averages_certain item key cells parts tables report.are_lines.tell sure) in
     let same = ap (average_in item) there.shown
     ∙ shown_average report.columns report.items kinds cells report.lines there.line item there.is combined.each at in
-    subst (λ (b : AverageBound). AdmitsAverage b (answers.average_over tables)) (sym same) admits
+    subst (λ (b : AverageBound). ReportsAverage b (answers.average_over tables)) (sym same) reports
 
 shown_length : (column : ℕ) (forms : List (Option EndsForm)) (spans : List Span) → length (shown_from column forms spans) ≡ length forms
 shown_length column [] spans = refl

@@ -8,7 +8,7 @@ use Rattle.query_model.specs.declared.bounds.Bound.{Bound}
 use Rattle.query_model.specs.declared.query.ItemKind.{ItemKind}
 use Rattle.query_model.specs.declared.query.ItemKind.TheVariants.{Sum, Avg}
 use Rattle.query_model.specs.Answers.{answer, average}
-use Rattle.query_model.specs.Bounds.{Admits, AdmitsAverage, AverageBound, IsNested, IsNestedAverage}
+use Rattle.query_model.specs.Bounds.{Admits, AverageBound, IsNested, IsNestedAverage}
 use Rattle.report_text.specs.Groups.{IsShownGroup}
 use Rattle.shard_bounds.specs.Averages.{ReportsAverage, TellsAverage, no_average}
 use Rattle.shard_bounds.specs.Combined as answers
@@ -202,14 +202,14 @@ AreAveragesCertainIn item key (groups ∷ parts) [] = ⊥
 AreAveragesCertainIn item key (groups ∷ parts) (values ∷ tables) =
     IsAverageCertainIn item key groups values × AreAveragesCertainIn item key parts tables
 
--- a group of the combined report that has the key contains its average over the rows of all parts
-abbrev pub GroupsContainAverages : Type 0
-GroupsContainAverages =
+-- a group of the combined report that has the key is again such a report of its average over the rows of all parts
+abbrev pub GroupsReportAverages : Type 0
+GroupsReportAverages =
     (count : ℕ) (kinds : List ItemKind) (parts : List (List Group)) (groups : List Group) (item : ℕ) (key : Key) (tables : List (List ℤ))
     (group : Group) →
     AreAllOf count parts → IsCombinedReport count kinds parts groups → slice_get kinds item ≡ Some Avg →
     AreAveragesCertainIn item key parts tables → IsGroupOf group groups → IsTrue (holds (keys_by group) key) →
-    AdmitsAverage (average_in item group) (answers.average_over tables)
+    ReportsAverage (average_in item group) (answers.average_over tables)
 
 -- each group that has the key says the sum and the number of these values
 abbrev pub AreAveragesToldIn : ℕ → Key → List Group → List ℤ → Type 0

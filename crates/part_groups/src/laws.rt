@@ -1,13 +1,13 @@
 //! The laws of reports by groups over all parts.
 
-ghost use Rattle.part_groups.specs.Laws.{GroupsContain, GroupsContainAverages, GroupsHaveColumns};
+ghost use Rattle.part_groups.specs.Laws.{GroupsContain, GroupsReportAverages, GroupsHaveColumns};
 ghost use Rattle.part_groups.specs.Laws.{GroupsNest, GroupsNestAverages};
 ghost use Rattle.part_groups.specs.Laws.{GroupsTell, GroupsTellAverages, GroupsTellKeys};
 ghost use Rattle.part_groups.specs.Whole.{CombinedIsWhole, WholeIsCombined};
 
 use shard_groups::{
-    combined_is_found, lines_are_found, lines_contain, lines_contain_averages, lines_nest,
-    lines_nest_averages, lines_tell, lines_tell_averages, lines_tell_keys,
+    combined_is_found, lines_are_found, lines_contain, lines_nest, lines_nest_averages,
+    lines_report_averages, lines_tell, lines_tell_averages, lines_tell_keys,
 };
 
 /// Where the parts' reports are certain of a key, a group that has it contains its answer over the rows of all parts.
@@ -52,11 +52,11 @@ pub fn whole_is_combined()
     lines_are_found();
 }
 
-/// Where the parts' reports are certain of the average at a key, a group that has the key contains it over the rows of all parts.
-pub fn groups_contain_averages()
-    ensures { GroupsContainAverages }
+/// Where the parts' reports are certain of the average at a key, so is a group that has the key, over the rows of all parts.
+pub fn groups_report_averages()
+    ensures { GroupsReportAverages }
 {
-    lines_contain_averages();
+    lines_report_averages();
 }
 
 /// With later reports of the parts, the group of a key and its average lie within those before.

@@ -18,6 +18,6 @@ pub use forms::EndsForm;
 pub use group::{Group, Groups};
 pub use keyed::has_key;
 pub use laws::{
-    combined_is_whole, groups_contain, groups_contain_averages, groups_have_columns, groups_nest,
-    groups_nest_averages, groups_tell, groups_tell_averages, groups_tell_keys, whole_is_combined,
+    combined_is_whole, groups_contain, groups_have_columns, groups_nest, groups_nest_averages,
+    groups_report_averages, groups_tell, groups_tell_averages, groups_tell_keys, whole_is_combined,
 };

@@ -1,26 +1,23 @@
 -- That what a combined report says of an average is certain, where the sum and the number of its values stand beside it.
-use Rattle.std.proofs.Common.{◌≡◌, ◌≢◌, ℕ, zero, suc, ◌+◌, ◌<◌, max, ℤ, true, IsTrue, IsFalse, cond, ◌==◌, ◌⊎◌, inl, inr, List, [], ◌∷◌, map, slice_get, Bool, false, Option, Some, refl, sym, ap, subst, ◌∙◌, arith}
-use Rattle.std.proofs.lemmas.Bool.{cases_Bool, cond_both}
+use Rattle.std.proofs.Common.{◌≡◌, ◌≢◌, ℕ, zero, suc, ◌+◌, ◌<◌, max, ℤ, true, IsTrue, List, [], ◌∷◌, map, slice_get, Bool, false, Option, Some, refl, sym, ap, subst, ◌∙◌, arith}
 use Rattle.std.proofs.lemmas.Option.{none-some}
-use Rattle.std.specs.List.{list_all}
 use Rattle.interval_calc.specs.Intervals.{Fraction}
-use Rattle.narrow_averages.specs.Beside.{AdmitValues, BesidesStand, average_beside, is_counted}
+use Rattle.narrow_averages.specs.Beside.{AdmitValues, BesidesStand, average_beside, can_double, is_counted}
 use Rattle.narrow_averages.proofs.Besides.{beside_divides}
 use Rattle.query_kinds.specs.declared.beside.Beside.{Beside}
 use Rattle.query_model.specs.Bounds.{Admits, AdmitsAverage, AverageBound, IsNested, IsNestedAverage}
 use Rattle.query_model.specs.declared.bounds.Bound.{Bound}
-use Rattle.query_model.specs.declared.bounds.Nullity.TheVariants.{Never}
 use Rattle.query_model.specs.declared.query.ItemKind.{ItemKind}
 use Rattle.query_model.specs.declared.query.ItemKind.TheVariants.{Count, Sum, Avg}
 use Rattle.report_text.specs.declared.answers.Answer.{Answer}
 use Rattle.report_text.specs.declared.answers.Answer.TheVariants.{Average}
 use Rattle.report_text.specs.declared.averages.ShownAverage.{ShownAverage}
-use Rattle.shard_bounds.specs.Averages.{AreDivisible, IsDivisible, TellsAverage, added_up, combined_average, exactly, hull_of_averages, is_exact, no_average, sums_of}
+use Rattle.shard_bounds.specs.Averages.{IsDivisible, ReportsAverage, TellsAverage, average_from, combined_average, meet_of_two}
 use Rattle.shard_bounds.specs.Combined as shards
 use Rattle.shard_bounds.specs.Combined.{together}
 use Rattle.shard_bounds.specs.Laws.{AveragesNest, CombinationsContain, CombinationsNest, CombinationsReportAverages, CombinationsTell, Tells}
 use Rattle.shard_bounds.proofs.AverageOrders.{same_average, same_fraction}
-use Rattle.shard_bounds.proofs.Hulls.{hulls_divide}
+use Rattle.shard_bounds.proofs.EqualEnds.{combined_divides}
 use Rattle.report_parts.proofs.Certain.{all_divisible, averages, divisible}
 use Rattle.report_parts.proofs.Headlines.{certain_by, next_reports, printed_first, printed_item, reported, said_in}
 use Rattle.report_parts.specs.Beside.{answer_beside, narrowed}
@@ -43,21 +40,6 @@ back decimals f h = same_fraction (fraction_of (ratio_of decimals f)) f refl (on
 shown_back : (decimals : ℕ) (bound : AverageBound) → IsDivisible bound → average_of (Average (shown_average decimals bound)) ≡ bound
 shown_back decimals bound d =
     same_average (average_of (Average (shown_average decimals bound))) bound refl (back decimals bound.lo d.lo) (back decimals bound.hi d.hi)
-
--- no denominator is 0 over all parts either
-exactly_divides : (sum : Fraction) → IsDivisible (exactly sum)
-exactly_divides sum = cond_either (cases_Bool (sum.den == 0))
-  where
-    cond_either : IsTrue (sum.den == 0) ⊎ IsFalse (sum.den == 0) → IsDivisible (exactly sum)
-    cond_either (inl t) = subst (λ (b : Bool). IsDivisible (cond b no_average (record { null = Never; lo = sum; hi = sum }))) (sym t) (record { lo = omega arith; hi = omega arith })
-    cond_either (inr f) =
-        let some : 0 < sum.den = grind arith in
-        subst (λ (b : Bool). IsDivisible (cond b no_average (record { null = Never; lo = sum; hi = sum }))) (sym f) (record { lo = some; hi = some })
-
-combined_divides : (bounds : List AverageBound) → AreDivisible bounds → IsDivisible (combined_average bounds)
-combined_divides bounds d =
-    cond_both (list_all is_exact bounds) (exactly (added_up (sums_of bounds))) (hull_of_averages bounds) (λ b. IsDivisible b)
-    (λ t. exactly_divides (added_up (sums_of bounds))) (λ f. hulls_divide bounds d)
 
 -- ---- what is said of the three items
 
@@ -123,6 +105,11 @@ module _ (stand : BesidesStand) (tables : List (List ℤ)) (sum count new_sum ne
   said_contains : AdmitsAverage said (shards.average_over tables)
   said_contains = subst (λ (b : AverageBound). AdmitsAverage b (shards.average_over tables)) (sym is) (stand.contain sum count other (together tables) d h)
 
+  said_reports : ReportsAverage other (shards.average_over tables) → IsTrue (can_double (meet_of_two (average_from sum count) other).hi) →
+      ReportsAverage said (shards.average_over tables)
+  said_reports own fits =
+      subst (λ (b : AverageBound). ReportsAverage b (shards.average_over tables)) (sym is) (stand.report sum count other (together tables) d h own fits)
+
   said_nests : IsNested sum new_sum → IsNested count new_count → IsNestedAverage other new_other → IsNestedAverage said new
   said_nests p q r =
       subst (λ (b : AverageBound). IsNestedAverage b new) (sym is)
@@ -159,10 +146,10 @@ module _ (contains : CombinationsContain) (nests : CombinationsNest) (tells : Co
 plain_divides : (round item : ℕ) (parts : List Told) → IsDivisible (average_in round item parts)
 plain_divides round item parts = combined_divides (map average_of (answers_in round item parts)) (all_divisible (answers_in round item parts))
 
-plain_admits : CombinationsReportAverages → (round item : ℕ) (parts : List Told) (tables : List (List ℤ)) → AreCertainAverages item parts tables →
-    AdmitsAverage (average_of (answer_over Avg (answers_in round item parts))) (shards.average_over tables)
-plain_admits reports round item parts tables own =
-    subst (λ (b : AverageBound). AdmitsAverage b (shards.average_over tables)) (sym (plain_is round item parts (plain_divides round item parts)))
+plain_reports : CombinationsReportAverages → (round item : ℕ) (parts : List Told) (tables : List (List ℤ)) → AreCertainAverages item parts tables →
+    ReportsAverage (average_of (answer_over Avg (answers_in round item parts))) (shards.average_over tables)
+plain_reports reports round item parts tables own =
+    subst (λ (b : AverageBound). ReportsAverage b (shards.average_over tables)) (sym (plain_is round item parts (plain_divides round item parts)))
     (averages reports (answers_in round item parts) tables (reported round item parts tables own))
 
 plain_nests : AveragesNest → (round item : ℕ) (parts : List Told) → DoAveragesNest item parts →
@@ -181,8 +168,8 @@ besides_certain contains nests tells reports narrow stand item beside shape part
     let b' = counts contains nests tells item beside parts tables shape.kinds h (round + 1) in
     let is = said_is round item beside shape.kinds parts h.sum_there h.count_there (h.alike round) in
     let is' = said_is (round + 1) item beside shape.kinds parts h.sum_there h.count_there (h.alike (round + 1)) in
-    let x = plain_admits reports round item parts tables own in
-    let x' = plain_admits reports (round + 1) item parts tables own in
+    let x = plain_reports reports round item parts tables own in
+    let x' = plain_reports reports (round + 1) item parts tables own in
     let sum = bound_of (answer_over Sum (answers_in round beside.sum parts)) in
     let count = bound_of (answer_over Count (answers_in round beside.count parts)) in
     let sum' = bound_of (answer_over Sum (answers_in (round + 1) beside.sum parts)) in
@@ -193,14 +180,15 @@ besides_certain contains nests tells reports narrow stand item beside shape part
     let said' = average_of (said_in (Some beside) (round + 1) item Avg shape.kinds parts).answer in
     let d = divisible (answer_over Avg (answers_in round item parts)) in
     let d' = divisible (answer_over Avg (answers_in (round + 1) item parts)) in
-    let k = admit_values sum count other tables a.contains b.contains x in
-    let k' = admit_values sum' count' other' tables a'.contains b'.contains x' in
+    let k = admit_values sum count other tables a.contains b.contains x.admits in
+    let k' = admit_values sum' count' other' tables a'.contains b'.contains x'.admits in
     record {
       entry = said_in (Some beside) round item Avg shape.kinds parts;
       next = said_in (Some beside) (round + 1) item Avg shape.kinds parts;
       printed = printed_item round item shape Avg parts there ∙ ap (λ (o : Option Beside). Some (said_in o round item Avg shape.kinds parts)) stands;
       printed_next = printed_item (round + 1) item shape Avg parts there ∙ ap (λ (o : Option Beside). Some (said_in o (round + 1) item Avg shape.kinds parts)) stands;
       contains = said_contains stand tables sum count sum' count' other other' said said' is is' d d' k k';
+      reports = λ room. said_reports stand tables sum count sum' count' other other' said said' is is' d d' k k' x room;
       nests = λ m. said_nests stand tables sum count sum' count' other other' said said' is is' d d' k k' a.nests b.nests (plain_nests narrow round item parts m);
       narrow = subst (λ (b : AverageBound). IsNestedAverage b said) (plain_is round item parts (plain_divides round item parts))
           (said_narrow stand tables sum count sum' count' other other' said said' is is' d d' k k');

@@ -11,7 +11,7 @@ use Rattle.shard_bounds.specs.Combined.{combined}
 use Rattle.shard_bounds.specs.Combined as shards
 use Rattle.shard_bounds.specs.Laws.{CombinationsContain, CombinationsNest, CombinationsReportAverages, CombinationsTell, Tells}
 use Rattle.report_parts.specs.Combined.{answer_over, average_of, bound_of}
-use Rattle.report_parts.specs.Laws.{AnswersContain, AnswersNest, AnswersTell, AveragesContain}
+use Rattle.report_parts.specs.Laws.{AnswersContain, AnswersNest, AnswersTell, AveragesReport}
 
 -- the bound that the combined answer tells
 is_combined : (kind : ItemKind) (answers : List Answer) → kind ≢ Avg → bound_of (answer_over kind answers) ≡ combined kind (map bound_of answers)
@@ -42,5 +42,5 @@ pub all_divisible : (answers : List Answer) → AreDivisible (map average_of ans
 all_divisible [] = tt
 all_divisible (answer ∷ answers) = (divisible answer, all_divisible answers)
 
-pub averages : CombinationsReportAverages → AveragesContain
+pub averages : CombinationsReportAverages → AveragesReport
 averages law answers parts h = law (map average_of answers) parts (all_divisible answers) h

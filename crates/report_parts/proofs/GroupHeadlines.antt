@@ -7,7 +7,7 @@ use Rattle.shard_groups.specs.Keys.{Key}
 use Rattle.shard_groups.specs.Laws.{AreLater, AreLaterAverages, IsLater, IsLaterAverage}
 use Rattle.part_groups.proofs.Overall.{alike_or_other}
 use Rattle.part_groups.specs.Combined.{IsCombinedReport}
-use Rattle.part_groups.specs.Laws.{AreAllOf, AreOf, GroupsContain, GroupsContainAverages, GroupsNest, GroupsNestAverages, GroupsTell, GroupsTellAverages, GroupsTellKeys}
+use Rattle.part_groups.specs.Laws.{AreAllOf, AreOf, GroupsContain, GroupsReportAverages, GroupsNest, GroupsNestAverages, GroupsTell, GroupsTellAverages, GroupsTellKeys}
 use Rattle.part_groups.specs.Whole.{AreKeyed, IsKeyed, WholeIsCombined, cells_by}
 use Rattle.part_groups.specs.declared.group.Group.{Group}
 use Rattle.report_parts.proofs.GroupsOver.{by_groups, fault_by_groups}
@@ -106,15 +106,15 @@ module _ (whole : WholeIsCombined) (task : Task) (lines : List (List ℕ)) (part
             (combined whole task parts some round is.alike) there other said is.printed is.has;
       }
 
-  average : GroupsContainAverages → GroupsNestAverages → GroupsTellAverages → (item : ℕ) (key : Key) (tables : List (List ℤ)) (round : ℕ) →
+  average : GroupsReportAverages → GroupsNestAverages → GroupsTellAverages → (item : ℕ) (key : Key) (tables : List (List ℤ)) (round : ℕ) →
       slice_get task.shape.kinds item ≡ Some Avg → IsCertainOfAverage round item key task.shape parts tables
-  average contains nests tells item key tables round there =
+  average reports nests tells item key tables round there =
       let columns = task.shape.columns in
       let kinds = task.shape.kinds in
       let now = all_groups_in round parts in
       let printed = printed_groups round task.shape parts in
       record {
-        contains = λ sure group is. contains columns kinds now printed item key tables group (are_of task lines parts told round)
+        reports = λ sure group is. reports columns kinds now printed item key tables group (are_of task lines parts told round)
             (combined whole task parts some round is.alike) there sure is.printed is.has;
         nests = λ all group next is behind. nests columns kinds now (all_groups_in (round + 1) parts) printed (printed_groups (round + 1) task.shape parts) item key
             group next (are_of task lines parts told round) (are_of task lines parts told (round + 1)) (combined whole task parts some round is.alike)
@@ -123,13 +123,13 @@ module _ (whole : WholeIsCombined) (task : Task) (lines : List (List ℕ)) (part
             (combined whole task parts some round is.alike) there said is.printed is.has;
       }
 
-pub groups_certain : WholeIsCombined → GroupsTellKeys → GroupsContain → GroupsNest → GroupsTell → GroupsContainAverages → GroupsNestAverages → GroupsTellAverages →
+pub groups_certain : WholeIsCombined → GroupsTellKeys → GroupsContain → GroupsNest → GroupsTell → GroupsReportAverages → GroupsNestAverages → GroupsTellAverages →
     CombinedGroupsAreCertain
-groups_certain whole keys contains nests tells contains_averages nests_averages tells_averages task lines parts told some = record {
+groups_certain whole keys contains nests tells reports_averages nests_averages tells_averages task lines parts told some = record {
   forms = forms task.shape parts some;
   keys = λ key counts round alike counted.
       keys task.shape.columns task.shape.kinds (all_groups_in round parts) (printed_groups round task.shape parts) key counts (are_of task lines parts told round)
       (combined whole task parts some round alike) counted;
   items = certain whole task lines parts told some contains nests tells;
-  averages = average whole task lines parts told some contains_averages nests_averages tells_averages;
+  averages = average whole task lines parts told some reports_averages nests_averages tells_averages;
 }

@@ -9,7 +9,7 @@ use Rattle.query_model.specs.declared.query.ItemKind.TheVariants.{Count, Sum, Mi
 use Rattle.shard_bounds.specs.Combined.{AreBoundsOf}
 use Rattle.shard_bounds.specs.Laws.{AreAdmitted, AreAveragesAdmitted, AreAveragesReported, AreNested, AreNestedAverages, AreNestedReports, AveragesNest, HullsContain, HullsNest, IsNestedReport}
 use Rattle.shard_bounds.specs.Laws.{CombinationsContain, CombinationsNest, CombinationsReportAverages, CombinationsTell, CombinationsTellAverages}
-use Rattle.shard_bounds.proofs.AverageOrders.{nested-refl}
+use Rattle.shard_bounds.proofs.EqualEnds.{nested-refl}
 use Rattle.query_kinds.specs.declared.beside.Beside.{Beside}
 use Rattle.report_text.specs.declared.answers.Answer.{Answer}
 use Rattle.report_text.specs.declared.answers.Answer.TheVariants.{Average, Value}
@@ -275,7 +275,7 @@ averages_certain law narrow tells item shape parts tables round there none h = r
   printed = printed_item round item shape Avg parts there
       ∙ ap (λ (beside : Option Beside). Some (said_in beside round item Avg shape.kinds parts)) none;
   is = refl;
-  contains = averages law (answers_in round item parts) tables (reported round item parts tables h);
+  reports = averages law (answers_in round item parts) tables (reported round item parts tables h);
   nests = λ k. narrow (map average_of (answers_in round item parts)) (map average_of (answers_in (round + 1) item parts))
       (all_divisible (answers_in round item parts)) (all_divisible (answers_in (round + 1) item parts)) (next_reports round item parts k);
   exact = λ told. tells (map average_of (answers_in round item parts)) tables told;

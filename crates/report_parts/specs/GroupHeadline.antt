@@ -1,10 +1,10 @@
 -- What a combined report by groups says of a table that is cut into parts: of each key, over the rows of all parts together.
 use Rattle.std.specs.Prelude.{◌≡◌, ◌≢◌, ◌⊎◌, ℕ, ◌+◌, ◌<◌, ◌≤◌, ℤ, List, [], ◌∷◌, IsTrue, length, map, slice_get, slice_index_or}
 use Rattle.std.specs.declared.option.Option.TheVariants.{Some}
-use Rattle.query_model.specs.Bounds.{Admits, AdmitsAverage}
+use Rattle.query_model.specs.Bounds.{Admits}
 use Rattle.query_model.specs.declared.query.ItemKind.{ItemKind}
 use Rattle.query_model.specs.declared.query.ItemKind.TheVariants.{Avg}
-use Rattle.shard_bounds.specs.Averages.{TellsAverage}
+use Rattle.shard_bounds.specs.Averages.{ReportsAverage, TellsAverage}
 use Rattle.shard_bounds.specs.Combined as shards
 use Rattle.shard_bounds.specs.Laws.{Tells}
 use Rattle.shard_groups.specs.Keys.{Key, holds}
@@ -77,8 +77,8 @@ pub record IsCertainOfKey (round item : ℕ) (kind : ItemKind) (key : Key) (shap
 
 -- so it is of an average
 pub record IsCertainOfAverage (round item : ℕ) (key : Key) (shape : Shape) (parts : List Told) (tables : List (List ℤ)) : Type 0 where
-  pub contains : AreAveragesCertainIn item key (all_groups_in round parts) tables →
-      (group : Group) → IsGroupIn round shape parts key group → AdmitsAverage (average_in item group) (shards.average_over tables)
+  pub reports : AreAveragesCertainIn item key (all_groups_in round parts) tables →
+      (group : Group) → IsGroupIn round shape parts key group → ReportsAverage (average_in item group) (shards.average_over tables)
   pub nests : DoAllNest (IsLaterAverage item) parts →
       (group next : Group) → IsGroupIn round shape parts key group → IsGroupIn (round + 1) shape parts key next →
       IsNestedAverageGroup item group next

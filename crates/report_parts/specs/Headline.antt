@@ -2,14 +2,14 @@
 use Rattle.std.specs.Prelude.{◌≡◌, ◌≢◌, ℕ, ◌+◌, ◌<◌, ℤ, is_some, true, IsTrue, List, [], ◌∷◌, length, map, slice_get, slice_index_or}
 use Rattle.std.specs.declared.option.Option.{Option}
 use Rattle.std.specs.declared.option.Option.TheVariants.{None, Some}
-use Rattle.narrow_averages.specs.Beside.{is_counted}
+use Rattle.narrow_averages.specs.Beside.{can_double, is_counted}
 use Rattle.query_kinds.specs.declared.beside.Beside.{Beside}
 use Rattle.query_model.specs.Answers.{answer, average}
 use Rattle.query_model.specs.Bounds.{Admits, AdmitsAverage, IsNested, IsNestedAverage}
 use Rattle.query_model.specs.declared.query.ItemKind.{ItemKind}
 use Rattle.query_model.specs.declared.query.ItemKind.TheVariants.{Avg, Count, Sum}
 use Rattle.report_text.specs.declared.answers.Answer.{Answer}
-use Rattle.shard_bounds.specs.Averages.{ReportsAverage, TellsAverage, combined_average, hull_of_averages}
+use Rattle.shard_bounds.specs.Averages.{ReportsAverage, TellsAverage, average_from, combined_average, hull_of_averages, meet_of_two}
 use Rattle.shard_bounds.specs.Combined as shards
 use Rattle.shard_bounds.specs.Combined.{IsBoundOf}
 use Rattle.shard_bounds.specs.Laws.{AreAveragesTold, AreTold, IsNestedReport, Tells}
@@ -123,13 +123,13 @@ DoAveragesNest item [] = Unit {0}
 DoAveragesNest item (part ∷ parts) = AverageNests item part × DoAveragesNest item parts
 
 -- where nothing stands beside it, what is printed shows a bound that contains the average over the rows of all parts
--- together; the next round's lies within it, where those of the parts do; and where each part says its sum and its number of values in the
--- round, it says those of all
+-- together, and one fraction alone is again their sum over the number of their values; the next round's lies within it, where those of the
+-- parts do; and where each part says its sum and its number of values in the round, it says those of all
 pub record IsAverageIn (round item : ℕ) (shape : Shape) (parts : List Told) (tables : List (List ℤ)) : Type 0 where
   pub entry : Entry
   pub printed : slice_get (printed_in round shape parts) item ≡ Some entry
   pub is : entry.answer ≡ answer_over Avg (answers_in round item parts)
-  pub contains : AdmitsAverage (combined_average (map average_of (answers_in round item parts))) (shards.average_over tables)
+  pub reports : ReportsAverage (combined_average (map average_of (answers_in round item parts))) (shards.average_over tables)
   pub nests : DoAveragesNest item parts →
       IsNestedAverage (combined_average (map average_of (answers_in round item parts)))
       (combined_average (map average_of (answers_in (round + 1) item parts)))
@@ -154,18 +154,27 @@ pub record AreCertainBeside (item : ℕ) (beside : Beside) (kinds : List ItemKin
   pub alike : (round : ℕ) →
       AreAlike (answer_over Avg (answers_in round item parts) ∷ answer_over Sum (answers_in round beside.sum parts) ∷ [])
 
+-- twice the sum and twice the number of the high end have room
+abbrev pub HasRoomIn : ℕ → ℕ → Beside → List Told → Type 0
+HasRoomIn round item beside parts =
+    IsTrue (can_double (meet_of_two
+    (average_from (bound_of (answer_over Sum (answers_in round beside.sum parts))) (bound_of (answer_over Count (answers_in round beside.count parts))))
+    (average_of (answer_over Avg (answers_in round item parts)))).hi)
+
 -- so many values are counted in 64 bits
 abbrev pub IsCountedIn : ℕ → Beside → List Told → Type 0
 IsCountedIn round beside parts = IsTrue (is_counted (bound_of (answer_over Count (answers_in round beside.count parts))))
 
 -- what is printed contains the average over the rows of all parts together, the next round's lies within it where those of the parts do,
--- and it lies within the bound that the parts' averages give; where each part says its sum and its number of values, it says those of all
+-- and it lies within the bound that the parts' averages give; one fraction alone is again their sum over the number of their values;
+-- where each part says its sum and its number of values, it says those of all
 pub record IsBesideIn (round item : ℕ) (beside : Beside) (shape : Shape) (parts : List Told) (tables : List (List ℤ)) : Type 0 where
   pub entry : Entry
   pub next : Entry
   pub printed : slice_get (printed_in round shape parts) item ≡ Some entry
   pub printed_next : slice_get (printed_in (round + 1) shape parts) item ≡ Some next
   pub contains : AdmitsAverage (average_of entry.answer) (shards.average_over tables)
+  pub reports : HasRoomIn round item beside parts → ReportsAverage (average_of entry.answer) (shards.average_over tables)
   pub nests : DoAveragesNest item parts → IsNestedAverage (average_of entry.answer) (average_of next.answer)
   pub narrow : IsNestedAverage (combined_average (map average_of (answers_in round item parts))) (average_of entry.answer)
   pub exact : IsCountedIn round beside parts → AreTold Sum (map bound_of (answers_in round beside.sum parts)) tables →

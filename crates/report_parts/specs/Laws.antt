@@ -1,9 +1,9 @@
 -- What holds of the lines of parts, as statements. A public function with an empty body has each as its contract.
 use Rattle.std.specs.Prelude.{◌≡◌, ◌≢◌, ℕ, ℤ, true, List, [], ◌∷◌, ◌++◌, map}
-use Rattle.query_model.specs.Bounds.{Admits, AdmitsAverage, IsNested}
+use Rattle.query_model.specs.Bounds.{Admits, IsNested}
 use Rattle.query_model.specs.declared.query.ItemKind.{ItemKind}
 use Rattle.query_model.specs.declared.query.ItemKind.TheVariants.{Avg}
-use Rattle.shard_bounds.specs.Averages.{combined_average}
+use Rattle.shard_bounds.specs.Averages.{ReportsAverage, combined_average}
 use Rattle.shard_bounds.specs.Combined as shards
 use Rattle.shard_bounds.specs.Combined.{AreBoundsOf}
 use Rattle.shard_bounds.specs.Laws.{AreAdmitted, AreAveragesReported, AreNested, AreTold as AreAllTold, Tells}
@@ -79,7 +79,7 @@ AnswersTell =
     (kind : ItemKind) (answers : List Answer) (parts : List (List ℤ)) → kind ≢ Avg → AreAllTold kind (map bound_of answers) parts →
     Tells (bound_of (answer_over kind answers)) (shards.answer_over kind parts)
 
-abbrev pub AveragesContain : Type 0
-AveragesContain =
+abbrev pub AveragesReport : Type 0
+AveragesReport =
     (answers : List Answer) (parts : List (List ℤ)) → AreAveragesReported (map average_of answers) parts →
-    AdmitsAverage (combined_average (map average_of answers)) (shards.average_over parts)
+    ReportsAverage (combined_average (map average_of answers)) (shards.average_over parts)

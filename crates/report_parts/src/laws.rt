@@ -4,14 +4,14 @@ ghost use Rattle.report_parts.specs.Course.{OrderIsFree, StandsIsCombined, TextI
 ghost use Rattle.report_parts.specs.GroupHeadline.{CombinedGroupsAreCertain};
 ghost use Rattle.report_parts.specs.Headline.{CombinedAveragesAreCertain, CombinedBesidesAreCertain, CombinedClipsAreCertain};
 ghost use Rattle.report_parts.specs.Headline.{CombinedExactAveragesAreCertain, CombinedIsCertain};
-ghost use Rattle.report_parts.specs.Laws.{AnswersContain, AnswersNest, AnswersTell, AveragesContain};
+ghost use Rattle.report_parts.specs.Laws.{AnswersContain, AnswersNest, AnswersTell, AveragesReport};
 ghost use Rattle.report_parts.specs.Laws.{LinesOnlyAdd, ReportsOnlyGrow, ToldBlocksStay};
 ghost use Rattle.report_parts.specs.Telling.{EndedStays, TellingIsOne};
 ghost use Rattle.report_parts.specs.Written.{WrittenStays};
 
 use narrow_averages::besides_stand;
 use part_groups::{
-    groups_contain, groups_contain_averages, groups_nest, groups_nest_averages, groups_tell,
+    groups_contain, groups_nest, groups_nest_averages, groups_report_averages, groups_tell,
     groups_tell_averages, groups_tell_keys, whole_is_combined,
 };
 use shard_bounds::{
@@ -107,6 +107,7 @@ pub fn combined_clips_are_certain()
 
 /// The same of averages beside which nothing stands: what is printed contains the average over the rows of all parts, lies
 /// within what the block before prints where those of the parts do, and is the sum and the number of all values where each part says its own.
+/// One fraction alone is again the sum over the number, so that what is printed may be a part again.
 pub fn combined_averages_are_certain()
     ensures { CombinedAveragesAreCertain }
 {
@@ -129,9 +130,9 @@ pub fn combined_besides_are_certain()
 }
 
 /// Where what each part says contains the part's average, and one fraction alone is its sum over its number of values, what is combined
-/// contains the average over all parts.
-pub fn averages_contain()
-    ensures { AveragesContain }
+/// is again such a report of the average over all parts.
+pub fn averages_report()
+    ensures { AveragesReport }
 {
     combinations_report_averages();
 }
@@ -157,7 +158,7 @@ pub fn combined_groups_are_certain()
     groups_contain();
     groups_nest();
     groups_tell();
-    groups_contain_averages();
+    groups_report_averages();
     groups_nest_averages();
     groups_tell_averages();
 }

@@ -9,9 +9,10 @@ use Rattle.query_model.specs.declared.bounds.Nullity.{Nullity}
 use Rattle.query_model.specs.declared.bounds.Nullity.TheVariants.{Never, Possibly, Always}
 use Rattle.query_model.specs.Bounds.{AverageBound, IsNestedAverage}
 use Rattle.query_model.proofs.Integers.{equal_when}
-use Rattle.shard_bounds.specs.Averages.{is_exact, exact_by, fraction_by, sums_of, added_up, exactly, combined_average, hull_by, hull_of_averages, no_average, IsDivisible, AreDivisible}
+use Rattle.shard_bounds.specs.Averages.{apart, is_exact, exact_by, fraction_by, sums_of, added_up, exactly, combined_average, hull_by, hull_of_averages, no_average, IsDivisible, AreDivisible}
 use Rattle.shard_bounds.specs.Laws.{AreNestedAverages, AreNestedReports, AveragesNest}
-use Rattle.shard_bounds.proofs.AverageOrders.{nested-refl, nested-trans, positive, same_fraction, equal_numbers}
+use Rattle.shard_bounds.proofs.EqualEnds.{apart_same, aparts_nest, nested-refl, nested-trans}
+use Rattle.shard_bounds.proofs.AverageOrders.{positive, same_fraction, equal_numbers}
 use Rattle.shard_bounds.proofs.FractionOrder.{IsAtMost, at_most-trans, at_most-refl, at_most-added, added-at_most}
 use Rattle.shard_bounds.proofs.Hulls.{round_first, round_second, hulls_divide, hulls_nest}
 
@@ -40,8 +41,8 @@ sum_with a b sum da db e same (inl (none, zero_sum)) =
     (subst (LiesIn a) (sym is) (inr (e, da.lo, at_most-refl a.lo, subst (λ f. IsAtMost a.lo f) same (at_most-refl a.lo))))
 sum_with a b sum da db e same (inr (never, some, low, high)) =
     let hull = hull_by Never b.null a b in
-    let ra = round_first Never b.null a b e refl (λ f. apart (sym e ∙ f)) in
-    let rb = round_second Never b.null a b e refl (λ f. apart (sym never ∙ f)) in
+    let ra = round_first Never b.null a b e refl (λ f. differ (sym e ∙ f)) in
+    let rb = round_second Never b.null a b e refl (λ f. differ (sym never ∙ f)) in
     let high_a : IsAtMost a.lo hull.hi = subst (λ f. IsAtMost f hull.hi) (sym same) ra.hi in
     inr (
       never_null b.null a b e,
@@ -50,8 +51,8 @@ sum_with a b sum da db e same (inr (never, some, low, high)) =
       added-at_most a.lo sum hull.hi high_a (at_most-trans sum b.hi hull.hi db.hi high rb.hi),
     )
   where
-    apart : ◌≡◌ {A = Nullity} Never Always → ⊥
-    apart q = cc
+    differ : ◌≡◌ {A = Nullity} Never Always → ⊥
+    differ q = cc
 
 -- one more exact shard
 sum_more : (w : Nullity) (a b : AverageBound) (sums : List Fraction) → a.null ≡ w → IsDivisible a → IsDivisible b →
@@ -71,16 +72,16 @@ sums_lie (bound ∷ bounds) d t =
 exact_in_hull : (hull : AverageBound) (sum : Fraction) → LiesIn hull sum → IsNestedAverage hull (exactly sum)
 exact_in_hull hull sum (inl (none, zero_sum)) =
     subst (λ f. IsNestedAverage hull (exactly f)) (sym zero_sum)
-    (record { null = λ w e. apart (sym none ∙ e); full = λ w. absurd (w refl); lo = λ w. absurd (w refl); hi = λ w. absurd (w refl) })
+    (record { null = λ w e. differ (sym none ∙ e); full = λ w. absurd (w refl); lo = λ w. absurd (w refl); hi = λ w. absurd (w refl) })
   where
-    apart : ◌≡◌ {A = Nullity} Always Never → ⊥
-    apart q = cc
+    differ : ◌≡◌ {A = Nullity} Always Never → ⊥
+    differ q = cc
 exact_in_hull hull sum (inr (never, some, low, high)) =
     subst (λ b. IsNestedAverage hull (cond b no_average (record { null = Never; lo = sum; hi = sum }))) (sym (positive sum.den some))
-    (record { null = λ w. absurd (w refl); full = λ w e. apart (sym never ∙ e); lo = λ w. low; hi = λ w. high })
+    (record { null = λ w. absurd (w refl); full = λ w e. differ (sym never ∙ e); lo = λ w. low; hi = λ w. high })
   where
-    apart : ◌≡◌ {A = Nullity} Never Always → ⊥
-    apart q = cc
+    differ : ◌≡◌ {A = Nullity} Never Always → ⊥
+    differ q = cc
 
 -- ---- reports
 
@@ -100,14 +101,20 @@ reports_stay (old ∷ olds) (new ∷ news) n t =
 
 pub averages_nest : AveragesNest
 averages_nest olds news d c n =
-    let pick : Bool → List AverageBound → AverageBound = λ b bs. cond b (exactly (added_up (sums_of bs))) (hull_of_averages bs) in
+    let pick : Bool → List AverageBound → AverageBound = λ b bs. cond b (exactly (added_up (sums_of bs))) (apart (hull_of_averages bs)) in
     let hulls = hulls_nest olds news d c (reports_nest olds news n) in
+    let hull = hull_of_averages olds in
+    let new_hull = hull_of_averages news in
+    let divides = hulls_divide olds d in
+    let new_divides = hulls_divide news c in
+    let sum = added_up (sums_of news) in
     elim (cases_Bool (list_all is_exact olds)) [
       | inl t ↦ subst (λ bs. IsNestedAverage (combined_average olds) (combined_average bs)) (sym (reports_stay olds news n t)) (nested-refl (combined_average olds))
       | inr f ↦ subst (λ b. IsNestedAverage (pick b olds) (combined_average news)) (sym f)
           (elim (cases_Bool (list_all is_exact news)) [
-            | inl t ↦ subst (λ b. IsNestedAverage (hull_of_averages olds) (pick b news)) (sym t)
-                (nested-trans (hull_of_averages olds) (hull_of_averages news) (exactly (added_up (sums_of news))) (hulls_divide news c) hulls (exact_in_hull (hull_of_averages news) (added_up (sums_of news)) (sums_lie news c t)))
-            | inr g ↦ subst (λ b. IsNestedAverage (hull_of_averages olds) (pick b news)) (sym g) hulls
+            | inl t ↦ subst (λ b. IsNestedAverage (apart hull) (pick b news)) (sym t)
+                (nested-trans (apart hull) hull (exactly sum) divides (apart_same hull).round
+                (nested-trans hull new_hull (exactly sum) new_divides hulls (exact_in_hull new_hull sum (sums_lie news c t))))
+            | inr g ↦ subst (λ b. IsNestedAverage (apart hull) (pick b news)) (sym g) (aparts_nest hull new_hull divides new_divides hulls)
           ])
     ]

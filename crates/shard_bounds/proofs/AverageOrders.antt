@@ -9,11 +9,12 @@ use Rattle.query_model.specs.declared.bounds.Nullity.{Nullity}
 use Rattle.query_model.specs.declared.bounds.Nullity.TheVariants.{Never, Possibly, Always}
 use Rattle.query_model.specs.Bounds.{AverageBound, IsNestedAverage}
 use Rattle.query_model.proofs.Integers.{equal_when}
-use Rattle.shard_bounds.specs.Averages.{is_exact, fraction_by, sums_of, added_up, exactly, combined_average, hull_of_two, hull_of_averages, no_average, IsDivisible, AreDivisible}
+use Rattle.shard_bounds.specs.Averages.{apart, apart_by, is_exact, fraction_by, sums_of, added_up, exactly, combined_average, hull_of_two, hull_of_averages, no_average, IsDivisible, AreDivisible}
 use Rattle.shard_bounds.specs.Combined.{Reordered}
 use Rattle.shard_bounds.specs.Combined.Reordered.{same, swapped, farther, both}
 use Rattle.shard_bounds.specs.Laws.{OneAverageIsAll, OrderOfAveragesIsFree}
-use Rattle.shard_bounds.proofs.FractionOrder.{IsAtMost, at_most-trans, at_most-refl}
+use Rattle.shard_bounds.proofs.EqualEnds.{aparts_nest, nested-refl, nested-trans}
+use Rattle.shard_bounds.proofs.FractionOrder.{IsAtMost, at_most-trans}
 use Rattle.shard_bounds.proofs.Hulls.{null_of_hull, hull_is_null, IsRound, round_first, round_second, IsEndOfTwo, ends_are, hull_divides, hulls_divide, two_nest}
 use Rattle.shard_bounds.proofs.Orders.{folded, filter_map-reordered}
 
@@ -47,35 +48,27 @@ one_sum lo h =
 one_by : (w : Nullity) (lo hi : Fraction) → 0 < lo.den → (w ≡ Always → (lo ≡ record { num = pos 0; den = 1 }) × (hi ≡ record { num = pos 0; den = 1 })) →
     combined_average (record { null = w; lo = lo; hi = hi } ∷ []) ≡ record { null = w; lo = lo; hi = hi }
 one_by Never lo hi h z =
-    let looks = int_eq lo.num hi.num && (lo.den == hi.den) in
-    ap (λ b. cond b (exactly (added_up (lo ∷ []))) (record { null = Never; lo = lo; hi = hi })) (true_and looks)
-    ∙ either (cases_Bool looks)
+    ap (λ b. cond b (exactly (added_up (lo ∷ []))) (apart bound)) (true_and looks) ∙ either (cases_Bool looks)
   where
-    either : (IsTrue (int_eq lo.num hi.num && (lo.den == hi.den))) ⊎ (IsFalse (int_eq lo.num hi.num && (lo.den == hi.den))) →
-        cond (int_eq lo.num hi.num && (lo.den == hi.den)) (exactly (added_up (lo ∷ []))) (record { null = Never; lo = lo; hi = hi }) ≡ record { null = Never; lo = lo; hi = hi }
+    bound : AverageBound
+    bound = record { null = Never; lo = lo; hi = hi }
+
+    looks : Bool
+    looks = int_eq lo.num hi.num && (lo.den == hi.den)
+
+    either : IsTrue looks ⊎ IsFalse looks → cond looks (exactly (added_up (lo ∷ []))) (apart bound) ≡ bound
     either (inl t) =
-        let shards = and_parts (int_eq lo.num hi.num) (lo.den == hi.den) t in
-        ap (λ b. cond b (exactly (added_up (lo ∷ []))) (record { null = Never; lo = lo; hi = hi })) t ∙ one_sum lo h
-        ∙ ap (λ (f : Fraction). record { null = Never; lo = lo; hi = f }) (same_fraction lo hi (equal_when lo.num hi.num shards.0) (equal_numbers lo.den hi.den shards.1))
-    either (inr f) = ap (λ b. cond b (exactly (added_up (lo ∷ []))) (record { null = Never; lo = lo; hi = hi })) f
+        let parts = and_parts (int_eq lo.num hi.num) (lo.den == hi.den) t in
+        ap (λ b. cond b (exactly (added_up (lo ∷ []))) (apart bound)) t ∙ one_sum lo h
+        ∙ ap (λ (f : Fraction). record { null = Never; lo = lo; hi = f }) (same_fraction lo hi (equal_when lo.num hi.num parts.0) (equal_numbers lo.den hi.den parts.1))
+    either (inr f) = ap (λ b. cond b (exactly (added_up (lo ∷ []))) (apart_by Never b bound)) f
 one_by Possibly lo hi h z = refl
 one_by Always lo hi h z = same_average _ _ refl (sym (z refl).0) (sym (z refl).1)
 
 pub one_average_is_all : OneAverageIsAll
 one_average_is_all bound d z = one_by bound.null bound.lo bound.hi d.lo z
 
--- ---- nesting goes on
-
-pub nested-refl : (bound : AverageBound) → IsNestedAverage bound bound
-nested-refl bound = record { null = λ w. w; full = λ w. w; lo = λ w. at_most-refl bound.lo; hi = λ w. at_most-refl bound.hi }
-
-pub nested-trans : (a b c : AverageBound) → IsDivisible b → IsNestedAverage a b → IsNestedAverage b c → IsNestedAverage a c
-nested-trans a b c d p q = record {
-  null = λ w. p.null (q.null w);
-  full = λ w. p.full (q.full w);
-  lo = λ w. at_most-trans a.lo b.lo c.lo d.lo (p.lo (q.full w)) (q.lo w);
-  hi = λ w. at_most-trans c.hi b.hi a.hi d.hi (q.hi w) (p.hi (q.full w));
-}
+-- ---- round what is round
 
 -- what is round a bound that is round another
 round-trans : (a b c : AverageBound) → IsDivisible b → IsRound a b → IsRound b c → IsRound a c
@@ -186,7 +179,7 @@ order_of_averages_is_free bounds others d r =
     let hulls = hulls-reordered bounds others d r in
     let looks = exact-reordered bounds others r in
     let sums = ap exactly (sums-reordered bounds others r) in
-    let pick : Bool → List AverageBound → AverageBound = λ b bs. cond b (exactly (added_up (sums_of bs))) (hull_of_averages bs) in
+    let pick : Bool → List AverageBound → AverageBound = λ b bs. cond b (exactly (added_up (sums_of bs))) (apart (hull_of_averages bs)) in
     elim (cases_Bool (list_all is_exact bounds)) [
       | inl t ↦
           (let one : combined_average bounds ≡ exactly (added_up (sums_of bounds)) = ap (λ b. pick b bounds) t in
@@ -196,9 +189,15 @@ order_of_averages_is_free bounds others d r =
             subst (λ b. IsNestedAverage b (combined_average bounds)) equal (nested-refl (combined_average bounds)),
           ))
       | inr f ↦
-          (let one : combined_average bounds ≡ hull_of_averages bounds = ap (λ b. pick b bounds) f in
-          let other : combined_average others ≡ hull_of_averages others = ap (λ b. pick b others) (sym looks ∙ f) in (
-            subst (λ b. IsNestedAverage b (combined_average others)) (sym one) (subst (λ b. IsNestedAverage (hull_of_averages bounds) b) (sym other) hulls.there),
-            subst (λ b. IsNestedAverage b (combined_average bounds)) (sym other) (subst (λ b. IsNestedAverage (hull_of_averages others) b) (sym one) hulls.back),
+          (let hull = hull_of_averages bounds in
+          let others_hull = hull_of_averages others in
+          let one : combined_average bounds ≡ apart hull = ap (λ b. pick b bounds) f in
+          let other : combined_average others ≡ apart others_hull = ap (λ b. pick b others) (sym looks ∙ f) in
+          let divides = hulls_divide bounds d in
+          let others_divide = hulls_divide others hulls.divide in (
+            subst (λ b. IsNestedAverage b (combined_average others)) (sym one)
+                (subst (λ b. IsNestedAverage (apart hull) b) (sym other) (aparts_nest hull others_hull divides others_divide hulls.there)),
+            subst (λ b. IsNestedAverage b (combined_average bounds)) (sym other)
+                (subst (λ b. IsNestedAverage (apart others_hull) b) (sym one) (aparts_nest others_hull hull others_divide divides hulls.back)),
           ))
     ]

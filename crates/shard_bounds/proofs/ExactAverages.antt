@@ -10,11 +10,12 @@ use Rattle.query_model.specs.declared.bounds.Nullity.TheVariants.{Never, Possibl
 use Rattle.query_model.specs.Answers.{total, average}
 use Rattle.query_model.specs.Bounds.{AverageBound, AdmitsAverage}
 use Rattle.query_model.proofs.Integers.{when_equal}
-use Rattle.shard_bounds.specs.Averages.{is_exact, exact_by, fraction_by, sums_of, added_up, exactly, combined_average, hull_of_averages, no_average, TellsAverage}
+use Rattle.shard_bounds.specs.Averages.{apart, is_exact, exact_by, fraction_by, sums_of, added_up, exactly, combined_average, hull_of_averages, no_average, AreDivisible, TellsAverage}
 use Rattle.shard_bounds.specs.Combined.{together, average_over}
-use Rattle.shard_bounds.specs.Laws.{AreAveragesAdmitted, AreAveragesTold, AreAveragesReported, CombinationsTellAverages, CombinationsReportAverages}
+use Rattle.shard_bounds.specs.Laws.{AreAveragesAdmitted, AreAveragesTold, AreAveragesReported, CombinationsLookExact, CombinationsTellAverages, CombinationsReportAverages}
 use Rattle.shard_bounds.proofs.Answers.{length-append}
-use Rattle.shard_bounds.proofs.Hulls.{total-append, hulls_contain}
+use Rattle.shard_bounds.proofs.EqualEnds.{apart_looks, apart_same, nested_admits, no_hull}
+use Rattle.shard_bounds.proofs.Hulls.{total-append, hulls_contain, hulls_divide}
 
 -- ---- sums of told shards
 
@@ -26,14 +27,14 @@ pub record SumsAre (sums : List Fraction) (values : List ℤ) : Type 0 where
   pub den : (added_up sums).den ≡ length values
 
 no_more : (w : Nullity) (lo : Fraction) (sums : List Fraction) (values : List ℤ) → w ≡ Always → SumsAre sums values → SumsAre (cons_option (fraction_by w lo) sums) values
-no_more Never lo sums values e rest = absurd (apart e)
+no_more Never lo sums values e rest = absurd (differ e)
   where
-    apart : ◌≡◌ {A = Nullity} Never Always → ⊥
-    apart q = cc
-no_more Possibly lo sums values e rest = absurd (apart e)
+    differ : ◌≡◌ {A = Nullity} Never Always → ⊥
+    differ q = cc
+no_more Possibly lo sums values e rest = absurd (differ e)
   where
-    apart : ◌≡◌ {A = Nullity} Possibly Always → ⊥
-    apart q = cc
+    differ : ◌≡◌ {A = Nullity} Possibly Always → ⊥
+    differ q = cc
 no_more Always lo sums values e rest = rest
 
 one_more : (w : Nullity) (lo : Fraction) (v : ℤ) (vs : List ℤ) (sums : List Fraction) (values : List ℤ) → w ≡ Never → lo ≡ record { num = total (v ∷ vs); den = length (v ∷ vs) } →
@@ -46,14 +47,14 @@ one_more Never lo v vs sums values e is rest =
     let rest_num = rest.num in
     let rest_den = rest.den in
     record { empty = λ q. cc; full = λ u us q r. cc; num = omega (arith, ints); den = omega arith }
-one_more Possibly lo v vs sums values e is rest = absurd (apart e)
+one_more Possibly lo v vs sums values e is rest = absurd (differ e)
   where
-    apart : ◌≡◌ {A = Nullity} Possibly Never → ⊥
-    apart q = cc
-one_more Always lo v vs sums values e is rest = absurd (apart e)
+    differ : ◌≡◌ {A = Nullity} Possibly Never → ⊥
+    differ q = cc
+one_more Always lo v vs sums values e is rest = absurd (differ e)
   where
-    apart : ◌≡◌ {A = Nullity} Always Never → ⊥
-    apart q = cc
+    differ : ◌≡◌ {A = Nullity} Always Never → ⊥
+    differ q = cc
 
 sums_are : (bounds : List AverageBound) (shards : List (List ℤ)) → AreAveragesTold bounds shards → SumsAre (sums_of bounds) (together shards)
 sums_are [] [] t = record { empty = λ e. refl; full = λ v vs e q. cc; num = refl; den = refl }
@@ -86,10 +87,10 @@ looks_by : (w : Nullity) (lo hi : Fraction) (s : ℤ) (n : ℕ) → w ≡ Never 
     IsTrue (exact_by w (int_eq lo.num hi.num && (lo.den == hi.den)))
 looks_by Never lo hi s n e p q =
     and_from (int_eq lo.num hi.num) (lo.den == hi.den) (when_equal lo.num hi.num (ap (λ f. f.num) p ∙ sym (ap (λ f. f.num) q))) (nat_same lo.den hi.den (ap (λ f. f.den) p ∙ sym (ap (λ f. f.den) q)))
-looks_by Possibly lo hi s n e p q = absurd (apart e)
+looks_by Possibly lo hi s n e p q = absurd (differ e)
   where
-    apart : ◌≡◌ {A = Nullity} Possibly Never → ⊥
-    apart z = cc
+    differ : ◌≡◌ {A = Nullity} Possibly Never → ⊥
+    differ z = cc
 looks_by Always lo hi s n e p q = refl
 
 looks_always : (w : Nullity) (b : Bool) → w ≡ Always → IsTrue (exact_by w b)
@@ -107,25 +108,25 @@ all_look_exact (bound ∷ bounds) (values ∷ shards) t = and_from (is_exact bou
 
 pub combinations_tell_averages : CombinationsTellAverages
 combinations_tell_averages bounds shards t =
-    subst (λ b. TellsAverage (cond b (exactly (added_up (sums_of bounds))) (hull_of_averages bounds)) (average_over shards)) (sym (all_look_exact bounds shards t))
+    subst (λ b. TellsAverage (cond b (exactly (added_up (sums_of bounds))) (apart (hull_of_averages bounds))) (average_over shards)) (sym (all_look_exact bounds shards t))
     (tells_exactly (sums_of bounds) (together shards) (sums_are bounds shards t))
 
 -- ---- reports
 
 pub told_is_admitted : (bound : AverageBound) (a : Option (ℤ × ℕ)) → TellsAverage bound a → AdmitsAverage bound a
-told_is_admitted bound None t = λ e. apart (sym t ∙ e)
+told_is_admitted bound None t = λ e. differ (sym t ∙ e)
   where
-    apart : ◌≡◌ {A = Nullity} Always Never → ⊥
-    apart z = cc
+    differ : ◌≡◌ {A = Nullity} Always Never → ⊥
+    differ z = cc
 told_is_admitted bound (Some (s, n)) t =
     let value : Fraction = record { num = s; den = n } in (
-      (λ e. apart (sym t.0 ∙ e)),
+      (λ e. differ (sym t.0 ∙ e)),
       subst (λ (f : Fraction). (f.num *ℤ pos n) ≤ℤ (s *ℤ pos f.den)) (sym t.1) (omega (arith, ints)),
       subst (λ (f : Fraction). (s *ℤ pos f.den) ≤ℤ (f.num *ℤ pos n)) (sym t.2) (omega (arith, ints)),
     )
   where
-    apart : ◌≡◌ {A = Nullity} Never Always → ⊥
-    apart z = cc
+    differ : ◌≡◌ {A = Nullity} Never Always → ⊥
+    differ z = cc
 
 reports_admit : (bounds : List AverageBound) (shards : List (List ℤ)) → AreAveragesReported bounds shards → AreAveragesAdmitted bounds shards
 reports_admit [] [] r = tt
@@ -141,9 +142,33 @@ reports_tell (bound ∷ bounds) (values ∷ shards) r t =
     let both = and_parts (is_exact bound) (list_all is_exact bounds) t in
     (r.0.tells both.0, reports_tell bounds shards r.1 both.1)
 
-pub combinations_report_averages : CombinationsReportAverages
-combinations_report_averages bounds shards d r =
+apart_admits : (bounds : List AverageBound) (shards : List (List ℤ)) → AreDivisible bounds → AreAveragesReported bounds shards →
+    AdmitsAverage (apart (hull_of_averages bounds)) (average_over shards)
+apart_admits bounds shards d r =
+    let hull = hull_of_averages bounds in
+    nested_admits (apart hull) hull (average_over shards) (hulls_divide bounds d) (apart_same hull).round (hulls_contain bounds shards d (reports_admit bounds shards r))
+
+admits : (bounds : List AverageBound) (shards : List (List ℤ)) → AreDivisible bounds → AreAveragesReported bounds shards →
+    AdmitsAverage (combined_average bounds) (average_over shards)
+admits bounds shards d r =
     elim (cases_Bool (list_all is_exact bounds)) [
       | inl t ↦ told_is_admitted (combined_average bounds) (average_over shards) (combinations_tell_averages bounds shards (reports_tell bounds shards r t))
-      | inr f ↦ subst (λ b. AdmitsAverage (cond b (exactly (added_up (sums_of bounds))) (hull_of_averages bounds)) (average_over shards)) (sym f) (hulls_contain bounds shards d (reports_admit bounds shards r))
+      | inr f ↦ subst (λ b. AdmitsAverage (cond b (exactly (added_up (sums_of bounds))) (apart (hull_of_averages bounds))) (average_over shards)) (sym f)
+          (apart_admits bounds shards d r)
     ]
+
+pub combinations_look_exact : CombinationsLookExact
+combinations_look_exact bounds d t =
+    elim (cases_Bool (list_all is_exact bounds)) [
+      | inl all ↦ all
+      | inr f ↦
+          (let hull = hull_of_averages bounds in
+          let looks : IsTrue (is_exact (apart hull)) = subst (λ b. IsTrue (is_exact (cond b (exactly (added_up (sums_of bounds))) (apart hull)))) f t in
+          no_hull bounds (apart_looks hull (hulls_divide bounds d) looks))
+    ]
+
+pub combinations_report_averages : CombinationsReportAverages
+combinations_report_averages bounds shards d r = record {
+  admits = admits bounds shards d r;
+  tells = λ t. combinations_tell_averages bounds shards (reports_tell bounds shards r (combinations_look_exact bounds d t));
+}

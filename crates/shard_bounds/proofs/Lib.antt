@@ -10,6 +10,7 @@ pub mod EndSums
 pub mod ShardEnds
 pub mod FractionOrder
 pub mod Hulls
+pub mod EqualEnds
 pub mod ExactAverages
 pub mod ListAverages
 pub mod Shards

@@ -9,7 +9,7 @@ use Rattle.query_model.specs.Bounds.{AverageBound, AdmitsAverage, IsNestedAverag
 use Rattle.shard_bounds.specs.Averages.{lesser, greater, meet_by, meet_of_two, within, AreDivisible, TellsAverage}
 use Rattle.shard_bounds.specs.Laws.{MeetsStand}
 use Rattle.shard_bounds.proofs.FractionOrder.{IsAtMost, lesser-below, greater-above}
-use Rattle.shard_bounds.proofs.AverageOrders.{nested-trans}
+use Rattle.shard_bounds.proofs.EqualEnds.{nested-trans}
 use Rattle.shard_bounds.proofs.Hulls.{greater_is, lesser_is}
 
 -- ---- the words

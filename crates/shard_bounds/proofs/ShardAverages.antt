@@ -21,7 +21,8 @@ use Rattle.shard_bounds.specs.Averages.{is_exact, IsDivisible, AreDivisible, Rep
 use Rattle.shard_bounds.specs.Laws.{AreAveragesReported, AreAveragesTold, AreNestedReports, IsNestedReport}
 use Rattle.shard_bounds.specs.Shards.{Shard, AreAnyKnown, AreCompletions, values_at, values_in, pairs_at, average_reported, IsReadOn, AreReadOn, AreAllRead, ShardsContainAverages, ShardsNestAverages, ShardsBecomeExactAverages}
 use Rattle.shard_bounds.proofs.AverageNests.{averages_nest}
-use Rattle.shard_bounds.proofs.AverageOrders.{nested-refl, same_average}
+use Rattle.shard_bounds.proofs.EqualEnds.{nested-refl}
+use Rattle.shard_bounds.proofs.AverageOrders.{same_average}
 use Rattle.shard_bounds.proofs.ExactAverages.{combinations_report_averages, combinations_tell_averages}
 use Rattle.shard_bounds.proofs.ListAverages.{exact_is_certain, same_divisors, divisor_is, same_number, lists_report_averages}
 use Rattle.shard_bounds.proofs.Unions.{lists_give_bounds}
@@ -122,7 +123,7 @@ reports_of (shard ∷ shards) (cells ∷ more) h c =
     )
 
 pub shards_contain_averages : ShardsContainAverages
-shards_contain_averages shards tables h c = combinations_report_averages (map average_reported shards) (values_in shards tables) (all_divide shards) (reports_of shards tables h c)
+shards_contain_averages shards tables h c = (combinations_report_averages (map average_reported shards) (values_in shards tables) (all_divide shards) (reports_of shards tables h c)).admits
 
 -- ---- nested
 

@@ -61,6 +61,10 @@ AreDivisible (bound ∷ bounds) = IsDivisible bound × AreDivisible bounds
 
 -- ---- shards that are exact: sums and numbers of rows add up
 
+-- both ends are the same sum over the same number of values
+abbrev pub is_one_fraction : AverageBound → Bool
+is_one_fraction bound = int_eq bound.lo.num bound.hi.num && (bound.lo.den == bound.hi.den)
+
 -- what may be said of a shard: that no row of it gives a value, or their sum and their number, as both ends
 abbrev pub exact_by : Nullity → Bool → Bool
 exact_by Never one = one
@@ -68,7 +72,7 @@ exact_by Possibly one = false
 exact_by Always one = true
 
 abbrev pub is_exact : AverageBound → Bool
-is_exact bound = exact_by bound.null (int_eq bound.lo.num bound.hi.num && (bound.lo.den == bound.hi.den))
+is_exact bound = exact_by bound.null (is_one_fraction bound)
 
 abbrev pub has_rows : Nullity → Bool
 has_rows Never = true
@@ -92,10 +96,27 @@ added_up (f ∷ fs) = record { num = f.num +ℤ (added_up fs).num; den = f.den +
 abbrev pub exactly : Fraction → AverageBound
 exactly sum = if sum.den == 0 then no_average else record { null = Never; lo = sum; hi = sum }
 
+-- ---- ends that are equal and do not look exact
+
+-- the same number, as twice the sum over twice the number of values
+abbrev pub doubled : Fraction → Fraction
+doubled fraction = record { num = fraction.num +ℤ fraction.num; den = fraction.den + fraction.den }
+
+abbrev pub apart_by : Nullity → Bool → AverageBound → AverageBound
+apart_by Never true bound = record { null = Never; lo = bound.lo; hi = doubled bound.hi }
+apart_by Never false bound = bound
+apart_by Possibly one bound = bound
+apart_by Always one bound = bound
+
+-- the same bound, but its ends are not one fraction, as are a sum and a number of values that are told
+abbrev pub apart : AverageBound → AverageBound
+apart bound = apart_by bound.null (is_one_fraction bound) bound
+
 -- ---- the bound over all shards
 
+-- it looks exact only where each shard does
 abbrev pub combined_average : List AverageBound → AverageBound
-combined_average bounds = if list_all is_exact bounds then exactly (added_up (sums_of bounds)) else hull_of_averages bounds
+combined_average bounds = if list_all is_exact bounds then exactly (added_up (sums_of bounds)) else apart (hull_of_averages bounds)
 
 -- the bound says what the sum and the number are
 abbrev pub TellsAverage : AverageBound → Option (ℤ × ℕ) → Type 0

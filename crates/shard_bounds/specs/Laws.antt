@@ -2,7 +2,7 @@
 use Rattle.std.specs.Prelude.{pos, IsTrue, ◌≡◌, ◌≢◌, ℕ, suc, ℤ, List, [], ◌∷◌, map}
 use Rattle.std.specs.declared.option.Option.{Option}
 use Rattle.std.specs.declared.option.Option.TheVariants.{Some, None}
-use Rattle.std.specs.List.{flat_map}
+use Rattle.std.specs.List.{flat_map, list_all}
 use Rattle.query_model.specs.declared.bounds.Bound.{Bound}
 use Rattle.query_model.specs.declared.bounds.Nullity.TheVariants.{Never, Always}
 use Rattle.query_model.specs.declared.query.ItemKind.{ItemKind}
@@ -172,7 +172,12 @@ AreAveragesReported (bound ∷ bounds) (values ∷ shards) = ReportsAverage boun
 abbrev pub CombinationsReportAverages : Type 0
 CombinationsReportAverages =
     (bounds : List AverageBound) (shards : List (List ℤ)) →
-    AreDivisible bounds → AreAveragesReported bounds shards → AdmitsAverage (combined_average bounds) (average_over shards)
+    AreDivisible bounds → AreAveragesReported bounds shards → ReportsAverage (combined_average bounds) (average_over shards)
+
+-- that bound looks exact only where each shard's does
+abbrev pub CombinationsLookExact : Type 0
+CombinationsLookExact =
+    (bounds : List AverageBound) → AreDivisible bounds → IsTrue (is_exact (combined_average bounds)) → IsTrue (list_all is_exact bounds)
 
 -- the bound of a list of rows is such a report of each choice of outcomes
 abbrev pub ListsReportAverages : Type 0

@@ -7,6 +7,7 @@ ghost use Rattle.query_model.specs.Bounds.{fractions_of};
 ghost use Rattle.shard_bounds.specs.Averages.{added_up, combined_average, exactly, has_rows, hull_of_averages, hull_of_two};
 ghost use Rattle.shard_bounds.specs.Averages.{is_exact, no_average, round, sums_of, FitsAverage};
 
+use crate::exactness::{apart, is_exact};
 use crate::fractions::{greater, lesser};
 use crate::wide::Wide;
 use interval_calc::Fraction;
@@ -57,17 +58,6 @@ pub fn hull_of_averages(shards: &[AverageBound]) -> AverageBound
         hull = hull_of_two(&shards[i], &hull);
     }
     hull
-}
-
-// Whether a shard says its sum and its number of values, or that it has none.
-fn is_exact(shard: &AverageBound) -> bool
-    ensures { result ≡ is_exact (fractions_of shard.now) }
-{
-    match shard.null {
-        Nullity::Never => shard.lo.num == shard.hi.num && shard.lo.den == shard.hi.den,
-        Nullity::Possibly => false,
-        Nullity::Always => true,
-    }
 }
 
 fn are_exact(shards: &[AverageBound]) -> bool
@@ -139,7 +129,7 @@ fn exactly(shards: &[AverageBound]) -> Option<AverageBound>
 }
 
 /// The bound of an average over all shards, from those that the shards report; none where a sum is not an `i128` or a number of values
-/// is not a `u64`. It is exact where each shard's is; else it lies round all of them.
+/// is not a `u64`. It is exact where each shard's is; else it lies round all of them, and does not look exact.
 pub fn combine_averages(shards: &[AverageBound]) -> Option<AverageBound>
     ensures fits { IsSome result ↔ FitsAverage (combined_average (map fractions_of shards.now)) }
     ensures value { IfSome result (λ bound. fractions_of bound ≡ combined_average (map fractions_of shards.now)) }
@@ -147,6 +137,6 @@ pub fn combine_averages(shards: &[AverageBound]) -> Option<AverageBound>
     if are_exact(shards) {
         exactly(shards)
     } else {
-        Some(hull_of_averages(shards))
+        apart(hull_of_averages(shards))
     }
 }

@@ -4,7 +4,8 @@ ghost use Rattle.shard_bounds.specs.Laws.{AveragesFollow, MeetsStand};
 ghost use Rattle.shard_bounds.specs.Laws.{AveragesNest, CombinedIsBound, GroupsCombine, HullsContain, HullsNest, ListsGiveBounds};
 ghost use Rattle.shard_bounds.specs.Laws.{ListsReportAverages, NothingIsLost, OneAverageIsAll, OneShardIsAll};
 ghost use Rattle.shard_bounds.specs.Laws.{OrderIsFree, OrderOfAveragesIsFree, CombinationsContain, SumsGiveAverages};
-ghost use Rattle.shard_bounds.specs.Laws.{CombinationsNest, CombinationsReportAverages, CombinationsTell, CombinationsTellAverages};
+ghost use Rattle.shard_bounds.specs.Laws.{CombinationsLookExact, CombinationsNest, CombinationsReportAverages, CombinationsTell};
+ghost use Rattle.shard_bounds.specs.Laws.{CombinationsTellAverages};
 ghost use Rattle.shard_bounds.specs.Shards.{CutsKeepValues, ShardsAreExtremes, ShardsBecomeExact, ShardsContain, ShardsLoseNothing};
 ghost use Rattle.shard_bounds.specs.Shards.{ShardsNest};
 ghost use Rattle.shard_bounds.specs.Shards.{ShardsBecomeExactAverages, ShardsContainAverages, ShardsNestAverages};
@@ -69,9 +70,14 @@ pub fn combinations_tell_averages()
     ensures { CombinationsTellAverages }
 {}
 
-/// The bound over all shards admits the average over all.
+/// The bound over all shards is again a report: it admits the average over all, and looks exact only where it says the sum and the number.
 pub fn combinations_report_averages()
     ensures { CombinationsReportAverages }
+{}
+
+/// That bound looks exact only where each shard's does.
+pub fn combinations_look_exact()
+    ensures { CombinationsLookExact }
 {}
 
 /// The bound of the average of a list of rows looks exact only where it says the sum and the number.

@@ -16,7 +16,7 @@ use Rattle.shard_groups.specs.declared.cells.Cell.{Cell}
 use Rattle.shard_groups.specs.declared.keys.Span.{Span}
 use Rattle.shard_groups.specs.Groups.{all_keys, average_at, average_share, average_share_by, cells_within, keys_in, loose_word, loosened, only, uncertain_average}
 use Rattle.shard_groups.specs.Keys.{Key, holds, is_within}
-use Rattle.shard_groups.specs.Laws.{AreAveragesCertainAt, AreCellsDivisible, AreReportedAt, IsAverageCertainAt, IsOneOf, LinesContainAverages, has_cell}
+use Rattle.shard_groups.specs.Laws.{AreAveragesCertainAt, AreCellsDivisible, AreReportedAt, IsAverageCertainAt, IsOneOf, LinesReportAverages, has_cell}
 use Rattle.shard_groups.specs.Lines.{AreApart, AreCovered}
 use Rattle.shard_groups.proofs.Contains.{AreWithin, are_within}
 use Rattle.shard_groups.proofs.LineSets.{covered_back, covered_front}
@@ -221,7 +221,7 @@ shares_divide item key line (cells ∷ shards) [] certain = absurd certain
 shares_divide item key line (cells ∷ shards) (values ∷ tables) certain =
     (share_divides item line (cells_within line cells) (kept_divide item line cells certain.0.divisible), shares_divide item key line shards tables certain.1)
 
-pub lines_contain_averages : LinesContainAverages
-lines_contain_averages item key shards tables lines line are one k certain =
+pub lines_report_averages : LinesReportAverages
+lines_report_averages item key shards tables lines line are one k certain =
     combinations_report_averages (map (average_share item line) shards) tables (shares_divide item key line shards tables certain)
     (all_report item key shards tables lines line are.apart one k are.covered certain)

@@ -10,7 +10,7 @@ use Rattle.query_model.specs.declared.bounds.Nullity.TheVariants.{Never, Always}
 use Rattle.query_model.specs.declared.query.ItemKind.{ItemKind}
 use Rattle.query_model.specs.declared.query.ItemKind.TheVariants.{Count, Sum, Min, Max, Avg}
 use Rattle.query_model.specs.Answers.{answer, average}
-use Rattle.query_model.specs.Bounds.{Admits, IsNested, AdmitsAverage, AverageBound, IsNestedAverage}
+use Rattle.query_model.specs.Bounds.{Admits, IsNested, AverageBound, IsNestedAverage}
 use Rattle.shard_bounds.specs.Combined as answers
 use Rattle.shard_bounds.specs.Combined.{answer_over, IsBoundOf, Reordered}
 use Rattle.shard_bounds.specs.Laws.{IsNestedReport, Tells}
@@ -276,13 +276,13 @@ AreAveragesCertainAt item key (cells ∷ shards) [] = ⊥
 AreAveragesCertainAt item key (cells ∷ shards) (values ∷ tables) =
     IsAverageCertainAt item key cells values × AreAveragesCertainAt item key shards tables
 
--- a line that has the key contains its average over the rows of all shards
-abbrev pub LinesContainAverages : Type 0
-LinesContainAverages =
+-- a line that has the key is again such a report of its average over the rows of all shards
+abbrev pub LinesReportAverages : Type 0
+LinesReportAverages =
     (item : ℕ) (key : Key) (shards : List (List Cell)) (tables : List (List ℤ))
     (lines : List (List Span)) (line : List Span) →
     AreLines (all_keys shards) lines → IsOneOf line lines → IsTrue (holds line key) →
-    AreAveragesCertainAt item key shards tables → AdmitsAverage (average_over item line shards) (answers.average_over tables)
+    AreAveragesCertainAt item key shards tables → ReportsAverage (average_over item line shards) (answers.average_over tables)
 
 -- each cell that has the key says the sum and the number of these values
 abbrev pub AreAveragesToldAt : ℕ → Key → List Cell → List ℤ → Type 0

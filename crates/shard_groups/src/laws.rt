@@ -1,7 +1,7 @@
 //! The laws of combined reports by groups. Each stands on a function that does nothing.
 
 ghost use Rattle.shard_groups.specs.Found.{CombinedIsFound, LinesAreFound};
-ghost use Rattle.shard_groups.specs.Laws.{AveragesAreOne, LinesAreOne, LinesContain, LinesContainAverages, LinesNest, LinesNestAverages};
+ghost use Rattle.shard_groups.specs.Laws.{AveragesAreOne, LinesAreOne, LinesContain, LinesReportAverages, LinesNest, LinesNestAverages};
 ghost use Rattle.shard_groups.specs.Laws.{LinesTell, LinesTellAverages, LinesTellKeys, OneShardIsAll, OrderIsFree};
 
 /// Where the shards' reports are certain of a key, a line that has it contains its answer over the rows of all shards.
@@ -49,9 +49,9 @@ pub fn one_shard_is_all()
     ensures { OneShardIsAll }
 {}
 
-/// Where the shards' reports are certain of the average at a key, a line that has the key contains it over the rows of all shards.
-pub fn lines_contain_averages()
-    ensures { LinesContainAverages }
+/// Where the shards' reports are certain of the average at a key, so is a line that has the key, over the rows of all shards.
+pub fn lines_report_averages()
+    ensures { LinesReportAverages }
 {}
 
 /// Where the shards' reports are exact, the line of a key says the sum and the number of its values in all shards.

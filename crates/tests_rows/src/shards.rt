@@ -120,6 +120,19 @@ fn averages_are_exact_or_between(rt: HostRuntime) {
 }
 
 #[test]
+fn equal_averages_of_which_one_may_be_null_do_not_look_exact(rt: HostRuntime) {
+    let three = average(Nullity::Never, (3, 1), (3, 1));
+    let possibly = average(Nullity::Possibly, (3, 1), (3, 1));
+    assert_eq!(rt;
+        combine_averages(&[three, possibly]),
+        Some(average(Nullity::Never, (3, 1), (6, 2)))
+    );
+    let great = average(Nullity::Never, (i128::MAX, 1), (i128::MAX, 1));
+    let possibly_great = average(Nullity::Possibly, (i128::MAX, 1), (i128::MAX, 1));
+    assert_eq!(rt; combine_averages(&[great, possibly_great]), None);
+}
+
+#[test]
 fn great_fractions_are_compared(rt: HostRuntime) {
     let high = average(
         Nullity::Never,
