@@ -41,8 +41,8 @@ fn values_of(alloc: Global, ends: &ShownEnds) -> Result<Option<Ends>, AllocError
     }
 }
 
-// What is shown of a column.
-fn span_of(alloc: Global, span: &ShownSpan) -> Result<Span, AllocError>
+/// What the line of a report shows of a column: numbers in units, dates as day numbers, texts as they are.
+pub fn span_of(alloc: Global, span: &ShownSpan) -> Result<Span, AllocError>
     ensures { IfOk result (λ keys. keys ≡ span_of span.now) }
 {
     let ends = match &span.ends {

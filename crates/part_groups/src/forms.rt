@@ -29,8 +29,8 @@ pub(crate) enum Places {
     Items,
 }
 
-// The form of what is shown of a column; null has none.
-fn told_by_span(span: &ShownSpan) -> Option<EndsForm>
+/// The form of what is shown of a column; null has none.
+pub fn told_by_span(span: &ShownSpan) -> Option<EndsForm>
     ensures { result ≡ told_by_span span.now }
 {
     match &span.ends {
@@ -138,8 +138,8 @@ fn fits(shared: Option<EndsForm>, told: Option<EndsForm>) -> bool
     }
 }
 
-// Whether all forms that are told are one.
-fn are_alike(forms: &[Option<EndsForm>]) -> bool
+/// Whether all forms that are told are one.
+pub fn are_alike(forms: &[Option<EndsForm>]) -> bool
     ensures { result ≡ are_alike forms.now }
 {
     let shared = shared_form(forms);

@@ -11,10 +11,10 @@ mod keyed;
 mod keys;
 mod laws;
 
-pub use cells::cell_of;
+pub use cells::{cell_of, span_of};
 pub use combined::combine;
 pub use fault::CombineFault;
-pub use forms::EndsForm;
+pub use forms::{EndsForm, are_alike, told_by_span};
 pub use group::{Group, Groups};
 pub use keyed::has_key;
 pub use laws::{

@@ -1,14 +1,13 @@
 //! The rows that the reports of parts list, and what is listed of each.
 
 ghost use Rattle.std.specs.Prelude.{◌≡◌, ◌++◌, IfOk, OnOk, map};
-ghost use Rattle.part_groups.specs.Cells.{span_of, values_of};
 ghost use Rattle.report_text.specs.RowBlocks.{tag_bytes};
 ghost use Rattle.part_rows.specs.Combined.{listing, listings, listings_of, row_of};
 
 use crate::row::{PartRow, RowName};
 use daq_table::Text;
-use report_text::{RowLine, ShownEnds, ShownSpan};
-use shard_groups::{Ends, KeyValue, Span};
+use part_groups::span_of;
+use report_text::RowLine;
 use std::alloc::{AllocError, Global};
 
 /// The rows that the report of a part lists, and the tag of the part.
@@ -63,41 +62,6 @@ pub(crate) fn copied(alloc: Global, text: &[u8]) -> Result<Text, AllocError>
     ensures { IfOk result (λ copy. copy ≡ text.now) }
 {
     Ok(Text::new(Vec::from_slice(alloc, text)?))
-}
-
-// The values that are shown: none where a column of texts has none.
-fn values_of(alloc: Global, ends: &ShownEnds) -> Result<Option<Ends>, AllocError>
-    ensures { IfOk result (λ values. values ≡ values_of ends.now) }
-{
-    match ends {
-        ShownEnds::Values(ends) => Ok(Some(Ends {
-            low: KeyValue::Number(ends.low),
-            high: KeyValue::Number(ends.high),
-        })),
-        ShownEnds::Texts(ends) => {
-            let low = copied(alloc, ends.low.as_slice())?;
-            let high = copied(alloc, ends.high.as_slice())?;
-            Ok(Some(Ends {
-                low: KeyValue::Text(low),
-                high: KeyValue::Text(high),
-            }))
-        }
-        ShownEnds::NoText => Ok(None),
-    }
-}
-
-// The keys that are shown.
-fn span_of(alloc: Global, key: &ShownSpan) -> Result<Span, AllocError>
-    ensures { IfOk result (λ span. span ≡ span_of key.now) }
-{
-    let ends = match &key.ends {
-        Some(ends) => values_of(alloc, ends)?,
-        None => None,
-    };
-    Ok(Span {
-        null: key.null,
-        ends,
-    })
 }
 
 // The bytes of a tag. A row of one table has none.
