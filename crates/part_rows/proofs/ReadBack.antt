@@ -8,7 +8,7 @@ use Rattle.report_text.specs.Rows.{IsShownRow, IsTopLine, row_line}
 use Rattle.report_text.specs.declared.rows.RowLine.{RowLine}
 use Rattle.report_text.specs.declared.rows.TopLine.{TopLine}
 use Rattle.part_rows.specs.declared.listed.ListedRows.{ListedRows}
-use Rattle.part_rows.specs.declared.row.FirstRows.{FirstRows}
+use Rattle.query_kinds.specs.declared.rows.FirstRows.{FirstRows}
 use Rattle.part_rows.specs.Combined.{Listing, block_of, joined_tag, line_by, line_of, listings, listings_from, listings_of, rows_of, skipped_block, standing_in, told_lines}
 use Rattle.part_rows.specs.ReadBack.{AreShownParts, AreTaken, BlocksAreReadBack, IsReadBack}
 use Rattle.part_rows.specs.Rising.{AreRisingLines}

@@ -3,7 +3,7 @@ use Rattle.std.proofs.Common.{◌≡◌, nat_eq, nat_lt, ◌&&◌, List, sym, ap
 use Rattle.std.proofs.lemmas.Bool.{and_parts, both_ways, cases_lt, ltb-true}
 use Rattle.query_model.specs.declared.bounds.Standing.TheVariants.{Certain, Excluded}
 use Rattle.part_rows.specs.declared.row.End.TheVariants.{First, Last}
-use Rattle.part_rows.specs.declared.row.FirstRows.{FirstRows}
+use Rattle.query_kinds.specs.declared.rows.FirstRows.{FirstRows}
 use Rattle.part_rows.specs.declared.row.PartRow.{PartRow}
 use Rattle.part_rows.specs.Laws.{HasFirst, StandingsAreRight}
 use Rattle.part_rows.specs.Marks.{Mark, comes_before, mark_at}

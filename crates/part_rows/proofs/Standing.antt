@@ -3,7 +3,7 @@ use Rattle.std.proofs.Common.{◌≡◌, ◌≢◌, ◌<◌, ◌≤◌, nat_le, 
 use Rattle.std.specs.List.{count_by}
 use Rattle.std.proofs.lemmas.Bool.{and_from, and_parts, false≢true, le-leb, leb-true, lt-leb, lt-ltb, ltb-true, true≢false}
 use Rattle.query_model.specs.declared.bounds.Standing.TheVariants.{Certain, Possible, Excluded}
-use Rattle.part_rows.specs.declared.row.FirstRows.{FirstRows}
+use Rattle.query_kinds.specs.declared.rows.FirstRows.{FirstRows}
 use Rattle.part_rows.specs.declared.row.PartRow.{PartRow}
 use Rattle.part_rows.specs.Standings.{leaders, may_precede, rivals, standing}
 use Rattle.part_rows.specs.Tables.{is_certain, is_excluded}

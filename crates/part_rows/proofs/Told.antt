@@ -5,7 +5,7 @@ use Rattle.query_model.specs.declared.bounds.Standing.{Standing}
 use Rattle.query_model.specs.declared.bounds.Standing.TheVariants.{Certain, Possible, Excluded}
 use Rattle.query_model.specs.Ranking.{StandingKept}
 use Rattle.report_text.specs.declared.rows.RowLine.{RowLine}
-use Rattle.part_rows.specs.declared.row.FirstRows.{FirstRows}
+use Rattle.query_kinds.specs.declared.rows.FirstRows.{FirstRows}
 use Rattle.part_rows.specs.declared.row.PartRow.{PartRow}
 use Rattle.part_rows.specs.declared.row.RowName.{RowName}
 use Rattle.part_rows.specs.Combined.{Listing, line_of, row_of, rows_of, standing_in}

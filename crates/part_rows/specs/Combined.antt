@@ -11,7 +11,7 @@ use Rattle.report_text.specs.declared.rows.TopLine.{TopLine}
 use Rattle.part_rows.specs.declared.combined.CombinedRows.{CombinedRows}
 use Rattle.part_rows.specs.declared.listed.ListedRow.{ListedRow}
 use Rattle.part_rows.specs.declared.listed.ListedRows.{ListedRows}
-use Rattle.part_rows.specs.declared.row.FirstRows.{FirstRows}
+use Rattle.query_kinds.specs.declared.rows.FirstRows.{FirstRows}
 use Rattle.part_rows.specs.declared.row.PartRow.{PartRow}
 use Rattle.part_rows.specs.Standings.{standing}
 use Rattle.part_rows.specs.Tables.{is_certain, is_excluded}

@@ -8,7 +8,7 @@ use Rattle.shard_groups.specs.declared.keys.KeyValue.{KeyValue}
 use Rattle.shard_groups.specs.Keys.{allows}
 use Rattle.part_rows.specs.declared.row.End.{End}
 use Rattle.part_rows.specs.declared.row.End.TheVariants.{First, Last}
-use Rattle.part_rows.specs.declared.row.FirstRows.{FirstRows}
+use Rattle.query_kinds.specs.declared.rows.FirstRows.{FirstRows}
 use Rattle.part_rows.specs.declared.row.PartRow.{PartRow}
 use Rattle.part_rows.specs.Marks.{Mark, key_at, mark_at}
 use Rattle.part_rows.specs.Standings.{standing}

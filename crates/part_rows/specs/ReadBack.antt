@@ -6,7 +6,7 @@ use Rattle.report_text.specs.Rows.{IsShownRow, IsTopLine, row_line, top_line}
 use Rattle.report_text.specs.declared.rows.RowLine.{RowLine}
 use Rattle.part_rows.specs.declared.combined.CombinedRows.{CombinedRows}
 use Rattle.part_rows.specs.declared.listed.ListedRows.{ListedRows}
-use Rattle.part_rows.specs.declared.row.FirstRows.{FirstRows}
+use Rattle.query_kinds.specs.declared.rows.FirstRows.{FirstRows}
 use Rattle.part_rows.specs.Combined.{combined, is_skipped}
 use Rattle.part_rows.specs.Rising.{AreRisingParts}
 use Rattle.part_rows.specs.Worlds.{IsIn}

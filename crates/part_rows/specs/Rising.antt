@@ -5,7 +5,7 @@ use Rattle.std.specs.Ordering.{is_lt, nat_cmp}
 use Rattle.report_text.specs.RowBlocks.{comes_before as stands_before}
 use Rattle.report_text.specs.declared.rows.RowLine.{RowLine}
 use Rattle.part_rows.specs.declared.listed.ListedRows.{ListedRows}
-use Rattle.part_rows.specs.declared.row.FirstRows.{FirstRows}
+use Rattle.query_kinds.specs.declared.rows.FirstRows.{FirstRows}
 use Rattle.part_rows.specs.Combined.{listings, told_lines}
 use Rattle.part_rows.specs.Faults.{is_clear}
 use Rattle.part_rows.specs.Worlds.{IsIn}

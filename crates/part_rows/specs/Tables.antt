@@ -15,7 +15,7 @@ use Rattle.query_model.specs.Ranking.{Order, standing_of}
 use Rattle.query_model.specs.Truths.{Range, may_be_null, may_be_number}
 use Rattle.shard_groups.specs.declared.keys.KeyValue.{KeyValue}
 use Rattle.shard_groups.specs.declared.keys.Span.{Span}
-use Rattle.part_rows.specs.declared.row.FirstRows.{FirstRows}
+use Rattle.query_kinds.specs.declared.rows.FirstRows.{FirstRows}
 use Rattle.part_rows.specs.declared.row.PartRow.{PartRow}
 use Rattle.part_rows.specs.declared.row.RowName.{RowName}
 use Rattle.part_rows.specs.Laws.{AreLater, IsExact}

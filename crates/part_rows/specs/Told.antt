@@ -1,7 +1,7 @@
 -- What the lines of the block over all parts tell for certain, as statements.
 use Rattle.std.specs.Prelude.{◌≡◌, not, List, IsTrue}
 use Rattle.report_text.specs.declared.rows.RowLine.{RowLine}
-use Rattle.part_rows.specs.declared.row.FirstRows.{FirstRows}
+use Rattle.query_kinds.specs.declared.rows.FirstRows.{FirstRows}
 use Rattle.part_rows.specs.declared.row.PartRow.{PartRow}
 use Rattle.part_rows.specs.declared.row.RowName.{RowName}
 use Rattle.part_rows.specs.Combined.{Listing, line_of, row_of, rows_of, standing_in, told_lines}

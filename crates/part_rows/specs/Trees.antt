@@ -1,7 +1,7 @@
 -- What is judged of several parts as the report of one part of a larger table.
 use Rattle.std.specs.Prelude.{◌≡◌, ℕ, not, List, ◌++◌, map}
 use Rattle.std.specs.List.{filter}
-use Rattle.part_rows.specs.declared.row.FirstRows.{FirstRows}
+use Rattle.query_kinds.specs.declared.rows.FirstRows.{FirstRows}
 use Rattle.part_rows.specs.declared.row.PartRow.{PartRow}
 use Rattle.part_rows.specs.declared.row.RowName.{RowName}
 use Rattle.part_rows.specs.Marks.{name_cmp}

@@ -2,7 +2,7 @@
 use Rattle.std.specs.Prelude.{◌≡◌, ◌⊎◌, ◌<◌, nat_eq, ◌&&◌, List, [], ◌∷◌, IsTrue, map}
 use Rattle.std.specs.List.{count_by}
 use Rattle.shard_groups.specs.Keys.{allows}
-use Rattle.part_rows.specs.declared.row.FirstRows.{FirstRows}
+use Rattle.query_kinds.specs.declared.rows.FirstRows.{FirstRows}
 use Rattle.part_rows.specs.declared.row.PartRow.{PartRow}
 use Rattle.part_rows.specs.declared.row.RowName.{RowName}
 use Rattle.part_rows.specs.Marks.{Mark, comes_before}

@@ -9,9 +9,10 @@ ghost use Rattle.part_rows.specs.Faults.{AreAlike, AreClear, IsRowsFault, IsTagF
 use crate::fault::RowsFault;
 use crate::forms::are_alike;
 use crate::listed::{ListedRow, ListedRows, copied, listed_rows, rows_of, tag_bytes};
-use crate::row::{FirstRows, PartRow};
+use crate::row::PartRow;
 use crate::standings::judge;
 use daq_table::{Listed, Text};
+use query_kinds::FirstRows;
 use query_model::Standing;
 use report_text::{RowLine, RowName, ShownEnds, ShownSpan, TextEnds, TopLine};
 use std::alloc::{AllocError, Global};

@@ -19,5 +19,5 @@ pub use laws::{
     standings_are_right, standings_become_exact, standings_nest, told_rows_hold,
 };
 pub use listed::ListedRows;
-pub use row::{FirstRows, PartRow, RowName};
+pub use row::{PartRow, RowName};
 pub use standings::judge;

@@ -3,13 +3,6 @@
 use daq_table::Text;
 use shard_groups::Span;
 
-/// What is asked for: so many rows of those whose keys come first, downwards or upwards. Null comes last in both directions.
-#[derive(Clone, Copy, Debug)]
-pub struct FirstRows {
-    pub limit: u64,
-    pub down: bool,
-}
-
 /// The name of a row. Of rows with equal keys the one whose name is less comes first.
 #[derive(Drop, Debug)]
 pub struct RowName {

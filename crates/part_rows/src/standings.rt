@@ -5,7 +5,8 @@ ghost use Rattle.part_rows.specs.Ranked.{AreRanked};
 ghost use Rattle.part_rows.specs.Standings.{standing, standings};
 
 use crate::ranked::RankedRows;
-use crate::row::{FirstRows, PartRow};
+use crate::row::PartRow;
+use query_kinds::FirstRows;
 use query_model::Standing;
 use std::alloc::{AllocError, Global};
 

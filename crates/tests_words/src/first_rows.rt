@@ -1,7 +1,8 @@
 //! The first rows of several parts, judged by what the parts list: worked out by hand.
 
 use daq_table::Text;
-use part_rows::{FirstRows, PartRow, RowName, judge};
+use part_rows::{PartRow, RowName, judge};
+use query_kinds::FirstRows;
 use query_model::Standing;
 use shard_groups::{Ends, KeyValue, Span};
 use std::alloc::{AllocError, Global};
