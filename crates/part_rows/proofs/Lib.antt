@@ -1,6 +1,7 @@
 mod Counts
 mod Ends
 mod Exact
+mod Joined
 mod Joins
 mod Later
 mod Lines

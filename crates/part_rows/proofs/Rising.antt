@@ -33,7 +33,7 @@ in_order_joined before (x ∷ xs) ys p q across = (
   in_order_joined before xs ys p.1 q (λ a b i j. across a b (inr i) j),
 )
 
-in_order_mapped : {X Y : Type 0} (f : X → Y) (before : X → X → Bool) (after : Y → Y → Bool) (xs : List X) →
+pub in_order_mapped : {X Y : Type 0} (f : X → Y) (before : X → X → Bool) (after : Y → Y → Bool) (xs : List X) →
     ((a b : X) → IsTrue (before a b) → IsTrue (after (f a) (f b))) → AreInOrder before xs → AreInOrder after (map f xs)
 in_order_mapped f before after [] keeps p = tt
 in_order_mapped f before after (x ∷ xs) keeps p = (
@@ -77,7 +77,7 @@ behind_cmp (x ∷ s) [] = refl
 behind_cmp (x ∷ s) (y ∷ t) = same_byte 32 (x ∷ s) (y ∷ t)
 
 -- the tags of one part keep their order
-joined_cmp : (tag s t : List ℕ) → slice_cmp nat_cmp (joined_tag tag s) (joined_tag tag t) ≡ slice_cmp nat_cmp s t
+pub joined_cmp : (tag s t : List ℕ) → slice_cmp nat_cmp (joined_tag tag s) (joined_tag tag t) ≡ slice_cmp nat_cmp s t
 joined_cmp tag s t =
     ap (λ l. slice_cmp nat_cmp l (joined_tag tag t)) (joined_is tag s) ∙ ap (λ l. slice_cmp nat_cmp (tag ++ behind_tag s) l) (joined_is tag t)
     ∙ same_front tag (behind_tag s) (behind_tag t) ∙ behind_cmp s t
@@ -99,6 +99,12 @@ rising (x ∷ tag) [] s t p c = absurd (false≢true p)
 rising (x ∷ tag) (y ∷ later) s t p c =
     by_first (nat_cmp x y) (slice_cmp nat_cmp tag later) (slice_cmp nat_cmp (tag ++ behind_tag s) (later ++ behind_tag t))
     (λ q. rising tag later s t q (and_parts (nat_lt 32 y) (is_clear later) c).1) p
+
+pub joined_rises : (tag later s t : List ℕ) → IsTrue (is_lt (slice_cmp nat_cmp tag later)) → IsTrue (is_clear later) →
+    IsTrue (is_lt (slice_cmp nat_cmp (joined_tag tag s) (joined_tag later t)))
+joined_rises tag later s t p c =
+    ap (λ l. is_lt (slice_cmp nat_cmp l (joined_tag later t))) (joined_is tag s)
+    ∙ ap (λ l. is_lt (slice_cmp nat_cmp (tag ++ behind_tag s) l)) (joined_is later t) ∙ rising tag later s t p c
 
 -- ---- the rows of all parts
 
@@ -138,10 +144,7 @@ across a b p c =
     let s = tag_bytes a.line.name.tag in
     let t = tag_bytes b.line.name.tag in
     let o = slice_cmp nat_cmp (joined_tag a.tag s) (joined_tag b.tag t) in
-    let less : IsTrue (is_lt o) =
-    ap (λ l. is_lt (slice_cmp nat_cmp l (joined_tag b.tag t))) (joined_is a.tag s)
-    ∙ ap (λ l. is_lt (slice_cmp nat_cmp (a.tag ++ behind_tag s) l)) (joined_is b.tag t) ∙ rising a.tag b.tag s t p c in
-    or_left (is_lt o) (is_eq o && nat_lt a.line.name.number b.line.name.number) less
+    or_left (is_lt o) (is_eq o && nat_lt a.line.name.number b.line.name.number) (joined_rises a.tag b.tag s t p c)
 
 all_in_order : (place : ℕ) (parts : List ListedRows) → AreRisingParts parts → AreInOrder before (listings_from place parts)
 all_in_order place [] r = tt

@@ -1,5 +1,6 @@
 pub mod Combined
 pub mod Faults
+pub mod Joined
 pub mod Laws
 pub mod Marks
 pub mod Ranked

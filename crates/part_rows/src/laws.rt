@@ -1,5 +1,6 @@
 //! The laws of standings over all parts. Each stands on a function that does nothing.
 
+ghost use Rattle.part_rows.specs.Joined.{LinesHold};
 ghost use Rattle.part_rows.specs.Laws.{OrderIsFree, StandingsAreRight, StandingsBecomeExact, StandingsNest};
 ghost use Rattle.part_rows.specs.ReadBack.{BlocksAreReadBack};
 ghost use Rattle.part_rows.specs.Rising.{LinesRise};
@@ -97,4 +98,9 @@ pub fn lines_rise()
 /// so do the tags of the parts, which are clear.
 pub fn blocks_are_read_back()
     ensures { BlocksAreReadBack }
+{}
+
+/// Where the reports of the parts hold, and their tags and lines rise, the lines of the block over all parts hold as those of one part.
+pub fn lines_hold()
+    ensures { LinesHold }
 {}

@@ -1,0 +1,35 @@
+-- The lines of the block over all parts as those of one part of more.
+use Rattle.std.specs.Prelude.{ℕ, ◌<◌, List, [], get_or, length, map}
+use Rattle.report_text.specs.declared.rows.RowLine.{RowLine}
+use Rattle.query_kinds.specs.declared.rows.FirstRows.{FirstRows}
+use Rattle.part_rows.specs.declared.listed.ListedRows.{ListedRows}
+use Rattle.part_rows.specs.declared.row.RowName.{RowName}
+use Rattle.part_rows.specs.Combined.{Listing, joined_tag, listings, rows_of, told_lines}
+use Rattle.part_rows.specs.Marks.{Mark}
+use Rattle.part_rows.specs.Rising.{AreRisingParts}
+use Rattle.part_rows.specs.Tables.{Holds}
+use Rattle.part_rows.specs.Trees.{renamed}
+use Rattle.part_rows.specs.Worlds.{IsIn, World}
+
+-- the tag of the part at a place
+abbrev pub tag_at : List ListedRows → ℕ → List ℕ
+tag_at parts place = get_or (map (λ part. part.tag.now) parts) place []
+
+-- the name of a row in the report of all parts, which is itself the part at a place
+abbrev pub joined_name : ℕ → List ListedRows → RowName → RowName
+joined_name place parts name = record { part = place; tag = joined_tag (tag_at parts name.part) name.tag; number = name.number }
+
+-- the lines as the part at a place lists them
+abbrev pub listed_at : ℕ → List ℕ → List RowLine → List Listing
+listed_at place tag lines = map (λ line. record { part = place; tag = tag; line = line }) lines
+
+-- each row of the world is of one of so many parts
+abbrev pub AreOfSoMany : ℕ → World → Type 0
+AreOfSoMany parts world = (mark : Mark) → IsIn mark world → mark.name.part < parts
+
+-- where the reports of the parts hold, the lines of the block over all of them do, as those of one part
+abbrev pub LinesHold : Type 0
+LinesHold =
+    (place : ℕ) (tag : List ℕ) (asked : FirstRows) (parts : List ListedRows) (world : World) →
+    AreRisingParts parts → AreOfSoMany (length parts) world → Holds asked (rows_of (listings parts)) world →
+    Holds asked (rows_of (listed_at place tag (told_lines asked (listings parts)))) (renamed (joined_name place parts) world)
