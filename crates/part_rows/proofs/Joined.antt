@@ -16,17 +16,19 @@ use Rattle.query_kinds.specs.declared.rows.FirstRows.{FirstRows}
 use Rattle.part_rows.specs.declared.listed.ListedRows.{ListedRows}
 use Rattle.part_rows.specs.declared.row.PartRow.{PartRow}
 use Rattle.part_rows.specs.declared.row.RowName.{RowName}
-use Rattle.part_rows.specs.Combined.{Listing, joined_tag, line_of, lines_of, listings, listings_from, listings_of, row_of, rows_of, standing_in}
+use Rattle.part_rows.specs.Combined.{Listing, joined_tag, line_of, lines_of, listings, listings_from, listings_of, row_of, rows_of, standing_in, told_lines}
 use Rattle.part_rows.specs.Faults.{is_clear}
-use Rattle.part_rows.specs.Joined.{AreOfSoMany, LinesHold, joined_name, listed_at, tag_at}
+use Rattle.part_rows.specs.Joined.{AreOfSoMany, JoinedLinesNest, LinesHold, joined_name, listed_at, tag_at}
+use Rattle.part_rows.specs.Laws.{AreLater}
 use Rattle.part_rows.specs.Marks.{Mark, name_cmp}
 use Rattle.part_rows.specs.Rising.{AreInOrder, AreRisingParts}
 use Rattle.part_rows.specs.Standings.{standing}
 use Rattle.part_rows.specs.Tables.{Holds, is_certain, is_excluded}
-use Rattle.part_rows.specs.Trees.{AreOfOnePart, renamed, told_row}
+use Rattle.part_rows.specs.Trees.{AreOfOnePart, renamed, told_row, told_rows}
 use Rattle.part_rows.specs.Worlds.{IsIn, World, names_in, names_of}
 use Rattle.part_rows.proofs.Joins.{in_either}
 use Rattle.part_rows.proofs.Rising.{in_order_mapped, joined_cmp, joined_rises}
+use Rattle.part_rows.proofs.ToldLater.{told_rows_nest}
 use Rattle.part_rows.proofs.Trees.{out_of_map, told_rows_hold}
 
 -- ---- the tags of the parts
@@ -178,3 +180,13 @@ lines_hold place tag asked parts world r of h =
     } in
     let same = told_is place tag asked parts rows listed (tag_of parts) in
     subst (λ rs. Holds asked rs (renamed rename world)) (sym same) (told_rows_hold rename place asked rows world one h)
+
+pub joined_lines_nest : JoinedLinesNest
+joined_lines_nest place tag asked olds parts alike n m later =
+    let rename = joined_name place parts in
+    let before = told_is place tag asked parts (rows_of (listings olds)) (listings olds)
+    (λ row i. tag_of olds row i ∙ ap (λ tags. get_or tags row.part []) alike) in
+    let after = told_is place tag asked parts (rows_of (listings parts)) (listings parts) (tag_of parts) in
+    subst (λ rows. AreLater asked.down rows (rows_of (listed_at place tag (told_lines asked (listings parts))))) (sym before)
+    (subst (AreLater asked.down (told_rows rename asked (rows_of (listings olds)))) (sym after)
+    (told_rows_nest rename asked (rows_of (listings olds)) (rows_of (listings parts)) n m later))

@@ -16,4 +16,5 @@ mod Right
 mod Rising
 mod Standing
 mod Told
+mod ToldLater
 mod Trees

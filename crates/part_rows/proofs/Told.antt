@@ -48,7 +48,7 @@ lines_are_right asked listed world n w =
           line_by_row asked listed told.row mark.name told.is told.named (λ e. right.excluded told.row mark told.is j (sym told.named) e f);
     }
 
-not_both : (o : Standing) → IsTrue (not (is_excluded o)) → o ≢ Excluded
+pub not_both : (o : Standing) → IsTrue (not (is_excluded o)) → o ≢ Excluded
 not_both o t e = false≢true (ap (λ s. not (is_excluded s)) (sym e) ∙ t)
 
 pub lines_nest : LinesNest

@@ -1,15 +1,16 @@
 -- The lines of the block over all parts as those of one part of more.
-use Rattle.std.specs.Prelude.{ℕ, ◌<◌, List, [], get_or, length, map}
+use Rattle.std.specs.Prelude.{◌≡◌, ℕ, ◌<◌, List, [], get_or, length, map}
 use Rattle.report_text.specs.declared.rows.RowLine.{RowLine}
 use Rattle.query_kinds.specs.declared.rows.FirstRows.{FirstRows}
 use Rattle.part_rows.specs.declared.listed.ListedRows.{ListedRows}
 use Rattle.part_rows.specs.declared.row.RowName.{RowName}
 use Rattle.part_rows.specs.Combined.{Listing, joined_tag, listings, rows_of, told_lines}
+use Rattle.part_rows.specs.Laws.{AreLater}
 use Rattle.part_rows.specs.Marks.{Mark}
 use Rattle.part_rows.specs.Rising.{AreRisingParts}
 use Rattle.part_rows.specs.Tables.{Holds}
 use Rattle.part_rows.specs.Trees.{renamed}
-use Rattle.part_rows.specs.Worlds.{IsIn, World}
+use Rattle.part_rows.specs.Worlds.{AreNamedOnce, IsIn, World, names_of}
 
 -- the tag of the part at a place
 abbrev pub tag_at : List ListedRows → ℕ → List ℕ
@@ -33,3 +34,13 @@ LinesHold =
     (place : ℕ) (tag : List ℕ) (asked : FirstRows) (parts : List ListedRows) (world : World) →
     AreRisingParts parts → AreOfSoMany (length parts) world → Holds asked (rows_of (listings parts)) world →
     Holds asked (rows_of (listed_at place tag (told_lines asked (listings parts)))) (renamed (joined_name place parts) world)
+
+-- with later reports of the parts, under the same tags, these lines are later ones
+abbrev pub JoinedLinesNest : Type 0
+JoinedLinesNest =
+    (place : ℕ) (tag : List ℕ) (asked : FirstRows) (olds parts : List ListedRows) →
+    map (λ part. part.tag.now) olds ≡ map (λ part. part.tag.now) parts →
+    AreNamedOnce (names_of (rows_of (listings olds))) → AreNamedOnce (names_of (rows_of (listings parts))) →
+    AreLater asked.down (rows_of (listings olds)) (rows_of (listings parts)) →
+    AreLater asked.down (rows_of (listed_at place tag (told_lines asked (listings olds))))
+    (rows_of (listed_at place tag (told_lines asked (listings parts))))

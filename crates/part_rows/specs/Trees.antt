@@ -4,10 +4,11 @@ use Rattle.std.specs.List.{filter}
 use Rattle.query_kinds.specs.declared.rows.FirstRows.{FirstRows}
 use Rattle.part_rows.specs.declared.row.PartRow.{PartRow}
 use Rattle.part_rows.specs.declared.row.RowName.{RowName}
+use Rattle.part_rows.specs.Laws.{AreLater}
 use Rattle.part_rows.specs.Marks.{name_cmp}
 use Rattle.part_rows.specs.Standings.{standing}
 use Rattle.part_rows.specs.Tables.{Holds, is_certain, is_excluded}
-use Rattle.part_rows.specs.Worlds.{IsIn, World, names_in, names_of}
+use Rattle.part_rows.specs.Worlds.{AreNamedOnce, IsIn, World, names_in, names_of}
 
 -- other names for these, all of one part, in the same order
 pub record AreOfOnePart (rename : RowName → RowName) (part : ℕ) (names : List RowName) : Type 0 where
@@ -31,3 +32,10 @@ ToldRowsHold =
     (rename : RowName → RowName) (part : ℕ) (asked : FirstRows) (rows : List PartRow) (world : World) →
     AreOfOnePart rename part (names_of rows ++ names_in world) → Holds asked rows world →
     Holds asked (told_rows rename asked rows) (renamed rename world)
+
+-- with later reports of the parts what is told of them is a later report
+abbrev pub ToldRowsNest : Type 0
+ToldRowsNest =
+    (rename : RowName → RowName) (asked : FirstRows) (olds rows : List PartRow) →
+    AreNamedOnce (names_of olds) → AreNamedOnce (names_of rows) → AreLater asked.down olds rows →
+    AreLater asked.down (told_rows rename asked olds) (told_rows rename asked rows)

@@ -1,12 +1,12 @@
 //! The laws of standings over all parts. Each stands on a function that does nothing.
 
-ghost use Rattle.part_rows.specs.Joined.{LinesHold};
+ghost use Rattle.part_rows.specs.Joined.{JoinedLinesNest, LinesHold};
 ghost use Rattle.part_rows.specs.Laws.{OrderIsFree, StandingsAreRight, StandingsBecomeExact, StandingsNest};
 ghost use Rattle.part_rows.specs.ReadBack.{BlocksAreReadBack};
 ghost use Rattle.part_rows.specs.Rising.{LinesRise};
 ghost use Rattle.part_rows.specs.Tables.{LaterReportsJoin, ReportsBecomeExact, ReportsHold, ReportsJoin, ReportsNest};
 ghost use Rattle.part_rows.specs.Told.{LinesAreRight, LinesBecomeExact, LinesNest};
-ghost use Rattle.part_rows.specs.Trees.{ToldRowsHold};
+ghost use Rattle.part_rows.specs.Trees.{ToldRowsHold, ToldRowsNest};
 
 use query_model::{
     completions_are_selections, ranges_become_exact, ranges_nest, taken_is_knowledge,
@@ -103,4 +103,14 @@ pub fn blocks_are_read_back()
 /// Where the reports of the parts hold, and their tags and lines rise, the lines of the block over all parts hold as those of one part.
 pub fn lines_hold()
     ensures { LinesHold }
+{}
+
+/// With later reports of the parts what is told of them is a later report, under whatever names.
+pub fn told_rows_nest()
+    ensures { ToldRowsNest }
+{}
+
+/// With later reports of the parts, under the same tags, the lines of the block over all parts are later ones of one part.
+pub fn joined_lines_nest()
+    ensures { JoinedLinesNest }
 {}
