@@ -13,6 +13,7 @@ use Rattle.query_model.specs.declared.query.ItemKind.{ItemKind}
 use Rattle.query_model.specs.declared.query.ItemKind.TheVariants.{Avg}
 use Rattle.report_text.specs.Extras.{IsRowsLine, extra_line}
 use Rattle.report_text.specs.Lines.{IsRoundLine, item_line}
+use Rattle.report_text.specs.RowBlocks.{LacksPossible, RowsTold, TakesRows, no_rows}
 use Rattle.report_text.specs.declared.groups.GroupLine.{GroupLine}
 use Rattle.report_parts.proofs.Said.{fault_as, said_as}
 use Rattle.report_parts.specs.Ends.{end_of_all, ends_narrow}
@@ -24,9 +25,9 @@ use Rattle.report_parts.specs.Entries.{answers_of, ends_with_extra, last_entry, 
 use Rattle.report_parts.specs.Reports.{block_beside, block_by, block_over, entries_over}
 use Rattle.report_parts.specs.Rounds.{all_groups_in, groups_in, entries_in, entry_in, has_block, is_over}
 use Rattle.report_parts.specs.Tags.{AreInOrder, CannotTake, IsLineRefused, IsRefused, TakesTagged, against, behind_tag, by_order, tag_of, told_of, with_part}
-use Rattle.report_parts.specs.Told.{Answers, BeginsGroup, Closes, Extends, GoesOn, GroupsGoOn, OrElse, PassesBehind, PassesBehindSection, PassesInside, Takes, TakesAt, TakesBehind, TakesBehindAnswer, TakesBetween, TakesInside, TakesRest, Told, at_place, block_done, closed, closed_by, completed, completed_by, is_whole, nothing_told, opened_by, settled, with_answer, with_current, with_extra, with_group}
+use Rattle.report_parts.specs.Told.{Answers, BeginsGroup, Closes, Extends, GoesOn, GroupsGoOn, IsUnlisted, ListsRow, OrElse, PassesBehind, PassesBehindSection, PassesInside, RowsGoOn, Takes, TakesAt, TakesBehind, TakesBehindAnswer, TakesBetween, TakesInside, TakesRest, Told, at_place, block_done, closed, closed_by, completed, completed_by, is_whole, nothing_told, opened_by, rows_done, settled, with_answer, with_current, with_extra, with_group, with_rows}
 use Rattle.report_parts.specs.declared.block.Block.{Block}
-use Rattle.report_parts.specs.declared.block.Block.TheVariants.{Groups, Totals}
+use Rattle.report_parts.specs.declared.block.Block.TheVariants.{Groups, Rows, Totals}
 use Rattle.part_groups.specs.declared.group.Group.{Group as GroupTold}
 use Rattle.report_parts.specs.declared.closing.Closing.{Closing}
 use Rattle.report_parts.specs.declared.closing.Closing.TheVariants.{Unknown}
@@ -35,15 +36,15 @@ use Rattle.report_parts.specs.declared.fault.BlockFault.{BlockFault}
 use Rattle.report_parts.specs.declared.fault.InputFault.{InputFault}
 use Rattle.report_parts.specs.declared.fault.InputFault.TheVariants.{Line, NoTab, NoTag, OtherPart}
 use Rattle.report_parts.specs.declared.fault.LineFault.{LineFault}
-use Rattle.report_parts.specs.declared.fault.LineFault.TheVariants.{NoMemory, OtherLine, OtherQuery}
+use Rattle.report_parts.specs.declared.fault.LineFault.TheVariants.{NoMemory, OtherLine, OtherQuery, Unlisted}
 use Rattle.report_parts.specs.declared.part.Place.{Place}
-use Rattle.report_parts.specs.declared.part.Place.TheVariants.{Query, Opened, Round, Group, Items, Ended}
+use Rattle.report_parts.specs.declared.part.Place.TheVariants.{Query, Opened, Round, Group, Items, Row, Ended}
 use Rattle.report_parts.specs.declared.shape.Shape.{Shape}
 
 -- ---- the same from a round on
 
 pub tells_here : (round : ℕ) (told : Told) → TellsFrom round told told
-tells_here round told = record { tag = refl; closing = refl; sections = refl; group = refl; current = refl; place = refl; count = refl; same = λ later from. refl }
+tells_here round told = record { tag = refl; closing = refl; sections = refl; group = refl; current = refl; rows = refl; place = refl; count = refl; same = λ later from. refl }
 
 pub tells_back : (round : ℕ) (whole told : Told) → TellsFrom round whole told → TellsFrom round told whole
 tells_back round whole told h =
@@ -53,6 +54,7 @@ tells_back round whole told h =
       sections = sym h.sections;
       group = sym h.group;
       current = sym h.current;
+      rows = sym h.rows;
       place = sym h.place;
       count = sym h.count;
       same = λ later from. sym (h.same later from);
@@ -65,6 +67,7 @@ tells_both from to whole told next le h k = record {
   sections = k.sections ∙ h.sections;
   group = k.group ∙ h.group;
   current = k.current ∙ h.current;
+  rows = k.rows ∙ h.rows;
   place = k.place ∙ h.place;
   count = k.count ∙ h.count;
   same = λ later there. k.same later there ∙ h.same later (omega (arith, le, there));
@@ -153,7 +156,7 @@ moved_too : (round : ℕ) (whole told next : Told) (place : Place) → TellsFrom
     TellsFrom round (at_place whole place) next
 moved_too round whole told next place h e =
     subst (λ (t : Told). TellsFrom round (at_place whole place) t) (sym e)
-    (record { tag = h.tag; closing = h.closing; sections = h.sections; group = h.group; current = h.current; place = refl; count = h.count; same = h.same })
+    (record { tag = h.tag; closing = h.closing; sections = h.sections; group = h.group; current = h.current; rows = h.rows; place = refl; count = h.count; same = h.same })
 
 pub cases_lt : (a b : ℕ) → (a < b) ⊎ (b ≤ a)
 cases_lt a b = grind arith
@@ -203,6 +206,7 @@ closed_by_too None round current whole told h = record {
   sections = h.sections;
   group = refl;
   current = refl;
+  rows = h.rows;
   place = refl;
   count = one_more whole.blocks told.blocks (Totals current) h.count;
   same = λ later le. last_or round later whole.blocks told.blocks (Totals current) h.count le h.same;
@@ -213,6 +217,7 @@ closed_by_too (Some group) round current whole told h = record {
   sections = ap (λ (sections : List GroupTold). sections ++ record { line = group; answers = answers_of current } ∷ []) h.sections;
   group = refl;
   current = refl;
+  rows = h.rows;
   place = refl;
   count = h.count;
   same = h.same;
@@ -226,6 +231,7 @@ with_sections told sections = record {
   sections = sections;
   group = told.group;
   current = told.current;
+  rows = told.rows;
   place = told.place;
 }
 
@@ -238,6 +244,7 @@ block_done_too round whole told h =
       sections = refl;
       group = h.group;
       current = h.current;
+      rows = h.rows;
       place = refl;
       count = one_more whole.blocks told.blocks (Groups told.sections) h.count;
       same = λ later le. last_or round later whole.blocks told.blocks (Groups told.sections) h.count le h.same;
@@ -270,6 +277,7 @@ with_current_too round whole told current h = record {
   sections = h.sections;
   group = h.group;
   current = refl;
+  rows = h.rows;
   place = h.place;
   count = h.count;
   same = h.same;
@@ -316,13 +324,13 @@ or_else round First Second one two whole told next h (inr k) =
       tells = g.tells;
     }
 
-goes_on : (round columns : ℕ) (line : List ℕ) → IsTaken round (λ told next. GoesOn columns told line next)
-goes_on round columns line whole told next h (inl k) = record {
-  wholly = at_place whole (opened_by columns);
+goes_on : (round : ℕ) (shape : Shape) (line : List ℕ) → IsTaken round (λ told next. GoesOn shape told line next)
+goes_on round shape line whole told next h (inl k) = record {
+  wholly = at_place whole (opened_by shape);
   taken = inl (record { is_round = subst (λ (n : ℕ). IsRoundLine n line) h.count k.is_round; begun = refl });
-  tells = moved_too round whole told next (opened_by columns) h k.begun;
+  tells = moved_too round whole told next (opened_by shape) h k.begun;
 }
-goes_on round columns line whole told next h (inr k) = record {
+goes_on round shape line whole told next h (inr k) = record {
   wholly = at_place whole (Ended k.end);
   taken = inr (record { end = k.end; some = subst (λ (n : ℕ). 0 < n) h.count k.some; is_line = k.is_line; ended = refl });
   tells = moved_too round whole told next (Ended k.end) h k.ended;
@@ -338,19 +346,20 @@ begins_group round columns line whole told next h k = record {
     sections = h.sections;
     group = refl;
     current = h.current;
+    rows = h.rows;
     place = refl;
     count = h.count;
     same = h.same;
   });
 }
 
-groups_go_on : (round columns : ℕ) (line : List ℕ) (near far : Told → Told) → Keeps round near → Keeps round far →
-    IsTaken round (λ told next. GroupsGoOn columns (near told) (far told) line next)
-groups_go_on round columns line near far one two whole told next h (inl k) =
-    let g = begins_group round columns line (near whole) (near told) next (one whole told h) k in
+groups_go_on : (round : ℕ) (shape : Shape) (line : List ℕ) (near far : Told → Told) → Keeps round near → Keeps round far →
+    IsTaken round (λ told next. GroupsGoOn shape (near told) (far told) line next)
+groups_go_on round shape line near far one two whole told next h (inl k) =
+    let g = begins_group round shape.columns line (near whole) (near told) next (one whole told h) k in
     record { wholly = g.wholly; taken = inl g.taken; tells = g.tells }
-groups_go_on round columns line near far one two whole told next h (inr k) =
-    let g = goes_on round columns line (far whole) (far told) next (two whole told h) k in
+groups_go_on round shape line near far one two whole told next h (inr k) =
+    let g = goes_on round shape line (far whole) (far told) next (two whole told h) k in
     record { wholly = g.wholly; taken = inr g.taken; tells = g.tells }
 
 answers : (round : ℕ) (kinds : List ItemKind) (line : List ℕ) → IsTaken round (λ told next. Answers kinds told line next)
@@ -410,7 +419,7 @@ passes_behind round kinds line whole told next h k = record {
 
 closes : (round : ℕ) (shape : Shape) (line : List ℕ) → IsTaken round (λ told next. Closes shape told line next)
 closes round shape line whole told next h k =
-    let g = groups_go_on round shape.columns line closed completed (closed_too round) (completed_too round) whole told next h k.goes_on in
+    let g = groups_go_on round shape line closed completed (closed_too round) (completed_too round) whole told next h k.goes_on in
     record {
       wholly = g.wholly;
       taken = record {
@@ -438,8 +447,8 @@ inside round shape line =
 
 behind : (round : ℕ) (shape : Shape) (line : List ℕ) → IsTaken round (λ told next. TakesBehind shape told line next)
 behind round shape line =
-    or_else round (λ told next. GoesOn shape.columns told line next) (λ told next. PassesBehind shape.kinds told line next)
-    (goes_on round shape.columns line) (passes_behind round shape.kinds line)
+    or_else round (λ told next. GoesOn shape told line next) (λ told next. PassesBehind shape.kinds told line next)
+    (goes_on round shape line) (passes_behind round shape.kinds line)
 
 passes_behind_section : (round : ℕ) (kinds : List ItemKind) (line : List ℕ) → IsTaken round (λ told next. PassesBehindSection kinds told line next)
 passes_behind_section round kinds line whole told next h k =
@@ -452,8 +461,54 @@ passes_behind_section round kinds line whole told next h k =
 
 between : (round : ℕ) (shape : Shape) (line : List ℕ) → IsTaken round (λ told next. TakesBetween shape told line next)
 between round shape line =
-    or_else round (λ told next. GroupsGoOn shape.columns told (block_done told) line next) (λ told next. PassesBehindSection shape.kinds told line next)
-    (groups_go_on round shape.columns line (λ told. told) block_done (λ whole told h. h) (block_done_too round)) (passes_behind_section round shape.kinds line)
+    or_else round (λ told next. GroupsGoOn shape told (block_done told) line next) (λ told next. PassesBehindSection shape.kinds told line next)
+    (groups_go_on round shape line (λ told. told) block_done (λ whole told h. h) (block_done_too round)) (passes_behind_section round shape.kinds line)
+
+-- the rows of the block that was begun
+with_rows_too : (round : ℕ) (whole told : Told) (rows : RowsTold) → TellsFrom round whole told → TellsFrom round (with_rows whole rows) (with_rows told rows)
+with_rows_too round whole told rows h = record {
+  tag = h.tag;
+  closing = h.closing;
+  sections = h.sections;
+  group = h.group;
+  current = h.current;
+  rows = refl;
+  place = h.place;
+  count = h.count;
+  same = h.same;
+}
+
+rows_done_too : (round : ℕ) (whole told : Told) (rows : RowsTold) → TellsFrom round whole told →
+    TellsFrom round (rows_done (with_rows whole rows)) (rows_done (with_rows told rows))
+rows_done_too round whole told rows h = record {
+  tag = h.tag;
+  closing = h.closing;
+  sections = h.sections;
+  group = h.group;
+  current = h.current;
+  rows = refl;
+  place = refl;
+  count = one_more whole.blocks told.blocks (Rows rows) h.count;
+  same = λ later le. last_or round later whole.blocks told.blocks (Rows rows) h.count le h.same;
+}
+
+lists_row : (round : ℕ) (shape : Shape) (line : List ℕ) → IsTaken round (λ told next. ListsRow shape told line next)
+lists_row round shape line whole told next h k = by k.goes_on
+  where
+    taken : TakesRows k.asked.limit whole.rows line k.rows
+    taken = subst (λ (rows : RowsTold). TakesRows k.asked.limit rows line k.rows) h.rows k.taken
+
+    by : RowsGoOn (with_rows told k.rows) next → GoesToo round whole (λ told next. ListsRow shape told line next) next
+    by (inl g) = record {
+      wholly = rows_done (with_rows whole k.rows);
+      taken = record { asked = k.asked; is_asked = k.is_asked; rows = k.rows; taken = taken; goes_on = inl (g.0, refl) };
+      tells = subst (λ (t : Told). TellsFrom round (rows_done (with_rows whole k.rows)) t) (sym g.1) (rows_done_too round whole told k.rows h);
+    }
+    by (inr g) = record {
+      wholly = with_rows whole k.rows;
+      taken = record { asked = k.asked; is_asked = k.is_asked; rows = k.rows; taken = taken; goes_on = inr (g.0, refl) };
+      tells = subst (λ (t : Told). TellsFrom round (with_rows whole k.rows) t) (sym g.1) (with_rows_too round whole told k.rows h);
+    }
 
 -- the whole report takes the line, and tells the same from the round on
 abbrev pub TakesToo : Place → List ℕ → Shape → ℕ → Told → List ℕ → Told → Type 0
@@ -472,13 +527,14 @@ takes_at Opened query shape round whole told line next h (inl k) = record {
   tells = moved_too round whole told next Round h k.passed;
 }
 takes_at Opened query shape round whole told line next h (inr k) = record {
-  wholly = at_place whole (opened_by shape.columns);
+  wholly = at_place whole (opened_by shape);
   taken = inr (record { is_round = subst (λ (n : ℕ). IsRoundLine n line) h.count k.is_round; begun = refl });
-  tells = moved_too round whole told next (opened_by shape.columns) h k.begun;
+  tells = moved_too round whole told next (opened_by shape) h k.begun;
 }
 takes_at Round query shape round whole told line next h k = behind round shape line whole told next h k
 takes_at Group query shape round whole told line next h k = between round shape line whole told next h k
 takes_at Items query shape round whole told line next h k = inside round shape line whole told next h k
+takes_at Row query shape round whole told line next h k = lists_row round shape line whole told next h k
 takes_at (Ended end) query shape round whole told line next h k = absurd k
 
 pub takes_too : (query : List ℕ) (shape : Shape) (round : ℕ) (whole told : Told) (line : List ℕ) (next : Told) →
@@ -548,13 +604,13 @@ forgotten n block blocks i le =
     ∙ sym (get_or-append_right (replicate n no_block) (block ∷ blocks) n i no_block (length-replicate n no_block) (omega (arith, le)))
 
 -- where it is before the round, and not the last
-pub passed_on : (tag : List ℕ) (n round : ℕ) (blocks : List Block) (closing : Closing) (sections : List GroupTold) (group : Option GroupLine) (current : List Entry) (place : Place) →
+pub passed_on : (tag : List ℕ) (n round : ℕ) (blocks : List Block) (closing : Closing) (sections : List GroupTold) (group : Option GroupLine) (current : List Entry) (rows : RowsTold) (place : Place) →
     n < round → 1 < length blocks →
     TellsFrom round
-    (record { tag = tag; blocks = replicate n no_block ++ blocks; closing = closing; sections = sections; group = group; current = current; place = place })
-    (record { tag = tag; blocks = replicate (n + 1) no_block ++ remove blocks 0; closing = closing; sections = sections; group = group; current = current; place = place })
-passed_on tag n round [] closing sections group current place less some = absurd (omega (arith, some))
-passed_on tag n round (block ∷ blocks) closing sections group current place less some =
+    (record { tag = tag; blocks = replicate n no_block ++ blocks; closing = closing; sections = sections; group = group; current = current; rows = rows; place = place })
+    (record { tag = tag; blocks = replicate (n + 1) no_block ++ remove blocks 0; closing = closing; sections = sections; group = group; current = current; rows = rows; place = place })
+passed_on tag n round [] closing sections group current rows place less some = absurd (omega (arith, some))
+passed_on tag n round (block ∷ blocks) closing sections group current rows place less some =
     let before : length (replicate n no_block ++ block ∷ blocks) ≡ n + suc (length blocks) =
     length-append (replicate n no_block) (block ∷ blocks) ∙ ap (λ (k : ℕ). k + suc (length blocks)) (length-replicate n no_block) in
     let behind : length (replicate (n + 1) no_block ++ blocks) ≡ n + 1 + length blocks =
@@ -565,6 +621,7 @@ passed_on tag n round (block ∷ blocks) closing sections group current place le
       sections = refl;
       group = refl;
       current = refl;
+      rows = refl;
       place = refl;
       count = omega (arith, before, behind);
       same = λ later le.
@@ -604,13 +661,14 @@ empty_list (block ∷ blocks) e = absurd (omega (arith, e))
 -- a part that has told nothing
 nothing_is : (round : ℕ) (tag : List ℕ) (whole : Told) → TellsFrom round whole (nothing_told tag) → whole ≡ nothing_told tag
 nothing_is round tag whole h =
-    subst (λ (t : List ℕ). whole ≡ record { tag = t; blocks = []; closing = Unknown; sections = []; group = None; current = []; place = Query }) (sym h.tag)
-    (subst (λ (b : List Block). whole ≡ record { tag = whole.tag; blocks = b; closing = Unknown; sections = []; group = None; current = []; place = Query }) (empty_list whole.blocks h.count)
-    (subst (λ (c : Closing). whole ≡ record { tag = whole.tag; blocks = whole.blocks; closing = c; sections = []; group = None; current = []; place = Query }) (sym h.closing)
-    (subst (λ (s : List GroupTold). whole ≡ record { tag = whole.tag; blocks = whole.blocks; closing = whole.closing; sections = s; group = None; current = []; place = Query }) (sym h.sections)
-    (subst (λ (g : Option GroupLine). whole ≡ record { tag = whole.tag; blocks = whole.blocks; closing = whole.closing; sections = whole.sections; group = g; current = []; place = Query }) (sym h.group)
-    (subst (λ (c : List Entry). whole ≡ record { tag = whole.tag; blocks = whole.blocks; closing = whole.closing; sections = whole.sections; group = whole.group; current = c; place = Query }) (sym h.current)
-    (subst (λ (p : Place). whole ≡ record { tag = whole.tag; blocks = whole.blocks; closing = whole.closing; sections = whole.sections; group = whole.group; current = whole.current; place = p }) (sym h.place) refl))))))
+    subst (λ (t : List ℕ). whole ≡ record { tag = t; blocks = []; closing = Unknown; sections = []; group = None; current = []; rows = no_rows; place = Query }) (sym h.tag)
+    (subst (λ (b : List Block). whole ≡ record { tag = whole.tag; blocks = b; closing = Unknown; sections = []; group = None; current = []; rows = no_rows; place = Query }) (empty_list whole.blocks h.count)
+    (subst (λ (c : Closing). whole ≡ record { tag = whole.tag; blocks = whole.blocks; closing = c; sections = []; group = None; current = []; rows = no_rows; place = Query }) (sym h.closing)
+    (subst (λ (s : List GroupTold). whole ≡ record { tag = whole.tag; blocks = whole.blocks; closing = whole.closing; sections = s; group = None; current = []; rows = no_rows; place = Query }) (sym h.sections)
+    (subst (λ (g : Option GroupLine). whole ≡ record { tag = whole.tag; blocks = whole.blocks; closing = whole.closing; sections = whole.sections; group = g; current = []; rows = no_rows; place = Query }) (sym h.group)
+    (subst (λ (c : List Entry). whole ≡ record { tag = whole.tag; blocks = whole.blocks; closing = whole.closing; sections = whole.sections; group = whole.group; current = c; rows = no_rows; place = Query }) (sym h.current)
+    (subst (λ (r : RowsTold). whole ≡ record { tag = whole.tag; blocks = whole.blocks; closing = whole.closing; sections = whole.sections; group = whole.group; current = whole.current; rows = r; place = Query }) (sym h.rows)
+    (subst (λ (p : Place). whole ≡ record { tag = whole.tag; blocks = whole.blocks; closing = whole.closing; sections = whole.sections; group = whole.group; current = whole.current; rows = whole.rows; place = p }) (sym h.place) refl)))))))
 
 cannot_too : (query : List ℕ) (shape : Shape) (round : ℕ) (whole told : Told) (line : List ℕ) → TellsFrom round whole told →
     CannotTake query shape told line → CannotTake query shape whole line
@@ -618,11 +676,19 @@ cannot_too query shape round whole told line h cannot next taken =
     let back = takes_too query shape round told whole line next (tells_back round whole told h) taken in
     cannot back.wholly back.taken
 
+unlisted_too : (round : ℕ) (whole told : Told) → TellsFrom round whole told → IsUnlisted told → IsUnlisted whole
+unlisted_too round whole told h u = (sym h.place ∙ u.0, subst (λ (rows : RowsTold). LacksPossible rows) h.rows u.1)
+
 line_refused_too : (why : LineFault) (query : List ℕ) (shape : Shape) (round : ℕ) (whole told : Told) (line : List ℕ) → TellsFrom round whole told →
     IsLineRefused why query shape told line → IsLineRefused why query shape whole line
 line_refused_too OtherQuery query shape round whole told line h refused = (sym h.place ∙ refused.0, cannot_too query shape round whole told line h refused.1)
-line_refused_too OtherLine query shape round whole told line h refused =
-    (λ e. refused.0 (h.place ∙ e), cannot_too query shape round whole told line h refused.1)
+line_refused_too Unlisted query shape round whole told line h refused =
+    (unlisted_too round whole told h refused.0, cannot_too query shape round whole told line h refused.1)
+line_refused_too OtherLine query shape round whole told line h refused = (
+  λ e. refused.0 (h.place ∙ e),
+  λ u. refused.1 (unlisted_too round told whole (tells_back round whole told h) u),
+  cannot_too query shape round whole told line h refused.2,
+)
 line_refused_too NoMemory query shape round whole told line h refused = tt
 
 pub refused_too : (why : InputFault) (query : List ℕ) (shape : Shape) (most round : ℕ) (wholes parts : List Told) (line : List ℕ) →

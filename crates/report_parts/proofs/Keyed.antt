@@ -14,12 +14,12 @@ use Rattle.report_parts.specs.Keyed.{AreKeyedFrom, IsBegunKeyed, IsKeyedFrom}
 use Rattle.report_parts.specs.Passed.{AllTellFrom, TellsFrom}
 use Rattle.report_parts.specs.Rounds.{all_groups_in, groups_in}
 use Rattle.report_parts.specs.Tags.{TakesTagged, against, behind_tag, by_order, tag_of, told_of, with_part}
-use Rattle.report_parts.specs.Told.{BeginsGroup, GoesOn, GroupsGoOn, Takes, TakesAt, TakesBehindAnswer, TakesInside, TakesRest, Told, at_place, block_done, closed, closed_by, completed, completed_by, is_whole, nothing_told, opened_by, with_current, with_group}
+use Rattle.report_parts.specs.Told.{BeginsGroup, GoesOn, GroupsGoOn, ListsRow, RowsGoOn, Takes, TakesAt, TakesBehindAnswer, TakesInside, TakesRest, Told, at_place, block_done, closed, closed_by, completed, completed_by, is_whole, nothing_told, opened_by, rows_done, with_current, with_group, with_rows}
 use Rattle.report_parts.specs.declared.block.Block.{Block}
-use Rattle.report_parts.specs.declared.block.Block.TheVariants.{Groups, Totals}
+use Rattle.report_parts.specs.declared.block.Block.TheVariants.{Groups, Rows, Totals}
 use Rattle.report_parts.specs.declared.entry.Entry.{Entry}
 use Rattle.report_parts.specs.declared.part.Place.{Place}
-use Rattle.report_parts.specs.declared.part.Place.TheVariants.{Query, Opened, Round, Group, Items, Ended}
+use Rattle.report_parts.specs.declared.part.Place.TheVariants.{Query, Opened, Round, Group, Items, Row, Ended}
 use Rattle.report_parts.specs.declared.shape.Shape.{Shape}
 
 -- ---- a block more
@@ -101,10 +101,10 @@ put_in true columns round told next current e h =
 put_in false columns round told next current e h =
     placed columns round (with_current told current) next Items e (record { blocks = h.blocks; sections = h.sections; begun = h.begun })
 
-goes_on : (columns round : ℕ) (told next : Told) (line : List ℕ) → GoesOn columns told line next → IsKeyedFrom columns round told →
-    IsKeyedFrom columns round next
-goes_on columns round told next line (inl h) k = placed columns round told next (opened_by columns) h.begun k
-goes_on columns round told next line (inr h) k = placed columns round told next (Ended h.end) h.ended k
+goes_on : (shape : Shape) (round : ℕ) (told next : Told) (line : List ℕ) → GoesOn shape told line next → IsKeyedFrom shape.columns round told →
+    IsKeyedFrom shape.columns round next
+goes_on shape round told next line (inl h) k = placed shape.columns round told next (opened_by shape) h.begun k
+goes_on shape round told next line (inr h) k = placed shape.columns round told next (Ended h.end) h.ended k
 
 begins_group : (columns round : ℕ) (told next : Told) (line : List ℕ) → BeginsGroup columns told line next → IsKeyedFrom columns round told →
     IsKeyedFrom columns round next
@@ -112,22 +112,34 @@ begins_group columns round told next line h k =
     same_keyed columns round (with_group told h.group) next h.begun
     (record { blocks = k.blocks; sections = k.sections; begun = record { shown = h.shown; key = h.key; columns = h.each } })
 
-closes : (columns round : ℕ) (told next : Told) (line : List ℕ) → GroupsGoOn columns (closed told) (completed told) line next →
-    IsKeyedFrom columns round told → IsKeyedFrom columns round next
-closes columns round told next line (inl h) k =
-    begins_group columns round (closed told) next line h (closed_keyed columns round told.group told k.begun k)
-closes columns round told next line (inr h) k =
-    goes_on columns round (completed told) next line h (completed_keyed columns round told.group told k.begun k)
+closes : (shape : Shape) (round : ℕ) (told next : Told) (line : List ℕ) → GroupsGoOn shape (closed told) (completed told) line next →
+    IsKeyedFrom shape.columns round told → IsKeyedFrom shape.columns round next
+closes shape round told next line (inl h) k =
+    begins_group shape.columns round (closed told) next line h (closed_keyed shape.columns round told.group told k.begun k)
+closes shape round told next line (inr h) k =
+    goes_on shape round (completed told) next line h (completed_keyed shape.columns round told.group told k.begun k)
 
-between : (columns round : ℕ) (told next : Told) (line : List ℕ) → GroupsGoOn columns told (block_done told) line next →
-    IsKeyedFrom columns round told → IsKeyedFrom columns round next
-between columns round told next line (inl h) k = begins_group columns round told next line h k
-between columns round told next line (inr h) k = goes_on columns round (block_done told) next line h (done_keyed columns round told k)
+between : (shape : Shape) (round : ℕ) (told next : Told) (line : List ℕ) → GroupsGoOn shape told (block_done told) line next →
+    IsKeyedFrom shape.columns round told → IsKeyedFrom shape.columns round next
+between shape round told next line (inl h) k = begins_group shape.columns round told next line h k
+between shape round told next line (inr h) k = goes_on shape round (block_done told) next line h (done_keyed shape.columns round told k)
+
+lists_row : (shape : Shape) (round : ℕ) (told next : Told) (line : List ℕ) → ListsRow shape told line next → IsKeyedFrom shape.columns round told →
+    IsKeyedFrom shape.columns round next
+lists_row shape round told next line h k = by h.goes_on
+  where
+    by : RowsGoOn (with_rows told h.rows) next → IsKeyedFrom shape.columns round next
+    by (inl g) = same_keyed shape.columns round (rows_done (with_rows told h.rows)) next g.1 (record {
+      blocks = block_more shape.columns round told (Rows h.rows) k (All-nil (IsKeyed shape.columns));
+      sections = k.sections;
+      begun = k.begun;
+    })
+    by (inr g) = same_keyed shape.columns round (with_rows told h.rows) next g.1 (record { blocks = k.blocks; sections = k.sections; begun = k.begun })
 
 rest : (shape : Shape) (round : ℕ) (told : Told) (line : List ℕ) (next : Told) → TakesRest shape told line next →
     IsKeyedFrom shape.columns round told → IsKeyedFrom shape.columns round next
 rest shape round told line next (inl h) k = same_keyed shape.columns round told next h.same k
-rest shape round told line next (inr h) k = closes shape.columns round told next line h.1.goes_on k
+rest shape round told line next (inr h) k = closes shape round told next line h.1.goes_on k
 
 behind_answer : (shape : Shape) (round : ℕ) (told : Told) (line : List ℕ) (next : Told) → TakesBehindAnswer shape told line next →
     IsKeyedFrom shape.columns round told → IsKeyedFrom shape.columns round next
@@ -147,12 +159,13 @@ takes_at : (place : Place) (query : List ℕ) (shape : Shape) (round : ℕ) (tol
     TakesAt place query shape told line next → IsKeyedFrom shape.columns round told → IsKeyedFrom shape.columns round next
 takes_at Query query shape round told line next h k = placed shape.columns round told next Opened h.opened k
 takes_at Opened query shape round told line next (inl h) k = placed shape.columns round told next Round h.passed k
-takes_at Opened query shape round told line next (inr h) k = goes_on shape.columns round told next line (inl h) k
-takes_at Round query shape round told line next (inl h) k = goes_on shape.columns round told next line h k
+takes_at Opened query shape round told line next (inr h) k = goes_on shape round told next line (inl h) k
+takes_at Round query shape round told line next (inl h) k = goes_on shape round told next line h k
 takes_at Round query shape round told line next (inr h) k = same_keyed shape.columns round told next h.1.same k
-takes_at Group query shape round told line next (inl h) k = between shape.columns round told next line h k
+takes_at Group query shape round told line next (inl h) k = between shape round told next line h k
 takes_at Group query shape round told line next (inr h) k = same_keyed shape.columns round told next h.1.passes.same k
 takes_at Items query shape round told line next h k = inside shape round told line next h k
+takes_at Row query shape round told line next h k = lists_row shape round told next line h k
 takes_at (Ended end) query shape round told line next h k = absurd h
 
 -- behind each line that a part takes

@@ -11,6 +11,7 @@ pub mod Keyed
 pub mod Kept
 pub mod Ordered
 pub mod Reached
+pub mod RowTurns
 pub mod Said
 pub mod Splits
 pub mod Stays

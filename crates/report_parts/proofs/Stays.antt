@@ -2,17 +2,18 @@
 use Rattle.std.proofs.Common.{◌≡◌, ◌≢◌, ℕ, zero, suc, ◌+◌, ◌-◌, ◌<◌, min, Bool, true, false, ◌||◌, Option, Some, None, List, [], ◌∷◌, ◌++◌, length, set, get_or, if◌then◌else◌, refl, sym, ap, ◌∙◌, inl, inr, arith, length-append, append-nil}
 use Rattle.std.proofs.lemmas.Bool.{false≢true, lt-ltb, ltb-true}
 use Rattle.std.proofs.lemmas.List.{append_assoc, get_or_append_left}
+use Rattle.query_kinds.specs.declared.rows.FirstRows.{FirstRows}
 use Rattle.report_text.specs.declared.groups.GroupLine.{GroupLine}
 use Rattle.report_parts.specs.Blocks.{no_block}
 use Rattle.report_parts.specs.Entries.{answers_of, last_entry}
 use Rattle.report_parts.specs.Laws.{GoesBehind, KeepsBlock, LinesOnlyAdd, ToldBlocksStay}
 use Rattle.report_parts.specs.Rounds.{is_ended}
-use Rattle.report_parts.specs.Told.{BeginsGroup, GoesOn, GroupsGoOn, TakesAt, TakesBehindAnswer, TakesInside, TakesRest, Told, at_place, block_done, closed, closed_by, completed, completed_by, is_whole, opened_by, with_current}
+use Rattle.report_parts.specs.Told.{BeginsGroup, GoesOn, GroupsGoOn, ListsRow, RowsGoOn, TakesAt, TakesBehindAnswer, TakesInside, TakesRest, Told, at_place, block_done, closed, closed_by, completed, completed_by, is_whole, opened_by, opened_with, with_current, with_rows}
 use Rattle.report_parts.specs.declared.block.Block.{Block}
-use Rattle.report_parts.specs.declared.block.Block.TheVariants.{Groups, Totals}
+use Rattle.report_parts.specs.declared.block.Block.TheVariants.{Groups, Rows, Totals}
 use Rattle.report_parts.specs.declared.entry.Entry.{Entry}
 use Rattle.report_parts.specs.declared.part.Place.{Place}
-use Rattle.report_parts.specs.declared.part.Place.TheVariants.{Query, Opened, Round, Group, Items, Ended}
+use Rattle.report_parts.specs.declared.part.Place.TheVariants.{Query, Opened, Round, Group, Items, Row, Ended}
 use Rattle.report_parts.specs.declared.shape.Shape.{Shape}
 
 -- what holds behind each line that is taken: the tag stays, the report has begun, and no block is taken back
@@ -80,13 +81,14 @@ put_in false told next current e = record {
   behind = record { more = []; blocks = ap (λ (t : Told). t.blocks) e ∙ sym (append-nil told.blocks) };
 }
 
-opened_other : (columns : ℕ) → opened_by columns ≢ Query
-opened_other zero e = absurd cc
-opened_other (suc columns) e = absurd cc
+opened_other : (asked : Option FirstRows) (columns : ℕ) → opened_with asked columns ≢ Query
+opened_other (Some asked) columns e = absurd cc
+opened_other None zero e = absurd cc
+opened_other None (suc columns) e = absurd cc
 
-goes_on : (columns : ℕ) (told next : Told) (line : List ℕ) → GoesOn columns told line next → Follows told next
-goes_on columns told next line (inl h) = moved told next (opened_by columns) (opened_other columns) h.begun
-goes_on columns told next line (inr h) = moved told next (Ended h.end) (λ e. absurd cc) h.ended
+goes_on : (shape : Shape) (told next : Told) (line : List ℕ) → GoesOn shape told line next → Follows told next
+goes_on shape told next line (inl h) = moved told next (opened_by shape) (opened_other shape.rows shape.columns) h.begun
+goes_on shape told next line (inr h) = moved told next (Ended h.end) (λ e. absurd cc) h.ended
 
 begins_group : (columns : ℕ) (told next : Told) (line : List ℕ) → BeginsGroup columns told line next → Follows told next
 begins_group columns told next line h = record {
@@ -95,22 +97,22 @@ begins_group columns told next line h = record {
   behind = record { more = []; blocks = ap (λ (t : Told). t.blocks) h.begun ∙ sym (append-nil told.blocks) };
 }
 
-closes : (columns : ℕ) (told next : Told) (line : List ℕ) → GroupsGoOn columns (closed told) (completed told) line next → Follows told next
-closes columns told next line (inl h) =
+closes : (shape : Shape) (told next : Told) (line : List ℕ) → GroupsGoOn shape (closed told) (completed told) line next → Follows told next
+closes shape told next line (inl h) =
     let g = closed_follows told.group told (closed told) refl in
-    from_before told (closed told) next g.tag g.behind (begins_group columns (closed told) next line h)
-closes columns told next line (inr h) =
+    from_before told (closed told) next g.tag g.behind (begins_group shape.columns (closed told) next line h)
+closes shape told next line (inr h) =
     let g = completed_follows told.group told in
-    from_before told (completed told) next g.tag g.behind (goes_on columns (completed told) next line h)
+    from_before told (completed told) next g.tag g.behind (goes_on shape (completed told) next line h)
 
-between : (columns : ℕ) (told next : Told) (line : List ℕ) → GroupsGoOn columns told (block_done told) line next → Follows told next
-between columns told next line (inl h) = begins_group columns told next line h
-between columns told next line (inr h) =
-    from_before told (block_done told) next refl (record { more = Groups told.sections ∷ []; blocks = refl }) (goes_on columns (block_done told) next line h)
+between : (shape : Shape) (told next : Told) (line : List ℕ) → GroupsGoOn shape told (block_done told) line next → Follows told next
+between shape told next line (inl h) = begins_group shape.columns told next line h
+between shape told next line (inr h) =
+    from_before told (block_done told) next refl (record { more = Groups told.sections ∷ []; blocks = refl }) (goes_on shape (block_done told) next line h)
 
 rest : (shape : Shape) (told : Told) (line : List ℕ) (next : Told) → told.place ≢ Query → TakesRest shape told line next → Follows told next
 rest shape told line next other (inl h) = rests told next other h.same
-rest shape told line next other (inr h) = closes shape.columns told next line h.1.goes_on
+rest shape told line next other (inr h) = closes shape told next line h.1.goes_on
 
 behind_answer : (shape : Shape) (told : Told) (line : List ℕ) (next : Told) → told.place ≢ Query → TakesBehindAnswer shape told line next → Follows told next
 behind_answer shape told line next other (inl h) =
@@ -124,16 +126,32 @@ inside shape told line next other (inl h) =
     put_in (is_whole shape.kinds told.closing current) told next current h.told_so
 inside shape told line next other (inr h) = behind_answer shape told line next other h.1
 
+lists_row : (shape : Shape) (told : Told) (line : List ℕ) (next : Told) → told.place ≢ Query → ListsRow shape told line next → Follows told next
+lists_row shape told line next other h = by h.goes_on
+  where
+    by : RowsGoOn (with_rows told h.rows) next → Follows told next
+    by (inl k) = record {
+      tag = ap (λ (t : Told). t.tag) k.1;
+      begun = λ f. absurd (let g : Round ≡ Query = sym (ap (λ (t : Told). t.place) k.1) ∙ f in cc);
+      behind = record { more = Rows h.rows ∷ []; blocks = ap (λ (t : Told). t.blocks) k.1 };
+    }
+    by (inr k) = record {
+      tag = ap (λ (t : Told). t.tag) k.1;
+      begun = λ f. other (sym (ap (λ (t : Told). t.place) k.1) ∙ f);
+      behind = record { more = []; blocks = ap (λ (t : Told). t.blocks) k.1 ∙ sym (append-nil told.blocks) };
+    }
+
 pub follows : (place : Place) (query : List ℕ) (shape : Shape) (told : Told) (line : List ℕ) (next : Told) → told.place ≡ place →
     TakesAt place query shape told line next → Follows told next
 follows Query query shape told line next e h = moved told next Opened (λ f. absurd cc) h.opened
 follows Opened query shape told line next e (inl h) = moved told next Round (λ f. absurd cc) h.passed
-follows Opened query shape told line next e (inr h) = goes_on shape.columns told next line (inl h)
-follows Round query shape told line next e (inl h) = goes_on shape.columns told next line h
+follows Opened query shape told line next e (inr h) = goes_on shape told next line (inl h)
+follows Round query shape told line next e (inl h) = goes_on shape told next line h
 follows Round query shape told line next e (inr h) = rests told next (λ f. absurd (let g : Round ≡ Query = sym e ∙ f in cc)) h.1.same
-follows Group query shape told line next e (inl h) = between shape.columns told next line h
+follows Group query shape told line next e (inl h) = between shape told next line h
 follows Group query shape told line next e (inr h) = rests told next (λ f. absurd (let g : Group ≡ Query = sym e ∙ f in cc)) h.1.passes.same
 follows Items query shape told line next e h = inside shape told line next (λ f. absurd (let g : Items ≡ Query = sym e ∙ f in cc)) h
+follows Row query shape told line next e h = lists_row shape told line next (λ f. absurd (let g : Row ≡ Query = sym e ∙ f in cc)) h
 follows (Ended end) query shape told line next e h = absurd h
 
 pub only_add : LinesOnlyAdd
@@ -148,6 +166,7 @@ none_behind Opened query shape told line next h = refl
 none_behind Round query shape told line next h = refl
 none_behind Group query shape told line next h = refl
 none_behind Items query shape told line next h = refl
+none_behind Row query shape told line next h = refl
 none_behind (Ended end) query shape told line next h = absurd h
 
 or_right : (a b : Bool) → b ≡ true → (a || b) ≡ true

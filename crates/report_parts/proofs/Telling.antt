@@ -3,18 +3,25 @@ use Rattle.std.proofs.Common.{◌≡◌, ℕ, suc, ◌+◌, ◌<◌, ◌≤◌, 
 use Rattle.std.proofs.lemmas.Bool.{false≢true}
 use Rattle.std.proofs.lemmas.Option.{none-some, same_Some}
 use Rattle.std.specs.List.{list_all}
+use Rattle.query_kinds.specs.declared.rows.FirstRows.{FirstRows}
 use Rattle.query_model.specs.declared.query.ItemKind.{ItemKind}
 use Rattle.report_text.proofs.OneAnswer.{extras_say_one, lines_say_one}
 use Rattle.report_text.proofs.OneGroup.{groups_say_one}
+use Rattle.report_text.proofs.OneRow.{rows_say_one, tops_say_one}
 use Rattle.report_text.specs.Answers.{IsAnswerOf}
 use Rattle.report_text.specs.Extras.{IsExtraOf, extra_line}
 use Rattle.report_text.specs.Groups.{presence_text}
+use Rattle.report_text.specs.Intervals.{key_interval}
 use Rattle.report_text.specs.Keys.{keys_text}
+use Rattle.report_text.specs.RowBlocks.{IsNextRow, IsNextTop, RowsTold, TakesRows, with_row, with_top}
+use Rattle.report_text.specs.Rows.{counts_text, name_text, standing_word}
 use Rattle.report_text.specs.Lines.{end_line}
 use Rattle.report_text.specs.declared.answers.Answer.{Answer}
 use Rattle.report_text.specs.declared.groups.GroupLine.{GroupLine}
 use Rattle.report_text.specs.declared.lines.ReportEnd.{ReportEnd}
 use Rattle.report_text.specs.declared.lines.ReportEnd.TheVariants.{Narrow, Reads, Rounds}
+use Rattle.report_text.specs.declared.rows.RowLine.{RowLine}
+use Rattle.report_text.specs.declared.rows.TopLine.{TopLine}
 use Rattle.report_parts.proofs.Courses.{all_reach, few_told, longer}
 use Rattle.report_parts.proofs.Grows.{all_keep, same_block}
 use Rattle.report_parts.proofs.Kept.{end_stays, none_behind_yet, same_end, some_same}
@@ -25,11 +32,11 @@ use Rattle.report_parts.specs.Reports.{block_text}
 use Rattle.report_parts.specs.Rounds.{has_block, is_over}
 use Rattle.report_parts.specs.Tags.{TakesTagged, behind_tag, tag_of, told_of, with_part}
 use Rattle.report_parts.specs.Telling.{EndedStays, TellingIsOne}
-use Rattle.report_parts.specs.Told.{Answers, BeginsGroup, BeginsRound, Closes, Ends, Extends, GoesOn, GroupsGoOn, OrElse, PassesBehind, PassesBehindSection, PassesInside, TakesAt, TakesBehindAnswer, TakesInside, TakesRest, TellsParts, Told, at_place, block_done, closed, completed, with_answer, with_extra, with_group}
+use Rattle.report_parts.specs.Told.{Answers, BeginsGroup, BeginsRound, Closes, Ends, Extends, GoesOn, GroupsGoOn, ListsRow, OrElse, PassesBehind, PassesBehindSection, PassesInside, RowsGoOn, TakesAt, TakesBehindAnswer, TakesInside, TakesRest, TellsParts, Told, at_place, block_done, closed, completed, rows_done, with_answer, with_extra, with_group, with_rows}
 use Rattle.report_parts.specs.Written.{Wanted, Writes, end_text, is_narrow_at}
 use Rattle.report_parts.specs.Written.Writes.{ends, goes, waits}
 use Rattle.report_parts.specs.declared.part.Place.{Place}
-use Rattle.report_parts.specs.declared.part.Place.TheVariants.{Query, Opened, Round, Group, Items, Ended}
+use Rattle.report_parts.specs.declared.part.Place.TheVariants.{Query, Opened, Round, Group, Items, Row, Ended}
 use Rattle.report_parts.specs.declared.shape.Shape.{Shape}
 
 -- ---- a line
@@ -38,12 +45,12 @@ use Rattle.report_parts.specs.declared.shape.Shape.{Shape}
 other_byte : {P : Type 0} (x y : ℕ) (xs ys : List ℕ) → x ∷ xs ≡ y ∷ ys → (x ≡ y → ⊥) → P
 other_byte x y xs ys e apart = absurd (let same : x ≡ y = cc in apart same)
 
-parts_or_round : {P : Type 0} (columns : ℕ) (told : Told) (line : List ℕ) (a b : Told) → TellsParts told line a → BeginsRound columns told line b → P
-parts_or_round columns told line a b h k =
+parts_or_round : {P : Type 0} (shape : Shape) (told : Told) (line : List ℕ) (a b : Told) → TellsParts told line a → BeginsRound shape told line b → P
+parts_or_round shape told line a b h k =
     other_byte 112 114 (codes "arts " ++ decimal h.parts) (codes "ound " ++ (decimal (length told.blocks) ++ k.is_round.named)) (h.is_line ∙ k.is_round.split) (λ e. omega (arith, e))
 
-round_or_end : {P : Type 0} (columns : ℕ) (told : Told) (line : List ℕ) (a b : Told) → BeginsRound columns told line a → Ends told line b → P
-round_or_end columns told line a b h k = by k.end k.is_line
+round_or_end : {P : Type 0} (shape : Shape) (told : Told) (line : List ℕ) (a b : Told) → BeginsRound shape told line a → Ends told line b → P
+round_or_end shape told line a b h k = by k.end k.is_line
   where
     by : {P : Type 0} (end : ReportEnd) → end_line end ≡ line → P
     by Narrow e = other_byte 101 114 (codes "nd narrow") (codes "ound " ++ (decimal (length told.blocks) ++ h.is_round.named)) (e ∙ h.is_round.split) (λ f. omega (arith, f))
@@ -53,10 +60,10 @@ round_or_end columns told line a b h k = by k.end k.is_line
 abbrev behind_word : GroupLine → List ℕ
 behind_word group = codes "roup " ++ (keys_text group.keys ++ presence_text group.present)
 
-group_or_next : {P : Type 0} (columns : ℕ) (told whole : Told) (line : List ℕ) (a b : Told) → BeginsGroup columns told line a → GoesOn columns whole line b → P
-group_or_next columns told whole line a b h (inl k) =
+group_or_next : {P : Type 0} (shape : Shape) (told whole : Told) (line : List ℕ) (a b : Told) → BeginsGroup shape.columns told line a → GoesOn shape whole line b → P
+group_or_next shape told whole line a b h (inl k) =
     other_byte 103 114 (behind_word h.group) (codes "ound " ++ (decimal (length whole.blocks) ++ k.is_round.named)) (h.is_line ∙ k.is_round.split) (λ e. omega (arith, e))
-group_or_next columns told whole line a b h (inr k) = by k.end k.is_line
+group_or_next shape told whole line a b h (inr k) = by k.end k.is_line
   where
     by : {P : Type 0} (end : ReportEnd) → end_line end ≡ line → P
     by Narrow e = other_byte 101 103 (codes "nd narrow") (behind_word h.group) (e ∙ sym h.is_line) (λ f. omega (arith, f))
@@ -88,19 +95,19 @@ or_else First Second one two a b (inl h) (inr k) = absurd (k.0 a h)
 or_else First Second one two a b (inr h) (inl k) = absurd (h.0 b k)
 or_else First Second one two a b (inr h) (inr k) = two a b h.1 k.1
 
-goes_on : (columns : ℕ) (told : Told) (line : List ℕ) → IsOneWay (GoesOn columns told line)
-goes_on columns told line a b (inl h) (inl k) = k.begun ∙ sym h.begun
-goes_on columns told line a b (inl h) (inr k) = round_or_end columns told line a b h k
-goes_on columns told line a b (inr h) (inl k) = round_or_end columns told line b a k h
-goes_on columns told line a b (inr h) (inr k) =
+goes_on : (shape : Shape) (told : Told) (line : List ℕ) → IsOneWay (GoesOn shape told line)
+goes_on shape told line a b (inl h) (inl k) = k.begun ∙ sym h.begun
+goes_on shape told line a b (inl h) (inr k) = round_or_end shape told line a b h k
+goes_on shape told line a b (inr h) (inl k) = round_or_end shape told line b a k h
+goes_on shape told line a b (inr h) (inr k) =
     k.ended ∙ ap (λ (end : ReportEnd). at_place told (Ended end)) (end_one h.end k.end (h.is_line ∙ sym k.is_line)) ∙ sym h.ended
 
-groups_go_on : (columns : ℕ) (told whole : Told) (line : List ℕ) → IsOneWay (GroupsGoOn columns told whole line)
-groups_go_on columns told whole line a b (inl h) (inl k) =
+groups_go_on : (shape : Shape) (told whole : Told) (line : List ℕ) → IsOneWay (GroupsGoOn shape told whole line)
+groups_go_on shape told whole line a b (inl h) (inl k) =
     k.begun ∙ ap (λ (group : GroupLine). with_group told group) (sym (groups_say_one h.group k.group h.shown k.shown (h.is_line ∙ sym k.is_line))) ∙ sym h.begun
-groups_go_on columns told whole line a b (inl h) (inr k) = group_or_next columns told whole line a b h k
-groups_go_on columns told whole line a b (inr h) (inl k) = group_or_next columns told whole line b a k h
-groups_go_on columns told whole line a b (inr h) (inr k) = goes_on columns whole line a b h k
+groups_go_on shape told whole line a b (inl h) (inr k) = group_or_next shape told whole line a b h k
+groups_go_on shape told whole line a b (inr h) (inl k) = group_or_next shape told whole line b a k h
+groups_go_on shape told whole line a b (inr h) (inr k) = goes_on shape whole line a b h k
 
 answers : (kinds : List ItemKind) (told : Told) (line : List ℕ) → IsOneWay (Answers kinds told line)
 answers kinds told line a b h k =
@@ -120,26 +127,60 @@ extends kinds told line a b h k =
 
 rest : (shape : Shape) (told : Told) (line : List ℕ) → IsOneWay (TakesRest shape told line)
 rest shape told line =
-    or_else (PassesInside shape.kinds told line) (Closes shape told line) (λ a b h k. k.same ∙ sym h.same) (λ a b h k. groups_go_on shape.columns (closed told) (completed told) line a b h.goes_on k.goes_on)
+    or_else (PassesInside shape.kinds told line) (Closes shape told line) (λ a b h k. k.same ∙ sym h.same) (λ a b h k. groups_go_on shape (closed told) (completed told) line a b h.goes_on k.goes_on)
 
 inside : (shape : Shape) (told : Told) (line : List ℕ) → IsOneWay (TakesInside shape told line)
 inside shape told line =
     or_else (Answers shape.kinds told line) (TakesBehindAnswer shape told line) (answers shape.kinds told line)
     (or_else (Extends shape.kinds told line) (TakesRest shape told line) (extends shape.kinds told line) (rest shape told line))
 
+-- ---- a line of first rows
+
+-- the line of a row begins with another byte than that of their numbers
+abbrev behind_top : TopLine → List ℕ
+behind_top top = codes "op " ++ counts_text top
+
+abbrev behind_row : RowLine → List ℕ
+behind_row row = codes "ow " ++ (name_text row.name ++ (codes " " ++ (standing_word row.certain ++ key_interval row.key)))
+
+top_or_row : {P : Type 0} (limit : ℕ) (told : RowsTold) (line : List ℕ) (top : TopLine) (row : RowLine) → IsNextTop limit told line top → IsNextRow told line row → P
+top_or_row limit told line top row h k = other_byte 116 114 (behind_top top) (behind_row row) (h.is_line ∙ sym k.is_line) (λ e. omega (arith, e))
+
+rows_one : (limit : ℕ) (told : RowsTold) (line : List ℕ) (a b : RowsTold) → TakesRows limit told line a → TakesRows limit told line b → b ≡ a
+rows_one limit told line a b (inl h) (inl k) =
+    k.2 ∙ ap (λ (top : TopLine). with_top told top) (sym (tops_say_one h.0 k.0 h.1.is_top k.1.is_top (h.1.is_line ∙ sym k.1.is_line))) ∙ sym h.2
+rows_one limit told line a b (inl h) (inr k) = top_or_row limit told line h.0 k.0 h.1 k.1
+rows_one limit told line a b (inr h) (inl k) = top_or_row limit told line k.0 h.0 k.1 h.1
+rows_one limit told line a b (inr h) (inr k) =
+    k.2 ∙ ap (λ (row : RowLine). with_row told row) (sym (rows_say_one h.0 k.0 h.1.is_shown k.1.is_shown (h.1.is_line ∙ sym k.1.is_line))) ∙ sym h.2
+
+rows_go_on : (told a b : Told) → RowsGoOn told a → RowsGoOn told b → b ≡ a
+rows_go_on told a b (inl h) (inl k) = k.1 ∙ sym h.1
+rows_go_on told a b (inl h) (inr k) = absurd (k.0 h.0)
+rows_go_on told a b (inr h) (inl k) = absurd (h.0 k.0)
+rows_go_on told a b (inr h) (inr k) = k.1 ∙ sym h.1
+
+lists_row : (shape : Shape) (told : Told) (line : List ℕ) → IsOneWay (ListsRow shape told line)
+lists_row shape told line a b h k =
+    let asked = same_Some h.asked k.asked (sym h.is_asked ∙ k.is_asked) in
+    let mine : TakesRows k.asked.limit told.rows line h.rows = subst (λ (x : FirstRows). TakesRows x.limit told.rows line h.rows) asked h.taken in
+    let same : k.rows ≡ h.rows = rows_one k.asked.limit told.rows line h.rows k.rows mine k.taken in
+    rows_go_on (with_rows told h.rows) a b h.goes_on (subst (λ (rows : RowsTold). RowsGoOn (with_rows told rows) b) same k.goes_on)
+
 takes_one : (place : Place) (query : List ℕ) (shape : Shape) (told : Told) (line : List ℕ) (a b : Told) →
     TakesAt place query shape told line a → TakesAt place query shape told line b → b ≡ a
 takes_one Query query shape told line a b h k = k.opened ∙ sym h.opened
 takes_one Opened query shape told line a b (inl h) (inl k) = k.passed ∙ sym h.passed
-takes_one Opened query shape told line a b (inl h) (inr k) = parts_or_round shape.columns told line a b h k
-takes_one Opened query shape told line a b (inr h) (inl k) = parts_or_round shape.columns told line b a k h
+takes_one Opened query shape told line a b (inl h) (inr k) = parts_or_round shape told line a b h k
+takes_one Opened query shape told line a b (inr h) (inl k) = parts_or_round shape told line b a k h
 takes_one Opened query shape told line a b (inr h) (inr k) = k.begun ∙ sym h.begun
 takes_one Round query shape told line a b h k =
-    or_else (GoesOn shape.columns told line) (PassesBehind shape.kinds told line) (goes_on shape.columns told line) (λ x y f g. g.same ∙ sym f.same) a b h k
+    or_else (GoesOn shape told line) (PassesBehind shape.kinds told line) (goes_on shape told line) (λ x y f g. g.same ∙ sym f.same) a b h k
 takes_one Group query shape told line a b h k =
-    or_else (GroupsGoOn shape.columns told (block_done told) line) (PassesBehindSection shape.kinds told line) (groups_go_on shape.columns told (block_done told) line)
+    or_else (GroupsGoOn shape told (block_done told) line) (PassesBehindSection shape.kinds told line) (groups_go_on shape told (block_done told) line)
     (λ x y f g. g.passes.same ∙ sym f.passes.same) a b h k
 takes_one Items query shape told line a b h k = inside shape told line a b h k
+takes_one Row query shape told line a b h k = lists_row shape told line a b h k
 takes_one (Ended end) query shape told line a b h k = absurd h
 
 tagged_one : (query : List ℕ) (shape : Shape) (parts : List Told) (line : List ℕ) (a b : List Told) →

@@ -57,7 +57,7 @@ unchanged false Way told h = (refl, h)
 
 -- what ends the first block, or the first section
 pub closes_ok : {E : Type 0} (r : Result Bool E) (shape : Shape) (told : Told) (line : List ℕ) (next : Told) → told.closing ≡ Unknown → length told.current ≡ length shape.kinds →
-    IfOk r (λ taken. MatchBool taken (GroupsGoOn shape.columns (closed told) (completed told) line next) (Refuses (GroupsGoOn shape.columns (closed told) (completed told) line) told next)) →
+    IfOk r (λ taken. MatchBool taken (GroupsGoOn shape (closed told) (completed told) line next) (Refuses (GroupsGoOn shape (closed told) (completed told) line) told next)) →
     IfOk r (λ taken. MatchBool taken (Closes shape told line next) (Refuses (Closes shape told line) told next))
 closes_ok (Ok true) shape told line next first all h = record { first = first; all = all; goes_on = h }
 closes_ok (Ok false) shape told line next first all h = (h.0, λ after k. h.1 after k.goes_on)

@@ -14,7 +14,7 @@ use Rattle.report_parts.specs.Tags.{IsRefused, TakesTagged, tag_of}
 use Rattle.report_parts.specs.Told.{Told}
 use Rattle.report_parts.specs.Written.{Wanted, Writes, is_narrow_at}
 use Rattle.report_parts.specs.declared.block.Block.{Block as BlockTold}
-use Rattle.report_parts.specs.declared.block.Block.TheVariants.{Groups, Totals}
+use Rattle.report_parts.specs.declared.block.Block.TheVariants.{Groups, Rows, Totals}
 use Rattle.report_parts.specs.declared.fault.BlockFault.{BlockFault}
 use Rattle.report_parts.specs.declared.fault.BlockFault.TheVariants.{NoMemory, OtherColumn, OtherDecimals, TooWide}
 use Rattle.report_parts.specs.declared.fault.CourseFault.{CourseFault}
@@ -39,6 +39,7 @@ is_last (Some last) round = last == round
 abbrev pub is_narrow_block : ℕ → BlockTold → Bool
 is_narrow_block width (Totals entries) = list_all (λ entry. is_narrow width entry.answer) entries
 is_narrow_block width (Groups groups) = list_all (λ group. group.line.present && list_all (is_narrow width) group.answers) groups
+is_narrow_block width (Rows told) = list_all (λ row. row.certain) told.rows
 
 abbrev pub wanted_of : Task → Wanted
 wanted_of task = record {

@@ -10,7 +10,7 @@ use Rattle.report_parts.specs.Told.{Told}
 use Rattle.report_parts.specs.declared.fault.EndFault.{EndFault}
 use Rattle.report_parts.specs.declared.fault.EndFault.TheVariants.{EndsEarly, OtherCount}
 use Rattle.report_parts.specs.declared.part.Place.{Place}
-use Rattle.report_parts.specs.declared.part.Place.TheVariants.{Query, Opened, Round, Group, Items, Ended}
+use Rattle.report_parts.specs.declared.part.Place.TheVariants.{Query, Opened, Round, Group, Items, Row, Ended}
 
 abbrev pub is_narrow_end : ReportEnd → Bool
 is_narrow_end Narrow = true
@@ -24,6 +24,7 @@ ends_narrow Opened = false
 ends_narrow Round = false
 ends_narrow Group = false
 ends_narrow Items = false
+ends_narrow Row = false
 ends_narrow (Ended end) = is_narrow_end end
 
 -- where no part goes on

@@ -10,6 +10,7 @@ pub record TellsFrom (round : ℕ) (whole told : Told) : Type 0 where
   pub sections : told.sections ≡ whole.sections
   pub group : told.group ≡ whole.group
   pub current : told.current ≡ whole.current
+  pub rows : told.rows ≡ whole.rows
   pub place : told.place ≡ whole.place
   pub count : length told.blocks ≡ length whole.blocks
   pub same : (later : ℕ) → round ≤ later → block_for later told ≡ block_for later whole

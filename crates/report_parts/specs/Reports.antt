@@ -17,7 +17,7 @@ use Rattle.report_parts.specs.Beside.{entries_beside}
 use Rattle.report_parts.specs.Rounds.{all_groups_in, entries_in, has_block}
 use Rattle.report_parts.specs.Told.{Told}
 use Rattle.report_parts.specs.declared.block.Block.{Block}
-use Rattle.report_parts.specs.declared.block.Block.TheVariants.{Groups, Totals}
+use Rattle.report_parts.specs.declared.block.Block.TheVariants.{Groups, Rows, Totals}
 use Rattle.report_parts.specs.declared.entry.Entry.{Entry}
 use Rattle.report_parts.specs.declared.shape.Shape.{Shape}
 
@@ -49,6 +49,7 @@ block_by (suc columns) round kinds parts = Groups (groups_over (suc columns) kin
 abbrev pub block_beside : List (Option Beside) → Block → Block
 block_beside besides (Totals entries) = Totals (entries_beside besides entries)
 block_beside besides (Groups groups) = Groups groups
+block_beside besides (Rows told) = Rows told
 
 abbrev pub block_over : ℕ → Shape → List Told → Block
 block_over round shape parts = block_beside shape.besides (block_by shape.columns round shape.kinds parts)
@@ -66,11 +67,13 @@ group_lines (group ∷ groups) = ((group_line group.line ++ codes "\n") ++ answe
 abbrev pub block_lines : List ItemKind → Block → List ℕ
 block_lines kinds (Totals entries) = item_lines 1 kinds entries
 block_lines kinds (Groups groups) = group_lines groups
+block_lines kinds (Rows told) = []
 
--- each line of a block can be written
+-- each line of a block can be written; those of first rows are not yet
 abbrev pub HasBlockTexts : List ItemKind → Block → Type 0
 HasBlockTexts kinds (Totals entries) = All HasEntryTexts entries × (length kinds ≡ length entries)
 HasBlockTexts kinds (Groups groups) = All IsShown groups
+HasBlockTexts kinds (Rows told) = ⊥
 
 -- the block of a round: it names no column, since each part reads its own
 abbrev pub block_text : ℕ → Shape → List Told → List ℕ

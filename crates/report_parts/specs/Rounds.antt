@@ -8,7 +8,7 @@ use Rattle.report_parts.specs.Told.{Told}
 use Rattle.report_parts.specs.declared.block.Block.{Block}
 use Rattle.report_parts.specs.declared.entry.Entry.{Entry}
 use Rattle.report_parts.specs.declared.part.Place.{Place}
-use Rattle.report_parts.specs.declared.part.Place.TheVariants.{Query, Opened, Round, Group, Items, Ended}
+use Rattle.report_parts.specs.declared.part.Place.TheVariants.{Query, Opened, Round, Group, Items, Row, Ended}
 
 abbrev pub is_ended : Place → Bool
 is_ended Query = false
@@ -16,6 +16,7 @@ is_ended Opened = false
 is_ended Round = false
 is_ended Group = false
 is_ended Items = false
+is_ended Row = false
 is_ended (Ended end) = true
 
 -- the part tells what it knows in that round: its block is whole, or its report has ended before

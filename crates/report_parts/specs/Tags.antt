@@ -7,11 +7,11 @@ use Rattle.std.specs.List.Sorted.{IsStrictlySortedBy}
 use Rattle.std.specs.Ordering.{nat_cmp}
 use Rattle.std.specs.declared.cmp.Ordering.{Ordering}
 use Rattle.std.specs.declared.cmp.Ordering.TheVariants.{Less, Equal, Greater}
-use Rattle.report_parts.specs.Told.{Takes, Told, nothing_told}
+use Rattle.report_parts.specs.Told.{IsUnlisted, Takes, Told, nothing_told}
 use Rattle.report_parts.specs.declared.fault.InputFault.{InputFault}
 use Rattle.report_parts.specs.declared.fault.InputFault.TheVariants.{Line, NoTab, NoTag, OtherPart}
 use Rattle.report_parts.specs.declared.fault.LineFault.{LineFault}
-use Rattle.report_parts.specs.declared.fault.LineFault.TheVariants.{NoMemory, OtherLine, OtherQuery}
+use Rattle.report_parts.specs.declared.fault.LineFault.TheVariants.{NoMemory, OtherLine, OtherQuery, Unlisted}
 use Rattle.report_parts.specs.declared.part.Place.TheVariants.{Query}
 use Rattle.report_parts.specs.declared.shape.Shape.{Shape}
 
@@ -89,7 +89,8 @@ CannotTake query shape told line = (next : Told) → Takes query shape told line
 
 abbrev pub IsLineRefused : LineFault → List ℕ → Shape → Told → List ℕ → Type 0
 IsLineRefused OtherQuery query shape told line = (told.place ≡ Query) × CannotTake query shape told line
-IsLineRefused OtherLine query shape told line = (told.place ≢ Query) × CannotTake query shape told line
+IsLineRefused Unlisted query shape told line = IsUnlisted told × CannotTake query shape told line
+IsLineRefused OtherLine query shape told line = (told.place ≢ Query) × (¬ IsUnlisted told) × CannotTake query shape told line
 IsLineRefused NoMemory query shape told line = Unit {0}
 
 -- so many parts are wanted at most, and this is one more
@@ -106,6 +107,7 @@ IsRefused (Line why) query shape most parts line =
 -- what is refused changes nothing
 abbrev pub IsKept : {X : Type 0} → LineFault → X → X → Type 0
 IsKept OtherQuery old new = new ≡ old
+IsKept Unlisted old new = new ≡ old
 IsKept OtherLine old new = new ≡ old
 IsKept NoMemory old new = Unit {0}
 

@@ -9,23 +9,25 @@ use Rattle.report_text.specs.Answers.{IsAnswerOf}
 use Rattle.report_text.specs.Extras.{IsExtraOf, IsRowsLine, extra_line}
 use Rattle.report_text.specs.Groups.{IsShownGroup, group_line}
 use Rattle.report_text.specs.Lines.{IsRoundLine, end_line, item_line, parts_line}
+use Rattle.report_text.specs.RowBlocks.{IsWhole, LacksPossible, RowsTold, TakesRows, no_rows}
 use Rattle.report_text.specs.declared.answers.Answer.{Answer}
 use Rattle.report_text.specs.declared.groups.GroupLine.{GroupLine}
 use Rattle.report_text.specs.declared.lines.ReportEnd.{ReportEnd}
 use Rattle.part_groups.specs.Whole.{has_key}
 use Rattle.part_groups.specs.declared.group.Group.{Group as GroupTold}
+use Rattle.query_kinds.specs.declared.rows.FirstRows.{FirstRows}
 use Rattle.report_parts.specs.Entries.{answers_of, ends_with_extra, last_entry}
 use Rattle.report_parts.specs.declared.block.Block.{Block}
-use Rattle.report_parts.specs.declared.block.Block.TheVariants.{Groups, Totals}
+use Rattle.report_parts.specs.declared.block.Block.TheVariants.{Groups, Rows, Totals}
 use Rattle.report_parts.specs.declared.entry.Entry.{Entry}
 use Rattle.report_parts.specs.declared.closing.Closing.{Closing}
 use Rattle.report_parts.specs.declared.closing.Closing.TheVariants.{Unknown, Item, Extra}
 use Rattle.report_parts.specs.declared.part.Place.{Place}
-use Rattle.report_parts.specs.declared.part.Place.TheVariants.{Query, Opened, Round, Group, Items, Ended}
+use Rattle.report_parts.specs.declared.part.Place.TheVariants.{Query, Opened, Round, Group, Items, Row, Ended}
 use Rattle.report_parts.specs.declared.shape.Shape.{Shape}
 
 -- the tag of the part; the whole blocks; the line with which entries end; of the block that is not whole yet the whole sections, the group
--- of the section that is not, and its entries, and of totals the entries alone; and what comes next
+-- of the section that is not, and its entries, of totals the entries alone, and of first rows the rows; and what comes next
 pub record Told : Type 0 where
   pub tag : List ℕ
   pub blocks : List Block
@@ -33,12 +35,13 @@ pub record Told : Type 0 where
   pub sections : List GroupTold
   pub group : Option GroupLine
   pub current : List Entry
+  pub rows : RowsTold
   pub place : Place
 
 -- before the first line
 abbrev pub nothing_told : List ℕ → Told
 nothing_told tag =
-    record { tag = tag; blocks = []; closing = Unknown; sections = []; group = None; current = []; place = Query }
+    record { tag = tag; blocks = []; closing = Unknown; sections = []; group = None; current = []; rows = no_rows; place = Query }
 
 abbrev pub at_place : Told → Place → Told
 at_place told place = record {
@@ -48,6 +51,7 @@ at_place told place = record {
   sections = told.sections;
   group = told.group;
   current = told.current;
+  rows = told.rows;
   place = place;
 }
 
@@ -86,6 +90,7 @@ closed_by None told = record {
   sections = told.sections;
   group = None;
   current = [];
+  rows = told.rows;
   place = Round;
 }
 closed_by (Some group) told = record {
@@ -95,6 +100,7 @@ closed_by (Some group) told = record {
   sections = told.sections ++ record { line = group; answers = answers_of told.current } ∷ [];
   group = None;
   current = [];
+  rows = told.rows;
   place = Group;
 }
 
@@ -110,6 +116,7 @@ block_done told = record {
   sections = [];
   group = told.group;
   current = told.current;
+  rows = told.rows;
   place = Round;
 }
 
@@ -133,6 +140,7 @@ with_current told current = record {
   sections = told.sections;
   group = told.group;
   current = current;
+  rows = told.rows;
   place = told.place;
 }
 
@@ -144,6 +152,32 @@ with_answer kinds told answer = settled kinds (with_current told (told.current +
 abbrev pub with_extra : List ItemKind → Told → Answer → Told
 with_extra kinds told extra = settled kinds (with_current told
     (set told.current (length told.current - 1) (record { answer = (last_entry told.current).answer; extra = Some extra })))
+
+-- with these rows of the block that is not whole
+abbrev pub with_rows : Told → RowsTold → Told
+with_rows told rows = record {
+  tag = told.tag;
+  blocks = told.blocks;
+  closing = told.closing;
+  sections = told.sections;
+  group = told.group;
+  current = told.current;
+  rows = rows;
+  place = told.place;
+}
+
+-- the block of these rows is whole
+abbrev pub rows_done : Told → Told
+rows_done told = record {
+  tag = told.tag;
+  blocks = told.blocks ++ Rows told.rows ∷ [];
+  closing = told.closing;
+  sections = told.sections;
+  group = told.group;
+  current = told.current;
+  rows = no_rows;
+  place = Round;
+}
 
 -- ---- the line that comes next, and what is told with it
 
@@ -159,15 +193,20 @@ pub record TellsParts (told : Told) (line : List ℕ) (next : Told) : Type 0 whe
   pub is_line : parts_line parts ≡ line
   pub passed : next ≡ at_place told Round
 
--- behind the line of a round comes the first item, or, where there are group columns, the first group
-abbrev pub opened_by : ℕ → Place
-opened_by zero = Items
-opened_by (suc columns) = Group
+-- behind the line of a round comes the first item, or, where there are group columns, the first group, or, where first rows are asked for,
+-- how many there are
+abbrev pub opened_with : Option FirstRows → ℕ → Place
+opened_with (Some asked) columns = Row
+opened_with None zero = Items
+opened_with None (suc columns) = Group
+
+abbrev pub opened_by : Shape → Place
+opened_by shape = opened_with shape.rows shape.columns
 
 -- the next round
-pub record BeginsRound (columns : ℕ) (told : Told) (line : List ℕ) (next : Told) : Type 0 where
+pub record BeginsRound (shape : Shape) (told : Told) (line : List ℕ) (next : Told) : Type 0 where
   pub is_round : IsRoundLine (length told.blocks) line
-  pub begun : next ≡ at_place told (opened_by columns)
+  pub begun : next ≡ at_place told (opened_by shape)
 
 abbrev pub with_group : Told → GroupLine → Told
 with_group told group = record {
@@ -177,6 +216,7 @@ with_group told group = record {
   sections = told.sections;
   group = Some group;
   current = told.current;
+  rows = told.rows;
   place = Items;
 }
 
@@ -241,32 +281,44 @@ pub record Ends (told : Told) (line : List ℕ) (next : Told) : Type 0 where
   pub is_line : end_line end ≡ line
   pub ended : next ≡ at_place told (Ended end)
 
-abbrev pub IsOpened : ℕ → Told → List ℕ → Told → Type 0
-IsOpened columns told line next = TellsParts told line next ⊎ BeginsRound columns told line next
+abbrev pub IsOpened : Shape → Told → List ℕ → Told → Type 0
+IsOpened shape told line next = TellsParts told line next ⊎ BeginsRound shape told line next
 
-abbrev pub GoesOn : ℕ → Told → List ℕ → Told → Type 0
-GoesOn columns told line next = BeginsRound columns told line next ⊎ Ends told line next
+abbrev pub GoesOn : Shape → Told → List ℕ → Told → Type 0
+GoesOn shape told line next = BeginsRound shape told line next ⊎ Ends told line next
 
 -- another group of the block, or what comes behind the block once it is whole
-abbrev pub GroupsGoOn : ℕ → Told → Told → List ℕ → Told → Type 0
-GroupsGoOn columns told whole line next = BeginsGroup columns told line next ⊎ GoesOn columns whole line next
+abbrev pub GroupsGoOn : Shape → Told → Told → List ℕ → Told → Type 0
+GroupsGoOn shape told whole line next = BeginsGroup shape.columns told line next ⊎ GoesOn shape whole line next
 
 -- the first block, or the first section, ends with the line before this one
 pub record Closes (shape : Shape) (told : Told) (line : List ℕ) (next : Told) : Type 0 where
   pub first : told.closing ≡ Unknown
   pub all : length told.current ≡ length shape.kinds
-  pub goes_on : GroupsGoOn shape.columns (closed told) (completed told) line next
+  pub goes_on : GroupsGoOn shape (closed told) (completed told) line next
+
+-- the block of these rows is whole, or goes on
+abbrev pub RowsGoOn : Told → Told → Type 0
+RowsGoOn told next = (IsWhole told.rows × (next ≡ rows_done told)) ⊎ ((¬ IsWhole told.rows) × (next ≡ told))
+
+-- how many first rows there are, or the next of them
+pub record ListsRow (shape : Shape) (told : Told) (line : List ℕ) (next : Told) : Type 0 where
+  pub asked : FirstRows
+  pub is_asked : shape.rows ≡ Some asked
+  pub rows : RowsTold
+  pub taken : TakesRows asked.limit told.rows line rows
+  pub goes_on : RowsGoOn (with_rows told rows) next
 
 -- the one, or else the other
 abbrev pub OrElse : (Told → Type 0) → (Told → Type 0) → Told → Type 0
 OrElse First Second next = First next ⊎ (((other : Told) → First other → ⊥) × Second next)
 
 abbrev pub TakesBehind : Shape → Told → List ℕ → Told → Type 0
-TakesBehind shape told line = OrElse (GoesOn shape.columns told line) (PassesBehind shape.kinds told line)
+TakesBehind shape told line = OrElse (GoesOn shape told line) (PassesBehind shape.kinds told line)
 
 abbrev pub TakesBetween : Shape → Told → List ℕ → Told → Type 0
 TakesBetween shape told line =
-    OrElse (GroupsGoOn shape.columns told (block_done told) line) (PassesBehindSection shape.kinds told line)
+    OrElse (GroupsGoOn shape told (block_done told) line) (PassesBehindSection shape.kinds told line)
 
 abbrev pub TakesRest : Shape → Told → List ℕ → Told → Type 0
 TakesRest shape told line = OrElse (PassesInside shape.kinds told line) (Closes shape told line)
@@ -279,15 +331,20 @@ TakesInside shape told line = OrElse (Answers shape.kinds told line) (TakesBehin
 
 abbrev pub TakesAt : Place → List ℕ → Shape → Told → List ℕ → Told → Type 0
 TakesAt Query query shape told line next = Opens query told line next
-TakesAt Opened query shape told line next = IsOpened shape.columns told line next
+TakesAt Opened query shape told line next = IsOpened shape told line next
 TakesAt Round query shape told line next = TakesBehind shape told line next
 TakesAt Group query shape told line next = TakesBetween shape told line next
 TakesAt Items query shape told line next = TakesInside shape told line next
+TakesAt Row query shape told line next = ListsRow shape told line next
 TakesAt (Ended end) query shape told line next = ⊥
 
 -- a report of that query, with blocks of this shape, may go on with this line
 abbrev pub Takes : List ℕ → Shape → Told → List ℕ → Told → Type 0
 Takes query shape told line next = TakesAt told.place query shape told line next
+
+-- the block has all certain rows, and lists none of the possible ones, of which there are some
+abbrev pub IsUnlisted : Told → Type 0
+IsUnlisted told = (told.place ≡ Row) × LacksPossible told.rows
 
 -- no report goes on so, and nothing changes
 abbrev pub Refuses : (Told → Type 0) → Told → Told → Type 0

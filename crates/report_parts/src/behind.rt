@@ -11,13 +11,13 @@ use query_model::ItemKind;
 use report_text::{is_round_line, is_rows_line, read_end};
 
 // What comes behind a line that begins the next round, or ends the report, once so many blocks are told.
-pub(crate) fn place_behind(count: usize, columns: usize, line: &[u8]) -> Option<Place>
+pub(crate) fn place_behind(count: usize, shape: &Shape, line: &[u8]) -> Option<Place>
     ensures { MatchOption result
-        ((told next : Told) → length told.blocks ≡ count → GoesOn columns told line.now next → ⊥)
-        (λ place. (told : Told) → length told.blocks ≡ count → GoesOn columns told line.now (at_place told place)) }
+        ((told next : Told) → length told.blocks ≡ count → GoesOn shape.now told line.now next → ⊥)
+        (λ place. (told : Told) → length told.blocks ≡ count → GoesOn shape.now told line.now (at_place told place)) }
 {
     if is_round_line(count as u64, line) {
-        return Some(opened_by(columns));
+        return Some(opened_by(shape));
     }
     if count == 0 {
         return None;
@@ -30,13 +30,13 @@ pub(crate) fn place_behind(count: usize, columns: usize, line: &[u8]) -> Option<
 
 impl Part {
     // Takes the next round, or the end.
-    fn take_next(&mut self, columns: usize, line: &[u8]) -> bool
+    fn take_next(&mut self, shape: &Shape, line: &[u8]) -> bool
         ensures tag { self.new.tag ≡ self.old.tag }
         ensures taken { MatchBool result
-            (GoesOn columns self.old line.now self.new)
-            (Refuses (GoesOn columns self.old line.now) self.old self.new) }
+            (GoesOn shape.now self.old line.now self.new)
+            (Refuses (GoesOn shape.now self.old line.now) self.old self.new) }
     {
-        match place_behind(self.count(), columns, line) {
+        match place_behind(self.count(), shape, line) {
             Some(place) => {
                 self.go(place);
                 true
@@ -63,7 +63,7 @@ impl Part {
             (TakesBehind shape.now self.old line.now self.new)
             (Refuses (TakesBehind shape.now self.old line.now) self.old self.new) }
     {
-        if self.take_next(shape.columns, line) {
+        if self.take_next(shape, line) {
             return true;
         }
         self.passes_behind(shape.kinds.as_slice(), line)

@@ -77,18 +77,13 @@ impl Part {
     }
 
     // Takes the next round or the end, behind a block that is whole by it.
-    fn end_by_next(
-        &mut self,
-        alloc: Global,
-        columns: usize,
-        line: &[u8],
-    ) -> Result<bool, AllocError>
+    fn end_by_next(&mut self, alloc: Global, shape: &Shape, line: &[u8]) -> Result<bool, AllocError>
         ensures tag { self.new.tag ≡ self.old.tag }
         ensures taken { IfOk result (λ taken. MatchBool taken
-            (GoesOn columns (block_done self.old) line.now self.new)
-            (Refuses (GoesOn columns (block_done self.old) line.now) self.old self.new)) }
+            (GoesOn shape.now (block_done self.old) line.now self.new)
+            (Refuses (GoesOn shape.now (block_done self.old) line.now) self.old self.new)) }
     {
-        let Some(place) = place_behind(self.count() + 1, columns, line) else {
+        let Some(place) = place_behind(self.count() + 1, shape, line) else {
             return Ok(false);
         };
         self.end_block(alloc)?;
@@ -100,18 +95,18 @@ impl Part {
     fn take_group_or_next(
         &mut self,
         alloc: Global,
-        columns: usize,
+        shape: &Shape,
         line: &[u8],
     ) -> Result<bool, AllocError>
         ensures tag { self.new.tag ≡ self.old.tag }
         ensures taken { IfOk result (λ taken. MatchBool taken
-            (GroupsGoOn columns self.old (block_done self.old) line.now self.new)
-            (Refuses (GroupsGoOn columns self.old (block_done self.old) line.now) self.old self.new)) }
+            (GroupsGoOn shape.now self.old (block_done self.old) line.now self.new)
+            (Refuses (GroupsGoOn shape.now self.old (block_done self.old) line.now) self.old self.new)) }
     {
-        if self.take_group(alloc, columns, line)? {
+        if self.take_group(alloc, shape.columns, line)? {
             return Ok(true);
         }
-        self.end_by_next(alloc, columns, line)
+        self.end_by_next(alloc, shape, line)
     }
 
     // Whether the line tells the rows of the exact average with which the last section ends.
@@ -135,7 +130,7 @@ impl Part {
             (TakesBetween shape.now self.old line.now self.new)
             (Refuses (TakesBetween shape.now self.old line.now) self.old self.new)) }
     {
-        if self.take_group_or_next(alloc, shape.columns, line)? {
+        if self.take_group_or_next(alloc, shape, line)? {
             return Ok(true);
         }
         Ok(self.passes_behind_section(shape.kinds.as_slice(), line))
@@ -152,6 +147,7 @@ impl Part {
         ensures taken { OnOk result (TakesBetween shape.now self.old line.now self.new) }
         ensures other { result ≡ Err LineFault.OtherLine → Refuses (TakesBetween shape.now self.old line.now) self.old self.new }
         ensures query { result ≢ Err LineFault.OtherQuery }
+        ensures listed { result ≢ Err LineFault.Unlisted }
     {
         match self.take_between(alloc, shape, line) {
             Ok(true) => Ok(()),

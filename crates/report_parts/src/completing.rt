@@ -9,6 +9,7 @@ use crate::block::Block;
 use crate::closing::closing_of;
 use crate::entry::answers_of;
 use crate::part::{Part, Place};
+use crate::shape::Shape;
 use daq_table::Listed;
 use part_groups::Group;
 use std::alloc::{AllocError, Global};
@@ -80,15 +81,15 @@ impl Part {
     fn close_by_next(
         &mut self,
         alloc: Global,
-        columns: usize,
+        shape: &Shape,
         line: &[u8],
     ) -> Result<bool, AllocError>
         ensures tag { self.new.tag ≡ self.old.tag }
         ensures taken { IfOk result (λ taken. MatchBool taken
-            (GoesOn columns (completed self.old) line.now self.new)
-            (Refuses (GoesOn columns (completed self.old) line.now) self.old self.new)) }
+            (GoesOn shape.now (completed self.old) line.now self.new)
+            (Refuses (GoesOn shape.now (completed self.old) line.now) self.old self.new)) }
     {
-        let Some(place) = place_behind(self.count() + 1, columns, line) else {
+        let Some(place) = place_behind(self.count() + 1, shape, line) else {
             return Ok(false);
         };
         self.complete(alloc)?;
@@ -100,17 +101,17 @@ impl Part {
     pub(crate) fn close_by(
         &mut self,
         alloc: Global,
-        columns: usize,
+        shape: &Shape,
         line: &[u8],
     ) -> Result<bool, AllocError>
         ensures tag { self.new.tag ≡ self.old.tag }
         ensures taken { IfOk result (λ taken. MatchBool taken
-            (GroupsGoOn columns (closed self.old) (completed self.old) line.now self.new)
-            (Refuses (GroupsGoOn columns (closed self.old) (completed self.old) line.now) self.old self.new)) }
+            (GroupsGoOn shape.now (closed self.old) (completed self.old) line.now self.new)
+            (Refuses (GroupsGoOn shape.now (closed self.old) (completed self.old) line.now) self.old self.new)) }
     {
-        if self.close_by_group(alloc, columns, line)? {
+        if self.close_by_group(alloc, shape.columns, line)? {
             return Ok(true);
         }
-        self.close_by_next(alloc, columns, line)
+        self.close_by_next(alloc, shape, line)
     }
 }

@@ -17,7 +17,8 @@ fn ends_narrow(place: Place) -> bool
     match place {
         Place::Ended(ReportEnd::Narrow) => true,
         Place::Ended(ReportEnd::Rounds | ReportEnd::Reads) => false,
-        Place::Query | Place::Opened | Place::Round | Place::Group | Place::Items => false,
+        Place::Query | Place::Opened | Place::Round | Place::Group | Place::Items | Place::Row =>
+            false,
     }
 }
 

@@ -18,6 +18,9 @@ pub enum LineFault {
     /// The line is not that of the query.
     #[error("another query")]
     OtherQuery,
+    /// At its place no report of the query has this line, and of the first rows before it the possible ones are not listed.
+    #[error("possible rows are not listed")]
+    Unlisted,
     /// At its place no report of the query has this line.
     #[error("no line of a report")]
     OtherLine,

@@ -151,7 +151,7 @@ impl Part {
         if !is_unknown(self.closing) || self.current.len() != shape.kinds.as_slice().len() {
             return Ok(false);
         }
-        self.close_by(alloc, shape.columns, line)
+        self.close_by(alloc, shape, line)
     }
 
     // Takes a line behind what is told of an item, but for the next answer.

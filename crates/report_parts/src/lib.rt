@@ -25,6 +25,7 @@ mod over;
 mod part;
 mod parts;
 mod rounds;
+mod rows;
 mod shape;
 mod tags;
 mod values;

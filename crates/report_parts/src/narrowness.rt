@@ -11,7 +11,7 @@ use crate::entry::Entry;
 use crate::near::are_near;
 use part_groups::Group;
 use query_model::{Bound, Nullity};
-use report_text::Answer;
+use report_text::{Answer, RowLine};
 
 // Whether it is known that there is an answer, and its ends are near, or that there is none.
 fn is_told(null: Nullity, near: bool) -> bool
@@ -81,12 +81,25 @@ fn groups_are_narrow(width: u64, groups: &[Group]) -> bool
     true
 }
 
-// Whether the block is narrow: each answer is, and each group is in the result for certain.
+// Whether each row is among the first for certain.
+fn rows_are_certain(rows: &[RowLine]) -> bool
+    ensures { result ≡ list_all (λ row. row.certain) rows.now }
+{
+    for row in rows {
+        if !row.certain {
+            return false;
+        }
+    }
+    true
+}
+
+// Whether the block is narrow: each answer is, each group is in the result for certain, and each row is among the first for certain.
 pub(crate) fn is_narrow_block(width: u64, block: &Block) -> bool
     ensures { result ≡ is_narrow_block width block.now }
 {
     match block {
         Block::Totals(entries) => are_narrow(width, entries.as_slice()),
         Block::Groups(groups) => groups_are_narrow(width, groups.as_slice()),
+        Block::Rows(rows) => rows_are_certain(rows.rows()),
     }
 }

@@ -5,16 +5,22 @@ ghost use Rattle.report_parts.specs.Told.{BeginsRound, IsOpened, Opens, Refuses,
 
 use crate::fault::LineFault;
 use crate::part::{Part, Place};
+use crate::shape::Shape;
 use report_text::{is_round_line, read_parts};
 
 // What comes behind the line of a round.
-pub(crate) fn opened_by(columns: usize) -> Place
-    ensures { result ≡ opened_by columns }
+pub(crate) fn opened_by(shape: &Shape) -> Place
+    ensures { result ≡ opened_by shape.now }
 {
-    if columns == 0 {
-        Place::Items
-    } else {
-        Place::Group
+    match shape.rows {
+        Some(_) => Place::Row,
+        None => {
+            if shape.columns == 0 {
+                Place::Items
+            } else {
+                Place::Group
+            }
+        }
     }
 }
 
@@ -39,6 +45,7 @@ impl Part {
         ensures taken { OnOk result (Opens query.now self.old line.now self.new) }
         ensures query { result ≡ Err LineFault.OtherQuery → Refuses (Opens query.now self.old line.now) self.old self.new }
         ensures other { result ≢ Err LineFault.OtherLine }
+        ensures listed { result ≢ Err LineFault.Unlisted }
     {
         if self.take_query(query, line) {
             Ok(())
@@ -62,30 +69,30 @@ impl Part {
     }
 
     // Takes the line of the next round.
-    fn take_round(&mut self, columns: usize, line: &[u8]) -> bool
+    fn take_round(&mut self, shape: &Shape, line: &[u8]) -> bool
         ensures tag { self.new.tag ≡ self.old.tag }
         ensures taken { MatchBool result
-            (BeginsRound columns self.old line.now self.new)
-            (Refuses (BeginsRound columns self.old line.now) self.old self.new) }
+            (BeginsRound shape.now self.old line.now self.new)
+            (Refuses (BeginsRound shape.now self.old line.now) self.old self.new) }
     {
         if !is_round_line(self.count() as u64, line) {
             return false;
         }
-        self.go(opened_by(columns));
+        self.go(opened_by(shape));
         true
     }
 
     // Takes how many parts a combined report is of, or the first round.
-    pub(crate) fn take_opened(&mut self, columns: usize, line: &[u8]) -> bool
+    pub(crate) fn take_opened(&mut self, shape: &Shape, line: &[u8]) -> bool
         ensures tag { self.new.tag ≡ self.old.tag }
         ensures taken { MatchBool result
-            (IsOpened columns self.old line.now self.new)
-            (Refuses (IsOpened columns self.old line.now) self.old self.new) }
+            (IsOpened shape.now self.old line.now self.new)
+            (Refuses (IsOpened shape.now self.old line.now) self.old self.new) }
     {
         if self.take_parts(line) {
             true
         } else {
-            self.take_round(columns, line)
+            self.take_round(shape, line)
         }
     }
 }

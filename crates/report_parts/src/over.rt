@@ -55,6 +55,7 @@ fn push_block(
     match block {
         Block::Totals(entries) => push_items(text, kinds, entries.as_slice()),
         Block::Groups(groups) => push_groups(alloc, text, groups.as_slice()),
+        Block::Rows(_) => Ok(()),
     }
 }
 

@@ -1,10 +1,10 @@
 //! The report of a part, read line by line. Blocks that are no longer asked for are forgotten.
 
 ghost use Rattle.std.specs.Prelude.{◌≡◌, ◌≢◌, ◌+◌, ◌<◌, ◌^◌, Err, MatchOption, OnOk, length};
-ghost use Rattle.report_parts.specs.Blocks.{entries_of, groups_of, no_block};
+ghost use Rattle.report_parts.specs.Blocks.{entries_of, groups_of, no_block, rows_of};
 ghost use Rattle.report_parts.specs.Passed.{TellsFrom};
 ghost use Rattle.report_parts.specs.Rounds.{block_for};
-ghost use Rattle.report_parts.specs.Told.{Refuses, Takes, TakesInside, at_place, nothing_told};
+ghost use Rattle.report_parts.specs.Told.{IsUnlisted, Refuses, Takes, TakesInside, at_place, nothing_told};
 ghost use Rattle.report_parts.specs.declared.part.Place.TheVariants.{Query};
 
 use crate::block::Block;
@@ -13,7 +13,7 @@ use crate::entry::Entry;
 use crate::fault::LineFault;
 use crate::shape::Shape;
 use part_groups::Group;
-use report_text::{GroupLine, ReportEnd};
+use report_text::{GroupLine, ReportEnd, RowLine, RowsBlock};
 use std::alloc::Global;
 use std::marker::Model;
 
@@ -30,13 +30,15 @@ pub enum Place {
     Group,
     /// The answer of the next item.
     Items,
+    /// How many first rows there are, or the next of them.
+    Row,
     /// Nothing.
     Ended(ReportEnd),
 }
 
 /// The report of a part, as far as it was read: the blocks behind so many that were forgotten; which line is the last of an item's; of the
-/// block that is not whole yet the whole sections, the group of the one that is not, and its entries, or, of totals, the entries; and what
-/// comes next.
+/// block that is not whole yet the whole sections, the group of the one that is not, and its entries, or, of totals, the entries, or the
+/// first rows; and what comes next.
 #[derive(Drop)]
 pub struct Part {
     pub(crate) tag: Vec<u8>,
@@ -46,6 +48,7 @@ pub struct Part {
     pub(crate) sections: Vec<Group>,
     pub(crate) group: Option<GroupLine>,
     pub(crate) current: Vec<Entry>,
+    pub(crate) rows: RowsBlock,
     pub(crate) place: Place,
 }
 
@@ -63,6 +66,7 @@ impl Model for Part {
       sections = p.sections.items;
       group = p.group;
       current = p.current.items;
+      rows = p.rows;
       place = p.place;
     } };
 
@@ -85,6 +89,7 @@ impl Part {
             sections: Vec::new(alloc),
             group: None,
             current: Vec::new(alloc),
+            rows: RowsBlock::new(alloc),
             place: Place::Query,
         }
     }
@@ -140,6 +145,16 @@ impl Part {
         }
     }
 
+    /// The rows that it lists, where it is of first rows.
+    pub fn rows_for(&self, round: usize) -> &[RowLine]
+        ensures { result.now ≡ rows_of (block_for round self.now) }
+    {
+        match self.block_for(round) {
+            Some(block) => block.rows(),
+            None => &[],
+        }
+    }
+
     /// What comes next.
     pub fn place(&self) -> Place
         ensures { result ≡ self.now.place }
@@ -175,6 +190,7 @@ impl Part {
         ensures taken { OnOk result (TakesInside shape.now self.old line.now self.new) }
         ensures other { result ≡ Err LineFault.OtherLine → Refuses (TakesInside shape.now self.old line.now) self.old self.new }
         ensures query { result ≢ Err LineFault.OtherQuery }
+        ensures listed { result ≢ Err LineFault.Unlisted }
     {
         match self.take_inside(alloc, shape, line) {
             Ok(true) => Ok(()),
@@ -196,15 +212,18 @@ impl Part {
         ensures taken { OnOk result (Takes query.now shape.now self.old line.now self.new) }
         ensures query { result ≡ Err LineFault.OtherQuery
             → (self.old.place ≡ Query) × Refuses (Takes query.now shape.now self.old line.now) self.old self.new }
+        ensures unlisted { result ≡ Err LineFault.Unlisted
+            → IsUnlisted self.old × Refuses (Takes query.now shape.now self.old line.now) self.old self.new }
         ensures other { result ≡ Err LineFault.OtherLine
-            → (self.old.place ≢ Query) × Refuses (Takes query.now shape.now self.old line.now) self.old self.new }
+            → (self.old.place ≢ Query) × (¬ IsUnlisted self.old) × Refuses (Takes query.now shape.now self.old line.now) self.old self.new }
     {
         let taken = match self.place {
             Place::Query => return self.take_opening(query, line),
-            Place::Opened => self.take_opened(shape.columns, line),
+            Place::Opened => self.take_opened(shape, line),
             Place::Round => self.take_behind(shape, line),
             Place::Group => return self.take_line_between(alloc, shape, line),
             Place::Items => return self.take_line_inside(alloc, shape, line),
+            Place::Row => return self.take_line_of_rows(alloc, shape, line),
             Place::Ended(_) => false,
         };
         if taken {

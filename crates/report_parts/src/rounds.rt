@@ -14,7 +14,8 @@ pub(crate) fn is_ended(place: Place) -> bool
     ensures { result ≡ is_ended place }
 {
     match place {
-        Place::Query | Place::Opened | Place::Round | Place::Group | Place::Items => false,
+        Place::Query | Place::Opened | Place::Round | Place::Group | Place::Items | Place::Row =>
+            false,
         Place::Ended(_) => true,
     }
 }

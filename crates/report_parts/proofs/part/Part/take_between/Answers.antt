@@ -8,7 +8,7 @@ pub returns-clause-taken : goal.returns-clause-taken
 returns-clause-taken c =
     let mid = c.take_group_or_next.new.self in
     let line = c.args.line.now in
-    else_decides c.passes_behind_section.result (λ told next. GroupsGoOn c.args.shape.now.columns told (block_done told) line next)
+    else_decides c.passes_behind_section.result (λ told next. GroupsGoOn c.args.shape.now told (block_done told) line next)
     (λ told next. PassesBehindSection c.args.shape.now.kinds told line next) c.args.self.now mid mid
     (refused_when _ _ _ c.if-branch.false c.in_ok-take_group_or_next.ensures.taken)
     (unchanged c.passes_behind_section.result (λ next. PassesBehindSection c.args.shape.now.kinds mid line next) mid
