@@ -1,5 +1,5 @@
 -- The first line, and what it asks.
-use Rattle.std.proofs.Common.{◌≡◌, ℕ, ◌≤◌, true, None, List, [], ◌∷◌, refl, sym, subst, ◌∙◌, inl}
+use Rattle.std.proofs.Common.{◌≡◌, ℕ, ◌≤◌, true, None, List, [], ◌∷◌, refl, sym, ap, subst, ◌∙◌, inl}
 use Rattle.outer_world.specs.Device.{SinkState, SourceState}
 use Rattle.query_kinds.specs.Beside.{TellsBeside}
 use Rattle.query_kinds.specs.Kinds.{Asks}
@@ -74,6 +74,7 @@ task_of count until first query shape task h q k n w l = record {
       (subst (λ (own : List ℕ). Asks own shape.kinds shape.columns) (sym q) h.asks);
   besides = subst (λ (own : Shape). TellsBeside task.query own.besides) (sym k)
       (subst (λ (own : List ℕ). TellsBeside own shape.besides) (sym q) h.besides);
+  no_rows = ap (λ (own : Shape). own.rows) k ∙ h.no_rows;
   count = n;
   width = w;
   last = l;

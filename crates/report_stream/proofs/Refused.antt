@@ -31,6 +31,7 @@ input_kinds i.NoTab number = inl (r.NoTab, refl)
 input_kinds i.NoTag number = inl (r.NoTag, refl)
 input_kinds i.OtherPart number = inl (r.MoreParts, refl)
 input_kinds (i.Line l.OtherQuery) number = inl (r.OtherQuery, refl)
+input_kinds (i.Line l.Unlisted) number = inl (r.Unlisted, refl)
 input_kinds (i.Line l.OtherLine) number = inl (r.OtherLine, refl)
 input_kinds (i.Line l.NoMemory) number = inr refl
 

@@ -10,7 +10,7 @@ use Rattle.report_parts.proofs.Telling.{ended_stays, telling_one, tells_split}
 use Rattle.report_parts.specs.Course.{Combines, IsLineFault, IsStopped, Stops, TakesLine, Task, Tell}
 use Rattle.report_parts.specs.Ends.{first_open}
 use Rattle.report_parts.specs.Tags.{HasTab, IsRefused, IsTag, behind_tag, part_at, tag_of, told_of}
-use Rattle.report_parts.specs.Told.{Takes, TakesAt, Told as PartTold, at_place, nothing_told}
+use Rattle.report_parts.specs.Told.{IsUnlisted, Takes, TakesAt, Told as PartTold, at_place, nothing_told}
 use Rattle.report_parts.specs.declared.combination.Until.{Until}
 use Rattle.report_parts.specs.declared.fault.BlockFault.{BlockFault}
 use Rattle.report_parts.specs.declared.fault.BlockFault.TheVariants as b
@@ -18,7 +18,7 @@ use Rattle.report_parts.specs.declared.fault.InputFault.{InputFault}
 use Rattle.report_parts.specs.declared.fault.InputFault.TheVariants as i
 use Rattle.report_parts.specs.declared.fault.LineFault.TheVariants as l
 use Rattle.report_parts.specs.declared.part.Place.{Place}
-use Rattle.report_parts.specs.declared.part.Place.TheVariants.{Opened, Query}
+use Rattle.report_parts.specs.declared.part.Place.TheVariants.{Opened, Query, Row}
 use Rattle.report_parts.specs.declared.shape.Shape.{Shape}
 use Rattle.source_lines.specs.Lines.{has_line, line_length, most_bytes, most_line}
 use Rattle.report_stream.proofs.LineTexts.{all_before, front_line, last_line, line_more, no_earlier, not_long, not_rest, plain, same_line, which_goes_on}
@@ -27,7 +27,7 @@ use Rattle.report_stream.proofs.Tasks.{IsOpen, QueriesAreOne, Told, block_open, 
 use Rattle.report_stream.specs.Faults.{of_block, of_input}
 use Rattle.report_stream.specs.Shown.{ComesNext, FaultsAreTold, GoesRight, GoesTooFar, IsNext, IsRest, IsTold, IsUnwritten, ShowsFault}
 use Rattle.report_stream.specs.Shown.{ends_early, first_too_long, first_without_tab, first_without_tag, more_parts, no_line, no_query, no_tab, no_tag, no_totals}
-use Rattle.report_stream.specs.Shown.{other_block, other_count, other_line, other_query, too_long}
+use Rattle.report_stream.specs.Shown.{other_block, other_count, other_line, other_query, too_long, unlisted}
 use Rattle.report_stream.specs.Streams.{AreLines, Combined, Ends, IsFirstRefused, IsFull, IsLine, IsTask, ReadsLines, RefusesBlock, RefusesFirst, RefusesLength, RefusesLine, StreamCause, first_line, lines_text}
 use Rattle.report_stream.specs.declared.fault.LineRefusal.{LineRefusal}
 use Rattle.report_stream.specs.declared.fault.LineRefusal.TheVariants as r
@@ -427,9 +427,9 @@ module _ (kinds : QueriesAreOne) (count : ℕ) (until : Until) (bytes : List ℕ
 
   -- the report of a part that has begun does not go on so
   line_told : (own : List (List ℕ)) (rest line behind : List ℕ) (g : GoesRight count until bytes own rest) (number : ℕ) → ComesNext rest line behind →
-      (told_of (tag_of line) g.combines.parts).place ≢ Query → ((next : PartTold) → Takes g.task.query g.task.shape (told_of (tag_of line) g.combines.parts) (behind_tag line) next → ⊥) →
+      (told_of (tag_of line) g.combines.parts).place ≢ Query → ¬ IsUnlisted (told_of (tag_of line) g.combines.parts) → ((next : PartTold) → Takes g.task.query g.task.shape (told_of (tag_of line) g.combines.parts) (behind_tag line) next → ⊥) →
       number ≡ length own + 1 → IsTold count until input input' out out' (Line number r.OtherLine)
-  line_told own rest line behind g number comes begun cannot counted =
+  line_told own rest line behind g number comes begun listed cannot counted =
       is_told kinds count until bytes few input input' out out' left own rest g (Line number r.OtherLine)
       (line_here own rest line behind g (Line number r.OtherLine) comes.next (λ next takes. cannot takes.taken.told takes.taken.taken) only)
     where
@@ -439,7 +439,29 @@ module _ (kinds : QueriesAreOne) (count : ℕ) (until : Until) (bytes : List ℕ
       only n why i.NoTag e said refuted = absurd (refuted.1 comes.tagged.1)
       only n why i.OtherPart e said refuted = absurd (begun (ap (λ (t : PartTold). t.place) refuted.1.1))
       only n why (i.Line l.OtherQuery) e said refuted = absurd (begun refuted.1.0)
+      only n why (i.Line l.Unlisted) e said refuted = absurd (listed refuted.1.0)
       only n why (i.Line l.OtherLine) e said refuted = line_number n number why r.OtherLine (e ∙ sym counted) (why_is n why r.OtherLine said)
+      only n why (i.Line l.NoMemory) e said refuted = absurd (let f : Line n why ≡ NoMemory = said in cc)
+
+  -- of the first rows before the line the possible ones are not listed
+  unlisted_told : (own : List (List ℕ)) (rest line behind : List ℕ) (g : GoesRight count until bytes own rest) (number : ℕ) → ComesNext rest line behind →
+      IsUnlisted (told_of (tag_of line) g.combines.parts) → ((next : PartTold) → Takes g.task.query g.task.shape (told_of (tag_of line) g.combines.parts) (behind_tag line) next → ⊥) →
+      number ≡ length own + 1 → IsTold count until input input' out out' (Line number r.Unlisted)
+  unlisted_told own rest line behind g number comes lacks cannot counted =
+      is_told kinds count until bytes few input input' out out' left own rest g (Line number r.Unlisted)
+      (line_here own rest line behind g (Line number r.Unlisted) comes.next (λ next takes. cannot takes.taken.told takes.taken.taken) only)
+    where
+      begun : (told_of (tag_of line) g.combines.parts).place ≢ Query
+      begun there = absurd (let f : Row ≡ Query = sym lacks.0 ∙ there in cc)
+
+      only : (n : ℕ) (why : LineRefusal) (f : InputFault) → n ≡ length own + 1 → Line n why ≡ of_input n f → IsRefused f g.task.query g.task.shape g.task.count g.combines.parts line →
+          Line n why ≡ Line number r.Unlisted
+      only n why i.NoTab e said refuted = absurd (refuted comes.tagged.0)
+      only n why i.NoTag e said refuted = absurd (refuted.1 comes.tagged.1)
+      only n why i.OtherPart e said refuted = absurd (begun (ap (λ (t : PartTold). t.place) refuted.1.1))
+      only n why (i.Line l.OtherQuery) e said refuted = absurd (begun refuted.1.0)
+      only n why (i.Line l.Unlisted) e said refuted = line_number n number why r.Unlisted (e ∙ sym counted) (why_is n why r.Unlisted said)
+      only n why (i.Line l.OtherLine) e said refuted = absurd (refuted.1.1 lacks)
       only n why (i.Line l.NoMemory) e said refuted = absurd (let f : Line n why ≡ NoMemory = said in cc)
 
   -- there is one part more
@@ -466,7 +488,8 @@ module _ (kinds : QueriesAreOne) (count : ℕ) (until : Until) (bytes : List ℕ
       only n why i.NoTag e said refuted = absurd (refuted.1 comes.tagged.1)
       only n why i.OtherPart e said refuted = line_number n number why r.MoreParts (e ∙ sym counted) (why_is n why r.MoreParts said)
       only n why (i.Line l.OtherQuery) e said refuted = absurd (refuted.1.1 (at_place mine Opened) can)
-      only n why (i.Line l.OtherLine) e said refuted = absurd (refuted.1.1 (at_place mine Opened) can)
+      only n why (i.Line l.Unlisted) e said refuted = absurd (refuted.1.1 (at_place mine Opened) can)
+      only n why (i.Line l.OtherLine) e said refuted = absurd (refuted.1.2 (at_place mine Opened) can)
       only n why (i.Line l.NoMemory) e said refuted = absurd (let f : Line n why ≡ NoMemory = said in cc)
 
   -- what refuses a line that comes next
@@ -490,6 +513,7 @@ module _ (kinds : QueriesAreOne) (count : ℕ) (until : Until) (bytes : List ℕ
       only n why i.NoTag e said refuted = absurd (none refuted.0)
       only n why i.OtherPart e said refuted = absurd (none refuted.0.0)
       only n why (i.Line l.OtherQuery) e said refuted = absurd (none refuted.0.0)
+      only n why (i.Line l.Unlisted) e said refuted = absurd (none refuted.0.0)
       only n why (i.Line l.OtherLine) e said refuted = absurd (none refuted.0.0)
       only n why (i.Line l.NoMemory) e said refuted = absurd (none refuted.0.0)
 
@@ -505,6 +529,7 @@ module _ (kinds : QueriesAreOne) (count : ℕ) (until : Until) (bytes : List ℕ
       only n why i.NoTag e said refuted = line_number n number why r.NoTag (e ∙ sym counted) (why_is n why r.NoTag said)
       only n why i.OtherPart e said refuted = absurd (none refuted.0.1)
       only n why (i.Line l.OtherQuery) e said refuted = absurd (none refuted.0.1)
+      only n why (i.Line l.Unlisted) e said refuted = absurd (none refuted.0.1)
       only n why (i.Line l.OtherLine) e said refuted = absurd (none refuted.0.1)
       only n why (i.Line l.NoMemory) e said refuted = absurd (none refuted.0.1)
 
@@ -530,6 +555,7 @@ module _ (kinds : QueriesAreOne) (count : ℕ) (until : Until) (bytes : List ℕ
       only n why i.NoTag e said refuted = absurd (refuted.1 comes.tagged.1)
       only n why i.OtherPart e said refuted = absurd (let many = refuted.1.0 in let same = g.is_task.count in omega (arith, many, room, same))
       only n why (i.Line l.OtherQuery) e said refuted = line_number n number why r.OtherQuery (e ∙ sym counted) (why_is n why r.OtherQuery said)
+      only n why (i.Line l.Unlisted) e said refuted = absurd (let f : Row ≡ Query = sym refuted.1.0.0 ∙ there in cc)
       only n why (i.Line l.OtherLine) e said refuted = absurd (refuted.1.0 there)
       only n why (i.Line l.NoMemory) e said refuted = absurd (let f : Line n why ≡ NoMemory = said in cc)
 
@@ -726,6 +752,7 @@ module _ (kinds : QueriesAreOne) (count : ℕ) (until : Until) (bytes : List ℕ
   query_only first tab tag none r.NoTotals h = absurd (none h.1.query h.1.is_line)
   query_only first tab tag none r.MoreParts h = absurd h
   query_only first tab tag none r.OtherQuery h = absurd h
+  query_only first tab tag none r.Unlisted h = absurd h
   query_only first tab tag none r.OtherLine h = absurd h
   query_only first tab tag none (r.OtherColumn column) h = absurd h
   query_only first tab tag none (r.OtherDecimals item) h = absurd h
@@ -739,6 +766,7 @@ module _ (kinds : QueriesAreOne) (count : ℕ) (until : Until) (bytes : List ℕ
   totals_only first tab tag other r.NoTotals h = refl
   totals_only first tab tag other r.MoreParts h = absurd h
   totals_only first tab tag other r.OtherQuery h = absurd h
+  totals_only first tab tag other r.Unlisted h = absurd h
   totals_only first tab tag other r.OtherLine h = absurd h
   totals_only first tab tag other (r.OtherColumn column) h = absurd h
   totals_only first tab tag other (r.OtherDecimals item) h = absurd h
@@ -752,6 +780,7 @@ module _ (kinds : QueriesAreOne) (count : ℕ) (until : Until) (bytes : List ℕ
   tab_only first none r.NoTotals h = absurd (none h.0.0)
   tab_only first none r.MoreParts h = absurd h
   tab_only first none r.OtherQuery h = absurd h
+  tab_only first none r.Unlisted h = absurd h
   tab_only first none r.OtherLine h = absurd h
   tab_only first none (r.OtherColumn column) h = absurd h
   tab_only first none (r.OtherDecimals item) h = absurd h
@@ -765,6 +794,7 @@ module _ (kinds : QueriesAreOne) (count : ℕ) (until : Until) (bytes : List ℕ
   tag_only first tab none r.NoTotals h = absurd (none h.0.1)
   tag_only first tab none r.MoreParts h = absurd h
   tag_only first tab none r.OtherQuery h = absurd h
+  tag_only first tab none r.Unlisted h = absurd h
   tag_only first tab none r.OtherLine h = absurd h
   tag_only first tab none (r.OtherColumn column) h = absurd h
   tag_only first tab none (r.OtherDecimals item) h = absurd h
@@ -798,7 +828,8 @@ module _ (kinds : QueriesAreOne) (count : ℕ) (until : Until) (bytes : List ℕ
   shown_told fault (more_parts lines rest line behind g number comes new many query counted) = more_told lines rest line behind g number comes new many query counted
   shown_told fault (other_block lines rest line behind g number block why comes un counted is) =
       subst (λ (f : StreamFault). IsTold count until input input' out out' f) (sym is) (block_told lines rest line behind g number block comes un counted)
-  shown_told fault (other_line lines rest line behind g number comes begun cannot counted) = line_told lines rest line behind g number comes begun cannot counted
+  shown_told fault (other_line lines rest line behind g number comes begun listed cannot counted) = line_told lines rest line behind g number comes begun listed cannot counted
+  shown_told fault (unlisted lines rest line behind g number comes lacks cannot counted) = unlisted_told lines rest line behind g number comes lacks cannot counted
 
 pub are_told : QueriesAreOne → FaultsAreTold
 are_told kinds count until input input' out out' bytes fault left few shows = shown_told kinds count until bytes few input input' out out' left fault shows

@@ -1,5 +1,5 @@
 -- Why a first line is refused.
-use Rattle.std.proofs.Common.{◌≡◌, ℕ, List, [], refl, subst, arith}
+use Rattle.std.proofs.Common.{◌≡◌, ℕ, None, List, [], refl, subst, arith}
 use Rattle.query_kinds.specs.Kinds.{AsksOther, IsKindsFault, IsNoQuery}
 use Rattle.query_kinds.specs.declared.fault.KindsFault.{KindsFault}
 use Rattle.query_kinds.specs.declared.fault.KindsFault.TheVariants as k
@@ -14,7 +14,7 @@ use Rattle.report_stream.specs.Faults.{of_input, of_kinds}
 use Rattle.report_stream.specs.Steps.{IsFirstFault}
 
 abbrev none_asked : Shape
-none_asked = record { kinds = []; columns = 0; besides = [] }
+none_asked = record { kinds = []; columns = 0; besides = []; rows = None }
 
 -- the line of the query opens the report of a part
 opens : (first : List ℕ) → CannotTake (behind_tag first) none_asked (nothing_told (tag_of first)) (behind_tag first) → ⊥
@@ -27,7 +27,8 @@ first_refused first i.NoTab h = (refl, h [] none_asked 0 [])
 first_refused first i.NoTag h = (refl, h [] none_asked 0 [])
 first_refused first i.OtherPart h = let few = (h [] none_asked 1 []).1.0 in absurd (omega (arith, few))
 first_refused first (i.Line l.OtherQuery) h = absurd (opens first (h (behind_tag first) none_asked 0 []).1.1)
-first_refused first (i.Line l.OtherLine) h = absurd (opens first (h (behind_tag first) none_asked 0 []).1.1)
+first_refused first (i.Line l.Unlisted) h = absurd (opens first (h (behind_tag first) none_asked 0 []).1.1)
+first_refused first (i.Line l.OtherLine) h = absurd (opens first (h (behind_tag first) none_asked 0 []).1.2)
 first_refused first (i.Line l.NoMemory) h = tt
 
 pub kinds_refused : (first line : List ℕ) (why : KindsFault) → IsTagged first → line ≡ behind_tag first → IsKindsFault line why →

@@ -10,6 +10,7 @@ use Rattle.query_model.specs.declared.query.ItemKind.{ItemKind}
 use Rattle.report_text.specs.Answers.{answer_text}
 use Rattle.report_text.specs.Extras.{IsRowsLine, extra_text}
 use Rattle.report_text.specs.Lines.{end_line}
+use Rattle.report_text.specs.RowBlocks.{TakesRows}
 use Rattle.report_text.specs.declared.lines.ReportEnd.{ReportEnd}
 use Rattle.report_text.specs.declared.lines.ReportEnd.TheVariants.{Narrow, Reads, Rounds}
 use Rattle.report_parts.proofs.Courses.{passes_on, tag_of_told, tag_stays}
@@ -19,14 +20,14 @@ use Rattle.report_parts.proofs.Telling.{grown, telling_one, tells_split}
 use Rattle.report_parts.specs.Course.{IsLineFault, IsStopped, Stops, StopsBy, TakesLine, Task, Tell, wanted_of}
 use Rattle.report_parts.specs.Laws.{AllReach}
 use Rattle.report_parts.specs.Tags.{HasTab, IsRefused, IsTag, against, behind_tag, by_order, part_at, tag_of, told_of, with_part}
-use Rattle.report_parts.specs.Told.{GoesOn, GroupsGoOn, TakesAt, TakesBehindAnswer, TakesRest, Told, block_done, closed, completed, nothing_told}
+use Rattle.report_parts.specs.Told.{GoesOn, GroupsGoOn, ListsRow, TakesAt, TakesBehindAnswer, TakesRest, Told, block_done, closed, completed, nothing_told}
 use Rattle.report_parts.specs.declared.fault.BlockFault.{BlockFault}
 use Rattle.report_parts.specs.declared.fault.BlockFault.TheVariants as b
 use Rattle.report_parts.specs.declared.fault.InputFault.{InputFault}
 use Rattle.report_parts.specs.declared.fault.InputFault.TheVariants as i
 use Rattle.report_parts.specs.declared.fault.LineFault.TheVariants as l
 use Rattle.report_parts.specs.declared.part.Place.{Place}
-use Rattle.report_parts.specs.declared.part.Place.TheVariants.{Query, Opened, Round, Group, Items, Ended}
+use Rattle.report_parts.specs.declared.part.Place.TheVariants.{Query, Opened, Round, Group, Items, Row, Ended}
 use Rattle.report_parts.specs.declared.shape.Shape.{Shape}
 use Rattle.report_stream.specs.Accepted.{BlocksFit}
 
@@ -55,22 +56,29 @@ none_spelled number text e =
 none_rows : (number : ℕ) → IsRowsLine number [] → ⊥
 none_rows number h = none_spelled number h.text (sym h.split)
 
-none_goes_on : (columns : ℕ) (told next : Told) → GoesOn columns told [] next → ⊥
-none_goes_on columns told next (inl h) = absurd (let e = h.is_round.split in cc)
-none_goes_on columns told next (inr h) = by h.end h.is_line
+none_goes_on : (shape : Shape) (told next : Told) → GoesOn shape told [] next → ⊥
+none_goes_on shape told next (inl h) = absurd (let e = h.is_round.split in cc)
+none_goes_on shape told next (inr h) = by h.end h.is_line
   where
     by : (end : ReportEnd) → end_line end ≡ [] → ⊥
     by Narrow e = absurd cc
     by Rounds e = absurd cc
     by Reads e = absurd cc
 
-none_groups : (columns : ℕ) (told whole next : Told) → GroupsGoOn columns told whole [] next → ⊥
-none_groups columns told whole next (inl h) = absurd (let e = h.is_line in cc)
-none_groups columns told whole next (inr h) = none_goes_on columns whole next h
+none_groups : (shape : Shape) (told whole next : Told) → GroupsGoOn shape told whole [] next → ⊥
+none_groups shape told whole next (inl h) = absurd (let e = h.is_line in cc)
+none_groups shape told whole next (inr h) = none_goes_on shape whole next h
+
+none_row : (shape : Shape) (told next : Told) → ListsRow shape told [] next → ⊥
+none_row shape told next h = by h.taken
+  where
+    by : TakesRows h.asked.limit told.rows [] h.rows → ⊥
+    by (inl k) = absurd (let e = k.1.is_line in cc)
+    by (inr k) = absurd (let e = k.1.is_line in cc)
 
 none_rest : (shape : Shape) (told next : Told) → TakesRest shape told [] next → ⊥
 none_rest shape told next (inl h) = none_rows (length told.current) h.is_line
-none_rest shape told next (inr h) = none_groups shape.columns (closed told) (completed told) next h.1.goes_on
+none_rest shape told next (inr h) = none_groups shape (closed told) (completed told) next h.1.goes_on
 
 none_behind : (shape : Shape) (told next : Told) → TakesBehindAnswer shape told [] next → ⊥
 none_behind shape told next (inl h) = none_spelled (length told.current) (extra_text h.kind h.extra) h.is_next.is_line
@@ -81,12 +89,13 @@ no_empty : (place : Place) (query : List ℕ) (shape : Shape) (told next : Told)
 no_empty Query query shape told next some h = some h.is_query
 no_empty Opened query shape told next some (inl h) = absurd (let e = h.is_line in cc)
 no_empty Opened query shape told next some (inr h) = absurd (let e = h.is_round.split in cc)
-no_empty Round query shape told next some (inl h) = none_goes_on shape.columns told next h
+no_empty Round query shape told next some (inl h) = none_goes_on shape told next h
 no_empty Round query shape told next some (inr h) = none_rows (length shape.kinds) h.1.is_line
-no_empty Group query shape told next some (inl h) = none_groups shape.columns told (block_done told) next h
+no_empty Group query shape told next some (inl h) = none_groups shape told (block_done told) next h
 no_empty Group query shape told next some (inr h) = none_rows (length shape.kinds) h.1.passes.is_line
 no_empty Items query shape told next some (inl h) = none_spelled (length told.current + 1) (answer_text h.answer) h.is_next.is_line
 no_empty Items query shape told next some (inr h) = none_behind shape told next h.1
+no_empty Row query shape told next some h = none_row shape told next h
 no_empty (Ended end) query shape told next some h = absurd h
 
 -- ---- a part more
@@ -145,7 +154,8 @@ not_refused i.OtherPart task parts line next some all h memory (tagged, (many, n
     let few = h.few in
     omega (arith, grown, long, few, many)
 not_refused (i.Line l.OtherQuery) task parts line next some all h memory (tagged, (place, cannot)) = cannot h.taken.told h.taken.taken
-not_refused (i.Line l.OtherLine) task parts line next some all h memory (tagged, (begun, cannot)) = cannot h.taken.told h.taken.taken
+not_refused (i.Line l.Unlisted) task parts line next some all h memory (tagged, (lacks, cannot)) = cannot h.taken.told h.taken.taken
+not_refused (i.Line l.OtherLine) task parts line next some all h memory (tagged, (begun, other, cannot)) = cannot h.taken.told h.taken.taken
 not_refused (i.Line l.NoMemory) task parts line next some all h memory any = memory refl
 
 -- ---- behind lines that tell something

@@ -6,6 +6,7 @@ use Rattle.outer_world.specs.Device.{SinkState}
 use Rattle.query_kinds.specs.Beside.{BesidesAreOne, TellsBeside}
 use Rattle.query_kinds.specs.Kinds.{Asks, KindsAreOne}
 use Rattle.query_kinds.specs.declared.beside.Beside.{Beside}
+use Rattle.query_kinds.specs.declared.rows.FirstRows.{FirstRows}
 use Rattle.query_model.specs.declared.query.ItemKind.{ItemKind}
 use Rattle.report_parts.specs.Course.{Combines, Task}
 use Rattle.report_parts.specs.declared.combination.Until.{Until}
@@ -40,11 +41,12 @@ pub record QueriesAreOne : Type 0 where
   pub kinds : KindsAreOne
   pub besides : BesidesAreOne
 
-same_shape : (a b : Shape) → a.kinds ≡ b.kinds → a.columns ≡ b.columns → a.besides ≡ b.besides → a ≡ b
-same_shape a b kinds columns besides =
-    ap (λ (x : List ItemKind). record { kinds = x; columns = a.columns; besides = a.besides }) kinds
-    ∙ ap (λ (n : ℕ). record { kinds = b.kinds; columns = n; besides = a.besides }) columns
-    ∙ ap (λ (x : List (Option Beside)). record { kinds = b.kinds; columns = b.columns; besides = x }) besides
+same_shape : (a b : Shape) → a.kinds ≡ b.kinds → a.columns ≡ b.columns → a.besides ≡ b.besides → a.rows ≡ b.rows → a ≡ b
+same_shape a b kinds columns besides rows =
+    ap (λ (x : List ItemKind). record { kinds = x; columns = a.columns; besides = a.besides; rows = a.rows }) kinds
+    ∙ ap (λ (n : ℕ). record { kinds = b.kinds; columns = n; besides = a.besides; rows = a.rows }) columns
+    ∙ ap (λ (x : List (Option Beside)). record { kinds = b.kinds; columns = b.columns; besides = x; rows = a.rows }) besides
+    ∙ ap (λ (x : Option FirstRows). record { kinds = b.kinds; columns = b.columns; besides = b.besides; rows = x }) rows
 
 pub same_task : QueriesAreOne → (count : ℕ) (until : Until) (first : List ℕ) (a b : Task) → IsTask count until first a → IsTask count until first b → a ≡ b
 same_task kinds count until first a b h k =
@@ -53,7 +55,8 @@ same_task kinds count until first a b h k =
     let besides = kinds.besides.same b.query a.shape.besides b.shape.besides (subst (λ (q : List ℕ). TellsBeside q a.shape.besides) query h.besides) k.besides in
     let same = kinds.kinds.same b.query a.shape.kinds b.shape.kinds a.shape.columns b.shape.columns mine k.asks in
     ap (λ (q : List ℕ). record { query = q; shape = a.shape; count = a.count; width = a.width; last = a.last }) query
-    ∙ ap (λ (x : Shape). record { query = b.query; shape = x; count = a.count; width = a.width; last = a.last }) (same_shape a.shape b.shape same.0 same.1 besides)
+    ∙ ap (λ (x : Shape). record { query = b.query; shape = x; count = a.count; width = a.width; last = a.last })
+    (same_shape a.shape b.shape same.0 same.1 besides (h.no_rows ∙ sym k.no_rows))
     ∙ ap (λ (n : ℕ). record { query = b.query; shape = b.shape; count = n; width = a.width; last = a.last }) (h.count ∙ sym k.count)
     ∙ ap (λ (n : ℕ). record { query = b.query; shape = b.shape; count = b.count; width = n; last = a.last }) (h.width ∙ sym k.width)
     ∙ ap (λ (o : Option ℕ). record { query = b.query; shape = b.shape; count = b.count; width = b.width; last = o }) (h.last ∙ sym k.last)
@@ -95,6 +98,7 @@ module _ (kinds : QueriesAreOne) (count : ℕ) (until : Until) where
   first_not_refused r.NoTotals first task is (tagged, other) = kinds.kinds.not_other (behind_tag first) task.shape.kinds task.shape.columns (subst (λ (q : List ℕ). Asks q task.shape.kinds task.shape.columns) is.query is.asks) other
   first_not_refused r.MoreParts first task is h = absurd h
   first_not_refused r.OtherQuery first task is h = absurd h
+  first_not_refused r.Unlisted first task is h = absurd h
   first_not_refused r.OtherLine first task is h = absurd h
   first_not_refused (r.OtherColumn column) first task is h = absurd h
   first_not_refused (r.OtherDecimals item) first task is h = absurd h

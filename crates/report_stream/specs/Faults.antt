@@ -19,6 +19,7 @@ of_input line i.NoTab = Line line r.NoTab
 of_input line i.NoTag = Line line r.NoTag
 of_input line i.OtherPart = Line line r.MoreParts
 of_input line (i.Line l.OtherQuery) = Line line r.OtherQuery
+of_input line (i.Line l.Unlisted) = Line line r.Unlisted
 of_input line (i.Line l.OtherLine) = Line line r.OtherLine
 of_input line (i.Line l.NoMemory) = NoMemory
 

@@ -7,7 +7,7 @@ use Rattle.report_parts.specs.Course.{Combines, Stops, Task, Tell}
 use Rattle.report_parts.specs.Ends.{first_open}
 use Rattle.report_parts.specs.Faults.{IsBlockFault, IsExact}
 use Rattle.report_parts.specs.Tags.{CannotTake, HasTab, IsTag, IsTagged, behind_tag, part_at, tag_of, told_of}
-use Rattle.report_parts.specs.Told.{Told, nothing_told}
+use Rattle.report_parts.specs.Told.{IsUnlisted, Told, nothing_told}
 use Rattle.report_parts.specs.declared.combination.Until.{Until}
 use Rattle.report_parts.specs.declared.fault.BlockFault.{BlockFault}
 use Rattle.report_parts.specs.declared.fault.BlockFault.TheVariants as b
@@ -92,9 +92,15 @@ pub data ShowsFault (wanted : ℕ) (until : Until) (bytes : List ℕ) : StreamFa
       ComesNext rest line behind → told_of (tag_of line) g.combines.parts ≡ nothing_told (tag_of line) →
       wanted ≤ length g.combines.parts → behind_tag line ≡ g.task.query → number ≡ length lines + 1 →
       ShowsFault wanted until bytes (Line number r.MoreParts)
+  -- of the first rows before the line the possible ones are not listed
+  unlisted : (lines : List (List ℕ)) (rest line behind : List ℕ) (g : GoesRight wanted until bytes lines rest) (number : ℕ) →
+      ComesNext rest line behind → IsUnlisted (told_of (tag_of line) g.combines.parts) →
+      CannotTake g.task.query g.task.shape (told_of (tag_of line) g.combines.parts) (behind_tag line) → number ≡ length lines + 1 →
+      ShowsFault wanted until bytes (Line number r.Unlisted)
   -- the report of a part that has begun does not go on so
   other_line : (lines : List (List ℕ)) (rest line behind : List ℕ) (g : GoesRight wanted until bytes lines rest) (number : ℕ) →
       ComesNext rest line behind → (told_of (tag_of line) g.combines.parts).place ≢ Query →
+      ¬ IsUnlisted (told_of (tag_of line) g.combines.parts) →
       CannotTake g.task.query g.task.shape (told_of (tag_of line) g.combines.parts) (behind_tag line) → number ≡ length lines + 1 →
       ShowsFault wanted until bytes (Line number r.OtherLine)
   -- the line completes a block that cannot be written

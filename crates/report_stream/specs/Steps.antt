@@ -29,6 +29,7 @@ pub record IsAsked (first query : List ℕ) (shape : Shape) : Type 0 where
   pub is_query : query ≡ behind_tag first
   pub asks : Asks query shape.kinds shape.columns
   pub besides : TellsBeside query shape.besides
+  pub no_rows : shape.rows ≡ None
 
 abbrev pub IsFirstFault : List ℕ → StreamFault → Type 0
 IsFirstFault first (Line number why) = (number ≡ 1) × IsFirstRefused why first

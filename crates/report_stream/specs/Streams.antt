@@ -58,6 +58,7 @@ pub record IsTask (wanted : ℕ) (until : Until) (first : List ℕ) (task : Task
   pub query : task.query ≡ behind_tag first
   pub asks : Asks task.query task.shape.kinds task.shape.columns
   pub besides : TellsBeside task.query task.shape.besides
+  pub no_rows : task.shape.rows ≡ None
   pub count : task.count ≡ wanted
   pub width : task.width ≡ until.width
   pub last : task.last ≡ until.rounds

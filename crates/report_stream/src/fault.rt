@@ -67,6 +67,9 @@ pub enum LineRefusal {
     /// It is the first of its part, and is not the line of the query.
     #[error("another query")]
     OtherQuery,
+    /// At its place no report of the query has this line, and of the first rows before it the possible ones are not listed.
+    #[error("possible rows are not listed")]
+    Unlisted,
     /// At its place no report of the query has this line.
     #[error("no line of a report at this place")]
     OtherLine,
@@ -143,6 +146,7 @@ pub(crate) fn of_input(line: usize, fault: InputFault) -> StreamFault
         InputFault::NoTag => LineRefusal::NoTag,
         InputFault::OtherPart => LineRefusal::MoreParts,
         InputFault::Line(LineFault::OtherQuery) => LineRefusal::OtherQuery,
+        InputFault::Line(LineFault::Unlisted) => LineRefusal::Unlisted,
         InputFault::Line(LineFault::OtherLine) => LineRefusal::OtherLine,
         InputFault::Line(LineFault::NoMemory) => return StreamFault::NoMemory,
     };

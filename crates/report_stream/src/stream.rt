@@ -54,6 +54,7 @@ fn read_asked(alloc: Global, first: &[u8]) -> Result<Asked, StreamFault>
         kinds: Listed::new(asked.kinds),
         columns: asked.columns,
         besides: Listed::new(besides),
+        rows: None,
     };
     Ok(Asked { query: text, shape })
 }
