@@ -32,7 +32,7 @@ use Rattle.report_parts.specs.Reports.{block_text}
 use Rattle.report_parts.specs.Rounds.{has_block, is_over}
 use Rattle.report_parts.specs.Tags.{TakesTagged, behind_tag, tag_of, told_of, with_part}
 use Rattle.report_parts.specs.Telling.{EndedStays, TellingIsOne}
-use Rattle.report_parts.specs.Told.{Answers, BeginsGroup, BeginsRound, Closes, Ends, Extends, GoesOn, GroupsGoOn, ListsRow, OrElse, PassesBehind, PassesBehindSection, PassesInside, RowsGoOn, TakesAt, TakesBehindAnswer, TakesInside, TakesRest, TellsParts, Told, at_place, block_done, closed, completed, rows_done, with_answer, with_extra, with_group, with_rows}
+use Rattle.report_parts.specs.Told.{Answers, BeginsGroup, BeginsRound, Closes, Ends, Extends, GoesOn, GroupsGoOn, ListsRow, OrElse, PassesBehind, PassesBehindSection, PassesInside, RowsGoOn, TakesAt, TakesBehindAnswer, TakesInside, TakesRest, TellsParts, Told, at_place, block_done, closed, completed, with_answer, with_extra, with_group, with_rows}
 use Rattle.report_parts.specs.Written.{Wanted, Writes, end_text, is_narrow_at}
 use Rattle.report_parts.specs.Written.Writes.{ends, goes, waits}
 use Rattle.report_parts.specs.declared.part.Place.{Place}

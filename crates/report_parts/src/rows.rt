@@ -1,9 +1,8 @@
 //! The lines of a block of first rows: how many there are, and the next of them.
 
 ghost use Rattle.std.specs.Prelude.{◌≡◌, ◌≢◌, Err, IfOk, MatchBool, OnOk, Some};
-ghost use Rattle.query_kinds.specs.declared.rows.FirstRows.{FirstRows};
 ghost use Rattle.report_text.specs.RowBlocks.{LacksPossible, RowsTold, TakesRows};
-ghost use Rattle.report_parts.specs.Told.{ListsRow, Refuses, RowsGoOn, Told, rows_done, with_rows};
+ghost use Rattle.report_parts.specs.Told.{ListsRow, Refuses, RowsGoOn, rows_done, with_rows};
 
 use crate::block::Block;
 use crate::fault::LineFault;
