@@ -87,7 +87,7 @@ struct Ahead {
 }
 
 impl Combination {
-    /// No line was taken. There are to be so many parts.
+    /// No line was taken. There are to be so many parts. First rows are not combined yet: a block of them has no line but its round's.
     pub fn new(alloc: Global, asked: Asked, count: usize, until: Until) -> Combination
         requires { 0 < count }
         ensures query { result.task.query ≡ asked.query.items }
