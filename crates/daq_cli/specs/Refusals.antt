@@ -133,6 +133,7 @@ line_refusal_text parts refusal.MoreParts = codes "more than " ++ signed_decimal
 line_refusal_text parts refusal.NoQuery = codes "no query"
 line_refusal_text parts refusal.NoTotals = codes "no query of totals or groups"
 line_refusal_text parts refusal.OtherQuery = codes "another query"
+line_refusal_text parts refusal.Unlisted = codes "possible rows are not listed"
 line_refusal_text parts refusal.OtherLine = codes "no line of a report at this place"
 line_refusal_text parts (refusal.OtherColumn column) =
     codes "scales of group column " ++ signed_decimal (pos (column + 1)) ++ codes " differ"

@@ -65,6 +65,7 @@ fn written_line_refusal(parts: u32, why: LineRefusal) -> TextBuf
         LineRefusal::NoQuery => plain(b"no query"),
         LineRefusal::NoTotals => plain(b"no query of totals or groups"),
         LineRefusal::OtherQuery => plain(b"another query"),
+        LineRefusal::Unlisted => plain(b"possible rows are not listed"),
         LineRefusal::OtherLine => plain(b"no line of a report at this place"),
         LineRefusal::OtherColumn(column) => {
             with_number(b"scales of group column ", after(column), b" differ")

@@ -20,6 +20,7 @@ fn shape(alloc: Global, columns: usize) -> Result<Shape, AllocError> {
         kinds: Listed::new(Vec::from_slice(alloc, &KINDS)?),
         columns,
         besides: Listed::new(Vec::new(alloc)),
+        rows: None,
     })
 }
 
