@@ -13,10 +13,9 @@ use Rattle.part_groups.specs.Cells.{span_of}
 use Rattle.report_text.specs.RowBlocks.{tag_bytes}
 use Rattle.report_text.specs.declared.rows.RowLine.{RowLine}
 use Rattle.query_kinds.specs.declared.rows.FirstRows.{FirstRows}
-use Rattle.part_rows.specs.declared.listed.ListedRows.{ListedRows}
 use Rattle.part_rows.specs.declared.row.PartRow.{PartRow}
 use Rattle.part_rows.specs.declared.row.RowName.{RowName}
-use Rattle.part_rows.specs.Combined.{Listing, joined_tag, line_of, lines_of, listings, listings_from, listings_of, row_of, rows_of, standing_in, told_lines}
+use Rattle.part_rows.specs.Combined.{Listing, PartListing, joined_tag, line_of, lines_of, listings, listings_from, listings_of, row_of, rows_of, standing_in, told_lines}
 use Rattle.part_rows.specs.Faults.{is_clear}
 use Rattle.part_rows.specs.Joined.{AreOfSoMany, JoinedLinesNest, LinesHold, joined_name, listed_at, tag_at}
 use Rattle.part_rows.specs.Laws.{AreLater}
@@ -45,19 +44,19 @@ between before (x ∷ xs) i zero d p less lt = absurd (omega (arith, less))
 between before (x ∷ xs) zero (suc j) d p less lt = p.0 (get_or xs j d) (in_at xs j d (omega (arith, lt)))
 between before (x ∷ xs) (suc i) (suc j) d p less lt = between before xs i j d p.1 (omega (arith, less)) (omega (arith, lt))
 
-clear_at : (parts : List ListedRows) → AreRisingParts parts → (j : ℕ) → j < length parts → IsTrue (is_clear (tag_at parts j))
+clear_at : (parts : List PartListing) → AreRisingParts parts → (j : ℕ) → j < length parts → IsTrue (is_clear (tag_at parts j))
 clear_at parts r j lt =
-    let tag : ListedRows → List ℕ = λ part. part.tag.now in
+    let tag : PartListing → List ℕ = λ part. part.tag in
     let there : j < length (map tag parts) = subst (λ n. j < n) (sym (length-map parts tag)) lt in
     let from = out_of_map tag parts (tag_at parts j) (in_at (map tag parts) j [] there) in
     subst (λ t. IsTrue (is_clear t)) (sym from.same) (r.clear from.element from.is)
 
-rises_at : (parts : List ListedRows) → AreRisingParts parts → (i j : ℕ) (s t : List ℕ) → i < j → j < length parts →
+rises_at : (parts : List PartListing) → AreRisingParts parts → (i j : ℕ) (s t : List ℕ) → i < j → j < length parts →
     IsTrue (is_lt (slice_cmp nat_cmp (joined_tag (tag_at parts i) s) (joined_tag (tag_at parts j) t)))
 rises_at parts r i j s t less lt =
-    let tag : ListedRows → List ℕ = λ part. part.tag.now in
+    let tag : PartListing → List ℕ = λ part. part.tag in
     let there : j < length (map tag parts) = subst (λ n. j < n) (sym (length-map parts tag)) lt in
-    let order = in_order_mapped tag (λ a b. is_lt (slice_cmp nat_cmp a.tag.now b.tag.now)) (λ a b. is_lt (slice_cmp nat_cmp a b)) parts
+    let order = in_order_mapped tag (λ a b. is_lt (slice_cmp nat_cmp a.tag b.tag)) (λ a b. is_lt (slice_cmp nat_cmp a b)) parts
     (λ a b h. h) r.tags in
     joined_rises (tag_at parts i) (tag_at parts j) s t (between (λ a b. is_lt (slice_cmp nat_cmp a b)) (map tag parts) i j [] order less there)
     (clear_at parts r j lt)
@@ -69,7 +68,7 @@ less_by Less t = refl
 less_by Equal t = absurd (false≢true t)
 less_by Greater t = absurd (false≢true t)
 
-tags_alike : (parts : List ListedRows) → AreRisingParts parts → (i j : ℕ) (s t : List ℕ) → i < length parts → j < length parts →
+tags_alike : (parts : List PartListing) → AreRisingParts parts → (i j : ℕ) (s t : List ℕ) → i < length parts → j < length parts →
     slice_cmp nat_cmp (joined_tag (tag_at parts i) s) (joined_tag (tag_at parts j) t) ≡ ordering_then (nat_cmp i j) (slice_cmp nat_cmp s t)
 tags_alike parts r i j s t here there =
     let one = joined_tag (tag_at parts i) s in
@@ -88,7 +87,7 @@ tags_alike parts r i j s t here there =
       ]
     ]
 
-names_alike : (place : ℕ) (parts : List ListedRows) → AreRisingParts parts → (a b : RowName) → a.part < length parts → b.part < length parts →
+names_alike : (place : ℕ) (parts : List PartListing) → AreRisingParts parts → (a b : RowName) → a.part < length parts → b.part < length parts →
     name_cmp (joined_name place parts a) (joined_name place parts b) ≡ name_cmp a b
 names_alike place parts r a b here there =
     let tags = slice_cmp nat_cmp (joined_tag (tag_at parts a.part) a.tag) (joined_tag (tag_at parts b.part) b.tag) in
@@ -99,19 +98,19 @@ names_alike place parts r a b here there =
 -- ---- the rows of the parts
 
 -- the place and the tag of a row are those of its part
-record IsAt (place : ℕ) (parts : List ListedRows) (row : Listing) : Type 0 where
+record IsAt (place : ℕ) (parts : List PartListing) (row : Listing) : Type 0 where
   at : ℕ
   part_is : row.part ≡ place + at
   below : at < length parts
   tag_is : row.tag ≡ tag_at parts at
 
-is_at : (place : ℕ) (parts : List ListedRows) (row : Listing) → IsIn row (listings_from place parts) → IsAt place parts row
+is_at : (place : ℕ) (parts : List PartListing) (row : Listing) → IsIn row (listings_from place parts) → IsAt place parts row
 is_at place [] row i = absurd i
 is_at place (part ∷ parts) row i =
     elim (in_either row (listings_of place part) (listings_from (place + 1) parts) i) [
       | inl j ↦
-          let make : RowLine → Listing = λ line. record { part = place; tag = part.tag.now; line = line } in
-          let same = (out_of_map make part.rows.now row j).same in
+          let make : RowLine → Listing = λ line. record { part = place; tag = part.tag; line = line } in
+          let same = (out_of_map make part.rows row j).same in
           let here : row.part ≡ place = ap (λ (l : Listing). l.part) same in
           record { at = 0; part_is = omega (arith, here); below = omega arith; tag_is = ap (λ (l : Listing). l.tag) same }
       | inr j ↦
@@ -120,14 +119,14 @@ is_at place (part ∷ parts) row i =
     ]
 
 -- a row has the tag of the part that it names
-tag_of : (parts : List ListedRows) (row : Listing) → IsIn row (listings parts) → row.tag ≡ tag_at parts row.part
+tag_of : (parts : List PartListing) (row : Listing) → IsIn row (listings parts) → row.tag ≡ tag_at parts row.part
 tag_of parts row i =
     let at = is_at 0 parts row i in
     let there : at.at ≡ row.part = omega (arith, at.part_is) in
     at.tag_is ∙ ap (λ n. tag_at parts n) there
 
 -- one row more, if it is told
-first : (b : Bool) (place : ℕ) (tag : List ℕ) (asked : FirstRows) (parts : List ListedRows) (rows : List PartRow) (row : Listing)
+first : (b : Bool) (place : ℕ) (tag : List ℕ) (asked : FirstRows) (parts : List PartListing) (rows : List PartRow) (row : Listing)
     (some : List Listing) (others : List PartRow) → row.tag ≡ tag_at parts row.part →
     rows_of (listed_at place tag (map (line_of asked rows) some)) ≡ map (told_row (joined_name place parts) asked rows) others →
     rows_of (listed_at place tag (map (line_of asked rows) (cond b (row ∷ some) some)))
@@ -142,7 +141,7 @@ first true place tag asked parts rows row some others e same =
 first false place tag asked parts rows row some others e same = same
 
 -- what the lines tell as those of one part is what is told of the rows
-told_is : (place : ℕ) (tag : List ℕ) (asked : FirstRows) (parts : List ListedRows) (rows : List PartRow) (listed : List Listing) →
+told_is : (place : ℕ) (tag : List ℕ) (asked : FirstRows) (parts : List PartListing) (rows : List PartRow) (listed : List Listing) →
     ((row : Listing) → IsIn row listed → row.tag ≡ tag_at parts row.part) →
     rows_of (listed_at place tag (lines_of asked rows listed))
     ≡ map (told_row (joined_name place parts) asked rows) (filter (λ row. not (is_excluded (standing asked rows row))) (rows_of listed))
@@ -154,7 +153,7 @@ told_is place tag asked parts rows (row ∷ rest) tags =
     (told_is place tag asked parts rows rest (λ r i. tags r (inr i)))
 
 -- each name is of one of the parts
-name_below : (parts : List ListedRows) (world : World) → AreOfSoMany (length parts) world → (name : RowName) →
+name_below : (parts : List PartListing) (world : World) → AreOfSoMany (length parts) world → (name : RowName) →
     IsIn name (names_of (rows_of (listings parts)) ++ names_in world) → name.part < length parts
 name_below parts world of name i =
     elim (in_either name (names_of (rows_of (listings parts))) (names_in world) i) [

@@ -7,9 +7,8 @@ use Rattle.report_text.specs.RowBlocks.{is_behind, last_row, tag_bytes}
 use Rattle.report_text.specs.Rows.{IsShownRow, IsTopLine, row_line}
 use Rattle.report_text.specs.declared.rows.RowLine.{RowLine}
 use Rattle.report_text.specs.declared.rows.TopLine.{TopLine}
-use Rattle.part_rows.specs.declared.listed.ListedRows.{ListedRows}
 use Rattle.query_kinds.specs.declared.rows.FirstRows.{FirstRows}
-use Rattle.part_rows.specs.Combined.{Listing, block_of, joined_tag, line_by, line_of, listings, listings_from, listings_of, rows_of, skipped_block, standing_in, told_lines}
+use Rattle.part_rows.specs.Combined.{Listing, PartListing, block_of, joined_tag, line_by, line_of, listings, listings_from, listings_of, rows_of, skipped_block, standing_in, told_lines}
 use Rattle.part_rows.specs.ReadBack.{AreShownParts, AreTaken, BlocksAreReadBack, IsReadBack}
 use Rattle.part_rows.specs.Rising.{AreRisingLines}
 use Rattle.part_rows.specs.Tables.{is_excluded}
@@ -66,13 +65,13 @@ record CanShow (row : Listing) : Type 0 where
   tag : 0 < length row.tag
   line : IsShownRow row.line
 
-can_show : (place : ℕ) (parts : List ListedRows) → AreShownParts parts → (row : Listing) → IsIn row (listings_from place parts) → CanShow row
+can_show : (place : ℕ) (parts : List PartListing) → AreShownParts parts → (row : Listing) → IsIn row (listings_from place parts) → CanShow row
 can_show place [] s row i = absurd i
 can_show place (part ∷ parts) s row i =
     elim (in_either row (listings_of place part) (listings_from (place + 1) parts) i) [
       | inl j ↦
-          let make : RowLine → Listing = λ line. record { part = place; tag = part.tag.now; line = line } in
-          let from = out_of_map make part.rows.now row j in
+          let make : RowLine → Listing = λ line. record { part = place; tag = part.tag; line = line } in
+          let from = out_of_map make part.rows row j in
           subst CanShow (sym from.same) (record { tag = s.tags part (inl refl); line = s.lines part (inl refl) from.element from.is })
       | inr j ↦ can_show (place + 1) parts (record { tags = λ p k. s.tags p (inr k); lines = λ p k. s.lines p (inr k) }) row j
     ]
@@ -84,7 +83,7 @@ shown_line certain row can =
       key = can.line.key;
     }
 
-shown_lines : (asked : FirstRows) (parts : List ListedRows) → AreShownParts parts → (line : RowLine) →
+shown_lines : (asked : FirstRows) (parts : List PartListing) → AreShownParts parts → (line : RowLine) →
     IsIn line (told_lines asked (listings parts)) → IsShownRow line
 shown_lines asked parts s line i =
     let rows = rows_of (listings parts) in

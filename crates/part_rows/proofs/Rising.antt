@@ -11,8 +11,7 @@ use Rattle.std.proofs.lemmas.Cmp.{nat_cmp_total, tied_itself}
 use Rattle.std.proofs.lemmas.List.{append-nil}
 use Rattle.report_text.specs.RowBlocks.{comes_before as stands_before, tag_bytes}
 use Rattle.report_text.specs.declared.rows.RowLine.{RowLine}
-use Rattle.part_rows.specs.declared.listed.ListedRows.{ListedRows}
-use Rattle.part_rows.specs.Combined.{Listing, joined_tag, line_by, line_of, listings, listings_from, listings_of, rows_of, standing_in}
+use Rattle.part_rows.specs.Combined.{Listing, PartListing, joined_tag, line_by, line_of, listings, listings_from, listings_of, rows_of, standing_in}
 use Rattle.part_rows.specs.Faults.{is_clear}
 use Rattle.part_rows.specs.Rising.{AreInOrder, AreRisingLines, AreRisingParts, LinesRise}
 use Rattle.part_rows.specs.Tables.{is_excluded}
@@ -112,26 +111,26 @@ joined_rises tag later s t p c =
 abbrev before : Listing → Listing → Bool
 before a b = stands_before (line_by true a).name (line_by true b).name
 
-of_part : (place : ℕ) (part : ListedRows) → AreRisingLines part.rows.now → AreInOrder before (listings_of place part)
+of_part : (place : ℕ) (part : PartListing) → AreRisingLines part.rows → AreInOrder before (listings_of place part)
 of_part place part p =
-    in_order_mapped (λ (line : RowLine). record { part = place; tag = part.tag.now; line = line }) (λ a b. stands_before a.name b.name) before
-    part.rows.now
+    in_order_mapped (λ (line : RowLine). record { part = place; tag = part.tag; line = line }) (λ a b. stands_before a.name b.name) before
+    part.rows
     (λ a b t. subst (λ o. IsTrue (is_lt o || (is_eq o && nat_lt a.name.number b.name.number)))
-    (sym (joined_cmp part.tag.now (tag_bytes a.name.tag) (tag_bytes b.name.tag))) t)
+    (sym (joined_cmp part.tag (tag_bytes a.name.tag) (tag_bytes b.name.tag))) t)
     p
 
 -- the tag is that of one of the parts
-record IsTagOf (parts : List ListedRows) (tag : List ℕ) : Type 0 where
-  part : ListedRows
+record IsTagOf (parts : List PartListing) (tag : List ℕ) : Type 0 where
+  part : PartListing
   is : IsIn part parts
-  same : tag ≡ part.tag.now
+  same : tag ≡ part.tag
 
-tag_of_part : (place : ℕ) (part : ListedRows) (row : Listing) → IsIn row (listings_of place part) → row.tag ≡ part.tag.now
+tag_of_part : (place : ℕ) (part : PartListing) (row : Listing) → IsIn row (listings_of place part) → row.tag ≡ part.tag
 tag_of_part place part row i =
     ap (λ (r : Listing). r.tag)
-    (out_of_map (λ (line : RowLine). record { part = place; tag = part.tag.now; line = line }) part.rows.now row i).same
+    (out_of_map (λ (line : RowLine). record { part = place; tag = part.tag; line = line }) part.rows row i).same
 
-tagged : (place : ℕ) (parts : List ListedRows) (row : Listing) → IsIn row (listings_from place parts) → IsTagOf parts row.tag
+tagged : (place : ℕ) (parts : List PartListing) (row : Listing) → IsIn row (listings_from place parts) → IsTagOf parts row.tag
 tagged place [] row i = absurd i
 tagged place (part ∷ parts) row i =
     elim (in_either row (listings_of place part) (listings_from (place + 1) parts) i) [
@@ -146,7 +145,7 @@ across a b p c =
     let o = slice_cmp nat_cmp (joined_tag a.tag s) (joined_tag b.tag t) in
     or_left (is_lt o) (is_eq o && nat_lt a.line.name.number b.line.name.number) (joined_rises a.tag b.tag s t p c)
 
-all_in_order : (place : ℕ) (parts : List ListedRows) → AreRisingParts parts → AreInOrder before (listings_from place parts)
+all_in_order : (place : ℕ) (parts : List PartListing) → AreRisingParts parts → AreInOrder before (listings_from place parts)
 all_in_order place [] r = tt
 all_in_order place (part ∷ parts) r =
     in_order_joined before (listings_of place part) (listings_from (place + 1) parts) (of_part place part (r.lines part (inl refl)))
@@ -156,7 +155,7 @@ all_in_order place (part ∷ parts) r =
     let later = tagged (place + 1) parts b j in
     across a b
     (subst (λ s. IsTrue (is_lt (slice_cmp nat_cmp s b.tag))) (sym (tag_of_part place part a i))
-    (subst (λ s. IsTrue (is_lt (slice_cmp nat_cmp part.tag.now s))) (sym later.same) (r.tags.0 later.part later.is)))
+    (subst (λ s. IsTrue (is_lt (slice_cmp nat_cmp part.tag s))) (sym later.same) (r.tags.0 later.part later.is)))
     (subst (λ s. IsTrue (is_clear s)) (sym later.same) (r.clear later.part (inr later.is))))
 
 pub lines_rise : LinesRise

@@ -27,16 +27,27 @@ pub record Listing : Type 0 where
 abbrev pub listing : ListedRow → Listing
 listing row = record { part = row.part; tag = row.tag.now; line = row.line.now }
 
--- the rows of the part at a place
-abbrev pub listings_of : ℕ → ListedRows → List Listing
-listings_of place part = map (λ line. record { part = place; tag = part.tag.now; line = line }) part.rows.now
+-- what a part lists: its tag, and the lines of its rows
+pub record PartListing : Type 0 where
+  pub tag : List ℕ
+  pub rows : List RowLine
 
-abbrev pub listings_from : ℕ → List ListedRows → List Listing
+abbrev pub part_listing : ListedRows → PartListing
+part_listing part = record { tag = part.tag.now; rows = part.rows.now }
+
+abbrev pub part_listings : List ListedRows → List PartListing
+part_listings parts = map part_listing parts
+
+-- the rows of the part at a place
+abbrev pub listings_of : ℕ → PartListing → List Listing
+listings_of place part = map (λ line. record { part = place; tag = part.tag; line = line }) part.rows
+
+abbrev pub listings_from : ℕ → List PartListing → List Listing
 listings_from place [] = []
 listings_from place (part ∷ parts) = listings_of place part ++ listings_from (place + 1) parts
 
 -- those of all parts
-abbrev pub listings : List ListedRows → List Listing
+abbrev pub listings : List PartListing → List Listing
 listings parts = listings_from 0 parts
 
 -- the row as its part knows it
@@ -102,10 +113,10 @@ abbrev pub most_rows : ℕ
 most_rows = 100000
 
 -- some part lists more
-abbrev pub is_skipped : List ListedRows → Bool
-is_skipped parts = list_any (λ part. nat_lt most_rows (length part.rows.now)) parts
+abbrev pub is_skipped : List PartListing → Bool
+is_skipped parts = list_any (λ part. nat_lt most_rows (length part.rows)) parts
 
 -- the block over all parts
-abbrev pub combined : FirstRows → List ListedRows → CombinedRows
+abbrev pub combined : FirstRows → List PartListing → CombinedRows
 combined asked parts =
     if is_skipped parts then skipped_block asked.limit (length (listings parts)) else block_of asked (listings parts)

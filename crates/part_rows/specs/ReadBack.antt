@@ -5,9 +5,8 @@ use Rattle.report_text.specs.RowBlocks.{IsWhole, RowsTold, TakesRows, no_rows}
 use Rattle.report_text.specs.Rows.{IsShownRow, IsTopLine, row_line, top_line}
 use Rattle.report_text.specs.declared.rows.RowLine.{RowLine}
 use Rattle.part_rows.specs.declared.combined.CombinedRows.{CombinedRows}
-use Rattle.part_rows.specs.declared.listed.ListedRows.{ListedRows}
 use Rattle.query_kinds.specs.declared.rows.FirstRows.{FirstRows}
-use Rattle.part_rows.specs.Combined.{combined, is_skipped}
+use Rattle.part_rows.specs.Combined.{PartListing, combined, is_skipped}
 use Rattle.part_rows.specs.Rising.{AreRisingParts}
 use Rattle.part_rows.specs.Worlds.{IsIn}
 
@@ -29,12 +28,12 @@ pub record IsReadBack (limit : ℕ) (block : CombinedRows) : Type 0 where
   pub whole : IsWhole (told_by block)
 
 -- a report shows the lines of the parts, and a tag has a byte or more
-pub record AreShownParts (parts : List ListedRows) : Type 0 where
-  pub tags : (part : ListedRows) → IsIn part parts → 0 < length part.tag.now
-  pub lines : (part : ListedRows) → IsIn part parts → (line : RowLine) → IsIn line part.rows.now → IsShownRow line
+pub record AreShownParts (parts : List PartListing) : Type 0 where
+  pub tags : (part : PartListing) → IsIn part parts → 0 < length part.tag
+  pub lines : (part : PartListing) → IsIn part parts → (line : RowLine) → IsIn line part.rows → IsShownRow line
 
 -- where rows are judged the block is one of a report, and so may be that of a part
 abbrev pub BlocksAreReadBack : Type 0
 BlocksAreReadBack =
-    (asked : FirstRows) (parts : List ListedRows) → AreShownParts parts → AreRisingParts parts → is_skipped parts ≡ false →
+    (asked : FirstRows) (parts : List PartListing) → AreShownParts parts → AreRisingParts parts → is_skipped parts ≡ false →
     IsTopLine (combined asked parts).top → IsReadBack asked.limit (combined asked parts)

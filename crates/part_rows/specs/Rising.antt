@@ -4,9 +4,8 @@ use Rattle.std.specs.Cmp.Lexicographic.{slice_cmp}
 use Rattle.std.specs.Ordering.{is_lt, nat_cmp}
 use Rattle.report_text.specs.RowBlocks.{comes_before as stands_before}
 use Rattle.report_text.specs.declared.rows.RowLine.{RowLine}
-use Rattle.part_rows.specs.declared.listed.ListedRows.{ListedRows}
 use Rattle.query_kinds.specs.declared.rows.FirstRows.{FirstRows}
-use Rattle.part_rows.specs.Combined.{listings, told_lines}
+use Rattle.part_rows.specs.Combined.{PartListing, listings, told_lines}
 use Rattle.part_rows.specs.Faults.{is_clear}
 use Rattle.part_rows.specs.Worlds.{IsIn}
 
@@ -20,11 +19,11 @@ abbrev pub AreRisingLines : List RowLine → Type 0
 AreRisingLines lines = AreInOrder (λ a b. stands_before a.name b.name) lines
 
 -- the tags of the parts are clear and rise, and so do the lines of each part
-pub record AreRisingParts (parts : List ListedRows) : Type 0 where
-  pub clear : (part : ListedRows) → IsIn part parts → IsTrue (is_clear part.tag.now)
-  pub tags : AreInOrder (λ a b. is_lt (slice_cmp nat_cmp a.tag.now b.tag.now)) parts
-  pub lines : (part : ListedRows) → IsIn part parts → AreRisingLines part.rows.now
+pub record AreRisingParts (parts : List PartListing) : Type 0 where
+  pub clear : (part : PartListing) → IsIn part parts → IsTrue (is_clear part.tag)
+  pub tags : AreInOrder (λ a b. is_lt (slice_cmp nat_cmp a.tag b.tag)) parts
+  pub lines : (part : PartListing) → IsIn part parts → AreRisingLines part.rows
 
 -- then the lines of the block over all parts rise, as those of a report that can be read back do
 abbrev pub LinesRise : Type 0
-LinesRise = (asked : FirstRows) (parts : List ListedRows) → AreRisingParts parts → AreRisingLines (told_lines asked (listings parts))
+LinesRise = (asked : FirstRows) (parts : List PartListing) → AreRisingParts parts → AreRisingLines (told_lines asked (listings parts))

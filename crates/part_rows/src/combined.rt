@@ -3,7 +3,7 @@
 ghost use Rattle.std.specs.Prelude.{◌≡◌, ◌++◌, IfErr, IfOk, OnOk, map};
 ghost use Rattle.report_text.specs.Rows.{IsTopLine};
 ghost use Rattle.part_rows.specs.Combined.{block_of, combined, is_skipped, joined_tag, line_by, line_if};
-ghost use Rattle.part_rows.specs.Combined.{lines_of, listing, row_of, skipped_block, top_of};
+ghost use Rattle.part_rows.specs.Combined.{lines_of, listing, part_listings, row_of, skipped_block, top_of};
 ghost use Rattle.part_rows.specs.Faults.{AreAlike, AreClear, IsRowsFault, IsTagFault, is_clear};
 
 use crate::fault::RowsFault;
@@ -41,8 +41,8 @@ fn is_clear(tag: &[u8]) -> bool
 
 // That the tags of all parts are clear.
 fn check_tags(parts: &[ListedRows<'_>]) -> Result<(), RowsFault>
-    ensures clear { IfOk result (λ _. AreClear parts.now) }
-    ensures fault { IfErr result (λ why. IsTagFault why parts.now) }
+    ensures clear { IfOk result (λ _. AreClear (part_listings parts.now)) }
+    ensures fault { IfErr result (λ why. IsTagFault why (part_listings parts.now)) }
 {
     for (place, part) in parts.iter().enumerate() {
         if !is_clear(part.tag) {
@@ -54,7 +54,7 @@ fn check_tags(parts: &[ListedRows<'_>]) -> Result<(), RowsFault>
 
 // Whether some part lists too many rows.
 fn is_skipped(parts: &[ListedRows<'_>]) -> bool
-    ensures { result ≡ is_skipped parts.now }
+    ensures { result ≡ is_skipped (part_listings parts.now) }
 {
     for part in parts {
         if part.rows.len() > MOST_ROWS {
@@ -213,11 +213,11 @@ pub fn combine_rows(
     asked: FirstRows,
     parts: &[ListedRows<'_>],
 ) -> Result<CombinedRows, RowsFault>
-    ensures block { IfOk result (λ block. block ≡ combined asked parts.now) }
+    ensures block { IfOk result (λ block. block ≡ combined asked (part_listings parts.now)) }
     ensures top { IfOk result (λ block. IsTopLine block.top) }
-    ensures clear { IfOk result (λ _. AreClear parts.now) }
-    ensures alike { IfOk result (λ _. AreAlike parts.now) }
-    ensures fault { IfErr result (λ why. IsRowsFault why parts.now) }
+    ensures clear { IfOk result (λ _. AreClear (part_listings parts.now)) }
+    ensures alike { IfOk result (λ _. AreAlike (part_listings parts.now)) }
+    ensures fault { IfErr result (λ why. IsRowsFault why (part_listings parts.now)) }
 {
     check_tags(parts)?;
     let listed = listed_rows(alloc, parts)?;

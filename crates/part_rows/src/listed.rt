@@ -2,7 +2,7 @@
 
 ghost use Rattle.std.specs.Prelude.{◌≡◌, ◌++◌, IfOk, OnOk, map};
 ghost use Rattle.report_text.specs.RowBlocks.{tag_bytes};
-ghost use Rattle.part_rows.specs.Combined.{listing, listings, listings_of, row_of};
+ghost use Rattle.part_rows.specs.Combined.{listing, listings, listings_of, part_listing, part_listings, row_of};
 
 use crate::row::{PartRow, RowName};
 use daq_table::Text;
@@ -31,7 +31,7 @@ fn append<'a>(
     part: ListedRows<'a>,
     rows: &mut Vec<ListedRow<'a>>,
 ) -> Result<(), AllocError>
-    ensures { OnOk result (map listing rows.new.items ≡ map listing rows.old.items ++ listings_of place part.entry) }
+    ensures { OnOk result (map listing rows.new.items ≡ map listing rows.old.items ++ listings_of place (part_listing part.entry)) }
 {
     for line in part.rows {
         rows.push(ListedRow {
@@ -48,7 +48,7 @@ pub(crate) fn listed_rows<'a>(
     alloc: Global,
     parts: &[ListedRows<'a>],
 ) -> Result<Vec<ListedRow<'a>>, AllocError>
-    ensures { IfOk result (λ rows. map listing rows.items ≡ listings parts.now) }
+    ensures { IfOk result (λ rows. map listing rows.items ≡ listings (part_listings parts.now)) }
 {
     let mut rows = Vec::new(alloc);
     for (place, part) in parts.iter().enumerate() {
