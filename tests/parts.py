@@ -4,9 +4,9 @@
 parts.py PARTS REPORTS [--width W] [--rounds N]  prints the combined report of PARTS parts; each line of REPORTS is a tag, a tab and a line
                                                  of that part's report. A refusal is told on standard error, with status 9. As the program,
                                                  it takes no extremes of texts
-parts.py --certain [COUNT [SEED]]                cuts tables made by chance into parts, combines the parts' reports of totals or of groups
-                                                 in several orders of their lines, and looks whether each interval, and each line of a
-                                                 group, holds what the uncut table answers
+parts.py --certain [COUNT [SEED]]                cuts tables made by chance into parts, combines the parts' reports of totals, of groups
+                                                 or of first rows in several orders of their lines, and looks whether each interval, and
+                                                 each line of a group or a row, holds what the uncut table answers
 parts.py --program DAQ [COUNT [SEED]]            loads the parts of such tables by the program DAQ, asks them side by side, combines them
                                                  by it, and looks at the same, and whether it prints what is worked out here
 """
@@ -19,6 +19,7 @@ import sys
 import tempfile
 from fractions import Fraction
 
+import first_rows
 import reports
 
 EPOCH = datetime.date(1970, 1, 1).toordinal()
@@ -469,32 +470,59 @@ def columns_of(query):
 
 
 def look_at_query(line):
-    """Refuses a first line that is none of a query of totals or groups."""
+    """Refuses a first line that is none of a query of totals, groups or first rows."""
     items = ITEMS.fullmatch(re.sub(TEXT, "''", line))
     if not items or items[1].count("(") != items[1].count(")"):
         raise Refused("no query")
+    if first_rows.asked_by(line):
+        return
     calls = [bool(CALL.match(item)) for item in items[1].split(", ")]
     is_right = any(calls) if columns_of(line) else all(calls)
-    if not is_right or re.search(r" ORDER BY ", re.sub(TEXT, "''", line)):
-        raise Refused("no query of totals or groups")
+    if not is_right:
+        raise Refused("no query of totals, groups or first rows")
 
 
-class Part:
-    """The report of a part. A block has for each item its answer and what the line behind tells, or None; `closing` says whether a block
-    ends with such a line, once the first is whole. A block by groups has sections: keys, whether they are present, and answers."""
+ENDS = ("end narrow", "end rounds", "end reads")
 
-    def __init__(self, query, any_kind=True):
-        self.query, self.kinds, self.blocks, self.current, self.end, self.place = query, kinds_of(query), [], None, None, "query"
-        self.columns, self.sections, self.group = columns_of(query), None, None
-        self.any_kind, self.closing = any_kind, "item" if self.kinds[-1] == "COUNT" else None
+
+class Report:
+    """The report of a part, as far as it was read: its blocks that are whole, and the line of its end."""
+
+    def __init__(self, query):
+        self.query, self.blocks, self.end, self.place = query, [], None, "query"
 
     def take(self, line):
         if self.place == "query":
             if line != self.query:
                 raise Refused("another query")
             self.place = "opened"
-            return
-        if self.end is not None or not (self.takes_in_block(line) or self.takes_group(line) or self.takes_round(line)):
+        elif self.end is not None:
+            raise Refused("no line of a report at this place")
+        else:
+            self.take_behind(line)
+
+    def has_block(self, number):
+        return self.end is not None or number < len(self.blocks)
+
+    def block(self, number):
+        return self.blocks[min(number, len(self.blocks) - 1)]
+
+    def is_over(self, number):
+        return self.end is not None and len(self.blocks) <= number + 1
+
+
+class Part(Report):
+    """The report of a part. A block has for each item its answer and what the line behind tells, or None; `closing` says whether a block
+    ends with such a line, once the first is whole. A block by groups has sections: keys, whether they are present, and answers."""
+
+    def __init__(self, query, any_kind=True):
+        super().__init__(query)
+        self.kinds, self.current = kinds_of(query), None
+        self.columns, self.sections, self.group = columns_of(query), None, None
+        self.any_kind, self.closing = any_kind, "item" if self.kinds[-1] == "COUNT" else None
+
+    def take_behind(self, line):
+        if not (self.takes_in_block(line) or self.takes_group(line) or self.takes_round(line)):
             raise Refused("no line of a report at this place")
 
     def takes_group(self, line):
@@ -557,7 +585,7 @@ class Part:
             self.place = "round"
             return True
         count = len(self.blocks) + (inside if self.sections is None else 1)
-        ends = count > 0 and line in ("end narrow", "end rounds", "end reads")
+        ends = count > 0 and line in ENDS
         start = "round %d" % count
         if not ends and line != start and not line.startswith(start + " "):
             return False
@@ -574,17 +602,57 @@ class Part:
             self.current = []
         return True
 
-    def has_block(self, number):
-        return self.end is not None or number < len(self.blocks)
 
-    def block(self, number):
-        return self.blocks[min(number, len(self.blocks) - 1)]
+class RowsPart(Report):
+    """The report of a part that lists first rows."""
 
-    def is_over(self, number):
-        return self.end is not None and len(self.blocks) <= number + 1
+    def __init__(self, query):
+        super().__init__(query)
+        self.limit, self.down = first_rows.asked_by(query)
+        self.is_inside, self.current, self.columns, self.kinds = False, None, 0, []
+
+    def take_behind(self, line):
+        if self.takes_row(line) or self.takes_round(line):
+            if self.current and self.current.is_whole():
+                self.blocks.append(self.current)
+                self.current, self.is_inside = None, False
+            return
+        if self.current and self.current.lacks_possible():
+            raise Refused("possible rows are not listed")
+        raise Refused("no line of a report at this place")
+
+    def takes_row(self, line):
+        if not self.is_inside:
+            return False
+        if self.current is None:
+            self.current = first_rows.top_at(line, self.limit)
+            return self.current is not None
+        row = first_rows.row_at(line, lambda text: read("MIN", text, True))
+        rows = self.current.rows
+        if not row or not self.current.has_room(row) or rows and row.name() <= rows[-1].name():
+            return False
+        rows.append(row)
+        return True
+
+    def takes_round(self, line):
+        if self.is_inside:
+            return False
+        if self.place == "opened" and re.fullmatch(r"parts (0|[1-9]\d*)", line):
+            self.place = "round"
+            return True
+        if self.blocks and line in ENDS:
+            self.end = line
+            return True
+        start = "round %d" % len(self.blocks)
+        self.is_inside = line == start or line.startswith(start + " ")
+        return self.is_inside
 
 
 # ---- the combined report
+
+
+def part_of(query, any_kind=True):
+    return RowsPart(query) if first_rows.asked_by(query) else Part(query, any_kind)
 
 
 class Combined:
@@ -615,7 +683,7 @@ class Combined:
         if self.query is None:
             look_at_query(line)
             self.query, self.lines = line, [line, "parts %d" % self.count]
-        part = Part(self.query, self.any_kind)
+        part = part_of(self.query, self.any_kind)
         part.take(line)
         self.parts[tag] = part
 
@@ -631,7 +699,9 @@ class Combined:
 
     def write(self, parts):
         blocks = [part.block(self.number) for part in parts]
-        if parts[0].columns:
+        if first_rows.asked_by(self.query):
+            self.write_rows(blocks)
+        elif parts[0].columns:
             self.write_groups(parts[0].kinds, blocks)
         else:
             self.write_totals(parts, blocks)
@@ -643,6 +713,18 @@ class Combined:
         for section in block:
             self.lines += section_lines(kinds, section)
         self.end_behind(block, all(present and all(is_near(known, self.width) for known in entries) for _, present, entries in block))
+
+    def write_rows(self, blocks):
+        tags = [tag.decode(errors="surrogateescape") for tag in sorted(self.parts)]
+        unclear = [tag for tag in tags if min(map(ord, tag)) <= 32]
+        if unclear:
+            raise Refused("tag %s holds a space or a control character" % unclear[0])
+        if len({row.key.form.name for block in blocks for row in block.rows if row.key.form}) > 1:
+            raise Refused("scales of the sort key differ")
+        limit, down = first_rows.asked_by(self.query)
+        block = first_rows.combined(limit, down, list(zip(tags, blocks)))
+        self.lines += ["round %d" % self.number] + block.lines(limit)
+        self.end_behind(block, not block.possible)
 
     def end_behind(self, block, is_narrow):
         self.blocks.append(block)
@@ -698,6 +780,8 @@ def combine(count, text, width=0, rounds=None, any_kind=True):
 
 # ---- by chance
 
+POLICIES = ["widest", "order", "filter", "balanced"]
+
 
 def interleaved(chance, lists):
     """The lines of all lists, those of each in order."""
@@ -720,18 +804,23 @@ def some_query_by_groups(chance, columns):
     return "SELECT %s FROM t%s GROUP BY %s" % (", ".join(items), reports.some_condition(chance, columns), ", ".join(by))
 
 
+def some_query_by_order(chance, columns):
+    order = chance.choice(columns)[0] + chance.choice(["", " DESC"])
+    return "SELECT * FROM t%s ORDER BY %s LIMIT %d" % (reports.some_condition(chance, columns), order, chance.choice([0, 1, 2, 3, 5, 1000]))
+
+
 def read_back(sql, text):
     """The blocks of a report."""
-    report = Part("query " + sql)
+    report = part_of("query " + sql)
     for line in text.splitlines():
         report.take(line)
     return report
 
 
 def some_task(chance):
-    """A table, its schema, and a query of totals or of groups; in some tables a text holds a comma."""
+    """A table, its schema, and a query of totals, of groups or of first rows; in some tables a text holds a comma."""
     text, schema, columns = reports.some_table(chance)
-    sql = chance.choice([some_query, some_query_by_groups])(chance, columns)
+    sql = chance.choice([some_query, some_query_by_groups, some_query_by_order])(chance, columns)
     if chance.random() < 0.3:
         text, sql = text.replace("Ulm", '"Ulm, Donau"'), sql.replace("Ulm", "Ulm, Donau")
     return text, schema, sql
@@ -744,17 +833,19 @@ def cut(chance, text, count):
     return [head + "".join(rows[a:b]) for a, b in zip([0] + places, places + [len(rows)])]
 
 
-def some_options(chance):
-    """The options of the parts: a policy for each, and mostly the same lines behind the items."""
+def some_options(chance, sql):
+    """The options of the parts: a policy for each, and mostly the same lines behind the items; first rows are listed."""
+    if first_rows.asked_by(sql):
+        return lambda: ["--policy", chance.choice(POLICIES), "--list"]
     all_have = ["--clip", "--exact-avg"]
     shown = [chance.choice([all_have, all_have, [], [chance.choice(all_have)]])] * 2
     shown[1] = chance.choice([shown[0]] * 4 + [[]])
-    return lambda: ["--policy", chance.choice(["widest", "order", "filter", "balanced"])] + chance.choice(shown)
+    return lambda: ["--policy", chance.choice(POLICIES)] + chance.choice(shown)
 
 
 def tagged(chance, texts, schema, sql):
     """For each part its report's lines behind its tag, by options of its own; the tags are in the order of the parts."""
-    lists, options = [], some_options(chance)
+    lists, options = [], some_options(chance, sql)
     for number, text in enumerate(texts):
         words = options()
         lines = reports.report(text, schema, sql, words).splitlines(True)
@@ -842,8 +933,17 @@ def faults_of_groups(kinds, blocks, answers):
     return wrong + ([] if block_text(blocks[-1]) == block_text(answers) else ["at the end: %s" % block_text(blocks[-1])])
 
 
-def faults_of_blocks(blocks, text, schema, sql):
-    """What is wrong with the blocks that are told of a table, beside what it answers."""
+def faults_of_rows(blocks, parts, text, schema, sql):
+    """What is wrong with the blocks of first rows of a table in these parts."""
+    last = read_back(sql, reports.report(text, schema, sql, ["--list"])).blocks[-1]
+    first = {row.number for row in last.rows}
+    return first_rows.faults(blocks, first_rows.places(parts), first, first_rows.keys_of(text, schema, sql))
+
+
+def faults_of_blocks(blocks, parts, text, schema, sql):
+    """What is wrong with the blocks that are told of a table in these parts, beside what it answers."""
+    if first_rows.asked_by(sql):
+        return faults_of_rows(blocks, parts, text, schema, sql)
     last = read_back(sql, reports.report(text, schema, sql, []))
     look = faults_of_groups if last.columns else faults_of_totals
     return look(last.kinds, blocks, last.blocks[-1])
@@ -856,7 +956,8 @@ def without_read(line):
 
 def faults(chance, text, schema, sql, count):
     """What is wrong with the combined reports of a table that is cut."""
-    lists = tagged(chance, cut(chance, text, count), schema, sql)
+    parts = cut(chance, text, count)
+    lists = tagged(chance, parts, schema, sql)
     first, refusal = combine(count, b"".join(line for lines in lists for line in lines))
     if refusal:
         return [refusal]
@@ -868,9 +969,9 @@ def faults(chance, text, schema, sql, count):
         if refusal or other.lines != first.lines:
             wrong.append("another order of lines: %s %s" % (refusal, other.lines))
     again, refusal = combine(1, "".join("all\t%s\n" % line for line in first.lines).encode())
-    if refusal or again.lines[2:] != first.lines[2:]:
+    if refusal or [line.replace("row all ", "row ") for line in again.lines[2:]] != first.lines[2:]:
         wrong.append("as the report of one part: %s %s" % (refusal, again.lines))
-    return wrong + faults_of_blocks(first.blocks, text, schema, sql)
+    return wrong + faults_of_blocks(first.blocks, parts, text, schema, sql)
 
 
 def certain(count, seed):
@@ -892,7 +993,7 @@ def certain(count, seed):
 
 def told_by(program, folder, texts, schema, sql, chance):
     """What the program's `combine` prints of the parts, which it loads and asks side by side: lines come as they come."""
-    started, options = [], some_options(chance)
+    started, options = [], some_options(chance, sql)
     for number, text in enumerate(texts):
         path = os.path.join(folder, "p%04d" % number)
         with open(path + ".csv", "w", newline="") as file:
@@ -930,7 +1031,7 @@ def faults_of_program(program, folder, chance, text, schema, sql, count):
              for number, (part, (_, words)) in enumerate(zip(texts, started))]
     wanted, refusal = combine(count, b"".join(line for lines in lists for line in lines), any_kind=False)
     wrong = [] if told.splitlines() == wanted.lines else ["not what is worked out: %s" % (refusal or wanted.lines)]
-    return wrong + faults_of_blocks(read_back(sql, told).blocks, text, schema, sql)
+    return wrong + faults_of_blocks(read_back(sql, told).blocks, texts, text, schema, sql)
 
 
 def by_program(program, count, seed):
