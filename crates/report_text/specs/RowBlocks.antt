@@ -1,5 +1,5 @@
 -- What the lines of a block of first rows have told so far, and which line comes next.
-use Rattle.std.specs.Prelude.{◌≡◌, ◌≢◌, ◌⊎◌, ℕ, ◌<◌, ◌-◌, nat_lt, Bool, true, ◌&&◌, ◌||◌, not}
+use Rattle.std.specs.Prelude.{◌≡◌, ◌⊎◌, ℕ, ◌<◌, ◌-◌, nat_lt, Bool, true, false, ◌&&◌, ◌||◌, not}
 use Rattle.std.specs.Prelude.{List, [], ◌∷◌, ◌++◌, count_by, length, slice_get}
 use Rattle.std.specs.declared.option.Option.{Option}
 use Rattle.std.specs.declared.option.Option.TheVariants.{Some, None}
@@ -39,12 +39,24 @@ comes_before a b =
 
 -- ---- the next line
 
+abbrev pub certain_rows : List RowLine → ℕ
+certain_rows rows = count_by (λ row. row.certain) rows
+
+abbrev pub possible_rows : List RowLine → ℕ
+possible_rows rows = count_by (λ row. not row.certain) rows
+
 -- how many rows there are, where so many are asked for
 pub record IsNextTop (limit : ℕ) (told : RowsTold) (line : List ℕ) (top : TopLine) : Type 0 where
   pub first : told.top ≡ None
   pub is_top : IsTopLine top
   pub asked : top.limit ≡ limit
   pub is_line : top_line top ≡ line
+
+-- the number of such rows is not reached yet
+abbrev pub is_lacking : Option TopLine → RowsTold → Bool → Bool
+is_lacking None told certain = false
+is_lacking (Some top) told true = nat_lt (certain_rows told.rows) top.certain
+is_lacking (Some top) told false = nat_lt (possible_rows told.rows) top.possible
 
 -- the row comes behind the last of the others
 abbrev pub is_behind : Option RowLine → RowName → Bool
@@ -54,9 +66,9 @@ is_behind (Some last) name = comes_before last.name name
 abbrev pub last_row : List RowLine → Option RowLine
 last_row rows = slice_get rows (length rows - 1)
 
--- the next row, behind all others
+-- the next row, behind all others, and one of as many as there are
 pub record IsNextRow (told : RowsTold) (line : List ℕ) (row : RowLine) : Type 0 where
-  pub begun : told.top ≢ None
+  pub lacking : is_lacking told.top told row.certain ≡ true
   pub is_shown : IsShownRow row
   pub is_line : row_line row ≡ line
   pub behind : is_behind (last_row told.rows) row.name ≡ true
@@ -68,12 +80,6 @@ TakesRows limit told line next =
     ⊎ ((row : RowLine) × IsNextRow told line row × (next ≡ with_row told row))
 
 -- ---- the end of the block
-
-abbrev pub certain_rows : List RowLine → ℕ
-certain_rows rows = count_by (λ row. row.certain) rows
-
-abbrev pub possible_rows : List RowLine → ℕ
-possible_rows rows = count_by (λ row. not row.certain) rows
 
 -- there are as many rows as their numbers say
 pub record IsWhole (told : RowsTold) : Type 0 where

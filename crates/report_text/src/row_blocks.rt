@@ -3,7 +3,7 @@
 ghost use Rattle.std.specs.Prelude.{◌≡◌, IfOk, MatchBool, MatchOption, OnOk, true};
 ghost use Rattle.report_text.specs.declared.rows.RowLine.{RowLine};
 ghost use Rattle.report_text.specs.declared.rows.TopLine.{TopLine};
-ghost use Rattle.report_text.specs.RowBlocks.{IsNextRow, IsNextTop, IsWhole, LacksPossible, RowsTold, TakesRows};
+ghost use Rattle.report_text.specs.RowBlocks.{IsNextRow, IsNextTop, IsWhole, LacksPossible, RowsTold, TakesRows, is_lacking};
 ghost use Rattle.report_text.specs.RowBlocks.{comes_before, is_behind, last_row, no_rows, possible_rows, tag_bytes, with_row};
 
 use crate::rows::{RowLine, RowName, TopLine, read_row, read_top};
@@ -92,17 +92,35 @@ impl RowsBlock {
         if top.limit == limit { Some(top) } else { None }
     }
 
-    // The next row, if the line tells one that comes behind all others.
+    // How many rows are possible.
+    #[tactic(auto, using(crate::proofs::RowCounts::possible_is))]
+    fn possible(&self) -> usize
+        ensures { result ≡ possible_rows self.now.rows }
+    {
+        self.rows.len() - self.certain
+    }
+
+    // Whether the number of such rows is not reached yet.
+    fn is_lacking(&self, certain: bool) -> bool
+        ensures { result ≡ is_lacking self.now.top self.now certain }
+    {
+        match &self.top {
+            Some(top) if certain => (self.certain as u64) < top.certain,
+            Some(top) => (self.possible() as u64) < top.possible,
+            None => false,
+        }
+    }
+
+    // The next row, if the line tells one that comes behind all others, and is one of as many as there are.
     fn next_row(&self, alloc: Global, line: &[u8]) -> Result<Option<RowLine>, AllocError>
         ensures { IfOk result (λ read. MatchOption read
             ((row : RowLine) → IsNextRow self.now line.now row → ⊥)
             (IsNextRow self.now line.now)) }
     {
-        if self.top.is_none() {
-            return Ok(None);
-        }
         match read_row(alloc, line)? {
-            Some(row) if is_behind(&self.rows, &row.name) => Ok(Some(row)),
+            Some(row) if self.is_lacking(row.certain) && is_behind(&self.rows, &row.name) => {
+                Ok(Some(row))
+            }
             _ => Ok(None),
         }
     }
@@ -136,14 +154,6 @@ impl RowsBlock {
             }
             None => Ok(false),
         }
-    }
-
-    // How many rows are possible.
-    #[tactic(auto, using(crate::proofs::RowCounts::possible_is))]
-    fn possible(&self) -> usize
-        ensures { result ≡ possible_rows self.now.rows }
-    {
-        self.rows.len() - self.certain
     }
 
     /// Whether it has as many rows as were told.
