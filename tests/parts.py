@@ -806,7 +806,7 @@ def some_query_by_groups(chance, columns):
 
 def some_query_by_order(chance, columns):
     order = chance.choice(columns)[0] + chance.choice(["", " DESC"])
-    return "SELECT * FROM t%s ORDER BY %s LIMIT %d" % (reports.some_condition(chance, columns), order, chance.choice([0, 1, 2, 3, 5, 1000]))
+    return "SELECT * FROM t%s ORDER BY %s LIMIT %d" % (reports.some_condition(chance, columns), order, chance.choice([1, 2, 3, 5, 1000]))
 
 
 def read_back(sql, text):
