@@ -15,6 +15,10 @@ counts_text top = decimal top.limit ++ (codes " certain " ++ (decimal top.certai
 abbrev pub top_line : TopLine → List ℕ
 top_line top = codes "top " ++ counts_text top
 
+-- of so many rows that are asked for none is judged
+abbrev pub skip_line : ℕ → List ℕ
+skip_line limit = codes "top " ++ (decimal limit ++ codes " certain 0")
+
 pub record IsTopLine (top : TopLine) : Type 0 where
   pub limit : top.limit < 2 ^ 64
   pub certain : top.certain < 2 ^ 64

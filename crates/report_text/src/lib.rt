@@ -33,5 +33,5 @@ pub use lines::{
     ReportEnd, is_round_line, read_end, read_item, read_parts, text_of_item, written_item,
 };
 pub use numbers::{Number, read_number};
-pub use row_blocks::RowsBlock;
+pub use row_blocks::{RowsBlock, RowsTop};
 pub use rows::{RowLine, RowName, TopLine, read_row, read_top, written_row, written_top};

@@ -1,21 +1,42 @@
 //! A block of first rows, read line by line.
 
-ghost use Rattle.std.specs.Prelude.{◌≡◌, IfOk, MatchBool, MatchOption, OnOk, true};
+ghost use Rattle.std.specs.Prelude.{◌≡◌, ◌≤◌, IfOk, MatchBool, MatchOption, OnOk, length, true};
 ghost use Rattle.report_text.specs.declared.rows.RowLine.{RowLine};
 ghost use Rattle.report_text.specs.declared.rows.TopLine.{TopLine};
-ghost use Rattle.report_text.specs.RowBlocks.{IsNextRow, IsNextTop, IsWhole, LacksPossible, RowsTold, TakesRows, is_lacking};
-ghost use Rattle.report_text.specs.RowBlocks.{comes_before, is_behind, last_row, no_rows, possible_rows, tag_bytes, with_row};
+ghost use Rattle.report_text.specs.RowBlocks.{IsNextRow, IsNextTop, IsSkip, IsWhole, LacksPossible, RowsTold, TakesRows};
+ghost use Rattle.report_text.specs.RowBlocks.{certain_rows, comes_before, first_line, is_behind, last_row, no_rows, possible_rows};
+ghost use Rattle.report_text.specs.RowBlocks.{is_lacking, tag_bytes, told_rows, with_row};
 
-use crate::rows::{RowLine, RowName, TopLine, read_row, read_top};
-use daq_table::Text;
+use crate::rows::{RowLine, RowName, TopLine, read_row, read_top, written_skip, written_top};
+use daq_table::{Text, TextBuf};
 use std::alloc::{AllocError, Global};
 use std::cmp::Ordering;
 use std::marker::Model;
 
-/// A block of first rows, as far as it was read: how many rows there are, once that line was read, and the rows.
+/// What the line before the rows says: how many there are, or, of so many that are asked for, that none is judged, and none listed.
+#[derive(Clone, Copy, Debug, PartialEq, Eq)]
+pub enum RowsTop {
+    Counts(TopLine),
+    Skipped(u64),
+}
+
+impl RowsTop {
+    /// The line before the rows.
+    pub fn written(self) -> TextBuf
+        ensures text { result ≡ first_line self }
+        ensures short { length result ≤ 330 }
+    {
+        match self {
+            RowsTop::Counts(top) => written_top(top),
+            RowsTop::Skipped(limit) => written_skip(limit),
+        }
+    }
+}
+
+/// A block of first rows, as far as it was read: what the line before the rows says, once that was read, and the rows.
 #[derive(Drop)]
 pub struct RowsBlock {
-    top: Option<TopLine>,
+    top: Option<RowsTop>,
     rows: Vec<RowLine>,
     certain: usize,
 }
@@ -62,6 +83,13 @@ fn is_behind(rows: &[RowLine], name: &RowName) -> bool
     comes_before(&rows[rows.len() - 1].name, name)
 }
 
+// How many of these rows are certain.
+fn certain_rows(rows: &[RowLine]) -> usize
+    ensures { result ≡ certain_rows rows.now }
+{
+    rows.iter().filter(|row| row.certain).count()
+}
+
 impl RowsBlock {
     /// The block before its first line.
     pub fn new(alloc: Global) -> RowsBlock
@@ -72,6 +100,25 @@ impl RowsBlock {
             rows: Vec::new(alloc),
             certain: 0,
         }
+    }
+
+    /// The block with this before its rows, and these rows.
+    pub fn from_lines(top: RowsTop, rows: Vec<RowLine>) -> RowsBlock
+        ensures { result ≡ told_rows top rows.items }
+    {
+        let certain = certain_rows(&rows);
+        RowsBlock {
+            top: Some(top),
+            rows,
+            certain,
+        }
+    }
+
+    /// What the line before the rows says, once it was read.
+    pub fn top(&self) -> Option<RowsTop>
+        ensures { result ≡ self.now.top }
+    {
+        self.top
     }
 
     /// The rows that were read.
@@ -92,6 +139,14 @@ impl RowsBlock {
         if top.limit == limit { Some(top) } else { None }
     }
 
+    // Whether the line is the first, and tells that none of so many rows is judged.
+    fn is_skip(&self, limit: u64, line: &[u8]) -> bool
+        ensures yes { IsSkip limit self.now line.now → result ≡ true }
+        ensures only { result ≡ true → IsSkip limit self.now line.now }
+    {
+        self.top.is_none() && written_skip(limit).bytes() == line
+    }
+
     // How many rows are possible.
     #[tactic(auto, using(crate::proofs::RowCounts::possible_is))]
     fn possible(&self) -> usize
@@ -102,12 +157,12 @@ impl RowsBlock {
 
     // Whether the number of such rows is not reached yet.
     fn is_lacking(&self, certain: bool) -> bool
-        ensures { result ≡ is_lacking self.now.top self.now certain }
+        ensures { result ≡ is_lacking self.now.top self.now.rows certain }
     {
         match &self.top {
-            Some(top) if certain => (self.certain as u64) < top.certain,
-            Some(top) => (self.possible() as u64) < top.possible,
-            None => false,
+            Some(RowsTop::Counts(top)) if certain => (self.certain as u64) < top.certain,
+            Some(RowsTop::Counts(top)) => (self.possible() as u64) < top.possible,
+            Some(RowsTop::Skipped(_)) | None => false,
         }
     }
 
@@ -144,7 +199,11 @@ impl RowsBlock {
             ((self.new ≡ self.old) × ((next : RowsTold) → TakesRows limit self.old line.now next → ⊥))) }
     {
         if let Some(top) = self.next_top(limit, line) {
-            self.top = Some(top);
+            self.top = Some(RowsTop::Counts(top));
+            return Ok(true);
+        }
+        if self.is_skip(limit, line) {
+            self.top = Some(RowsTop::Skipped(limit));
             return Ok(true);
         }
         match self.next_row(alloc, line)? {
@@ -156,15 +215,16 @@ impl RowsBlock {
         }
     }
 
-    /// Whether it has as many rows as were told.
+    /// Whether it has as many rows as were told, or none is judged.
     pub fn is_whole(&self) -> bool
         ensures yes { IsWhole self.now → result ≡ true }
         ensures only { result ≡ true → IsWhole self.now }
     {
         match &self.top {
-            Some(top) => {
+            Some(RowsTop::Counts(top)) => {
                 self.certain as u64 == top.certain && self.possible() as u64 == top.possible
             }
+            Some(RowsTop::Skipped(_)) => true,
             None => false,
         }
     }
@@ -175,10 +235,10 @@ impl RowsBlock {
         ensures only { result ≡ true → LacksPossible self.now }
     {
         match &self.top {
-            Some(top) => {
+            Some(RowsTop::Counts(top)) => {
                 self.certain as u64 == top.certain && top.possible > 0 && self.possible() == 0
             }
-            None => false,
+            Some(RowsTop::Skipped(_)) | None => false,
         }
     }
 }

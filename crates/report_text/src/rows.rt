@@ -5,7 +5,7 @@ ghost use Rattle.report_text.specs.Keys.{IsShownSpan};
 ghost use Rattle.report_text.specs.Parted.{IsParted};
 ghost use Rattle.report_text.specs.Quotes.{LacksOutside};
 ghost use Rattle.report_text.specs.Rows.{IsRowName, IsRowTag, IsShownRow, IsTopLine};
-ghost use Rattle.report_text.specs.Rows.{counts_text, name_text, row_line, standing_word, top_line};
+ghost use Rattle.report_text.specs.Rows.{counts_text, name_text, row_line, skip_line, standing_word, top_line};
 ghost use Rattle.report_text.specs.declared.keys.ShownSpan.{ShownSpan};
 ghost use Rattle.report_text.specs.declared.rows.RowLine.{RowLine};
 ghost use Rattle.report_text.specs.declared.rows.RowName.{RowName};
@@ -54,6 +54,18 @@ pub fn written_top(top: TopLine) -> TextBuf
     text.append(written_count(top.certain).bytes());
     text.append(b" possible ");
     text.append(written_count(top.possible).bytes());
+    text
+}
+
+// The line before no rows: of so many that are asked for none is judged.
+pub(crate) fn written_skip(limit: u64) -> TextBuf
+    ensures text { result ≡ skip_line limit }
+    ensures short { length result ≤ 120 }
+{
+    let mut text = TextBuf::new();
+    text.append(b"top ");
+    text.append(written_count(limit).bytes());
+    text.append(b" certain 0");
     text
 }
 
