@@ -16,9 +16,9 @@ use Rattle.daq_table.specs.ValueTexts.{IsDay, day_of, month_of, text_of_date, ye
 use Rattle.report_text.proofs.Days.{date_of_day}
 use Rattle.report_text.proofs.DigitTexts.{no_minus, other_byte, padded_digits, padded_length, padded_value}
 use Rattle.report_text.proofs.EndPlaces.{before_place}
-use Rattle.report_text.proofs.NumberTexts.{digits_fail, fails-append, numbers_read, others_fail}
+use Rattle.report_text.proofs.NumberTexts.{digits_fail, fails-append, numbers_read, others_fail, whole_digits}
 use Rattle.report_text.specs.Layouts.{Fails, IsEnd, is_other}
-use Rattle.report_text.specs.Numbers.{CanBeRead, number_text, whole_digits}
+use Rattle.report_text.specs.Numbers.{CanBeRead, number_text}
 use Rattle.report_text.specs.declared.numbers.Number.{Number}
 
 -- the bytes of a list of two, and of four
@@ -207,7 +207,7 @@ date_is_no_number number day h k e =
     let y = t.four_digits in
     let m = t.two_digits in
     let d = t.two_more in
-    let whole : AllDigits 10 (whole_digits (laid t.year t.month t.days)) = subst (λ (x : List ℕ). AllDigits 10 (whole_digits x)) (e ∙ t.is) (numbers_read number h).is_text.whole in
+    let whole : AllDigits 10 (whole_digits (laid t.year t.month t.days)) = subst (λ (x : List ℕ). AllDigits 10 (whole_digits x)) (e ∙ t.is) (numbers_read number h).whole in
     let goal = λ (ys ms ds : List ℕ). IsLaidDate ys ms ds → AllDigits 10 (whole_digits (laid ys ms ds)) → ⊥ in
     subst (λ (ys : List ℕ). goal ys t.month t.days) (sym y.is)
     (subst (λ (ms : List ℕ). goal (y.first ∷ y.second ∷ y.third ∷ y.fourth ∷ []) ms t.days) (sym m.is)

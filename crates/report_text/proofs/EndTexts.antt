@@ -2,10 +2,10 @@
 use Rattle.std.proofs.Common.{◌≡◌, ℕ, List, ℤ, Option, Some, sym, ap, ◌∙◌}
 use Rattle.daq_table.specs.ValueTexts.{IsDay, text_of_date}
 use Rattle.report_text.proofs.DateTexts.{date_is_end, date_is_no_number, date_one}
-use Rattle.report_text.proofs.NumberTexts.{number_is_end, numbers_read}
+use Rattle.report_text.proofs.NumberTexts.{number_is_end, number_of_text, numbers_read}
 use Rattle.report_text.specs.Forms.{IsIntervalEnd, text_in, text_of_end}
 use Rattle.report_text.specs.Layouts.{IsEnd}
-use Rattle.report_text.specs.Numbers.{CanBeRead, number_of_text, number_text}
+use Rattle.report_text.specs.Numbers.{CanBeRead, number_text}
 use Rattle.report_text.specs.declared.forms.Form.{Form}
 use Rattle.report_text.specs.declared.forms.Form.TheVariants.{Date, Decimals}
 use Rattle.report_text.specs.declared.forms.IntervalEnd.{IntervalEnd}

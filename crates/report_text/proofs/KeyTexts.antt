@@ -12,12 +12,12 @@ use Rattle.daq_table.specs.ValueTexts.{IsDay, quoted_text, text_of_date}
 use Rattle.report_text.proofs.DateTexts.{date_fails}
 use Rattle.report_text.proofs.DigitTexts.{other_byte}
 use Rattle.report_text.proofs.EndTexts.{end_is_end}
-use Rattle.report_text.proofs.NumberTexts.{abs_small, digits_fail, places, places_digits, places_length, plain, plain_some, scaled-plain}
+use Rattle.report_text.proofs.NumberTexts.{abs_small, digits_fail, places, places_digits, places_length, plain_some, scaled-plain}
 use Rattle.report_text.proofs.Outside.{eq_turned, fails_lacks, lacks-append, quoted_lacks}
 use Rattle.report_text.specs.Forms.{IsIntervalEnd, text_in, text_of_end}
 use Rattle.report_text.specs.Keys.{AreShownEnds, AreValueEnds, IsShownPart, dotted, part_text, text_of_ends}
 use Rattle.report_text.specs.Layouts.{Fails, IsEnd, is_other}
-use Rattle.report_text.specs.Numbers.{CanBeRead, number_text}
+use Rattle.report_text.specs.Numbers.{CanBeRead, number_text, plain}
 use Rattle.report_text.specs.Quotes.{LacksOutside}
 use Rattle.report_text.specs.declared.forms.Form.{Form}
 use Rattle.report_text.specs.declared.forms.Form.TheVariants.{Date, Decimals}

@@ -13,6 +13,7 @@ pub mod OneRow
 pub mod Outside
 pub mod ReadKeys
 pub mod RoundLines
+pub mod ReadNumbers
 pub mod RowCounts
 pub mod RowTexts
 pub mod ShownTexts

@@ -1,5 +1,5 @@
 -- That the text of a number is read back as that number.
-use Rattle.std.proofs.Common.{Bool, lit<, ◌≡◌, ℕ, zero, suc, ◌+◌, ◌/◌, ◌%◌, ◌^◌, ◌<◌, ◌≤◌, ◌==◌, true, false, List, [], ◌∷◌, ◌++◌, length, codes, decimal, refl, ap, subst, ◌∙◌, arith, ℤ, pos, negsuc, unsigned_abs, FitsSigned, append_assoc}
+use Rattle.std.proofs.Common.{Bool, lit<, ◌≡◌, ℕ, zero, suc, ◌+◌, ◌/◌, ◌%◌, ◌^◌, ◌<◌, ◌≤◌, ◌==◌, false, List, [], ◌∷◌, ◌++◌, length, codes, decimal, refl, ap, ◌∙◌, arith, ℤ, pos, negsuc, unsigned_abs, FitsSigned, append_assoc}
 use Rattle.std.proofs.Math.Nat.{div-le_self, pow-le-pow_right}
 use Rattle.std.proofs.lemmas.Bool.Decides.{nat_tests}
 use Rattle.std.proofs.lemmas.Fmt.{decimal_is_IsNumeral_wide}
@@ -17,14 +17,28 @@ use Rattle.report_text.proofs.DigitTexts.{digits_after-split, no_minus, no_point
 use Rattle.report_text.proofs.EndPlaces.{before_place, place_behind}
 use Rattle.report_text.specs.Averages.{CanBeDivided, ratio_text}
 use Rattle.report_text.specs.Layouts.{Fails, IsEnd, is_other}
-use Rattle.report_text.specs.Numbers.{CanBeRead, IsNumberText, fraction_digits, magnitude, number_of_text, number_text, units_of_text, unsigned_part, whole_digits}
+use Rattle.report_text.specs.Numbers.{CanBeRead, is_negative, number_text, plain, unsigned_part}
 use Rattle.report_text.specs.declared.averages.Ratio.{Ratio}
 use Rattle.report_text.specs.declared.numbers.Number.{Number}
 
--- the text of a magnitude
-abbrev pub plain : ℕ → ℕ → List ℕ
-plain zero n = decimal n
-plain (suc scale) n = decimal (n / 10 ^ suc scale) ++ (codes "." ++ digits_text (suc scale) (n % 10 ^ suc scale))
+-- what stands before the point, and all where there is none
+abbrev pub whole_digits : List ℕ → List ℕ
+whole_digits text = before_first (λ c. c == 46) (unsigned_part text)
+
+-- what stands behind the point, and nothing where there is none
+abbrev fraction_digits : List ℕ → List ℕ
+fraction_digits text = after_first (λ c. c == 46) (unsigned_part text)
+
+-- how many units the digits write
+abbrev magnitude : List ℕ → ℕ
+magnitude text = digits_value_after 10 (digits_value 10 (whole_digits text)) (fraction_digits text)
+
+-- the number that the text writes
+abbrev units_of_text : List ℕ → ℤ
+units_of_text text = with_sign (starts_with_minus text) (magnitude text)
+
+abbrev pub number_of_text : List ℕ → Number
+number_of_text text = record { decimals = length (fraction_digits text); units = units_of_text text }
 
 -- the digits behind its point
 abbrev pub places : ℕ → ℕ → List ℕ
@@ -40,7 +54,7 @@ scaled-plain (suc scale) z =
     let fraction = digits_text (suc scale) (unsigned_abs z % 10 ^ suc scale) in
     append_assoc (sign_text z ++ whole) (codes ".") fraction ∙ append_assoc (sign_text z) whole (codes "." ++ fraction)
 
-whole_of_plain : (scale n : ℕ) → n < 2 ^ 128 → before_first (λ (c : ℕ). c == 46) (plain scale n) ≡ decimal (n / 10 ^ scale)
+pub whole_of_plain : (scale n : ℕ) → n < 2 ^ 128 → before_first (λ (c : ℕ). c == 46) (plain scale n) ≡ decimal (n / 10 ^ scale)
 whole_of_plain zero n h =
     let ds = decimal_is_IsNumeral_wide n (omega arith) in
     let place : position_or_len (λ (c : ℕ). c == 46) (decimal n) ≡ length (decimal n) = no_point (decimal n) ds.0.1 in
@@ -52,7 +66,7 @@ whole_of_plain (suc scale) n h =
     let rest = digits_text (suc scale) (n % 10 ^ suc scale) in
     rw (place_of_point (decimal m) rest ds.0.1) (take_at (decimal m) (46 ∷ rest) (length (decimal m)) refl)
 
-places_of_plain : (scale n : ℕ) → n < 2 ^ 128 → after_first (λ (c : ℕ). c == 46) (plain scale n) ≡ places scale n
+pub places_of_plain : (scale n : ℕ) → n < 2 ^ 128 → after_first (λ (c : ℕ). c == 46) (plain scale n) ≡ places scale n
 places_of_plain zero n h =
     let ds = decimal_is_IsNumeral_wide n (omega arith) in
     rw (no_point (decimal n) ds.0.1) (drop_all (length (decimal n) + 1) (decimal n) (omega arith))
@@ -63,14 +77,14 @@ places_of_plain (suc scale) n h =
     rw (place_of_point (decimal m) rest ds.0.1, ← append_assoc (decimal m) (46 ∷ []) rest) (drop_at (decimal m ++ 46 ∷ []) rest (length (decimal m) + 1) (simp length-append refl))
 
 -- what a division by a power of ten leaves is below it
-rest_below : (k n : ℕ) → n % 10 ^ k < 10 ^ k
+pub rest_below : (k n : ℕ) → n % 10 ^ k < 10 ^ k
 rest_below k n =
     let ten : 0 < 10 = lit< tt in
     let low : 0 ≤ k = omega arith in
     let some : 10 ^ 0 ≤ 10 ^ k = pow-le-pow_right ten low in
     mod_below n (10 ^ k) (omega arith)
 
-small_rest : (k n : ℕ) → k ≤ 18 → n % 10 ^ k < 10 ^ 64
+pub small_rest : (k n : ℕ) → k ≤ 18 → n % 10 ^ k < 10 ^ 64
 small_rest k n h = let ten : 0 < 10 = lit< tt in let few : 10 ^ k ≤ 10 ^ 18 = pow-le-pow_right ten h in omega (arith, rest_below k n)
 
 pub places_digits : (scale n : ℕ) → scale ≤ 18 → AllDigits 10 (places scale n)
@@ -86,16 +100,12 @@ places_value zero n h = omega arith
 places_value (suc scale) n h = padded_value (suc scale) (n % 10 ^ suc scale) (small_rest (suc scale) n h)
 
 -- the digits of a magnitude write it
-magnitude_back : (scale n : ℕ) → scale ≤ 18 → n < 2 ^ 128 → digits_value_after 10 (digits_value 10 (decimal (n / 10 ^ scale))) (places scale n) ≡ n
+pub magnitude_back : (scale n : ℕ) → scale ≤ 18 → n < 2 ^ 128 → digits_value_after 10 (digits_value 10 (decimal (n / 10 ^ scale))) (places scale n) ≡ n
 magnitude_back scale n h small =
     let whole : digits_value 10 (decimal (n / 10 ^ scale)) ≡ n / 10 ^ scale = (decimal_is_IsNumeral_wide (n / 10 ^ scale) (omega (arith, div-le_self n (10 ^ scale)))).1 in
     rw (digits_after-split (digits_value 10 (decimal (n / 10 ^ scale))) (places scale n), whole, places_length scale n h, places_value scale n h) (div-add-mod' n (10 ^ scale))
 
 -- ---- the sign
-
-is_below : ℤ → Bool
-is_below (pos n) = false
-is_below (negsuc n) = true
 
 -- a text of digits, and of digits around a point
 plain_no_minus : (scale n : ℕ) → n < 2 ^ 128 → starts_with_minus (plain scale n) ≡ false
@@ -107,30 +117,28 @@ plain_no_minus (suc scale) n h =
     let ds = decimal_is_IsNumeral_wide m (omega (arith, div-le_self n (10 ^ suc scale))) in
     no_minus (decimal m) (codes "." ++ digits_text (suc scale) (n % 10 ^ suc scale)) ds.0.1 ds.0.0
 
-sign_of_scaled : (scale : ℕ) (z : ℤ) → unsigned_abs z < 2 ^ 128 → starts_with_minus (sign_text z ++ plain scale (unsigned_abs z)) ≡ is_below z
-unfolding is_below
+pub sign_of_scaled : (scale : ℕ) (z : ℤ) → unsigned_abs z < 2 ^ 128 → starts_with_minus (sign_text z ++ plain scale (unsigned_abs z)) ≡ is_negative z
 sign_of_scaled scale (pos n) h = plain_no_minus scale n h
 sign_of_scaled scale (negsuc n) h = refl
 
-unsigned_of_scaled : (scale : ℕ) (z : ℤ) → unsigned_abs z < 2 ^ 128 → unsigned_part (sign_text z ++ plain scale (unsigned_abs z)) ≡ plain scale (unsigned_abs z)
+pub unsigned_of_scaled : (scale : ℕ) (z : ℤ) → unsigned_abs z < 2 ^ 128 → unsigned_part (sign_text z ++ plain scale (unsigned_abs z)) ≡ plain scale (unsigned_abs z)
 unsigned_of_scaled scale (pos n) h = rw (plain_no_minus scale n h)
 unsigned_of_scaled scale (negsuc n) h = refl
 
-signed_back : (z : ℤ) → with_sign (is_below z) (unsigned_abs z) ≡ z
-unfolding is_below
+signed_back : (z : ℤ) → with_sign (is_negative z) (unsigned_abs z) ≡ z
 signed_back (pos n) = refl
 signed_back (negsuc n) = refl
 
 -- ---- the whole text
 
 pub record Reads (text : List ℕ) (number : Number) : Type 0 where
-  pub is_text : IsNumberText text
+  pub whole : AllDigits 10 (whole_digits text)
   pub is : number_of_text text ≡ number
 
 pub abs_small : (z : ℤ) → FitsSigned w128 z → unsigned_abs z < 2 ^ 128
 abs_small z h = omega (arith, ints)
 
-reads_parts : (text : List ℕ) (scale : ℕ) (z : ℤ) → scale ≤ 18 → FitsSigned w128 z → unsigned_part text ≡ plain scale (unsigned_abs z) → starts_with_minus text ≡ is_below z → Reads text (record { decimals = scale; units = z })
+reads_parts : (text : List ℕ) (scale : ℕ) (z : ℤ) → scale ≤ 18 → FitsSigned w128 z → unsigned_part text ≡ plain scale (unsigned_abs z) → starts_with_minus text ≡ is_negative z → Reads text (record { decimals = scale; units = z })
 reads_parts text scale z few fits part sign =
     let n = unsigned_abs z in
     let small = abs_small z fits in
@@ -140,14 +148,7 @@ reads_parts text scale z few fits part sign =
     let units : units_of_text text ≡ z = rw (value, sign) (signed_back z) in
     let numeral = decimal_is_IsNumeral_wide (n / 10 ^ scale) (omega (arith, div-le_self n (10 ^ scale))) in
     record {
-      is_text = record {
-        few = rw fraction (omega (arith, places_length scale n few));
-        whole = rw whole numeral.0.1;
-        before = rw whole (omega (arith, numeral.1, div-le_self n (10 ^ scale)));
-        behind = rw fraction (places_digits scale n few);
-        within = rw value small;
-        fits = rw units fits;
-      };
+      whole = rw whole numeral.0.1;
       is = ap (λ (k : ℕ). record { decimals = k; units = units_of_text text }) (ap length fraction ∙ places_length scale n few) ∙ ap (λ (u : ℤ). record { decimals = scale; units = u }) units;
     }
 
@@ -159,13 +160,6 @@ numbers_read number h =
     let small = abs_small z h.fits in
     let e = scaled-plain scale z in
     reads_parts (number_text number) scale z h.few h.fits (rw e (unsigned_of_scaled scale z small)) (rw e (sign_of_scaled scale z small))
-
-pub reads_as : (text : List ℕ) (number : Number) → CanBeRead number → number_text number ≡ text → Reads text number
-reads_as text number h e = subst (λ (t : List ℕ). Reads t number) e (numbers_read number h)
-
--- what a text writes can be written
-pub text_can_be_read : (text : List ℕ) → IsNumberText text → CanBeRead (number_of_text text)
-text_can_be_read text h = record { few = h.few; fits = h.fits }
 
 -- ---- the bytes of a number's text
 

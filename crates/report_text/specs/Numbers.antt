@@ -1,10 +1,10 @@
--- The texts of numbers with decimals, and the numbers that texts write.
-use Rattle.std.specs.Prelude.{ℕ, ◌^◌, ◌<◌, ◌≤◌, ◌==◌, ℤ, List, drop, length, if◌then◌else◌, FitsSigned}
+-- The texts of numbers with decimals.
+use Rattle.std.specs.Prelude.{◌≡◌, ℕ, zero, suc, ◌/◌, ◌%◌, ◌^◌, ◌<◌, ◌≤◌, Bool, true, false, ℤ, pos, negsuc, FitsSigned}
+use Rattle.std.specs.Prelude.{List, ◌++◌, codes, decimal, drop, get_or, length, if◌then◌else◌}
 use Rattle.std.specs.Int.{w128}
-use Rattle.std.specs.List.{after_first, before_first}
-use Rattle.std.specs.Str.Parse.{AllDigits, digits_value, digits_value_after, starts_with_minus}
-use Rattle.daq_table.specs.CellTexts.{with_sign}
-use Rattle.daq_table.specs.Numbers.{scaled_text}
+use Rattle.std.specs.Str.Parse.{starts_with_minus}
+use Rattle.daq_table.specs.Numbers.{digits_text, scaled_text}
+use Rattle.report_text.specs.declared.numbers.Magnitude.{Magnitude}
 use Rattle.report_text.specs.declared.numbers.Number.{Number}
 
 -- the text of a number in a report
@@ -16,35 +16,35 @@ pub record CanBeRead (number : Number) : Type 0 where
   pub few : number.decimals ≤ 18
   pub fits : FitsSigned w128 number.units
 
--- ---- what a text writes
+-- ---- its parts
+
+abbrev pub is_negative : ℤ → Bool
+is_negative (pos n) = false
+is_negative (negsuc n) = true
 
 -- the text behind its minus, if it has one
 abbrev pub unsigned_part : List ℕ → List ℕ
 unsigned_part text = if starts_with_minus text then drop 1 text else text
 
--- what stands before the point, and all where there is none
-abbrev pub whole_digits : List ℕ → List ℕ
-whole_digits text = before_first (λ c. c == 46) (unsigned_part text)
+-- what stands behind its minus: digits, and around a point where there are decimals
+abbrev pub plain : ℕ → ℕ → List ℕ
+plain zero n = decimal n
+plain (suc scale) n = decimal (n / 10 ^ suc scale) ++ (codes "." ++ digits_text (suc scale) (n % 10 ^ suc scale))
 
--- what stands behind the point, and nothing where there is none
-abbrev pub fraction_digits : List ℕ → List ℕ
-fraction_digits text = after_first (λ c. c == 46) (unsigned_part text)
+abbrev pub plain_text : Magnitude → List ℕ
+plain_text magnitude = plain magnitude.decimals magnitude.units
 
--- how many units the digits write
-abbrev pub magnitude : List ℕ → ℕ
-magnitude text = digits_value_after 10 (digits_value 10 (whole_digits text)) (fraction_digits text)
+pub record CanBeReadPlain (magnitude : Magnitude) : Type 0 where
+  pub few : magnitude.decimals ≤ 18
+  pub fits : magnitude.units < 2 ^ 128
 
-abbrev pub units_of_text : List ℕ → ℤ
-units_of_text text = with_sign (starts_with_minus text) (magnitude text)
+-- it has decimals, and these are its digits before the point and behind it
+pub record HasDigits (magnitude : Magnitude) (whole fraction : List ℕ) : Type 0 where
+  pub some : 0 < magnitude.decimals
+  pub before : decimal (magnitude.units / 10 ^ magnitude.decimals) ≡ whole
+  pub behind : digits_text magnitude.decimals (magnitude.units % 10 ^ magnitude.decimals) ≡ fraction
 
-abbrev pub number_of_text : List ℕ → Number
-number_of_text text = record { decimals = length (fraction_digits text); units = units_of_text text }
-
--- digits around a point, few behind it, which write a number of 128 bits
-pub record IsNumberText (text : List ℕ) : Type 0 where
-  pub few : length (fraction_digits text) ≤ 18
-  pub whole : AllDigits 10 (whole_digits text)
-  pub before : digits_value 10 (whole_digits text) < 2 ^ 128
-  pub behind : AllDigits 10 (fraction_digits text)
-  pub within : magnitude text < 2 ^ 128
-  pub fits : FitsSigned w128 (units_of_text text)
+-- some digits, without a zero before others
+pub record IsTrimmed (digits : List ℕ) : Type 0 where
+  pub some : 0 < length digits
+  pub first : get_or digits 0 0 ≡ 48 → length digits ≡ 1

@@ -3,7 +3,7 @@
 ghost use Rattle.std.specs.Prelude.{◌≡◌, ◌<◌, ◌≤◌, ◌^◌, ℕ, Some, IfSome, decimal, length};
 ghost use Rattle.std.specs.Option.{SomeIff};
 
-use crate::digits::read_digits;
+use crate::digits::read_decimal;
 use daq_table::{TextBuf, written_number};
 
 /// The text of a count.
@@ -26,11 +26,6 @@ pub(crate) fn read_count(text: &[u8]) -> Option<u64>
     ensures read { (count : ℕ) → count < 2 ^ 64 → decimal count ≡ text.now → result ≡ Some count }
     ensures written { IfSome result (λ count. decimal count ≡ text.now) }
 {
-    let number = read_digits(0, text)?;
-    let count = narrowed(number)?;
-    if written_count(count).bytes() == text {
-        Some(count)
-    } else {
-        None
-    }
+    let number = read_decimal(text)?;
+    narrowed(number)
 }

@@ -10,6 +10,7 @@ use crate::answers::{Answer, read_answer, written_answer};
 use crate::counts::{read_count, written_count};
 use crate::layouts::behind;
 use daq_table::TextBuf;
+use itoa::Buffer;
 use query_model::ItemKind;
 
 // What stands behind a space that the text begins with.
@@ -19,13 +20,20 @@ fn behind_space(text: &[u8]) -> Option<&[u8]>
     behind(text, b" ")
 }
 
+// What stands behind a number that the text begins with.
+fn behind_number(text: &[u8], number: u64) -> Option<&[u8]>
+    ensures { MatchOption result ((rest : List ℕ) → text.now ≢ decimal number ++ rest) (λ rest. text.now ≡ decimal number ++ rest.now) }
+{
+    behind(text, Buffer::new().format(number).as_bytes())
+}
+
 /// What the line of an item with that number tells.
 pub fn text_of_item(line: &[u8], number: u64) -> Option<&[u8]>
     ensures { MatchOption result
         ((text : List ℕ) → line.now ≢ decimal number ++ (codes " " ++ text))
         (λ text. line.now ≡ decimal number ++ (codes " " ++ text.now)) }
 {
-    let rest = behind(line, written_count(number).bytes())?;
+    let rest = behind_number(line, number)?;
     behind_space(rest)
 }
 
@@ -49,13 +57,6 @@ pub fn written_item(number: u64, answer: &Answer) -> TextBuf
     text.append(b" ");
     text.append(written_answer(answer).bytes());
     text
-}
-
-// What stands behind a number that the text begins with.
-fn behind_number(text: &[u8], number: u64) -> Option<&[u8]>
-    ensures { MatchOption result ((rest : List ℕ) → text.now ≢ decimal number ++ rest) (λ rest. text.now ≡ decimal number ++ rest.now) }
-{
-    behind(text, written_count(number).bytes())
 }
 
 // What stands behind the number of a round.

@@ -1,14 +1,13 @@
 //! The texts of numbers with decimals, read back.
 
-ghost use Rattle.std.specs.Prelude.{◌≡◌, ◌≤◌, Some, FitsSigned, IfSome, length};
+ghost use Rattle.std.specs.Prelude.{◌≡◌, ◌<◌, ◌≤◌, ◌^◌, ℕ, ℤ, Some, FitsSigned, IfSome, decimal, length, unsigned_abs};
 ghost use Rattle.std.specs.Int.{w128};
-ghost use Rattle.std.specs.Option.{SomeIff};
 ghost use Rattle.std.specs.Str.Parse.{starts_with_minus};
-ghost use Rattle.daq_table.specs.CellTexts.{with_sign};
-ghost use Rattle.report_text.specs.Numbers.{CanBeRead, IsNumberText, number_of_text, number_text, unsigned_part};
+ghost use Rattle.report_text.specs.Numbers.{CanBeRead, CanBeReadPlain, HasDigits, is_negative, number_text, plain_text, unsigned_part};
+ghost use Rattle.report_text.specs.declared.numbers.Magnitude.{Magnitude};
 ghost use Rattle.report_text.specs.declared.numbers.Number.{Number};
 
-use crate::digits::{around_first, read_digits};
+use crate::digits::{around_first, read_decimal, read_digits};
 use daq_table::{TextBuf, written_number};
 
 // The most decimals of a number.
@@ -19,6 +18,13 @@ pub(crate) const MOST_DECIMALS: usize = 18;
 pub struct Number {
     pub decimals: u8,
     pub units: i128,
+}
+
+// A number without its sign, of so many units of its last decimal.
+#[derive(Clone, Copy)]
+struct Magnitude {
+    decimals: u8,
+    units: u128,
 }
 
 // Whether the text begins with a minus.
@@ -39,15 +45,16 @@ fn unsigned_part(text: &[u8]) -> &[u8]
     }
 }
 
-// The magnitude with its sign. None where it is not a number of 128 bits.
+// The number of that magnitude with its sign, which 0 has not. None where it is not a number of 128 bits.
 fn signed(magnitude: u128, minus: bool) -> Option<i128>
-    ensures { SomeIff result (FitsSigned w128 (with_sign minus magnitude)) (with_sign minus magnitude) }
+    ensures read { (z : ℤ) → FitsSigned w128 z → unsigned_abs z ≡ magnitude → is_negative z ≡ minus → result ≡ Some z }
+    ensures written { IfSome result (λ z. (unsigned_abs z ≡ magnitude) × (is_negative z ≡ minus)) }
 {
     if !minus {
         return i128::try_from(magnitude).ok();
     }
     if magnitude == 0 {
-        return Some(0);
+        return None;
     }
     match i128::try_from(magnitude - 1) {
         Ok(below) => Some(-1 - below),
@@ -55,22 +62,36 @@ fn signed(magnitude: u128, minus: bool) -> Option<i128>
     }
 }
 
-// The number that the text writes. None where it has another form. It may write it in another way than a report does.
-fn parse_number(text: &[u8]) -> Option<Number>
-    ensures { SomeIff result (IsNumberText text.now) (number_of_text text.now) }
+// The magnitude with these texts before its point and behind it.
+fn read_parted(whole: &[u8], fraction: &[u8]) -> Option<Magnitude>
+    requires { 0 < length fraction.now }
+    ensures read { (magnitude : Magnitude) → CanBeReadPlain magnitude → HasDigits magnitude whole.now fraction.now
+        → result ≡ Some magnitude }
+    ensures written { IfSome result (λ magnitude. CanBeReadPlain magnitude × HasDigits magnitude whole.now fraction.now) }
 {
-    let minus = starts_with_minus(text);
-    let (whole, fraction) = around_first(unsigned_part(text), b'.');
     if fraction.len() > MOST_DECIMALS {
         return None;
     }
-    let digits = read_digits(0, whole)?;
-    let magnitude = read_digits(digits, fraction)?;
-    let units = signed(magnitude, minus)?;
-    Some(Number {
+    let digits = read_decimal(whole)?;
+    let units = read_digits(digits, fraction)?;
+    Some(Magnitude {
         decimals: fraction.len() as u8,
         units,
     })
+}
+
+// The magnitude whose text this is.
+fn read_magnitude(text: &[u8]) -> Option<Magnitude>
+    ensures read { (magnitude : Magnitude) → CanBeReadPlain magnitude → plain_text magnitude ≡ text.now → result ≡ Some magnitude }
+    ensures written { IfSome result (λ magnitude. CanBeReadPlain magnitude × (plain_text magnitude ≡ text.now)) }
+{
+    let (whole, fraction) = around_first(text, b'.');
+    if fraction.is_empty() {
+        let units = read_decimal(text)?;
+        Some(Magnitude { decimals: 0, units })
+    } else {
+        read_parted(whole, fraction)
+    }
 }
 
 /// The text of a number, as a report shows it.
@@ -87,10 +108,10 @@ pub fn read_number(text: &[u8]) -> Option<Number>
     ensures read { (number : Number) → CanBeRead number → number_text number ≡ text.now → result ≡ Some number }
     ensures written { IfSome result (λ number. CanBeRead number × (number_text number ≡ text.now)) }
 {
-    let number = parse_number(text)?;
-    if written(number).bytes() == text {
-        Some(number)
-    } else {
-        None
-    }
+    let magnitude = read_magnitude(unsigned_part(text))?;
+    let units = signed(magnitude.units, starts_with_minus(text))?;
+    Some(Number {
+        decimals: magnitude.decimals,
+        units,
+    })
 }
