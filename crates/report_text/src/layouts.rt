@@ -1,11 +1,13 @@
 //! The layout of an interval in a line: one end or two, and whether there may be no answer.
 
-ghost use Rattle.std.specs.Prelude.{◌≡◌, ◌≢◌, ◌≤◌, ◌++◌, [], ℕ, List, Bool, true, false, Some, codes, length, position, IfSome, MatchOption};
+ghost use Rattle.std.specs.Prelude.{◌≡◌, ◌≢◌, ◌≤◌, ◌++◌, [], ℕ, List, Bool, true, false, Some, IfSome, MatchOption};
+ghost use Rattle.std.specs.Prelude.{codes, length, position};
 ghost use Rattle.std.specs.List.{position_or_len};
 ghost use Rattle.report_text.specs.Words.{ends_text, interval_text};
 ghost use Rattle.query_model.specs.declared.bounds.Nullity.{Nullity};
 ghost use Rattle.query_model.specs.declared.bounds.Nullity.TheVariants.{Always};
-ghost use Rattle.report_text.specs.Layouts.{HasLayout, IsEnd, IsTail, behind_front, bracketed_text, is_other, laid_text, plain_front, single_text};
+ghost use Rattle.report_text.specs.Layouts.{HasLayout, IsEnd, IsTail, behind_front, bracketed_text, is_other, laid_text};
+ghost use Rattle.report_text.specs.Layouts.{plain_front, single_text};
 
 use daq_table::TextBuf;
 use query_model::Nullity;
