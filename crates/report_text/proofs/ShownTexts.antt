@@ -139,6 +139,17 @@ same_ratios shown h same =
     let decimals = decimals_same shown h in
     rw (units, rows, decimals)
 
+same_single_by : (null : Nullity) (shown : ShownAverage) (single : Bool) → IsShownAverageBy null shown → (null ≢ Always → single ≡ is_same_ratio shown.low shown.high) →
+    (null ≡ Always → single ≡ true) → single ≡ is_same_ratio shown.low shown.high
+same_single_by Never shown single h some nothing = some (λ e. absurd cc)
+same_single_by Possibly shown single h some nothing = some (λ e. absurd cc)
+same_single_by Always shown single h some nothing = nothing refl ∙ sym (rw (h.low, h.high) refl)
+
+-- a single end stands just where both are the same
+pub same_single : (shown : ShownAverage) (null : Nullity) (single : Bool) → IsShownAverage shown → null ≡ shown.null →
+    (shown.null ≢ Always → single ≡ is_same_ratio shown.low shown.high) → (null ≡ Always → single ≡ true) → single ≡ is_same_ratio shown.low shown.high
+same_single shown null single h word some nothing = same_single_by shown.null shown single h some (λ e. nothing (word ∙ e))
+
 average_from : (null : Nullity) (shown : ShownAverage) → null ≢ Always → AreRatios shown → IsShownAverageBy null shown
 average_from Never shown k h = h
 average_from Possibly shown k h = h

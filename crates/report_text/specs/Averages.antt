@@ -1,5 +1,5 @@
 -- What a line says of an average.
-use Rattle.std.specs.Prelude.{◌≡◌, ℕ, ◌<◌, ◌^◌, ◌==◌, ◌&&◌, Bool, pos, List, ◌++◌, codes, decimal}
+use Rattle.std.specs.Prelude.{◌≡◌, ◌≢◌, ℕ, ◌<◌, ◌^◌, ◌==◌, ◌&&◌, Bool, pos, List, ◌++◌, codes, decimal}
 use Rattle.std.specs.Ordering.{int_eq}
 use Rattle.report_text.specs.Words.{ends_text, interval_text}
 use Rattle.query_model.specs.declared.bounds.Nullity.{Nullity}
@@ -7,6 +7,7 @@ use Rattle.query_model.specs.declared.bounds.Nullity.TheVariants.{Never, Possibl
 use Rattle.report_text.specs.Numbers.{CanBeRead, number_text}
 use Rattle.report_text.specs.declared.averages.Ratio.{Ratio}
 use Rattle.report_text.specs.declared.averages.ShownAverage.{ShownAverage}
+use Rattle.report_text.specs.declared.layouts.Layout.{Layout}
 
 -- a sum over a number of rows
 abbrev pub ratio_text : Ratio → List ℕ
@@ -52,3 +53,14 @@ IsShownAverageBy Always shown = IsNoAverage shown
 -- an average that a report shows
 abbrev pub IsShownAverage : ShownAverage → Type 0
 IsShownAverage shown = IsShownAverageBy shown.null shown
+
+-- an average with these ends
+pub record HasRatios (null : Nullity) (low high : List ℕ) (shown : ShownAverage) : Type 0 where
+  pub word : shown.null ≡ null
+  pub low_so : ratio_text shown.low ≡ low
+  pub high_so : ratio_text shown.high ≡ high
+
+-- the average of a layout
+pub record IsAverageIn (layout : Layout) (shown : ShownAverage) : Type 0 where
+  pub word : shown.null ≡ layout.null
+  pub ends : layout.null ≢ Always → HasRatios layout.null layout.low.now layout.high.now shown

@@ -1,8 +1,8 @@
 //! What a line says of an average, read back.
 
-ghost use Rattle.std.specs.Prelude.{◌≡◌, ◌≢◌, ◌≤◌, Bool, Some, IfSome, decimal, length};
+ghost use Rattle.std.specs.Prelude.{◌≡◌, ◌≢◌, ◌≤◌, Bool, Some, IfSome, decimal, length, true};
 ghost use Rattle.query_model.specs.declared.bounds.Nullity.TheVariants.{Always};
-ghost use Rattle.report_text.specs.Averages.{CanBeDivided, IsShownAverage, average_text, ratio_text};
+ghost use Rattle.report_text.specs.Averages.{CanBeDivided, HasRatios, IsAverageIn, IsShownAverage, average_text, is_same_ratio, ratio_text};
 ghost use Rattle.report_text.specs.Layouts.{IsLaid};
 ghost use Rattle.report_text.specs.declared.averages.Ratio.{Ratio};
 ghost use Rattle.report_text.specs.declared.averages.ShownAverage.{ShownAverage};
@@ -45,6 +45,7 @@ fn written_ratio(ratio: Ratio) -> TextBuf
 fn read_ratio(text: &[u8]) -> Option<Ratio>
     ensures read { (ratio : Ratio) → CanBeDivided ratio → ratio_text ratio ≡ text.now → result ≡ Some ratio }
     ensures divided { IfSome result CanBeDivided }
+    ensures written { IfSome result (λ ratio. ratio_text ratio ≡ text.now) }
 {
     let (front, rest) = around_first(text, b'/');
     let sum = read_number(front)?;
@@ -53,6 +54,13 @@ fn read_ratio(text: &[u8]) -> Option<Ratio>
         return None;
     }
     Some(Ratio { sum, rows })
+}
+
+// Whether both are the same sum over the same number of rows, where they have equally many decimals.
+fn is_same_ratio(low: Ratio, high: Ratio) -> bool
+    ensures { result ≡ is_same_ratio low high }
+{
+    low.sum.units == high.sum.units && low.rows == high.rows
 }
 
 /// The text of an average, as a line shows it.
@@ -64,7 +72,7 @@ pub fn written_average(shown: &ShownAverage) -> TextBuf
 {
     written_interval(
         shown.null,
-        shown.low.sum.units == shown.high.sum.units && shown.low.rows == shown.high.rows,
+        is_same_ratio(shown.low, shown.high),
         written_ratio(shown.low),
         written_ratio(shown.high),
     )
@@ -85,6 +93,7 @@ fn alike(null: Nullity, low: Ratio, high: Ratio) -> Option<ShownAverage>
     requires high { CanBeDivided high }
     ensures shown { IfSome result IsShownAverage }
     ensures is { low.sum.decimals ≡ high.sum.decimals → result ≡ Some (record { null = null; low = low; high = high }) }
+    ensures ends { IfSome result (HasRatios null (ratio_text low) (ratio_text high)) }
 {
     if low.sum.decimals != high.sum.decimals {
         return None;
@@ -98,6 +107,7 @@ fn between(null: Nullity, low: &[u8], high: &[u8]) -> Option<ShownAverage>
     ensures shown { IfSome result IsShownAverage }
     ensures read { (shown : ShownAverage) → IsShownAverage shown → shown.null ≡ null
         → ratio_text shown.low ≡ low.now → ratio_text shown.high ≡ high.now → result ≡ Some shown }
+    ensures ends { IfSome result (HasRatios null low.now high.now) }
 {
     let low = read_ratio(low)?;
     let high = read_ratio(high)?;
@@ -109,6 +119,7 @@ fn average_of(layout: Layout<'_>) -> Option<ShownAverage>
     ensures shown { IfSome result IsShownAverage }
     ensures read { (single : Bool) (shown : ShownAverage) → IsShownAverage shown
         → IsLaid shown.null single (ratio_text shown.low) (ratio_text shown.high) layout.entry → result ≡ Some shown }
+    ensures is { IfSome result (IsAverageIn layout.entry) }
 {
     match layout.null {
         Nullity::Always => Some(ShownAverage {
@@ -120,6 +131,14 @@ fn average_of(layout: Layout<'_>) -> Option<ShownAverage>
     }
 }
 
+// Whether a single end stands just where both are the same.
+fn is_laid_alike(single: bool, shown: &ShownAverage) -> bool
+    ensures yes { single ≡ is_same_ratio shown.now.low shown.now.high → result ≡ true }
+    ensures only { result ≡ true → single ≡ is_same_ratio shown.now.low shown.now.high }
+{
+    single == is_same_ratio(shown.low, shown.high)
+}
+
 /// What the text says of an average: it is read back as it was written, and what is read is written as it stood.
 pub fn read_average(text: &[u8]) -> Option<ShownAverage>
     ensures read { (shown : ShownAverage) → IsShownAverage shown → average_text shown ≡ text.now → result ≡ Some shown }
@@ -127,7 +146,7 @@ pub fn read_average(text: &[u8]) -> Option<ShownAverage>
 {
     let layout = lay(text)?;
     let shown = average_of(layout)?;
-    if written_average(&shown).bytes() == text {
+    if is_laid_alike(layout.single, &shown) {
         Some(shown)
     } else {
         None
