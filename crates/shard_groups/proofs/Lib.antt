@@ -5,6 +5,7 @@ mod Cutting
 mod Done
 mod Exact
 mod ExactAverages
+pub mod Firsts
 mod Found
 mod Later
 mod LineSets

@@ -4,7 +4,7 @@ use Rattle.std.specs.Prelude.{[], ◌∷◌, drop, length, map, slice_get, slice
 use Rattle.std.specs.declared.option.Option.{Option}
 use Rattle.std.specs.declared.option.Option.TheVariants.{Some, None}
 use Rattle.std.specs.Int.{int_max, int_min}
-use Rattle.std.specs.List.{filter, flat_map, list_any}
+use Rattle.std.specs.List.{All, filter, flat_map, list_any}
 use Rattle.query_model.specs.declared.bounds.Bound.{Bound}
 use Rattle.query_model.specs.declared.bounds.Nullity.{Nullity}
 use Rattle.query_model.specs.declared.bounds.Nullity.TheVariants.{Never, Possibly, Always}
@@ -19,6 +19,7 @@ use Rattle.shard_groups.specs.declared.cells.ItemBound.TheVariants as code
 use Rattle.shard_groups.specs.declared.fault.GroupFault.{GroupFault}
 use Rattle.shard_groups.specs.declared.fault.GroupFault.TheVariants.{NoMemory, TooWide}
 use Rattle.shard_groups.specs.declared.keys.Span.{Span}
+use Rattle.shard_groups.specs.Firsts.{IsFirstNot, IsFirstNotIn}
 use Rattle.shard_groups.specs.Keys.{is_within}
 use Rattle.shard_groups.specs.Lines.{AreLines, IsAscending}
 
@@ -200,18 +201,33 @@ abbrev pub FitsSaid : Said → Type 0
 FitsSaid (Value bound) = FitsBound bound
 FitsSaid (Average bound) = FitsAverage bound
 
--- there is such an item, and for the keys of some line an end of its bound leaves 128 bits, or a number of values 64
-pub record IsTooWide (kinds : List ItemKind) (shards : List (List Cell)) (item : ℕ) : Type 0 where
-  pub kind : ItemKind
-  pub is : slice_get kinds item ≡ Some kind
-  pub line : List Span
-  pub wide : FitsSaid (said_over kind item line shards) → ⊥
+-- what the lines of the combined report say of the items, line by line
+pub record AreSaid (kinds : List ItemKind) (shards : List (List Cell)) (said : List (List Said)) : Type 0 where
+  pub lines : List (List Span)
+  pub are_lines : AreLines (all_keys shards) lines
+  pub ascending : IsAscending lines
+  pub is : said ≡ map (λ line. said_from 0 kinds line shards) lines
 
--- this is said of an item, and leaves these ranges
-abbrev pub IsItemFault : GroupFault → ℕ → Said → Type 0
-IsItemFault (TooWide place) item said = (place ≡ item) × (FitsSaid said → ⊥)
-IsItemFault NoMemory item said = Unit {0}
+-- all of it is told by numbers of the code
+abbrev pub AllFit : List ItemKind → List (List Cell) → Type 0
+AllFit kinds shards = (said : List (List Said)) × AreSaid kinds shards said × All (All FitsSaid) said
+
+-- in the first line of which an end leaves 128 bits, or a number of values 64, it is the first such item
+abbrev pub IsTooWide : List ItemKind → List (List Cell) → ℕ → Type 0
+IsTooWide kinds shards item = (said : List (List Said)) × AreSaid kinds shards said × IsFirstNotIn FitsSaid said item
 
 abbrev pub IsGroupFault : GroupFault → List ItemKind → List (List Cell) → Type 0
 IsGroupFault (TooWide item) kinds shards = IsTooWide kinds shards item
 IsGroupFault NoMemory kinds shards = Unit {0}
+
+-- the same, of one line
+
+abbrev pub IsLineFault : GroupFault → List ItemKind → List Span → List (List Cell) → Type 0
+IsLineFault (TooWide item) kinds line shards = IsFirstNot FitsSaid (said_from 0 kinds line shards) item
+IsLineFault NoMemory kinds line shards = Unit {0}
+
+-- and of one item
+
+abbrev pub IsItemFault : GroupFault → ℕ → Said → Type 0
+IsItemFault (TooWide place) item said = (place ≡ item) × ¬ FitsSaid said
+IsItemFault NoMemory item said = Unit {0}

@@ -1,4 +1,5 @@
 pub mod Cuts
+pub mod Firsts
 pub mod Found
 pub mod Groups
 pub mod Keys

@@ -1,10 +1,10 @@
 //! Averages of the keys of a line.
 
-ghost use Rattle.std.specs.Prelude.{◌≡◌, IfErr, IfOk, map};
+ghost use Rattle.std.specs.Prelude.{◌≡◌, IfErr, IfOk, OnOk, map};
 ghost use Rattle.query_model.specs.Bounds.{fractions_of};
 ghost use Rattle.shard_bounds.specs.Averages.{no_average};
 ghost use Rattle.shard_groups.specs.Cuts.{AreNear};
-ghost use Rattle.shard_groups.specs.Groups.{Average, IsItemFault, average_at, average_over, average_share};
+ghost use Rattle.shard_groups.specs.Groups.{Average, FitsSaid, IsItemFault, average_at, average_over, average_share};
 ghost use Rattle.shard_groups.specs.Groups.{cells_within, loosened};
 
 use crate::cells::{Cell, Cells, ItemBound};
@@ -118,6 +118,7 @@ pub(crate) fn average_over(
 ) -> Result<AverageBound, GroupFault>
     requires { AreNear line.now shards.now runs.now }
     ensures bound { IfOk result (λ bound. fractions_of bound ≡ average_over item line.now shards.now) }
+    ensures fit { OnOk result (FitsSaid (Average (average_over item line.now shards.now))) }
     ensures fault { IfErr result (λ why. IsItemFault why item (Average (average_over item line.now shards.now))) }
 {
     let bounds = average_shares(alloc, item, line, shards, runs)?;

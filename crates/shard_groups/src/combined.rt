@@ -1,8 +1,9 @@
 //! The combined report of the reports of all shards.
 
-ghost use Rattle.std.specs.Prelude.{◌≡◌, IfErr, IfOk, map};
+ghost use Rattle.std.specs.Prelude.{◌≡◌, IfErr, IfOk, OnOk, map};
+ghost use Rattle.std.specs.List.{All};
 ghost use Rattle.shard_groups.specs.Cuts.{AreNear};
-ghost use Rattle.shard_groups.specs.Groups.{IsCombined, IsGroupFault, IsItemFault, IsLineOver, Value};
+ghost use Rattle.shard_groups.specs.Groups.{AllFit, FitsSaid, IsCombined, IsGroupFault, IsItemFault, IsLineFault, IsLineOver, Value};
 ghost use Rattle.shard_groups.specs.Groups.{bound_over, said_from, said_of, said_over, shares};
 
 use crate::averages::average_over;
@@ -47,6 +48,7 @@ fn bound_over(
 ) -> Result<Bound, GroupFault>
     requires { AreNear line.now shards.now runs.now }
     ensures bound { IfOk result (λ bound. bound ≡ bound_over kind item line.now shards.now) }
+    ensures fit { OnOk result (FitsSaid (Value (bound_over kind item line.now shards.now))) }
     ensures fault { IfErr result (λ why. IsItemFault why item (Value (bound_over kind item line.now shards.now))) }
 {
     let bounds = shares(alloc, kind, item, line, shards, runs)?;
@@ -67,6 +69,7 @@ fn said_over(
 ) -> Result<ItemBound, GroupFault>
     requires { AreNear line.now shards.now runs.now }
     ensures said { IfOk result (λ bound. said_of bound ≡ said_over kind item line.now shards.now) }
+    ensures fit { OnOk result (FitsSaid (said_over kind item line.now shards.now)) }
     ensures fault { IfErr result (λ why. IsItemFault why item (said_over kind item line.now shards.now)) }
 {
     match kind {
@@ -91,7 +94,8 @@ fn all_said(
 ) -> Result<Vec<ItemBound>, GroupFault>
     requires { AreNear line.now shards.now runs.now }
     ensures said { IfOk result (λ bounds. map said_of bounds.items ≡ said_from 0 kinds.now line.now shards.now) }
-    ensures fault { IfErr result (λ why. IsGroupFault why kinds.now shards.now) }
+    ensures fit { OnOk result (All FitsSaid (said_from 0 kinds.now line.now shards.now)) }
+    ensures fault { IfErr result (λ why. IsLineFault why kinds.now line.now shards.now) }
 {
     let mut bounds = Vec::with_capacity(alloc, kinds.len())?;
     for (item, kind) in kinds.iter().enumerate() {
@@ -112,7 +116,8 @@ fn line_over(
     requires { AreNear line.now shards.now runs.now }
     ensures keys { IfOk result (λ cell. cell.keys ≡ line.now) }
     ensures line { IfOk result (IsLineOver kinds.now shards.now) }
-    ensures fault { IfErr result (λ why. IsGroupFault why kinds.now shards.now) }
+    ensures fit { OnOk result (All FitsSaid (said_from 0 kinds.now line.now shards.now)) }
+    ensures fault { IfErr result (λ why. IsLineFault why kinds.now line.now shards.now) }
 {
     let items = all_said(alloc, kinds, line, shards, runs)?;
     let keys = copied_keys(alloc, line)?;
@@ -125,12 +130,14 @@ fn line_over(
 
 /// The combined report of a query with items of these kinds. Where the cells of each shard and the lines stand in order, as those of one
 /// group column and those of one key each do, its time grows with the cells and with lines times shards; else with cells times lines.
+/// Where bounds are too wide, the fault tells the first such item of the first line that has one.
 pub fn combine_groups(
     alloc: Global,
     kinds: &[ItemKind],
     shards: &[Cells],
 ) -> Result<Vec<Cell>, GroupFault>
     ensures cells { IfOk result (λ cells. IsCombined kinds.now shards.now cells.items) }
+    ensures fit { OnOk result (AllFit kinds.now shards.now) }
     ensures fault { IfErr result (λ why. IsGroupFault why kinds.now shards.now) }
 {
     let lines = lines(alloc, shards)?;
