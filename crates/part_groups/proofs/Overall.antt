@@ -22,11 +22,10 @@ use Rattle.shard_groups.specs.declared.cells.ItemBound.{ItemBound}
 use Rattle.shard_groups.specs.declared.cells.ItemBound.TheVariants as code
 use Rattle.shard_groups.specs.declared.keys.Span.{Span}
 use Rattle.part_groups.specs.Cells.{Told, keys_of, said_by, told, told_by}
-use Rattle.part_groups.specs.Combined.{IsCombineFault}
 use Rattle.part_groups.specs.Faults.{IsFirstOther}
-use Rattle.part_groups.specs.Forms.{AreAlike, AreSharedForms, are_alike, form_at, shared_form, told_over}
+use Rattle.part_groups.specs.Forms.{AreAlike, AreSharedForms, AreWrittenAlike, are_alike, form_at, shared_form, told_over}
 use Rattle.part_groups.specs.Shown.{group_in}
-use Rattle.part_groups.specs.Whole.{AreWrittenAlike, WholeIsCombined, cell_by, cells_by, forms_over, item_by, told_line}
+use Rattle.part_groups.specs.Whole.{IsFaultOver, WholeIsCombined, cell_by, cells_by, forms_over, item_by, told_line}
 use Rattle.part_groups.specs.declared.fault.CombineFault.TheVariants.{OtherColumn, OtherItem}
 use Rattle.part_groups.specs.declared.forms.EndsForm.{EndsForm}
 use Rattle.part_groups.specs.declared.forms.Places.{Places}
@@ -216,11 +215,11 @@ first_other places (suc count) parts = elim (first_other places count parts) [
 
 -- the first column or item that the parts write in two forms, if they do
 pub alike_or_other : (count : ℕ) (kinds : List ItemKind) (parts : List (List Group)) → AreWrittenAlike count kinds parts
-    ⊎ (((column : ℕ) × IsCombineFault (OtherColumn column) count kinds parts) ⊎ ((item : ℕ) × IsCombineFault (OtherItem item) count kinds parts))
+    ⊎ (((column : ℕ) × IsFaultOver (OtherColumn column) count kinds parts) ⊎ ((item : ℕ) × IsFaultOver (OtherItem item) count kinds parts))
 alike_or_other count kinds parts = elim (first_other Columns count parts) [
   | inr (column, f) ↦ inr (inl (column, f))
   | inl columns ↦ elim (first_other Items (length kinds) parts) [
     | inl items ↦ inl (record { columns = columns; items = items })
-    | inr (item, f) ↦ inr (inr (item, ((forms_over Columns count parts, forms_shared Columns count parts columns), f)))
+    | inr (item, f) ↦ inr (inr (item, (columns, f)))
   ]
 ]

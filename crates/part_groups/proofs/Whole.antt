@@ -176,7 +176,7 @@ keys_of_part count (group ∷ groups) others h rest =
       keys_of_part count groups others (λ k d below. h (suc k) d (omega (arith, below))) rest,
     )
 
-have_keys : (count : ℕ) (parts : List (List Group)) → AreKeyed count parts → HaveKeys count (all_keys (cells_by parts))
+pub have_keys : (count : ℕ) (parts : List (List Group)) → AreKeyed count parts → HaveKeys count (all_keys (cells_by parts))
 have_keys count [] h = tt
 have_keys count (part ∷ parts) h =
     keys_of_part count part (all_keys (cells_by parts)) (h 0 part (omega arith)) (have_keys count parts (λ k d below. h (suc k) d (omega (arith, below))))

@@ -4,13 +4,14 @@ use Rattle.std.specs.List.{All}
 use Rattle.std.specs.declared.option.Option.{Option}
 use Rattle.query_model.specs.declared.query.ItemKind.{ItemKind}
 use Rattle.report_text.specs.Answers.{CanBeWritten}
+use Rattle.report_text.specs.declared.answers.Answer.{Answer}
 use Rattle.report_text.specs.Groups.{IsShownGroup}
-use Rattle.shard_groups.specs.Groups.{IsCombined, IsTooWide}
-use Rattle.shard_groups.specs.Laws.{IsCellOf}
+use Rattle.shard_groups.specs.Firsts.{IsFirstNotIn}
+use Rattle.shard_groups.specs.Groups.{AreSaid, FitsSaid, IsCombined, Said}
 use Rattle.shard_groups.specs.declared.cells.Cell.{Cell}
 use Rattle.part_groups.specs.Cells.{told, told_by}
-use Rattle.part_groups.specs.Faults.{HasNoText, IsFirstOther}
-use Rattle.part_groups.specs.Forms.{AreSharedForms}
+use Rattle.part_groups.specs.Faults.{IsFirstOther}
+use Rattle.part_groups.specs.Forms.{AreAllAlike, AreSharedForms, AreWrittenAlike}
 use Rattle.part_groups.specs.Shown.{group_in}
 use Rattle.part_groups.specs.declared.fault.CombineFault.{CombineFault}
 use Rattle.part_groups.specs.declared.fault.CombineFault.TheVariants.{NoMemory, OtherColumn, OtherItem, TooWide}
@@ -45,54 +46,42 @@ pub record IsCombinedReport (count : ℕ) (kinds : List ItemKind) (parts : List 
 
 -- ---- where there is none
 
--- for the keys of some line an end of the item's bound leaves 128 bits, or a number of values 64
-pub record LeavesRange (kinds : List ItemKind) (parts : List (List Group)) (item : ℕ) : Type 0 where
+-- what the lines over all parts say of the items, line by line
+pub record AreSaidOf (kinds : List ItemKind) (parts : List (List Group)) (said : List (List Said)) : Type 0 where
   pub cells : List (List Cell)
   pub tell : map (map told) cells ≡ map (map told_by) parts
-  pub wide : IsTooWide kinds cells item
+  pub lines : AreSaid kinds cells said
 
--- some line's answer of the item has no text in the forms of the parts
-pub record LacksText (columns items : List (Option EndsForm)) (lines : List Cell) (item : ℕ) : Type 0 where
-  pub line : Cell
-  pub is : IsCellOf line lines
-  pub textless : HasNoText item (group_in columns items (told line)).answers
+-- all of it is told by numbers of the code
+abbrev pub FitTogether : List ItemKind → List (List Group) → Type 0
+FitTogether kinds parts = (said : List (List Said)) × AreSaidOf kinds parts said × All (All FitsSaid) said
 
-pub record LacksTexts (count : ℕ) (kinds : List ItemKind) (parts : List (List Group)) (item : ℕ) : Type 0 where
-  pub columns : List (Option EndsForm)
-  pub items : List (Option EndsForm)
-  pub forms : AreForms count kinds parts columns items
-  pub lines : List Cell
-  pub are_lines : AreLinesOf kinds parts lines
-  pub lacks : LacksText columns items lines item
+-- in the first line of which an end leaves 128 bits, or a number of values 64, it is the first such item
+abbrev pub LeavesRange : List ItemKind → List (List Group) → ℕ → Type 0
+LeavesRange kinds parts item = (said : List (List Said)) × AreSaidOf kinds parts said × IsFirstNotIn FitsSaid said item
 
--- the parts share the forms of so many columns
-abbrev pub ShareColumns : ℕ → List (List Group) → Type 0
-ShareColumns count parts = (forms : List (Option EndsForm)) × AreSharedForms Columns count parts forms
+-- the answers of each group
+abbrev pub answers_in : List Group → List (List Answer)
+answers_in groups = map (λ group. group.answers) groups
 
--- so they do of the columns and of the items
-abbrev pub ShareForms : ℕ → List ItemKind → List (List Group) → Type 0
-ShareForms count kinds parts =
-    (columns : List (Option EndsForm)) × (items : List (Option EndsForm)) × AreForms count kinds parts columns items
+-- in the first group of which an end has no text in the forms of the parts, it is the first such item
+abbrev pub LacksText : ℕ → List ItemKind → List (List Group) → ℕ → Type 0
+LacksText count kinds parts item =
+    (groups : List Group) × IsCombinedReport count kinds parts groups × IsFirstNotIn CanBeWritten (answers_in groups) item
 
--- the first column that lines write in two forms; where columns share forms, the first such item; or, where items do too, an item that is
--- too wide
+-- the first column that lines write in two forms; where there is none, the first such item; or, where there is none either, the first item
+-- of the first line that is too wide, by what it says or else by its texts
 abbrev pub IsCombineFault : CombineFault → ℕ → List ItemKind → List (List Group) → Type 0
 IsCombineFault NoMemory count kinds parts = Unit {0}
 IsCombineFault (OtherColumn column) count kinds parts = IsFirstOther Columns column count parts
-IsCombineFault (OtherItem item) count kinds parts = ShareColumns count parts × IsFirstOther Items item (length kinds) parts
+IsCombineFault (OtherItem item) count kinds parts = AreAllAlike Columns count parts × IsFirstOther Items item (length kinds) parts
 IsCombineFault (TooWide item) count kinds parts =
-    ShareForms count kinds parts × (LeavesRange kinds parts item ⊎ LacksTexts count kinds parts item)
+    AreWrittenAlike count kinds parts × (LeavesRange kinds parts item ⊎ (FitTogether kinds parts × LacksText count kinds parts item))
 
--- the same, of the steps
+-- the same, of a step
 
 abbrev pub IsWide : CombineFault → List ItemKind → List (List Group) → Type 0
 IsWide NoMemory kinds parts = Unit {0}
 IsWide (OtherColumn column) kinds parts = ⊥
 IsWide (OtherItem item) kinds parts = ⊥
 IsWide (TooWide item) kinds parts = LeavesRange kinds parts item
-
-abbrev pub IsTextlessLine : CombineFault → List (Option EndsForm) → List (Option EndsForm) → List Cell → Type 0
-IsTextlessLine NoMemory columns items lines = Unit {0}
-IsTextlessLine (OtherColumn column) columns items lines = ⊥
-IsTextlessLine (OtherItem item) columns items lines = ⊥
-IsTextlessLine (TooWide item) columns items lines = LacksText columns items lines item

@@ -1,11 +1,11 @@
 -- Why the reports of parts are not combined.
-use Rattle.std.specs.Prelude.{◌≡◌, ℕ, ◌<◌, List, slice_get}
+use Rattle.std.specs.Prelude.{◌≡◌, ℕ, ◌<◌, List}
+use Rattle.shard_groups.specs.Firsts.{IsFirstNot, IsFirstNotIn}
 use Rattle.shard_groups.specs.declared.fault.GroupFault.{GroupFault}
 use Rattle.shard_groups.specs.declared.fault.GroupFault.TheVariants as cells
-use Rattle.std.specs.declared.option.Option.TheVariants.{Some}
 use Rattle.report_text.specs.Answers.{CanBeWritten}
 use Rattle.report_text.specs.declared.answers.Answer.{Answer}
-use Rattle.part_groups.specs.Forms.{AreAlike}
+use Rattle.part_groups.specs.Forms.{AreAlike, AreAllAlike}
 use Rattle.part_groups.specs.declared.fault.CombineFault.{CombineFault}
 use Rattle.part_groups.specs.declared.fault.CombineFault.TheVariants.{NoMemory, OtherColumn, OtherItem, TooWide}
 use Rattle.part_groups.specs.declared.forms.Places.{Places}
@@ -31,7 +31,7 @@ IsFormFault (TooWide item) places number parts = ⊥
 pub record IsFirstOther (places : Places) (number count : ℕ) (parts : List (List Group)) : Type 0 where
   pub there : number < count
   pub other : ¬ AreAlike places number parts
-  pub before : (place : ℕ) → place < number → AreAlike places place parts
+  pub before : AreAllAlike places number parts
 
 abbrev pub IsOtherForm : CombineFault → Places → ℕ → List (List Group) → Type 0
 IsOtherForm NoMemory places count parts = Unit {0}
@@ -39,14 +39,16 @@ IsOtherForm (OtherColumn column) places count parts = (places ≡ Columns) × Is
 IsOtherForm (OtherItem item) places count parts = (places ≡ Items) × IsFirstOther Items item count parts
 IsOtherForm (TooWide item) places count parts = ⊥
 
--- an end of the answer of that item has no text
-pub record HasNoText (item : ℕ) (answers : List Answer) : Type 0 where
-  pub answer : Answer
-  pub is : slice_get answers item ≡ Some answer
-  pub textless : ¬ CanBeWritten answer
-
+-- of these answers it is the first of which an end has no text
 abbrev pub IsTextless : CombineFault → List Answer → Type 0
 IsTextless NoMemory answers = Unit {0}
 IsTextless (OtherColumn column) answers = ⊥
 IsTextless (OtherItem item) answers = ⊥
-IsTextless (TooWide item) answers = HasNoText item answers
+IsTextless (TooWide item) answers = IsFirstNot CanBeWritten answers item
+
+-- so it is of the first line that has one
+abbrev pub IsTextlessIn : CombineFault → List (List Answer) → Type 0
+IsTextlessIn NoMemory lines = Unit {0}
+IsTextlessIn (OtherColumn column) lines = ⊥
+IsTextlessIn (OtherItem item) lines = ⊥
+IsTextlessIn (TooWide item) lines = IsFirstNotIn CanBeWritten lines item

@@ -5,6 +5,7 @@ use Rattle.std.specs.declared.option.Option.{Option}
 use Rattle.std.specs.declared.option.Option.TheVariants.{Some, None}
 use Rattle.query_model.specs.declared.bounds.Nullity.{Nullity}
 use Rattle.query_model.specs.declared.bounds.Nullity.TheVariants.{Never, Possibly, Always}
+use Rattle.query_model.specs.declared.query.ItemKind.{ItemKind}
 use Rattle.report_text.specs.declared.answers.Answer.{Answer}
 use Rattle.report_text.specs.declared.answers.Answer.TheVariants.{Average, Value}
 use Rattle.report_text.specs.declared.forms.Form.{Form}
@@ -91,6 +92,14 @@ are_alike forms = list_all (fits (shared_form forms)) forms
 abbrev pub AreAlike : Places → ℕ → List (List Group) → Type 0
 AreAlike places number parts = IsTrue (are_alike (told_over places number parts))
 
+abbrev pub AreAllAlike : Places → ℕ → List (List Group) → Type 0
+AreAllAlike places count parts = (number : ℕ) → number < count → AreAlike places number parts
+
+-- the lines of all parts write each of so many columns in one form, and so each item
+pub record AreWrittenAlike (count : ℕ) (kinds : List ItemKind) (parts : List (List Group)) : Type 0 where
+  pub columns : AreAllAlike Columns count parts
+  pub items : AreAllAlike Items (length kinds) parts
+
 abbrev pub told_form : Option (Option EndsForm) → Option EndsForm
 told_form None = None
 told_form (Some form) = form
@@ -101,5 +110,5 @@ form_at number forms = told_form (slice_get forms number)
 -- the lines of all parts share these forms of so many columns or items
 pub record AreSharedForms (places : Places) (count : ℕ) (parts : List (List Group)) (forms : List (Option EndsForm)) : Type 0 where
   pub all : length forms ≡ count
-  pub alike : (number : ℕ) → number < count → AreAlike places number parts
+  pub alike : AreAllAlike places count parts
   pub each : (number : ℕ) → number < count → form_at number forms ≡ shared_form (told_over places number parts)

@@ -1,10 +1,10 @@
 //! The report by groups over all parts.
 
-ghost use Rattle.std.specs.Prelude.{◌≡◌, ◌<◌, IfErr, IfOk, length, map};
+ghost use Rattle.std.specs.Prelude.{◌≡◌, ◌<◌, IfErr, IfOk, OnOk, length, map};
 ghost use Rattle.std.specs.List.{All};
 ghost use Rattle.part_groups.specs.Cells.{slices, told};
-ghost use Rattle.part_groups.specs.Combined.{AreLinesOf, IsCombineFault, IsCombinedReport, IsShown, IsTextlessLine, IsWide};
-ghost use Rattle.part_groups.specs.Faults.{IsTextless};
+ghost use Rattle.part_groups.specs.Combined.{AreLinesOf, FitTogether, IsCombineFault, IsCombinedReport, IsShown, IsWide, answers_in};
+ghost use Rattle.part_groups.specs.Faults.{IsTextless, IsTextlessIn};
 ghost use Rattle.part_groups.specs.Shown.{group_in};
 
 use crate::answers::shown_answers;
@@ -26,6 +26,7 @@ fn lines_over(
     parts: &[&[Group]],
 ) -> Result<Vec<Cell>, CombineFault>
     ensures lines { IfOk result (λ lines. AreLinesOf kinds.now (slices parts.now) lines.items) }
+    ensures fit { OnOk result (FitTogether kinds.now (slices parts.now)) }
     ensures fault { IfErr result (λ why. IsWide why kinds.now (slices parts.now)) }
 {
     let cells = all_cells(alloc, parts)?;
@@ -66,7 +67,8 @@ fn groups_in(
     requires { 0 < length columns.now }
     ensures groups { IfOk result (λ groups. groups.items ≡ map (λ line. group_in columns.now items.now (told line)) lines.now) }
     ensures shown { IfOk result (λ groups. All IsShown groups.items) }
-    ensures fault { IfErr result (λ why. IsTextlessLine why columns.now items.now lines.now) }
+    ensures fault { IfErr result (λ why.
+        IsTextlessIn why (answers_in (map (λ line. group_in columns.now items.now (told line)) lines.now))) }
 {
     let mut groups = Vec::with_capacity(alloc, lines.len())?;
     for line in lines {
@@ -85,6 +87,7 @@ pub fn combine(
 ) -> Result<Vec<Group>, CombineFault>
     requires { 0 < columns }
     ensures groups { IfOk result (λ groups. IsCombinedReport columns kinds.now (slices parts.now) groups.items) }
+    ensures fit { OnOk result (FitTogether kinds.now (slices parts.now)) }
     ensures shown { IfOk result (λ groups. All IsShown groups.items) }
     ensures fault { IfErr result (λ why. IsCombineFault why columns kinds.now (slices parts.now)) }
 {

@@ -3,7 +3,7 @@
 ghost use Rattle.part_groups.specs.Laws.{GroupsContain, GroupsReportAverages, GroupsHaveColumns};
 ghost use Rattle.part_groups.specs.Laws.{GroupsNest, GroupsNestAverages};
 ghost use Rattle.part_groups.specs.Laws.{GroupsTell, GroupsTellAverages, GroupsTellKeys};
-ghost use Rattle.part_groups.specs.Whole.{CombinedIsWhole, WholeIsCombined};
+ghost use Rattle.part_groups.specs.Whole.{CombinedCanBe, CombinedIsWhole, FaultsAreOne, FaultsAreWhole, WholeIsCombined};
 
 use shard_groups::{
     combined_is_found, lines_are_found, lines_contain, lines_nest, lines_nest_averages,
@@ -44,6 +44,27 @@ pub fn combined_is_whole()
 {
     combined_is_found();
 }
+
+/// Where each line has a key, reports that are combined can be.
+pub fn combined_can_be()
+    ensures { CombinedCanBe }
+{
+    lines_are_found();
+    combined_is_whole();
+}
+
+/// Where each line has a key, the fault for which reports are not combined is a function of what the parts tell.
+pub fn faults_are_whole()
+    ensures { FaultsAreWhole }
+{
+    lines_are_found();
+    combined_is_whole();
+}
+
+/// Reports have one fault at most, and none where they can be combined.
+pub fn faults_are_one()
+    ensures { FaultsAreOne }
+{}
 
 /// Where the parts write each column and each item in one form, what is found of what they tell is a combined report.
 pub fn whole_is_combined()

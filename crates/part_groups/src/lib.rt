@@ -18,6 +18,7 @@ pub use forms::{EndsForm, are_alike, told_by_span};
 pub use group::{Group, Groups};
 pub use keyed::has_key;
 pub use laws::{
-    combined_is_whole, groups_contain, groups_have_columns, groups_nest, groups_nest_averages,
-    groups_report_averages, groups_tell, groups_tell_averages, groups_tell_keys, whole_is_combined,
+    combined_can_be, combined_is_whole, faults_are_one, faults_are_whole, groups_contain,
+    groups_have_columns, groups_nest, groups_nest_averages, groups_report_averages, groups_tell,
+    groups_tell_averages, groups_tell_keys, whole_is_combined,
 };

@@ -1,6 +1,9 @@
-use Rattle.std.proofs.Common.{◌≡◌, get_or, subst, sym}
+use Rattle.std.proofs.Common.{◌≡◌, get_or, map, subst, sym}
 use Rattle.std.proofs.lemmas.Result.{err_from_is_err_and}
-use Rattle.part_groups.specs.Combined.{IsTextlessLine}
+use Rattle.part_groups.specs.Cells.{told}
+use Rattle.part_groups.specs.Combined.{answers_in}
+use Rattle.part_groups.specs.Faults.{IsTextlessIn}
+use Rattle.part_groups.specs.Shown.{group_in}
 use Rattle.part_groups.specs.declared.fault.CombineFault.{CombineFault}
 use Rattle.part_groups.proofs.Textless.{textless_line}
 use Rattle.part_groups.proofs.combined.groups_in.Goals as goal
@@ -13,6 +16,7 @@ returns-in_err-group_in-clause-fault c =
     let line = c.line-item.result in
     let is : line ≡ get_or lines c.loop-line.line-index line = cc in
     let p = err_from_is_err_and c.from_residual-in_err-group_in.result c.from_residual-in_err-group_in.ensures.1 in
-    let fault = textless_line c.in_err-group_in.field-0.0 columns items lines c.loop-line.line-index line c.loop-line-test.true is
-    c.in_err-group_in.ensures.fault in
-    rw p.1 (subst (λ (why : CombineFault). IsTextlessLine why columns items lines) (sym p.2) fault)
+    let fault = textless_line columns items c.in_err-group_in.field-0.0 lines c.loop-line.line-index line c.loop-line.groups.items c.loop-line-test.true is
+    c.loop-line.invariant.0 c.loop-line.invariant.1 c.in_err-group_in.ensures.fault in
+    rw p.1
+    (subst (λ (why : CombineFault). IsTextlessIn why (answers_in (map (λ line. group_in columns items (told line)) lines))) (sym p.2) fault)
