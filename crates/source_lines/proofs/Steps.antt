@@ -1,19 +1,20 @@
 -- What several reads of a source come to.
-use Rattle.std.proofs.Common.{◌≡◌, ℕ, ◌<◌, ◌≤◌, true, false, List, [], ◌∷◌, ◌++◌, length, append_assoc, append-nil, length-append, subst, sym, ap, ◌∙◌, refl, arith}
+use Rattle.std.proofs.Common.{◌≡◌, ℕ, ◌+◌, ◌<◌, ◌≤◌, true, false, List, [], ◌∷◌, ◌++◌, length, append_assoc, append-nil, length-append, subst, sym, ap, ◌∙◌, refl, arith}
 use Rattle.std.proofs.KnownBytes.{Consumes-kept, Consumes-nil, Consumes-trans}
 use Rattle.std.specs.Io.KnownBytes.{Consumes, Keeps}
 use Rattle.outer_world.specs.Device.{Rose, SourceState}
 use Rattle.source_lines.specs.declared.fault.LineFault.{LineFault}
 use Rattle.source_lines.specs.declared.fault.LineFault.TheVariants.{Fault, LineTooLong, TooLong, NoMemory}
-use Rattle.source_lines.specs.Lines.{IsFull, LinesState, ReadsOn, StopsLines, Took, has_line, line_length, most_bytes, most_line}
+use Rattle.source_lines.specs.Lines.{IsFull, IsRest, LinesState, ReadsOn, StopsLines, Took, has_line, line_length, most_bytes, most_line}
 
 -- nothing was read
-pub reads_none : (s : LinesState) (source : SourceState) → ReadsOn s s source source
-reads_none s source = record {
+pub reads_none : (s : LinesState) (source : SourceState) → s.total ≤ most_bytes → ReadsOn s s source source
+reads_none s source few = record {
   bytes = [];
   came = Consumes-nil source.left;
   pending = sym (append-nil s.pending);
   total = omega arith;
+  within = few;
 }
 
 pub reads_both : (a b c : LinesState) (r s t : SourceState) → ReadsOn a b r s → ReadsOn b c s t → ReadsOn a c r t
@@ -22,6 +23,7 @@ reads_both a b c r s t first second = record {
   came = Consumes-trans r.left s.left t.left first.bytes second.bytes first.came second.came;
   pending = second.pending ∙ ap (λ v. v ++ second.bytes) first.pending ∙ append_assoc a.pending first.bytes second.bytes;
   total = let long = length-append first.bytes second.bytes in let one = first.total in let two = second.total in omega arith;
+  within = second.within;
 }
 
 -- a fact of what stands there in all
@@ -31,24 +33,34 @@ moved P a b r s first bytes holds =
     subst P (ap (λ v. v ++ bytes) first.pending ∙ append_assoc a.pending first.bytes bytes) holds
 
 took_both : (P Q : List ℕ → Type 0) (a b : LinesState) (r s t : SourceState) (first : ReadsOn a b r s) →
-    ((bytes : List ℕ) → P bytes → Q (first.bytes ++ bytes)) → Took P s t → Took Q r t
+    ((bytes : List ℕ) → P bytes → Q (first.bytes ++ bytes)) → Took P b s t → Took Q a r t
 took_both P Q a b r s t first step took =
     record {
       bytes = first.bytes ++ took.bytes;
       came = Consumes-trans r.left s.left t.left first.bytes took.bytes first.came took.came;
+      within =
+          let long = length-append first.bytes took.bytes in
+          let total = first.total in
+          let few = took.within in
+          omega (arith, long, total, few);
       holds = step took.bytes took.holds;
     }
 
 rose_later : (before mid now : ℕ) → before ≤ mid → Rose mid now → Rose before now
 rose_later before mid now later rose = omega (arith, later, rose)
 
-full_behind : (a b : LinesState) (r s : SourceState) (first : ReadsOn a b r s) (bytes : List ℕ) → IsFull b bytes → IsFull a (first.bytes ++ bytes)
-full_behind a b r s first bytes is = record {
+full_behind : (a b : LinesState) (r s t : SourceState) (first : ReadsOn a b r s) → IsFull b s t → IsFull a r t
+full_behind a b r s t first is = record {
   front = first.bytes ++ is.front;
   last = is.last;
-  split = ap (λ v. first.bytes ++ v) is.split ∙ sym (append_assoc first.bytes is.front (is.last ∷ []));
-  full = let long = length-append first.bytes is.front in let total = first.total in let full = is.full in omega arith;
-  no_line = moved (λ v. has_line v ≡ false) a b r s first is.front is.no_line;
+  came = subst (λ v. Consumes r.left t.left v) (sym (append_assoc first.bytes is.front (is.last ∷ [])))
+      (Consumes-trans r.left s.left t.left first.bytes (is.front ++ is.last ∷ []) first.came is.came);
+  full =
+      let long = length-append first.bytes is.front in
+      let total = first.total in
+      let full = is.full in
+      omega (arith, long, total, full);
+  rest = moved (λ v. IsRest v) a b r s first is.front is.rest;
 }
 
 -- it stops behind what was read before
@@ -56,24 +68,29 @@ pub stops_behind : (a b : LinesState) (r s t : SourceState) (why : LineFault) �
     StopsLines b s t why → StopsLines a r t why
 stops_behind a b r s t Fault later first stop = record {
   rose = rose_later r.faults s.faults t.faults later stop.rose;
-  took = took_both _ _ a b r s t first (λ bytes. moved (λ v. has_line v ≡ false) a b r s first bytes) stop.took;
+  took = took_both _ _ a b r s t first (λ bytes. moved (λ v. IsRest v) a b r s first bytes) stop.took;
 }
 stops_behind a b r s t LineTooLong later first stop =
     took_both _ _ a b r s t first (λ bytes. moved (λ v. most_line < line_length v) a b r s first bytes) stop
-stops_behind a b r s t TooLong later first stop = took_both _ _ a b r s t first (full_behind a b r s first) stop
+stops_behind a b r s t TooLong later first stop = full_behind a b r s t first stop
 stops_behind a b r s t NoMemory later first stop = took_both _ _ a b r s t first (λ bytes any. tt) stop
 
 -- ---- one read
 
+-- a fact of what stands there
+here : (P : List ℕ → Type 0) (pending : List ℕ) → P pending → P (pending ++ [])
+here P pending holds = subst P (sym (append-nil pending)) holds
+
 -- the read failed
-pub stops_failed : (s : LinesState) (r t : SourceState) → Rose r.faults t.faults → Keeps r.left t.left → has_line s.pending ≡ false →
+pub stops_failed : (s : LinesState) (r t : SourceState) → Rose r.faults t.faults → Keeps r.left t.left → s.total ≤ most_bytes → IsRest s.pending →
     StopsLines s r t Fault
-stops_failed s r t rose kept none = record {
+stops_failed s r t rose kept few rest = record {
   rose = rose;
   took = record {
     bytes = [];
     came = Consumes-kept r.left r.left t.left [] (Consumes-nil r.left) kept;
-    holds = subst (λ v. has_line v ≡ false) (sym (append-nil s.pending)) none;
+    within = omega (arith, few);
+    holds = here (λ v. IsRest v) s.pending rest;
   };
 }
 
@@ -84,29 +101,27 @@ one_byte [] e = absurd (omega (arith, e))
 
 -- one byte came more than may come
 pub stops_full : (s : LinesState) (r t : SourceState) (bytes : List ℕ) → Consumes r.left t.left bytes → length bytes ≡ 1 →
-    s.total ≡ most_bytes → has_line s.pending ≡ false → StopsLines s r t TooLong
-stops_full s r t bytes came one full none = record {
-  bytes = bytes;
-  came = came;
-  holds = record {
-    front = [];
-    last = (one_byte bytes one).0;
-    split = (one_byte bytes one).1;
-    full = omega (arith, full);
-    no_line = subst (λ v. has_line v ≡ false) (sym (append-nil s.pending)) none;
-  };
+    s.total ≡ most_bytes → IsRest s.pending → StopsLines s r t TooLong
+stops_full s r t bytes came one full rest = record {
+  front = [];
+  last = (one_byte bytes one).0;
+  came = subst (λ v. Consumes r.left t.left v) (one_byte bytes one).1 came;
+  full = omega (arith, full);
+  rest = here (λ v. IsRest v) s.pending rest;
 }
 
 -- there is no memory for them
-pub stops_starved : (s : LinesState) (r t : SourceState) (bytes : List ℕ) → Consumes r.left t.left bytes → StopsLines s r t NoMemory
-stops_starved s r t bytes came = record { bytes = bytes; came = came; holds = tt }
+pub stops_starved : (s : LinesState) (r t : SourceState) (bytes : List ℕ) → Consumes r.left t.left bytes → s.total + length bytes ≤ most_bytes →
+    StopsLines s r t NoMemory
+stops_starved s r t bytes came within = record { bytes = bytes; came = came; within = within; holds = tt }
 
 -- the line is too long
-pub stops_long : (s : LinesState) (r : SourceState) → most_line < line_length s.pending → StopsLines s r r LineTooLong
-stops_long s r long = record {
+pub stops_long : (s : LinesState) (r : SourceState) → s.total ≤ most_bytes → most_line < line_length s.pending → StopsLines s r r LineTooLong
+stops_long s r few long = record {
   bytes = [];
   came = Consumes-nil r.left;
-  holds = subst (λ v. most_line < line_length v) (sym (append-nil s.pending)) long;
+  within = omega (arith, few);
+  holds = here (λ v. most_line < line_length v) s.pending long;
 }
 
 -- where a line stands nothing is read

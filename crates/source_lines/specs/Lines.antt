@@ -44,18 +44,18 @@ behind_line bytes = drop (line_length bytes + 1) bytes
 
 -- ---- reading on
 
--- some bytes were read, and stand behind what stood there
+-- some bytes were read, in all no more than may be, and stand behind what stood there
 pub record ReadsOn (old new : LinesState) (source source' : SourceState) : Type 0 where
   pub bytes : List ℕ
   pub came : Consumes source.left source'.left bytes
   pub pending : new.pending ≡ old.pending ++ bytes
   pub total : new.total ≡ old.total + length bytes
+  pub within : new.total ≤ most_bytes
 
--- one byte at least was read, and no more than may be
+-- one byte at least was read
 pub record Comes (old new : LinesState) (source source' : SourceState) : Type 0 where
   pub reads : ReadsOn old new source source'
   pub some : old.total < new.total
-  pub within : new.total ≤ most_bytes
 
 -- the source is at its end, and nothing was read
 pub record ComesNothing (old new : LinesState) (source source' : SourceState) : Type 0 where
@@ -69,36 +69,41 @@ pub record Stands (old new : LinesState) (source source' : SourceState) : Type 0
   pub line : has_line new.pending ≡ true
   pub short : line_length new.pending ≤ most_line
 
--- the source was read to its end, and what stands there is no whole line, nor longer than one may be
+-- no whole line stands there, nor more bytes than a line may have
+pub record IsRest (pending : List ℕ) : Type 0 where
+  pub no_line : has_line pending ≡ false
+  pub short : line_length pending ≤ most_line
+
+-- the source was read to its end, and no line more stands there
 pub record Ends (old new : LinesState) (source source' : SourceState) : Type 0 where
   pub reads : ReadsOn old new source source'
   pub ended : IsAtEnd source'.left
-  pub no_line : has_line new.pending ≡ false
-  pub short : line_length new.pending ≤ most_line
+  pub rest : IsRest new.pending
 
 -- ---- where it stops
 
 -- as many bytes as may come had come, and no whole line stood there, as one came more
-pub record IsFull (old : LinesState) (bytes : List ℕ) : Type 0 where
+pub record IsFull (old : LinesState) (source source' : SourceState) : Type 0 where
   pub front : List ℕ
   pub last : ℕ
-  pub split : bytes ≡ front ++ last ∷ []
+  pub came : Consumes source.left source'.left (front ++ last ∷ [])
   pub full : old.total + length front ≡ most_bytes
-  pub no_line : has_line (old.pending ++ front) ≡ false
+  pub rest : IsRest (old.pending ++ front)
 
--- bytes were read of which this holds
-pub record Took (P : List ℕ → Type 0) (source source' : SourceState) : Type 0 where
+-- bytes were read, in all no more than may be, of which this holds
+pub record Took (P : List ℕ → Type 0) (old : LinesState) (source source' : SourceState) : Type 0 where
   pub bytes : List ℕ
   pub came : Consumes source.left source'.left bytes
+  pub within : old.total + length bytes ≤ most_bytes
   pub holds : P bytes
 
 -- the source failed, where no whole line stands there
-pub record IsBroken (pending : List ℕ) (source source' : SourceState) : Type 0 where
+pub record IsBroken (old : LinesState) (source source' : SourceState) : Type 0 where
   pub rose : Rose source.faults source'.faults
-  pub took : Took (λ bytes. has_line (pending ++ bytes) ≡ false) source source'
+  pub took : Took (λ bytes. IsRest (old.pending ++ bytes)) old source source'
 
 abbrev pub StopsLines : LinesState → SourceState → SourceState → LineFault → Type 0
-StopsLines old source source' Fault = IsBroken old.pending source source'
-StopsLines old source source' LineTooLong = Took (λ bytes. most_line < line_length (old.pending ++ bytes)) source source'
-StopsLines old source source' TooLong = Took (IsFull old) source source'
-StopsLines old source source' NoMemory = Took (λ bytes. Unit {0}) source source'
+StopsLines old source source' Fault = IsBroken old source source'
+StopsLines old source source' LineTooLong = Took (λ bytes. most_line < line_length (old.pending ++ bytes)) old source source'
+StopsLines old source source' TooLong = IsFull old source source'
+StopsLines old source source' NoMemory = Took (λ bytes. Unit {0}) old source source'

@@ -1,7 +1,7 @@
 //! Lines of a source. Bytes are read where no whole line stands in what was read before, and not else.
 
 ghost use Rattle.std.specs.Prelude.{◌≡◌, ◌≢◌, ◌≤◌, ◌+◌, ◌++◌, true, false, Ok, Err, length, position, IfErr, OnOk};
-ghost use Rattle.source_lines.specs.Lines.{Comes, ComesNothing, Ends, Stands, StopsLines};
+ghost use Rattle.source_lines.specs.Lines.{Comes, ComesNothing, Ends, IsRest, Stands, StopsLines};
 ghost use Rattle.source_lines.specs.Lines.{behind_line, front_line, has_line, is_feed, line_length, no_lines};
 
 use crate::fault::LineFault;
@@ -120,7 +120,7 @@ impl SourceLines {
     fn read_more<S: Source>(&mut self, alloc: Global, source: &mut S) -> Result<bool, LineFault>
         ensures came { result ≡ Ok true → Comes self.old self.new (S.state source.old) (S.state source.new) }
         ensures ended { result ≡ Ok false → ComesNothing self.old self.new (S.state source.old) (S.state source.new) }
-        ensures stopped { has_line self.old.pending ≡ false
+        ensures stopped { IsRest self.old.pending
             → IfErr result (StopsLines self.old (S.state source.old) (S.state source.new)) }
         ensures lines { result ≢ Err LineFault.LineTooLong }
         ensures faults { (S.state source.old).faults ≤ (S.state source.new).faults }
@@ -146,6 +146,7 @@ impl SourceLines {
         ensures idle { has_line self.old.pending ≡ true → (self.new ≡ self.old) × (source.new ≡ source.old) }
         ensures faults { (S.state source.old).faults ≤ (S.state source.new).faults }
     {
+        let _total = self.total;
         while !self.has_line() {
             if self.line_length() > MOST_LINE {
                 return Err(LineFault::LineTooLong);
