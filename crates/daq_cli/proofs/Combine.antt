@@ -1,6 +1,7 @@
 -- What a `combine` accepts, where its input tells its bytes, is what becomes of it; and before its report can begin it writes nothing.
 use Rattle.std.proofs.Common.{◌≡◌, ℕ, List, [], ◌∷◌, ◌++◌, refl, sym, ◌∙◌, ap, subst, inl, inr, ◌⊎◌}
 use Rattle.command_line.specs.Commands.{Combine}
+use Rattle.std.specs.Io.KnownBytes.{Consumes}
 use Rattle.outer_world.specs.Device.{Rose, SinkState, SourceState}
 use Rattle.outer_world.specs.Whole.{Writes}
 use Rattle.report_parts.specs.Course.{Tell}
@@ -8,7 +9,7 @@ use Rattle.report_parts.specs.GroupHeadline.{CombinedGroupsAreCertain}
 use Rattle.report_parts.specs.Headline.{CombinedAveragesAreCertain, CombinedBesidesAreCertain, CombinedClipsAreCertain, CombinedExactAveragesAreCertain, CombinedIsCertain}
 use Rattle.report_parts.specs.Told.{Told}
 use Rattle.report_stream.proofs.LineTexts.{read_before}
-use Rattle.report_stream.specs.Streams.{Combined, HasWritten, IsCutOff, ReadsLines, StreamCause, TellsBody}
+use Rattle.report_stream.specs.Streams.{AreLines, Combined, HasWritten, IsCutOff, ReadsLines, StreamCause, TellsBody, lines_text}
 use Rattle.report_stream.specs.declared.fault.StreamFault.{StreamFault}
 use Rattle.report_stream.specs.declared.fault.StreamFault.TheVariants as p
 use Rattle.daq_cli.specs.Faults as of
@@ -37,7 +38,7 @@ cut_begins : (c : Combine) (input input' : SourceState) (out out' : SinkState) �
 cut_begins c input input' out out' h = by h.told
   where
     begins : (parts : List Told) → Tell h.task [] (h.lines ++ h.line ∷ []) parts → BeginsReport c input input'
-    begins parts told = record { lines = h.lines ++ h.line ∷ []; rest = h.rest; task = h.task; parts = parts; read = h.read; is_task = h.is_task; told = told }
+    begins parts told = record { lines = h.lines ++ h.line ∷ []; rest = h.rest; task = h.task; parts = parts; came = h.read.came; are_lines = h.read.are_lines; is_task = h.is_task; told = told }
 
     by : TellsBody h.task h.lines h.line h.body → BeginsReport c input input'
     by (inl (end, combines)) = begins combines.parts combines.told
@@ -46,12 +47,12 @@ cut_begins c input input' out out' h = by h.told
 module _ (law : StepsAreExact) (c : Combine) (input input' : SourceState) (out out' : SinkState) where
   -- where something is shown the report was not written to its end
   pub combines_apart : (other : Refusal) → CombinesReports c input input' out out' → CombineShows c input.left other → ⊥
-  combines_apart other does (bytes, told, s) = (law.faults c.parts (until_of c) input input' out out' bytes s.fault told s.few s.shown).undone does.combined
+  combines_apart other does (bytes, told, s) = (law.faults c.parts (until_of c) input input' out out' bytes s.fault told s.shown).undone does.combined
 
   -- what is shown is the cause, unless memory runs out, a read fails, or the write of a report that could begin
   pub combine_shown : (why other : Refusal) → CombineCause c input input' out out' why → CombineShows c input.left other →
       (why ≡ other) ⊎ (why ≡ NoMemory) ⊎ Rose input.faults input'.faults ⊎ (BeginsReport c input input' × Rose out.faults out'.faults × (why ≡ WriteFault))
-  combine_shown why other cause (bytes, told, s) = by ((law.faults c.parts (until_of c) input input' out out' bytes s.fault told s.few s.shown).stopped cause.fault cause.cause)
+  combine_shown why other cause (bytes, told, s) = by ((law.faults c.parts (until_of c) input input' out out' bytes s.fault told s.shown).stopped cause.fault cause.cause)
     where
       by : (cause.fault ≡ s.fault) ⊎ (cause.fault ≡ p.NoMemory) ⊎ Rose input.faults input'.faults ⊎ ((cause.fault ≡ p.WriteFault) × Rose out.faults out'.faults) →
           (why ≡ other) ⊎ (why ≡ NoMemory) ⊎ Rose input.faults input'.faults ⊎ (BeginsReport c input input' × Rose out.faults out'.faults × (why ≡ WriteFault))
@@ -66,10 +67,22 @@ module _ (c : Combine) (input input' : SourceState) (out out' : SinkState) where
   Early = (out' ≡ out) ⊎ BeginsReport c input input'
 
   -- nothing was written, or lines were taken
+  behind_early : (lines : List (List ℕ)) (rest : List ℕ) → Consumes input.left input'.left (lines_text lines ++ rest) → AreLines lines →
+      HasWritten c.parts (until_of c) out out' lines → Early
+  behind_early lines rest came are (inl (none, same)) = inl same
+  behind_early lines rest came are (inr g) = inr (record {
+    lines = lines;
+    rest = rest;
+    task = g.task;
+    parts = g.combines.parts;
+    came = came;
+    are_lines = are;
+    is_task = g.is_task;
+    told = g.combines.told;
+  })
+
   written_early : (lines : List (List ℕ)) (rest : List ℕ) → ReadsLines input input' lines rest → HasWritten c.parts (until_of c) out out' lines → Early
-  written_early lines rest read (inl (none, same)) = inl same
-  written_early lines rest read (inr g) =
-      inr (record { lines = lines; rest = rest; task = g.task; parts = g.combines.parts; read = read; is_task = g.is_task; told = g.combines.told })
+  written_early lines rest read written = behind_early lines rest read.came read.are_lines written
 
   stopped_early : (fault : StreamFault) → StreamCause c.parts (until_of c) input input' out out' fault → Early ⊎ (fault ≡ p.WriteFault)
   stopped_early (p.Line number why) (inl h) = inl (inl h.unwritten)
@@ -79,7 +92,8 @@ module _ (c : Combine) (input input' : SourceState) (out out' : SinkState) where
     rest = h.rest;
     task = h.task;
     parts = h.stopped.parts;
-    read = h.read;
+    came = h.read.came;
+    are_lines = h.read.are_lines;
     is_task = h.is_task;
     told = h.stopped.told;
   }))
@@ -87,7 +101,7 @@ module _ (c : Combine) (input input' : SourceState) (out out' : SinkState) where
   stopped_early (p.EndsEarly tag) h = let e = h.ends.ends in inl (written_early h.ends.lines e.rest e.read e.written)
   stopped_early (p.OtherCount number) (inl (none, e)) = inl (written_early [] e.rest e.read e.written)
   stopped_early (p.OtherCount number) (inr h) = let e = h.ends.ends in inl (written_early h.ends.lines e.rest e.read e.written)
-  stopped_early p.TooLong h = inl (written_early h.lines (h.rest ++ h.last ∷ []) h.read h.written)
+  stopped_early p.TooLong h = inl (behind_early h.lines (h.rest ++ h.last ∷ []) h.came h.are_lines h.written)
   stopped_early p.ReadFault h = inl (written_early h.lines h.rest h.read h.written)
   stopped_early p.WriteFault h = inr refl
   stopped_early p.NoMemory h = inl (written_early h.lines h.rest h.read h.written)

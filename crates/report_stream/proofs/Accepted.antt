@@ -150,21 +150,23 @@ module _ (kinds : QueriesAreOne) (count : ℕ) (until : Until) where
           let n = comes_next lines x h.read.are_lines (split_by lines h.rest h.read) (written_open kinds count until out out' lines h.written) in
           let none : t.behind ≡ [] = subst IsAtEnd t.is_left h.ended in
           let same : x ≡ h.rest = ap (λ (v : List ℕ). h.rest ++ v) none ∙ append-nil h.rest in
-          not_rest h.rest n.next (lines_text n.others ++ m.rest) (sym same ∙ n.rest_is) n.is_line h.no_line
+          not_rest h.rest n.next (lines_text n.others ++ m.rest) (sym same ∙ n.rest_is) n.is_line h.is_rest.no_line
 
       too_many : (a b c d : ℕ) → most_bytes ≤ a + b → a + (c + (1 + d)) ≤ most_bytes → b ≤ c → ⊥
       too_many a b c d h k l = omega (arith, h, k, l)
 
       stops_full : IsFull count until input input' out out' → ⊥
       stops_full h =
-          let t = read_told h.lines (h.rest ++ h.last ∷ []) h.read in
+          let read = lines_text h.lines ++ (h.rest ++ h.last ∷ []) in
+          let t = told_by input.left input'.left bytes read left h.came in
           let x = h.rest ++ (h.last ∷ [] ++ t.behind) in
           let split : bytes ≡ lines_text h.lines ++ x =
-          split_by h.lines (h.rest ++ h.last ∷ []) h.read ∙ ap (λ (v : List ℕ). lines_text h.lines ++ v) (append_assoc h.rest (h.last ∷ []) t.behind) in
-          let n = comes_next h.lines x h.read.are_lines split (written_open kinds count until out out' h.lines h.written) in
+          t.split ∙ append_assoc (lines_text h.lines) (h.rest ++ h.last ∷ []) t.behind
+          ∙ ap (λ (v : List ℕ). lines_text h.lines ++ v) (append_assoc h.rest (h.last ∷ []) t.behind) in
+          let n = comes_next h.lines x h.are_lines split (written_open kinds count until out out' h.lines h.written) in
           let there = next_ends h.lines x n in
           let before = no_earlier h.rest (h.last ∷ [] ++ t.behind) in
-          let all = all_before h.rest h.no_line in
+          let all = all_before h.rest h.is_rest.no_line in
           let few = m.few in
           let text : length (lines_text m.lines) ≡ length (lines_text h.lines ++ (n.next ++ 10 ∷ lines_text n.others)) =
           ap (λ (ls : List (List ℕ)). length (lines_text ls)) n.lines_are ∙ ap length (lines_behind h.lines (n.next ∷ n.others)) in

@@ -35,6 +35,11 @@ pub sum_full : (most total lines pending front both all : ℕ) → total ≡ lin
     both ≡ pending + front → all ≡ most
 sum_full most total lines pending front both all a b c d = omega (arith, a, b, c, d)
 
+-- no more came than may come
+pub sum_within : (most total lines pending bytes both all : ℕ) → total ≡ lines + pending → total + bytes ≤ most → both ≡ pending + bytes →
+    all ≡ lines + both → all ≤ most
+sum_within most total lines pending bytes both all a b c d = omega (arith, a, b, c, d)
+
 -- a line more
 pub line_more : (number lines next : ℕ) → number ≡ lines → next ≡ lines + 1 → number + 1 ≡ next
 line_more number lines next a b = omega (arith, a, b)

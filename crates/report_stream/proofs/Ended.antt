@@ -71,8 +71,7 @@ ends_here count until input source now out sink old new lines h ends later w = r
   rest = new.pending;
   read = as_read input now new lines (has_read_on input source now old new lines h ends.reads later);
   ended = ends.ended;
-  no_line = ends.no_line;
-  short = ends.short;
+  is_rest = ends.rest;
   written = w;
 }
 
@@ -132,7 +131,7 @@ module _ (count : ℕ) (until : Until) (input source now : SourceState) (out sin
     where
       by : IsAt count until out sink reader course.task text h.lines h.body → IsEnd course why → StreamCause count until input now out sink why
       by (inl fresh) p =
-          let never : true ≡ false = sym fresh.there ∙ ap (λ (s : LinesState). has_line s.pending) (sym (idle fresh.there)) ∙ ends.no_line in
+          let never : true ≡ false = sym fresh.there ∙ ap (λ (s : LinesState). has_line s.pending) (sym (idle fresh.there)) ∙ ends.rest.no_line in
           absurd (false≢true (sym never))
       by (inr going) (inl p) = early going.is_task why p
       by (inr going) (inr p) = other going.is_task why p

@@ -113,6 +113,7 @@ pub read_before : (input input' : SourceState) (lines : List (List ℕ)) (line r
 read_before input input' lines line rest read = record {
   came = subst (Consumes input.left input'.left) (line_more lines line rest) read.came;
   are_lines = (last_line lines line read.are_lines).0;
+  few = let same = ap length (line_more lines line rest) in let few = read.few in omega (arith, same, few);
 }
 
 -- ---- what a line that is there rules out

@@ -1,5 +1,7 @@
 -- Why no line comes.
 use Rattle.std.proofs.Common.{◌≡◌, ℕ, ◌+◌, None, List, [], ◌∷◌, ◌++◌, length, refl, sym, ap, subst, ◌∙◌, inr, append_assoc, length-append}
+use Rattle.std.proofs.KnownBytes.{Consumes-trans}
+use Rattle.std.specs.Io.KnownBytes.{Consumes}
 use Rattle.outer_world.specs.Device.{SinkState, SourceState}
 use Rattle.report_parts.specs.Course.{Course}
 use Rattle.report_parts.specs.declared.combination.Until.{Until}
@@ -8,7 +10,7 @@ use Rattle.source_lines.specs.declared.fault.LineFault.{LineFault}
 use Rattle.source_lines.specs.declared.fault.LineFault.TheVariants as sf
 use Rattle.report_stream.specs.Faults.{of_source}
 use Rattle.report_stream.specs.Steps.{StopsAt}
-use Rattle.report_stream.specs.Streams.{HasWritten, ReadsLines, StreamCause, lines_text}
+use Rattle.report_stream.specs.Streams.{HasWritten, StreamCause, lines_text}
 use Rattle.report_stream.specs.declared.fault.StreamFault.{StreamFault}
 use Rattle.report_stream.proofs.Counts.{rose_later, sum_full}
 use Rattle.report_stream.proofs.Runs.{Runs, has_written}
@@ -24,41 +26,43 @@ no_line_comes count until input now next out out' reader lines number why h w co
     by_fault sf.Fault p = record {
       lines = lines;
       rest = reader.pending ++ p.took.bytes;
-      read = reads_more input now next reader lines p.took.bytes h p.took.came;
-      no_line = p.took.holds;
+      read = reads_more input now next reader lines p.took.bytes h p.took.came p.took.within;
+      is_rest = p.took.holds;
       rose = rose_later input.faults now.faults next.faults h.faults p.rose;
       written = w;
     }
     by_fault sf.LineTooLong p = inr (inr (inr (record {
       lines = lines;
       rest = reader.pending ++ p.bytes;
-      read = reads_more input now next reader lines p.bytes h p.came;
+      read = reads_more input now next reader lines p.bytes h p.came p.within;
       counted = counted;
       is = refl;
       long = p.holds;
       written = w;
     })))
     by_fault sf.TooLong p =
-        let f = p.holds in
-        let more = reads_more input now next reader lines p.bytes h p.came in
-        let split : reader.pending ++ p.bytes ≡ (reader.pending ++ f.front) ++ f.last ∷ [] =
-        ap (λ (t : List ℕ). reader.pending ++ t) f.split ∙ sym (append_assoc reader.pending f.front (f.last ∷ [])) in
+        let came =
+        Consumes-trans input.left now.left next.left (lines_text lines ++ reader.pending) (p.front ++ p.last ∷ []) h.came p.came in
+        let split : (lines_text lines ++ reader.pending) ++ (p.front ++ p.last ∷ []) ≡ lines_text lines ++ ((reader.pending ++ p.front) ++ p.last ∷ []) =
+        append_assoc (lines_text lines) reader.pending (p.front ++ p.last ∷ [])
+        ∙ ap (λ (t : List ℕ). lines_text lines ++ t) (sym (append_assoc reader.pending p.front (p.last ∷ []))) in
         record {
           lines = lines;
-          rest = reader.pending ++ f.front;
-          last = f.last;
-          read = subst (λ (t : List ℕ). ReadsLines input next lines t) split more;
+          rest = reader.pending ++ p.front;
+          last = p.last;
+          came = subst (λ (t : List ℕ). Consumes input.left next.left t) split came;
+          are_lines = h.are_lines;
           full =
-              sum_full most_bytes reader.total (length (lines_text lines)) (length reader.pending) (length f.front)
-              (length (reader.pending ++ f.front)) (length (lines_text lines ++ (reader.pending ++ f.front))) h.total f.full
-              (length-append (lines_text lines) (reader.pending ++ f.front)) (length-append reader.pending f.front);
-          no_line = f.no_line;
+              sum_full most_bytes reader.total (length (lines_text lines)) (length reader.pending) (length p.front)
+              (length (reader.pending ++ p.front)) (length (lines_text lines ++ (reader.pending ++ p.front))) h.total p.full
+              (length-append (lines_text lines) (reader.pending ++ p.front)) (length-append reader.pending p.front);
+          is_rest = p.rest;
           written = w;
         }
     by_fault sf.NoMemory p = record {
       lines = lines;
       rest = reader.pending ++ p.bytes;
-      read = reads_more input now next reader lines p.bytes h p.came;
+      read = reads_more input now next reader lines p.bytes h p.came p.within;
       written = w;
     }
 

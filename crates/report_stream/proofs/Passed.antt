@@ -6,7 +6,7 @@ use Rattle.outer_world.specs.Device.{SourceState}
 use Rattle.source_lines.proofs.Splits.{front_is_line, line_split}
 use Rattle.source_lines.specs.Lines.{LinesState, ReadsOn, behind_line, front_line, has_line, line_length, most_bytes, most_line}
 use Rattle.source_lines.specs.Lines as sl
-use Rattle.report_stream.proofs.Counts.{later_on, less_left, no_less, sum_on, sum_passed, within_same}
+use Rattle.report_stream.proofs.Counts.{later_on, less_left, no_less, none_few, sum_on, sum_passed, sum_within, within_same}
 use Rattle.report_stream.proofs.Lines.{lines_behind, text_split}
 use Rattle.report_stream.specs.Streams.{AreLines, IsLine, ReadsLines, lines_text}
 
@@ -16,23 +16,28 @@ pub record HasRead (input now : SourceState) (reader : LinesState) (lines : List
   pub are_lines : AreLines lines
   pub faults : input.faults ≤ now.faults
   pub total : reader.total ≡ length (lines_text lines) + length reader.pending
+  pub few : reader.total ≤ most_bytes
 
 pub none_read : (input : SourceState) → HasRead input input sl.no_lines []
-none_read input = record { came = Consumes-nil input.left; are_lines = tt; faults = no_less input.faults; total = refl }
+none_read input = record { came = Consumes-nil input.left; are_lines = tt; faults = no_less input.faults; total = refl; few = none_few most_bytes }
 
 -- some bytes more
 pub reads_more : (input now next : SourceState) (reader : LinesState) (lines : List (List ℕ)) (bytes : List ℕ) → HasRead input now reader lines →
-    Consumes now.left next.left bytes → ReadsLines input next lines (reader.pending ++ bytes)
-reads_more input now next reader lines bytes h came = record {
+    Consumes now.left next.left bytes → reader.total + length bytes ≤ most_bytes → ReadsLines input next lines (reader.pending ++ bytes)
+reads_more input now next reader lines bytes h came few = record {
   came = subst (λ (t : List ℕ). Consumes input.left next.left t) (append_assoc (lines_text lines) reader.pending bytes)
       (Consumes-trans input.left now.left next.left (lines_text lines ++ reader.pending) bytes h.came came);
   are_lines = h.are_lines;
+  few =
+      sum_within most_bytes reader.total (length (lines_text lines)) (length reader.pending) (length bytes) (length (reader.pending ++ bytes))
+      (length (lines_text lines ++ (reader.pending ++ bytes))) h.total few (length-append reader.pending bytes)
+      (length-append (lines_text lines) (reader.pending ++ bytes));
 }
 
 pub has_read_on : (input now next : SourceState) (old new : LinesState) (lines : List (List ℕ)) → HasRead input now old lines →
     ReadsOn old new now next → now.faults ≤ next.faults → HasRead input next new lines
 has_read_on input now next old new lines h on later =
-    let more = reads_more input now next old lines on.bytes h on.came in
+    let more = reads_more input now next old lines on.bytes h on.came (within_same most_bytes (old.total + length on.bytes) new.total (sym on.total) on.within) in
     record {
       came = subst (λ (t : List ℕ). Consumes input.left next.left (lines_text lines ++ t)) (sym on.pending) more.came;
       are_lines = h.are_lines;
@@ -40,10 +45,17 @@ has_read_on input now next old new lines h on later =
       total =
           sum_on old.total new.total (length (lines_text lines)) (length old.pending) (length on.bytes) (length (old.pending ++ on.bytes))
           (length new.pending) h.total on.total (length-append old.pending on.bytes) (ap length on.pending);
+      few = on.within;
     }
 
 pub as_read : (input now : SourceState) (reader : LinesState) (lines : List (List ℕ)) → HasRead input now reader lines → ReadsLines input now lines reader.pending
-as_read input now reader lines h = record { came = h.came; are_lines = h.are_lines }
+as_read input now reader lines h = record {
+  came = h.came;
+  are_lines = h.are_lines;
+  few =
+      within_same most_bytes (length (lines_text lines ++ reader.pending)) reader.total
+      (length-append (lines_text lines) reader.pending ∙ sym h.total) h.few;
+}
 
 -- the next line is passed
 pub passed : (input now : SourceState) (old new : LinesState) (lines : List (List ℕ)) → HasRead input now old lines → has_line old.pending ≡ true →
@@ -61,6 +73,7 @@ passed input now old new lines h some short pending total =
           sum_passed old.total new.total (length (lines_text lines)) (length old.pending) (length (lines_text lines ++ old.pending))
           (length (text ++ behind_line old.pending)) (length text) (length (behind_line old.pending)) (length new.pending) h.total total
           (length-append (lines_text lines) old.pending) (length-append text (behind_line old.pending)) (ap length split) (ap length pending);
+      few = within_same most_bytes new.total old.total total h.few;
     }
   where
     is_line : (bytes : List ℕ) → has_line bytes ≡ true → line_length bytes ≤ most_line → IsLine (front_line bytes)

@@ -1,5 +1,7 @@
 -- That what the bytes of an input show is told.
-use Rattle.std.proofs.Common.{◌≡◌, ◌≢◌, ℕ, ◌+◌, ◌<◌, ◌≤◌, false, List, [], ◌∷◌, ◌++◌, length, Option, Some, None, refl, sym, ap, ◌∙◌, subst, inl, inr, ◌⊎◌, arith, append_assoc, append-nil, length-append}
+use Rattle.std.proofs.Common.{◌≡◌, ◌≢◌, ℕ, ◌+◌, ◌-◌, ◌<◌, ◌≤◌, false, List, [], ◌∷◌, ◌++◌, length, take, Option, Some, None, refl, sym, ap, ◌∙◌, subst, inl, inr, ◌⊎◌, arith, append_assoc, append-nil, length-append}
+use Rattle.std.proofs.Math.Seq.{take-append-add, take-nil}
+use Rattle.std.proofs.lemmas.List.{length-take-le, take_at}
 use Rattle.std.proofs.lemmas.Option.{none-some}
 use Rattle.std.specs.Io.KnownBytes.{IsAtEnd}
 use Rattle.outer_world.specs.Device.{Rose, SinkState, SourceState}
@@ -20,14 +22,14 @@ use Rattle.report_parts.specs.declared.fault.LineFault.TheVariants as l
 use Rattle.report_parts.specs.declared.part.Place.{Place}
 use Rattle.report_parts.specs.declared.part.Place.TheVariants.{Opened, Query, Row}
 use Rattle.report_parts.specs.declared.shape.Shape.{Shape}
-use Rattle.source_lines.specs.Lines.{has_line, line_length, most_bytes, most_line}
+use Rattle.source_lines.specs.Lines.{IsRest, has_line, line_length, most_bytes, most_line}
 use Rattle.report_stream.proofs.LineTexts.{all_before, front_line, last_line, line_more, no_earlier, not_long, not_rest, plain, same_line, which_goes_on}
 use Rattle.report_stream.proofs.Taken.{asks_some, no_tab as no_tab_behind, not_refused, refuses_block, refuses_line, tell_started}
 use Rattle.report_stream.proofs.Tasks.{IsOpen, QueriesAreOne, Told, block_open, either, first_not_refused, some_lines, task_of_more, told_by, written_open}
 use Rattle.report_stream.specs.Faults.{of_block, of_input}
-use Rattle.report_stream.specs.Shown.{ComesNext, FaultsAreTold, GoesRight, GoesTooFar, IsNext, IsRest, IsTold, IsUnwritten, ShowsFault}
+use Rattle.report_stream.specs.Shown.{ComesNext, FaultsAreTold, GoesRight, GoesTooFar, IsNext, IsOfEnd, IsTold, IsUnwritten, ShowsFault, TellsFault, heard}
 use Rattle.report_stream.specs.Shown.{ends_early, first_too_long, first_without_tab, first_without_tag, more_parts, no_line, no_query, no_tab, no_tag, no_totals}
-use Rattle.report_stream.specs.Shown.{other_block, other_count, other_line, other_query, too_long, unlisted}
+use Rattle.report_stream.specs.Shown.{other_block, other_count, other_line, other_query, shown, too_long, too_many, unlisted}
 use Rattle.report_stream.specs.Streams.{AreLines, Combined, Ends, IsFirstRefused, IsFull, IsLine, IsTask, ReadsLines, RefusesBlock, RefusesFirst, RefusesLength, RefusesLine, StreamCause, first_line, lines_text}
 use Rattle.report_stream.specs.declared.fault.LineRefusal.{LineRefusal}
 use Rattle.report_stream.specs.declared.fault.LineRefusal.TheVariants as r
@@ -40,18 +42,52 @@ nothing_longer : (own : List (List ℕ)) (line : List ℕ) (others : List (List 
 nothing_longer [] line others e = absurd cc
 nothing_longer (first ∷ own) line others e = absurd cc
 
--- the bytes at the end of an input are a rest
-rest_of : (read rest : List ℕ) → read ≡ rest → has_line read ≡ false → line_length read ≤ most_line → IsRest rest
-rest_of read rest e none short =
-    let all = all_before read none in
-    subst IsRest e (record { no_line = none; short = let few : length read ≤ most_line = omega (arith, all, short) in few })
+-- ---- what was read of the bytes that may come
+
+-- the bytes that may come are those that were read, and others behind; where all that comes was read, no others
+record Heard (left' : Option (List ℕ)) (whole bytes read : List ℕ) : Type 0 where
+  behind : List ℕ
+  split : bytes ≡ read ++ behind
+  ended : IsAtEnd left' → (behind ≡ []) × (length whole ≤ most_bytes)
+
+cut_behind : (most : ℕ) (read behind : List ℕ) → length read ≤ most → take most (read ++ behind) ≡ read ++ take (most - length read) behind
+cut_behind most read behind few =
+    let count : most ≡ length read + (most - length read) = omega (arith, few) in
+    ap (λ (n : ℕ). take n (read ++ behind)) count ∙ take-append-add read behind (most - length read)
+
+none_behind : (most : ℕ) (whole read behind : List ℕ) → whole ≡ read ++ behind → length read ≤ most → behind ≡ [] → length whole ≤ most
+none_behind most whole read behind e few none =
+    let long = ap length e in
+    let parts = length-append read behind in
+    let nothing = ap length none in
+    omega (arith, few, long, parts, nothing)
+
+heard_by : (left' : Option (List ℕ)) (whole bytes read : List ℕ) → bytes ≡ heard whole → Told left' whole read → length read ≤ most_bytes →
+    Heard left' whole bytes read
+heard_by left' whole bytes read cut t few = record {
+  behind = take (most_bytes - length read) t.behind;
+  split = cut ∙ ap heard t.split ∙ cut_behind most_bytes read t.behind few;
+  ended = λ at.
+      let none : t.behind ≡ [] = subst IsAtEnd t.is_left at in (
+        ap (λ (v : List ℕ). take (most_bytes - length read) v) none ∙ take-nil (most_bytes - length read),
+        none_behind most_bytes whole read t.behind t.split few none,
+      );
+}
+
+longer_than : (most : ℕ) (whole read : List ℕ) (last : ℕ) (behind : List ℕ) → whole ≡ read ++ last ∷ behind → length read ≡ most → most < length whole
+longer_than most whole read last behind e full =
+    let long = ap length e in
+    let parts = length-append read (last ∷ behind) in
+    omega (arith, long, parts, full)
 
 -- ---- a run over an input that tells all
 
-module _ (kinds : QueriesAreOne) (count : ℕ) (until : Until) (bytes : List ℕ) (few : length bytes ≤ most_bytes)
-    (input input' : SourceState) (out out' : SinkState) (left : input.left ≡ Some bytes) where
-  read_told : (lines : List (List ℕ)) (rest : List ℕ) → ReadsLines input input' lines rest → Told input'.left bytes (lines_text lines ++ rest)
-  read_told lines rest read = told_by input.left input'.left bytes (lines_text lines ++ rest) left read.came
+module _ (kinds : QueriesAreOne) (count : ℕ) (until : Until) (whole bytes : List ℕ) (cut : bytes ≡ heard whole)
+    (input input' : SourceState) (out out' : SinkState) (left : input.left ≡ Some whole) where
+  read_told : (lines : List (List ℕ)) (rest : List ℕ) → ReadsLines input input' lines rest → Heard input'.left whole bytes (lines_text lines ++ rest)
+  read_told lines rest read =
+      let text = lines_text lines ++ rest in
+      heard_by input'.left whole bytes text cut (told_by input.left input'.left whole text left read.came) read.few
 
   split_by : (lines : List (List ℕ)) (rest : List ℕ) (read : ReadsLines input input' lines rest) → bytes ≡ lines_text lines ++ (rest ++ (read_told lines rest read).behind)
   split_by lines rest read = let t = read_told lines rest read in t.split ∙ append_assoc (lines_text lines) rest t.behind
@@ -63,21 +99,17 @@ module _ (kinds : QueriesAreOne) (count : ℕ) (until : Until) (bytes : List ℕ
 
   -- at its end all was read
   all_read : (lines : List (List ℕ)) (rest : List ℕ) (read : ReadsLines input input' lines rest) → IsAtEnd input'.left → rest ++ (read_told lines rest read).behind ≡ rest
-  all_read lines rest read ended =
-      let t = read_told lines rest read in
-      ap (λ (v : List ℕ). rest ++ v) (subst IsAtEnd t.is_left ended) ∙ append-nil rest
+  all_read lines rest read ended = ap (λ (v : List ℕ). rest ++ v) ((read_told lines rest read).ended ended).0 ∙ append-nil rest
 
-  -- not too many bytes came
-  not_full : IsFull count until input input' out out' → ⊥
-  not_full h =
-      let t = read_told h.lines (h.rest ++ h.last ∷ []) h.read in
-      let long = ap length t.split in
-      let one = length-append (lines_text h.lines ++ (h.rest ++ h.last ∷ [])) t.behind in
-      let two = length-append (lines_text h.lines) (h.rest ++ h.last ∷ []) in
-      let three = length-append h.rest (h.last ∷ []) in
-      let four = length-append (lines_text h.lines) h.rest in
-      let full = h.full in
-      omega (arith, few, long, one, two, three, four, full)
+  -- all bytes that may come were read, and more come
+  full_read : (h : IsFull count until input input' out out') → (bytes ≡ lines_text h.lines ++ h.rest) × (most_bytes < length whole)
+  full_read h =
+      let text = lines_text h.lines ++ h.rest in
+      let t = told_by input.left input'.left whole (lines_text h.lines ++ (h.rest ++ h.last ∷ [])) left h.came in
+      let split : whole ≡ text ++ h.last ∷ t.behind =
+      t.split ∙ ap (λ (v : List ℕ). v ++ t.behind) (sym (append_assoc (lines_text h.lines) h.rest (h.last ∷ [])))
+      ∙ append_assoc text (h.last ∷ []) t.behind in
+      (cut ∙ ap heard split ∙ take_at text (h.last ∷ t.behind) most_bytes h.full, longer_than most_bytes whole text h.last t.behind split h.full)
 
   abbrev Out : StreamFault → StreamFault → Type 0
   Out fault why = (why ≡ fault) ⊎ (why ≡ NoMemory) ⊎ Rose input.faults input'.faults ⊎ ((why ≡ WriteFault) × Rose out.faults out'.faults)
@@ -184,8 +216,11 @@ module _ (kinds : QueriesAreOne) (count : ℕ) (until : Until) (bytes : List ℕ
           number ≡ length own + 1 → Line number why ≡ of_block number f → IsStopped g.task (own ++ line ∷ []) body [] more f → Line number why ≡ fault
       long : (read behind : List ℕ) (number : ℕ) (why : LineRefusal) → read ++ behind ≡ rest → most_line < line_length read → number ≡ length own + 1 →
           why ≡ r.TooLong → Line number why ≡ fault
-      early : (place : ℕ) (tag : List ℕ) → IsRest rest → first_open g.combines.parts ≡ Some place → tag ≡ (part_at place g.combines.parts).tag → EndsEarly tag ≡ fault
-      other : (number : ℕ) → IsRest rest → first_open g.combines.parts ≡ None → number ≡ length g.combines.parts → OtherCount number ≡ fault
+      early : (place : ℕ) (tag : List ℕ) → IsRest rest → length whole ≤ most_bytes → first_open g.combines.parts ≡ Some place →
+          tag ≡ (part_at place g.combines.parts).tag → EndsEarly tag ≡ fault
+      other : (number : ℕ) → IsRest rest → length whole ≤ most_bytes → first_open g.combines.parts ≡ None → number ≡ length g.combines.parts →
+          OtherCount number ≡ fault
+      full : IsRest rest → most_bytes < length whole → TooLong ≡ fault
 
     module _ (fault : StreamFault) (here : Here fault) where
       undone : Combined count until input input' out out' → ⊥
@@ -291,7 +326,7 @@ module _ (kinds : QueriesAreOne) (count : ℕ) (until : Until) (bytes : List ℕ
           by (inr (inr b)) = absurd (not_open here.stuck h.lines x b (written_open kinds count until out out' h.lines h.written))
 
       -- the input ends there
-      ends_there : (lines : List (List ℕ)) → Ends count until input input' out out' lines → (lines ≡ own) × IsRest rest
+      ends_there : (lines : List (List ℕ)) → Ends count until input input' out out' lines → (lines ≡ own) × IsRest rest × (length whole ≤ most_bytes)
       ends_there lines h = by (where_is lines x h.read.are_lines (split_by lines h.rest h.read))
         where
           x : List ℕ
@@ -300,10 +335,20 @@ module _ (kinds : QueriesAreOne) (count : ℕ) (until : Until) (bytes : List ℕ
           same : x ≡ h.rest
           same = all_read lines h.rest h.read h.ended
 
-          by : Where lines x → (lines ≡ own) × IsRest rest
-          by (inl b) = absurd (not_rest h.rest b.next (lines_text b.others ++ rest) (sym same ∙ b.rest_is) b.is_line h.no_line)
-          by (inr (inl (e, f))) = (e, rest_of h.rest rest (sym (sym f ∙ same)) h.no_line h.short)
+          by : Where lines x → (lines ≡ own) × IsRest rest × (length whole ≤ most_bytes)
+          by (inl b) = absurd (not_rest h.rest b.next (lines_text b.others ++ rest) (sym same ∙ b.rest_is) b.is_line h.is_rest.no_line)
+          by (inr (inl (e, f))) =
+              (e, subst (λ (v : List ℕ). IsRest v) (sym (sym f ∙ same)) h.is_rest, ((read_told lines h.rest h.read).ended h.ended).1)
           by (inr (inr b)) = absurd (not_open here.stuck lines x b (written_open kinds count until out out' lines h.written))
+
+      -- more bytes come than may, and no line ends before
+      full_there : (h : IsFull count until input input' out out') → IsRest rest
+      full_there h = by (where_is h.lines h.rest h.are_lines (full_read h).0)
+        where
+          by : Where h.lines h.rest → IsRest rest
+          by (inl b) = absurd (not_rest h.rest b.next (lines_text b.others ++ rest) b.rest_is b.is_line h.is_rest.no_line)
+          by (inr (inl (e, f))) = subst (λ (v : List ℕ). IsRest v) f h.is_rest
+          by (inr (inr b)) = absurd (not_open here.stuck h.lines h.rest b (written_open kinds count until out out' h.lines h.written))
 
       own_parts : (lines : List (List ℕ)) (task : Task) (parts : List PartTold) → lines ≡ own → IsTask count until (first_line lines) task → Tell task [] lines parts → parts ≡ g.combines.parts
       own_parts lines task parts e is told =
@@ -320,13 +365,13 @@ module _ (kinds : QueriesAreOne) (count : ℕ) (until : Until) (bytes : List ℕ
       stopped (EndsEarly tag) h =
           let there = ends_there h.ends.lines h.ends.ends in
           let same = own_parts h.ends.lines h.ends.task h.parts there.0 h.ends.is_task h.ends.told in
-          inl (here.early h.place tag there.1 (ap first_open (sym same) ∙ h.is_open) (h.tagged ∙ ap (λ (ps : List PartTold). (part_at h.place ps).tag) same))
+          inl (here.early h.place tag there.1 there.2 (ap first_open (sym same) ∙ h.is_open) (h.tagged ∙ ap (λ (ps : List PartTold). (part_at h.place ps).tag) same))
       stopped (OtherCount number) (inl (none, h)) = absurd (some (sym (ends_there [] h).0))
       stopped (OtherCount number) (inr h) =
           let there = ends_there h.ends.lines h.ends.ends in
           let same = own_parts h.ends.lines h.ends.task h.parts there.0 h.ends.is_task h.ends.told in
-          inl (here.other number there.1 (ap first_open (sym same) ∙ h.other.0) (sym h.other.1 ∙ ap length same))
-      stopped TooLong h = absurd (not_full h)
+          inl (here.other number there.1 there.2 (ap first_open (sym same) ∙ h.other.0) (sym h.other.1 ∙ ap length same))
+      stopped TooLong h = inl (here.full (full_there h) (full_read h).1)
       stopped ReadFault h = inr (inr (inl h.rose))
       stopped WriteFault h = inr (inr (inr (refl, h.written.cause.failed)))
       stopped NoMemory h = inr (inl refl)
@@ -344,29 +389,31 @@ no_line_there : (rest line behind : List ℕ) → GoesTooFar rest → rest ≡ l
 no_line_there rest line behind far e is = not_long rest [] line behind (append-nil rest ∙ e) is far
 
 no_rest : (rest : List ℕ) → GoesTooFar rest → IsRest rest → ⊥
-no_rest rest far is = let all = all_before rest is.no_line in let short = is.short in omega (arith, far, all, short)
+no_rest rest far is = let short = is.short in omega (arith, far, short)
 
 -- ---- what is shown
 
-module _ (kinds : QueriesAreOne) (count : ℕ) (until : Until) (bytes : List ℕ) (few : length bytes ≤ most_bytes)
-    (input input' : SourceState) (out out' : SinkState) (left : input.left ≡ Some bytes) where
+module _ (kinds : QueriesAreOne) (count : ℕ) (until : Until) (whole bytes : List ℕ) (cut : bytes ≡ heard whole)
+    (input input' : SourceState) (out out' : SinkState) (left : input.left ≡ Some whole) where
   -- a rest has no line
   rest_here : (own : List (List ℕ)) (rest : List ℕ) (g : GoesRight count until bytes own rest) (fault : StreamFault) → IsRest rest →
-      ((place : ℕ) (tag : List ℕ) → first_open g.combines.parts ≡ Some place → tag ≡ (part_at place g.combines.parts).tag → EndsEarly tag ≡ fault) →
-      ((number : ℕ) → first_open g.combines.parts ≡ None → number ≡ length g.combines.parts → OtherCount number ≡ fault) →
-      Here kinds count until bytes few input input' out out' left own rest g fault
-  rest_here own rest g fault is early other = record {
+      ((place : ℕ) (tag : List ℕ) → length whole ≤ most_bytes → first_open g.combines.parts ≡ Some place → tag ≡ (part_at place g.combines.parts).tag →
+      EndsEarly tag ≡ fault) →
+      ((number : ℕ) → length whole ≤ most_bytes → first_open g.combines.parts ≡ None → number ≡ length g.combines.parts → OtherCount number ≡ fault) →
+      (most_bytes < length whole → TooLong ≡ fault) →
+      Here kinds count until whole bytes cut input input' out out' left own rest g fault
+  rest_here own rest g fault is early other full = record {
     stuck = λ line behind others body end e line_is combines. not_rest rest line behind e line_is is.no_line;
     line = λ line behind number why f e line_is counted same refused. absurd (not_rest rest line behind e line_is is.no_line);
     block = λ line behind number why f body more e line_is counted same stopped. absurd (not_rest rest line behind e line_is is.no_line);
     long = λ read behind number why e many counted said.
         let before = no_earlier read behind in
         let same = ap line_length e in
-        let all = all_before rest is.no_line in
         let short = is.short in
-        absurd (omega (arith, many, before, same, all, short));
-    early = λ place tag none open_there tagged. early place tag open_there tagged;
-    other = λ number none ended counted. other number ended counted;
+        absurd (omega (arith, many, before, same, short));
+    early = λ place tag none few open_there tagged. early place tag few open_there tagged;
+    other = λ number none few ended counted. other number few ended counted;
+    full = λ none many. full many;
   }
 
   -- a line that is not taken comes next
@@ -374,7 +421,7 @@ module _ (kinds : QueriesAreOne) (count : ℕ) (until : Until) (bytes : List ℕ
       ((next : List PartTold) → TakesLine g.task g.combines.parts line next → ⊥) →
       ((number : ℕ) (why : LineRefusal) (f : InputFault) → number ≡ length own + 1 → Line number why ≡ of_input number f →
       IsRefused f g.task.query g.task.shape g.task.count g.combines.parts line → Line number why ≡ fault) →
-      Here kinds count until bytes few input input' out out' left own rest g fault
+      Here kinds count until whole bytes cut input input' out out' left own rest g fault
   line_here own rest line behind g fault comes none refused = record {
     stuck = λ other after others body end e is combines. not_taken other after others combines.parts e is combines.told;
     line = λ other after number why f e is counted said refuted.
@@ -382,8 +429,9 @@ module _ (kinds : QueriesAreOne) (count : ℕ) (until : Until) (bytes : List ℕ
         (subst (λ (v : List ℕ). IsRefused f g.task.query g.task.shape g.task.count g.combines.parts v) (sym (same line other behind after comes.is_line is (sym comes.split ∙ e))) refuted);
     block = λ other after number why f body more e is counted said stopped. absurd (not_taken other after [] stopped.parts e is stopped.told);
     long = λ read after number why e many counted said. absurd (not_long read after line behind (e ∙ comes.split) comes.is_line many);
-    early = λ place tag refuted open_there tagged. absurd (not_rest rest line behind comes.split comes.is_line refuted.no_line);
-    other = λ number refuted ended counted. absurd (not_rest rest line behind comes.split comes.is_line refuted.no_line);
+    early = λ place tag refuted few open_there tagged. absurd (not_rest rest line behind comes.split comes.is_line refuted.no_line);
+    other = λ number refuted few ended counted. absurd (not_rest rest line behind comes.split comes.is_line refuted.no_line);
+    full = λ refuted many. absurd (not_rest rest line behind comes.split comes.is_line refuted.no_line);
   }
     where
       same : (a b x y : List ℕ) → IsLine a → IsLine b → a ++ 10 ∷ x ≡ b ++ 10 ∷ y → a ≡ b
@@ -392,7 +440,7 @@ module _ (kinds : QueriesAreOne) (count : ℕ) (until : Until) (bytes : List ℕ
       not_taken : (other after : List ℕ) (others : List (List ℕ)) (parts : List PartTold) → rest ≡ other ++ 10 ∷ after → IsLine other →
           Tell g.task [] (own ++ other ∷ others) parts → ⊥
       not_taken other after others parts e is told =
-          let (next, takes) = taken_next kinds count until bytes few input input' out out' left own rest g other others parts told in
+          let (next, takes) = taken_next kinds count until whole bytes cut input input' out out' left own rest g other others parts told in
           none next (subst (λ (v : List ℕ). TakesLine g.task g.combines.parts v next) (sym (same line other behind after comes.is_line is (sym comes.split ∙ e))) takes)
 
   some_tag : {a b : ℕ} → Some a ≡ Some b → a ≡ b
@@ -402,22 +450,30 @@ module _ (kinds : QueriesAreOne) (count : ℕ) (until : Until) (bytes : List ℕ
 
   -- the part's report ends early
   early_told : (own : List (List ℕ)) (rest : List ℕ) (g : GoesRight count until bytes own rest) (place : ℕ) (tag : List ℕ) → IsRest rest → first_open g.combines.parts ≡ Some place →
-      tag ≡ (part_at place g.combines.parts).tag → IsTold count until input input' out out' (EndsEarly tag)
-  early_told own rest g place tag is open_there tagged =
-      is_told kinds count until bytes few input input' out out' left own rest g (EndsEarly tag)
+      tag ≡ (part_at place g.combines.parts).tag → length whole ≤ most_bytes → IsTold count until input input' out out' (EndsEarly tag)
+  early_told own rest g place tag is open_there tagged few =
+      is_told kinds count until whole bytes cut input input' out out' left own rest g (EndsEarly tag)
       (rest_here own rest g (EndsEarly tag) is
-      (λ other named at names.
+      (λ other named all at names.
       let places : other ≡ place = some_tag (sym at ∙ open_there) in
       ap (λ (t : List ℕ). EndsEarly t) (names ∙ ap (λ (n : ℕ). (part_at n g.combines.parts).tag) places ∙ sym tagged))
-      (λ number none counted. absurd (none-some place (sym none ∙ open_there))))
+      (λ number all none counted. absurd (none-some place (sym none ∙ open_there))) (λ many. absurd (omega (arith, few, many))))
 
   other_told : (own : List (List ℕ)) (rest : List ℕ) (g : GoesRight count until bytes own rest) (number : ℕ) → IsRest rest → first_open g.combines.parts ≡ None →
-      number ≡ length g.combines.parts → IsTold count until input input' out out' (OtherCount number)
-  other_told own rest g number is none counted =
-      is_told kinds count until bytes few input input' out out' left own rest g (OtherCount number)
+      number ≡ length g.combines.parts → length whole ≤ most_bytes → IsTold count until input input' out out' (OtherCount number)
+  other_told own rest g number is none counted few =
+      is_told kinds count until whole bytes cut input input' out out' left own rest g (OtherCount number)
       (rest_here own rest g (OtherCount number) is
-      (λ place tag at names. absurd (none-some place (sym none ∙ at)))
-      (λ other ended so_many. ap (λ (n : ℕ). OtherCount n) (so_many ∙ sym counted)))
+      (λ place tag all at names. absurd (none-some place (sym none ∙ at)))
+      (λ other all ended so_many. ap (λ (n : ℕ). OtherCount n) (so_many ∙ sym counted)) (λ many. absurd (omega (arith, few, many))))
+
+  -- more bytes come than may
+  many_told : (own : List (List ℕ)) (rest : List ℕ) (g : GoesRight count until bytes own rest) → IsRest rest → most_bytes < length whole →
+      IsTold count until input input' out out' TooLong
+  many_told own rest g is many =
+      is_told kinds count until whole bytes cut input input' out out' left own rest g TooLong
+      (rest_here own rest g TooLong is (λ place tag few at names. absurd (omega (arith, few, many)))
+      (λ number few ended so_many. absurd (omega (arith, few, many))) (λ again. refl))
 
   line_number : (a b : ℕ) (why other : LineRefusal) → a ≡ b → why ≡ other → Line a why ≡ Line b other
   line_number a b why other e f = ap (λ (n : ℕ). Line n why) e ∙ ap (λ (w : LineRefusal). Line b w) f
@@ -430,7 +486,7 @@ module _ (kinds : QueriesAreOne) (count : ℕ) (until : Until) (bytes : List ℕ
       (told_of (tag_of line) g.combines.parts).place ≢ Query → ¬ IsUnlisted (told_of (tag_of line) g.combines.parts) → ((next : PartTold) → Takes g.task.query g.task.shape (told_of (tag_of line) g.combines.parts) (behind_tag line) next → ⊥) →
       number ≡ length own + 1 → IsTold count until input input' out out' (Line number r.OtherLine)
   line_told own rest line behind g number comes begun listed cannot counted =
-      is_told kinds count until bytes few input input' out out' left own rest g (Line number r.OtherLine)
+      is_told kinds count until whole bytes cut input input' out out' left own rest g (Line number r.OtherLine)
       (line_here own rest line behind g (Line number r.OtherLine) comes.next (λ next takes. cannot takes.taken.told takes.taken.taken) only)
     where
       only : (n : ℕ) (why : LineRefusal) (f : InputFault) → n ≡ length own + 1 → Line n why ≡ of_input n f → IsRefused f g.task.query g.task.shape g.task.count g.combines.parts line →
@@ -448,7 +504,7 @@ module _ (kinds : QueriesAreOne) (count : ℕ) (until : Until) (bytes : List ℕ
       IsUnlisted (told_of (tag_of line) g.combines.parts) → ((next : PartTold) → Takes g.task.query g.task.shape (told_of (tag_of line) g.combines.parts) (behind_tag line) next → ⊥) →
       number ≡ length own + 1 → IsTold count until input input' out out' (Line number r.Unlisted)
   unlisted_told own rest line behind g number comes lacks cannot counted =
-      is_told kinds count until bytes few input input' out out' left own rest g (Line number r.Unlisted)
+      is_told kinds count until whole bytes cut input input' out out' left own rest g (Line number r.Unlisted)
       (line_here own rest line behind g (Line number r.Unlisted) comes.next (λ next takes. cannot takes.taken.told takes.taken.taken) only)
     where
       begun : (told_of (tag_of line) g.combines.parts).place ≢ Query
@@ -469,7 +525,7 @@ module _ (kinds : QueriesAreOne) (count : ℕ) (until : Until) (bytes : List ℕ
       told_of (tag_of line) g.combines.parts ≡ nothing_told (tag_of line) → count ≤ length g.combines.parts → behind_tag line ≡ g.task.query → number ≡ length own + 1 →
       IsTold count until input input' out out' (Line number r.MoreParts)
   more_told own rest line behind g number comes new many query counted =
-      is_told kinds count until bytes few input input' out out' left own rest g (Line number r.MoreParts)
+      is_told kinds count until whole bytes cut input input' out out' left own rest g (Line number r.MoreParts)
       (line_here own rest line behind g (Line number r.MoreParts) comes.next full only)
     where
       full : (next : List PartTold) → TakesLine g.task g.combines.parts line next → ⊥
@@ -505,7 +561,7 @@ module _ (kinds : QueriesAreOne) (count : ℕ) (until : Until) (bytes : List ℕ
   tab_told : (own : List (List ℕ)) (rest line behind : List ℕ) (g : GoesRight count until bytes own rest) (number : ℕ) → IsNext rest line behind → ¬ HasTab line →
       number ≡ length own + 1 → IsTold count until input input' out out' (Line number r.NoTab)
   tab_told own rest line behind g number comes none counted =
-      is_told kinds count until bytes few input input' out out' left own rest g (Line number r.NoTab)
+      is_told kinds count until whole bytes cut input input' out out' left own rest g (Line number r.NoTab)
       (line_here own rest line behind g (Line number r.NoTab) comes (λ next takes. started own rest g i.NoTab line next (λ e. absurd cc) none takes) only)
     where
       only : (n : ℕ) (why : LineRefusal) (f : InputFault) → n ≡ length own + 1 → Line n why ≡ of_input n f → Refuting line own rest g f → Line n why ≡ Line number r.NoTab
@@ -521,7 +577,7 @@ module _ (kinds : QueriesAreOne) (count : ℕ) (until : Until) (bytes : List ℕ
   tag_told : (own : List (List ℕ)) (rest line behind : List ℕ) (g : GoesRight count until bytes own rest) (number : ℕ) → IsNext rest line behind → HasTab line →
       ¬ IsTag (tag_of line) → number ≡ length own + 1 → IsTold count until input input' out out' (Line number r.NoTag)
   tag_told own rest line behind g number comes tab none counted =
-      is_told kinds count until bytes few input input' out out' left own rest g (Line number r.NoTag)
+      is_told kinds count until whole bytes cut input input' out out' left own rest g (Line number r.NoTag)
       (line_here own rest line behind g (Line number r.NoTag) comes (λ next takes. started own rest g i.NoTag line next (λ e. absurd cc) (tab, none) takes) only)
     where
       only : (n : ℕ) (why : LineRefusal) (f : InputFault) → n ≡ length own + 1 → Line n why ≡ of_input n f → Refuting line own rest g f → Line n why ≡ Line number r.NoTag
@@ -538,7 +594,7 @@ module _ (kinds : QueriesAreOne) (count : ℕ) (until : Until) (bytes : List ℕ
       told_of (tag_of line) g.combines.parts ≡ nothing_told (tag_of line) → length g.combines.parts < count → behind_tag line ≢ g.task.query → number ≡ length own + 1 →
       IsTold count until input input' out out' (Line number r.OtherQuery)
   query_told own rest line behind g number comes new room another counted =
-      is_told kinds count until bytes few input input' out out' left own rest g (Line number r.OtherQuery)
+      is_told kinds count until whole bytes cut input input' out out' left own rest g (Line number r.OtherQuery)
       (line_here own rest line behind g (Line number r.OtherQuery) comes.next (λ next takes. cannot takes.taken.told takes.taken.taken) only)
     where
       mine : PartTold
@@ -563,20 +619,21 @@ module _ (kinds : QueriesAreOne) (count : ℕ) (until : Until) (bytes : List ℕ
   length_told : (own : List (List ℕ)) (rest : List ℕ) (g : GoesRight count until bytes own rest) (number : ℕ) → GoesTooFar rest → number ≡ length own + 1 →
       IsTold count until input input' out out' (Line number r.TooLong)
   length_told own rest g number far counted =
-      is_told kinds count until bytes few input input' out out' left own rest g (Line number r.TooLong) (record {
+      is_told kinds count until whole bytes cut input input' out out' left own rest g (Line number r.TooLong) (record {
         stuck = λ line behind others body end e line_is combines. no_line_there rest line behind far e line_is;
         line = λ line behind n why f e line_is at said refuted. absurd (no_line_there rest line behind far e line_is);
         block = λ line behind n why f body more e line_is at said stopped. absurd (no_line_there rest line behind far e line_is);
         long = λ read behind n why e many at said. line_number n number why r.TooLong (at ∙ sym counted) said;
-        early = λ place tag refuted open_there tagged. absurd (no_rest rest far refuted);
-        other = λ n refuted ended at. absurd (no_rest rest far refuted);
+        early = λ place tag refuted few open_there tagged. absurd (no_rest rest far refuted);
+        other = λ n refuted few ended at. absurd (no_rest rest far refuted);
+        full = λ refuted many. absurd (no_rest rest far refuted);
       })
 
   -- the line completes a block that cannot be written
   block_told : (own : List (List ℕ)) (rest line behind : List ℕ) (g : GoesRight count until bytes own rest) (number : ℕ) (fault : BlockFault) → IsNext rest line behind →
       IsUnwritten g.task (own ++ line ∷ []) fault → number ≡ length own + 1 → IsTold count until input input' out out' (of_block number fault)
   block_told own rest line behind g number fault comes un counted =
-      is_told kinds count until bytes few input input' out out' left own rest g (of_block number fault) (record {
+      is_told kinds count until whole bytes cut input input' out out' left own rest g (of_block number fault) (record {
         stuck = λ other after others body end e is combines. on others body end
             (subst (λ (v : List ℕ). Combines g.task (own ++ v ∷ others) body end) (same other after e is) combines);
         line = λ other after n why f e is at said refused.
@@ -591,8 +648,9 @@ module _ (kinds : QueriesAreOne) (count : ℕ) (until : Until) (bytes : List ℕ
             ∙ ap (of_block number) (sym (one f body more (λ m. absurd (let none : Line n why ≡ NoMemory = said ∙ ap (of_block n) m in cc))
             (subst (λ (v : List ℕ). IsStopped g.task (own ++ v ∷ []) body [] more f) (same other after e is) stopped)));
         long = λ read after n why e many at said. absurd (not_long read after line behind (e ∙ comes.split) comes.is_line many);
-        early = λ place tag refuted open_there tagged. absurd (not_rest rest line behind comes.split comes.is_line refuted.no_line);
-        other = λ n refuted ended at. absurd (not_rest rest line behind comes.split comes.is_line refuted.no_line);
+        early = λ place tag refuted few open_there tagged. absurd (not_rest rest line behind comes.split comes.is_line refuted.no_line);
+        other = λ n refuted few ended at. absurd (not_rest rest line behind comes.split comes.is_line refuted.no_line);
+        full = λ refuted many. absurd (not_rest rest line behind comes.split comes.is_line refuted.no_line);
       })
     where
       same : (other after : List ℕ) → rest ≡ other ++ 10 ∷ after → IsLine other → other ≡ line
@@ -612,11 +670,11 @@ module _ (kinds : QueriesAreOne) (count : ℕ) (until : Until) (bytes : List ℕ
 
   -- ---- where no line was taken
 
-  abbrev here_read : (lines : List (List ℕ)) (rest : List ℕ) → ReadsLines input input' lines rest → Told input'.left bytes (lines_text lines ++ rest)
-  here_read lines rest read = read_told kinds count until bytes few input input' out out' left lines rest read
+  abbrev here_read : (lines : List (List ℕ)) (rest : List ℕ) → ReadsLines input input' lines rest → Heard input'.left whole bytes (lines_text lines ++ rest)
+  here_read lines rest read = read_told kinds count until whole bytes cut input input' out out' left lines rest read
 
   here_split : (lines : List (List ℕ)) (rest : List ℕ) (read : ReadsLines input input' lines rest) → bytes ≡ lines_text lines ++ (rest ++ (here_read lines rest read).behind)
-  here_split lines rest read = split_by kinds count until bytes few input input' out out' left lines rest read
+  here_split lines rest read = split_by kinds count until whole bytes cut input input' out out' left lines rest read
 
   some_more : (lines : List (List ℕ)) (line : List ℕ) → lines ++ line ∷ [] ≢ []
   some_more [] line e = absurd cc
@@ -639,9 +697,16 @@ module _ (kinds : QueriesAreOne) (count : ℕ) (until : Until) (bytes : List ℕ
         let e : bytes ≡ rest ++ t.behind = subst (λ (ls : List (List ℕ)). bytes ≡ lines_text ls ++ (rest ++ t.behind)) (none_read lines rest read) (here_split lines rest read) in
         let same = ap line_length e in
         let before = no_earlier rest t.behind in
-        let all = all_before bytes is.no_line in
         let short = is.short in
-        omega (arith, long, same, before, all, short)
+        omega (arith, long, same, before, short)
+
+    -- nor do as many bytes come as may
+    none_full : most_bytes < length whole → ⊥
+    none_full many =
+        let all = all_before bytes is.no_line in
+        let long : length bytes ≡ most_bytes = ap length cut ∙ length-take-le most_bytes whole (omega (arith, many)) in
+        let short = is.short in
+        omega (arith, all, long, short)
 
     none_stopped : (why : StreamFault) → StreamCause count until input input' out out' why → (why ≡ OtherCount 0) ⊎ (why ≡ NoMemory) ⊎ Rose input.faults input'.faults ⊎ ((why ≡ WriteFault) × Rose out.faults out'.faults)
     none_stopped (Line number why) (inl h) = absurd (some_more [] h.first (none_read (h.first ∷ []) h.rest h.read))
@@ -651,7 +716,7 @@ module _ (kinds : QueriesAreOne) (count : ℕ) (until : Until) (bytes : List ℕ
     none_stopped (EndsEarly tag) h = absurd (none_asked h.ends.lines h.ends.ends.rest h.ends.task h.ends.ends.read h.ends.is_task)
     none_stopped (OtherCount number) (inl (none, h)) = inl (ap (λ (n : ℕ). OtherCount n) none)
     none_stopped (OtherCount number) (inr h) = absurd (none_asked h.ends.lines h.ends.ends.rest h.ends.task h.ends.ends.read h.ends.is_task)
-    none_stopped TooLong h = absurd (not_full kinds count until bytes few input input' out out' left h)
+    none_stopped TooLong h = absurd (none_full (full_read kinds count until whole bytes cut input input' out out' left h).1)
     none_stopped ReadFault h = inr (inr (inl h.rose))
     none_stopped WriteFault h = inr (inr (inr (refl, h.written.cause.failed)))
     none_stopped NoMemory h = inr (inl refl)
@@ -672,10 +737,17 @@ module _ (kinds : QueriesAreOne) (count : ℕ) (until : Until) (bytes : List ℕ
     far_asked : (lines : List (List ℕ)) (rest : List ℕ) (task : Task) → ReadsLines input input' lines rest → IsTask count until (first_line lines) task → ⊥
     far_asked lines rest task read asked = some_lines count until lines task asked (far_read lines rest read)
 
+    far_full : IsFull count until input input' out out' → ⊥
+    far_full h =
+        let none = none_whole h.lines h.rest h.are_lines (full_read kinds count until whole bytes cut input input' out out' left h).0 in
+        let same : bytes ≡ h.rest =
+        subst (λ (ls : List (List ℕ)). bytes ≡ lines_text ls ++ h.rest) none (full_read kinds count until whole bytes cut input input' out out' left h).0 in
+        no_rest bytes far (subst (λ (v : List ℕ). IsRest v) (sym same) h.is_rest)
+
     far_ends : Ends count until input input' out out' [] → ⊥
     far_ends h =
-        let same : h.rest ≡ bytes = sym (all_read kinds count until bytes few input input' out out' left [] h.rest h.read h.ended) ∙ sym (here_split [] h.rest h.read) in
-        no_rest bytes far (rest_of h.rest bytes same h.no_line h.short)
+        let same : h.rest ≡ bytes = sym (all_read kinds count until whole bytes cut input input' out out' left [] h.rest h.read h.ended) ∙ sym (here_split [] h.rest h.read) in
+        no_rest bytes far (subst (λ (v : List ℕ). IsRest v) same h.is_rest)
 
     far_stopped : (why : StreamFault) → StreamCause count until input input' out out' why →
         (why ≡ Line 1 r.TooLong) ⊎ (why ≡ NoMemory) ⊎ Rose input.faults input'.faults ⊎ ((why ≡ WriteFault) × Rose out.faults out'.faults)
@@ -687,7 +759,7 @@ module _ (kinds : QueriesAreOne) (count : ℕ) (until : Until) (bytes : List ℕ
     far_stopped (EndsEarly tag) h = absurd (far_asked h.ends.lines h.ends.ends.rest h.ends.task h.ends.ends.read h.ends.is_task)
     far_stopped (OtherCount number) (inl (none, h)) = absurd (far_ends h)
     far_stopped (OtherCount number) (inr h) = absurd (far_asked h.ends.lines h.ends.ends.rest h.ends.task h.ends.ends.read h.ends.is_task)
-    far_stopped TooLong h = absurd (not_full kinds count until bytes few input input' out out' left h)
+    far_stopped TooLong h = absurd (far_full h)
     far_stopped ReadFault h = inr (inr (inl h.rose))
     far_stopped WriteFault h = inr (inr (inr (refl, h.written.cause.failed)))
     far_stopped NoMemory h = inr (inl refl)
@@ -705,14 +777,21 @@ module _ (kinds : QueriesAreOne) (count : ℕ) (until : Until) (bytes : List ℕ
         (same_line line first (lines_text lines ++ x) behind (plain line are.0.plain) (plain first comes.is_line.plain)
         (sym (front_line line (lines_text lines) x) ∙ sym e ∙ comes.split)).0
 
-    no_task : (lines : List (List ℕ)) (rest : List ℕ) (task : Task) → ReadsLines input input' lines rest → IsTask count until (first_line lines) task → ⊥
-    no_task lines rest task read asked =
-        let same = first_is lines (rest ++ (here_read lines rest read).behind) (some_lines count until lines task asked) read.are_lines (here_split lines rest read) in
+    no_task_by : (lines : List (List ℕ)) (x : List ℕ) (task : Task) → AreLines lines → bytes ≡ lines_text lines ++ x →
+        IsTask count until (first_line lines) task → ⊥
+    no_task_by lines x task are split asked =
+        let same = first_is lines x (some_lines count until lines task asked) are split in
         asks_none task (subst (λ (line : List ℕ). IsTask count until line task) same asked)
 
+    none_taken_by : (lines : List (List ℕ)) (x : List ℕ) → AreLines lines → bytes ≡ lines_text lines ++ x → IsOpen kinds count until lines → lines ≡ []
+    none_taken_by lines x are split (inl none) = none
+    none_taken_by lines x are split (inr (task, body, asked, combines)) = absurd (no_task_by lines x task are split asked)
+
+    no_task : (lines : List (List ℕ)) (rest : List ℕ) (task : Task) → ReadsLines input input' lines rest → IsTask count until (first_line lines) task → ⊥
+    no_task lines rest task read asked = no_task_by lines (rest ++ (here_read lines rest read).behind) task read.are_lines (here_split lines rest read) asked
+
     none_taken : (lines : List (List ℕ)) (rest : List ℕ) → ReadsLines input input' lines rest → IsOpen kinds count until lines → lines ≡ []
-    none_taken lines rest read (inl none) = none
-    none_taken lines rest read (inr (task, body, asked, combines)) = absurd (no_task lines rest task read asked)
+    none_taken lines rest read is_open = none_taken_by lines (rest ++ (here_read lines rest read).behind) read.are_lines (here_split lines rest read) is_open
 
     first_stands : (lines : List (List ℕ)) (rest : List ℕ) (read : ReadsLines input input' lines rest) → lines ≡ [] → rest ++ (here_read lines rest read).behind ≡ first ++ 10 ∷ behind
     first_stands lines rest read none =
@@ -725,7 +804,14 @@ module _ (kinds : QueriesAreOne) (count : ℕ) (until : Until) (bytes : List ℕ
 
     first_ends : Ends count until input input' out out' [] → ⊥
     first_ends h =
-        not_rest h.rest first behind (sym (all_read kinds count until bytes few input input' out out' left [] h.rest h.read h.ended) ∙ first_stands [] h.rest h.read refl) comes.is_line h.no_line
+        not_rest h.rest first behind (sym (all_read kinds count until whole bytes cut input input' out out' left [] h.rest h.read h.ended) ∙ first_stands [] h.rest h.read refl) comes.is_line h.is_rest.no_line
+
+    first_full : IsFull count until input input' out out' → ⊥
+    first_full h =
+        let split = (full_read kinds count until whole bytes cut input input' out out' left h).0 in
+        let none = none_taken_by h.lines h.rest h.are_lines split (written_open kinds count until out out' h.lines h.written) in
+        let same : bytes ≡ h.rest = subst (λ (ls : List (List ℕ)). bytes ≡ lines_text ls ++ h.rest) none split in
+        not_rest h.rest first behind (sym same ∙ comes.split) comes.is_line h.is_rest.no_line
 
     first_stopped : (why : StreamFault) → StreamCause count until input input' out out' why → (why ≡ fault) ⊎ (why ≡ NoMemory) ⊎ Rose input.faults input'.faults ⊎ ((why ≡ WriteFault) × Rose out.faults out'.faults)
     first_stopped (Line number why) (inl h) =
@@ -737,7 +823,7 @@ module _ (kinds : QueriesAreOne) (count : ℕ) (until : Until) (bytes : List ℕ
     first_stopped (EndsEarly tag) h = absurd (no_task h.ends.lines h.ends.ends.rest h.ends.task h.ends.ends.read h.ends.is_task)
     first_stopped (OtherCount number) (inl (none, h)) = absurd (first_ends h)
     first_stopped (OtherCount number) (inr h) = absurd (no_task h.ends.lines h.ends.ends.rest h.ends.task h.ends.ends.read h.ends.is_task)
-    first_stopped TooLong h = absurd (not_full kinds count until bytes few input input' out out' left h)
+    first_stopped TooLong h = absurd (first_full h)
     first_stopped ReadFault h = inr (inr (inl h.rose))
     first_stopped WriteFault h = inr (inr (inr (refl, h.written.cause.failed)))
     first_stopped NoMemory h = inr (inl refl)
@@ -802,34 +888,66 @@ module _ (kinds : QueriesAreOne) (count : ℕ) (until : Until) (bytes : List ℕ
   tag_only first tab none r.TooLong h = absurd h
 
   -- what is shown is told
-  pub shown_told : (fault : StreamFault) → ShowsFault count until bytes fault → IsTold count until input input' out out' fault
-  shown_told fault (no_line is) = none_told is
-  shown_told fault (ends_early lines rest g place tag is at named) = early_told lines rest g place tag is at named
-  shown_told fault (other_count lines rest g number is none counted) = other_told lines rest g number is none counted
-  shown_told fault (no_query first behind comes none) =
+  shown_told : (fault : StreamFault) → ShowsFault count until bytes fault → (IsOfEnd fault → length whole ≤ most_bytes) → IsTold count until input input' out out' fault
+  shown_told fault (no_line is) few = none_told is
+  shown_told fault (ends_early lines rest g place tag is at named) few = early_told lines rest g place tag is at named (few tt)
+  shown_told fault (other_count lines rest g number is none counted) few = other_told lines rest g number is none counted (few tt)
+  shown_told fault (no_query first behind comes none) few =
       first_told first behind comes.next
       (λ task is. kinds.kinds.not_none (behind_tag first) task.shape.kinds task.shape.columns (subst (λ (q : List ℕ). Asks q task.shape.kinds task.shape.columns) is.query is.asks) none)
       (Line 1 r.NoQuery) (query_only first comes.tagged.0 comes.tagged.1 none)
-  shown_told fault (no_totals first behind comes other) =
+  shown_told fault (no_totals first behind comes other) few =
       first_told first behind comes.next
       (λ task is. kinds.kinds.not_other (behind_tag first) task.shape.kinds task.shape.columns (subst (λ (q : List ℕ). Asks q task.shape.kinds task.shape.columns) is.query is.asks) other)
       (Line 1 r.NoTotals) (totals_only first comes.tagged.0 comes.tagged.1 other)
-  shown_told fault (first_without_tab first behind comes none) =
+  shown_told fault (first_without_tab first behind comes none) few =
       first_told first behind comes
       (λ task is. asks_some task.query task.shape.kinds task.shape.columns is.asks (is.query ∙ no_tab_behind first none)) (Line 1 r.NoTab) (tab_only first none)
-  shown_told fault (first_without_tag first behind comes tab none) =
+  shown_told fault (first_without_tag first behind comes tab none) few =
       first_told first behind comes (λ task is. none is.is_tag) (Line 1 r.NoTag) (tag_only first tab none)
-  shown_told fault (first_too_long far) = far_told far
-  shown_told fault (no_tab lines rest line behind g number comes none counted) = tab_told lines rest line behind g number comes none counted
-  shown_told fault (no_tag lines rest line behind g number comes tab none counted) = tag_told lines rest line behind g number comes tab none counted
-  shown_told fault (too_long lines rest g number far counted) = length_told lines rest g number far counted
-  shown_told fault (other_query lines rest line behind g number comes new room another counted) =
+  shown_told fault (first_too_long far) few = far_told far
+  shown_told fault (no_tab lines rest line behind g number comes none counted) few = tab_told lines rest line behind g number comes none counted
+  shown_told fault (no_tag lines rest line behind g number comes tab none counted) few = tag_told lines rest line behind g number comes tab none counted
+  shown_told fault (too_long lines rest g number far counted) few = length_told lines rest g number far counted
+  shown_told fault (other_query lines rest line behind g number comes new room another counted) few =
       query_told lines rest line behind g number comes new room another counted
-  shown_told fault (more_parts lines rest line behind g number comes new many query counted) = more_told lines rest line behind g number comes new many query counted
-  shown_told fault (other_block lines rest line behind g number block why comes un counted is) =
+  shown_told fault (more_parts lines rest line behind g number comes new many query counted) few = more_told lines rest line behind g number comes new many query counted
+  shown_told fault (other_block lines rest line behind g number block why comes un counted is) few =
       subst (λ (f : StreamFault). IsTold count until input input' out out' f) (sym is) (block_told lines rest line behind g number block comes un counted)
-  shown_told fault (other_line lines rest line behind g number comes begun listed cannot counted) = line_told lines rest line behind g number comes begun listed cannot counted
-  shown_told fault (unlisted lines rest line behind g number comes lacks cannot counted) = unlisted_told lines rest line behind g number comes lacks cannot counted
+  shown_told fault (other_line lines rest line behind g number comes begun listed cannot counted) few = line_told lines rest line behind g number comes begun listed cannot counted
+  shown_told fault (unlisted lines rest line behind g number comes lacks cannot counted) few = unlisted_told lines rest line behind g number comes lacks cannot counted
+
+  no_end : (number : ℕ) (fault : BlockFault) → IsOfEnd (of_block number fault) → ⊥
+  no_end number (b.OtherColumn column) end = end
+  no_end number (b.OtherDecimals item) end = end
+  no_end number (b.TooWide item) end = end
+  no_end number b.NoMemory end = end
+
+  -- where the bytes that may come only end too early, and more come, that is told
+  full_told : (fault : StreamFault) → ShowsFault count until bytes fault → IsOfEnd fault → most_bytes < length whole → IsTold count until input input' out out' TooLong
+  full_told fault (no_line is) end many = absurd (none_full is many)
+  full_told fault (ends_early lines rest g place tag is at named) end many = many_told lines rest g is many
+  full_told fault (other_count lines rest g number is none counted) end many = many_told lines rest g is many
+  full_told fault (first_without_tab first behind comes none) end many = absurd end
+  full_told fault (first_without_tag first behind comes tab none) end many = absurd end
+  full_told fault (first_too_long far) end many = absurd end
+  full_told fault (no_query first behind comes none) end many = absurd end
+  full_told fault (no_totals first behind comes other) end many = absurd end
+  full_told fault (no_tab lines rest line behind g number comes none counted) end many = absurd end
+  full_told fault (no_tag lines rest line behind g number comes tab none counted) end many = absurd end
+  full_told fault (too_long lines rest g number far counted) end many = absurd end
+  full_told fault (other_query lines rest line behind g number comes new room another counted) end many = absurd end
+  full_told fault (more_parts lines rest line behind g number comes new room query counted) end many = absurd end
+  full_told fault (unlisted lines rest line behind g number comes lacks cannot counted) end many = absurd end
+  full_told fault (other_line lines rest line behind g number comes begun listed cannot counted) end many = absurd end
+  full_told fault (other_block lines rest line behind g number block why comes un counted is) end many =
+      absurd (no_end number block (subst IsOfEnd is end))
+
+  -- what the bytes tell is told
+  pub all_told : (fault : StreamFault) → TellsFault count until whole fault → IsTold count until input input' out out' fault
+  all_told fault (shown own shows few) = shown_told own (subst (λ (v : List ℕ). ShowsFault count until v own) (sym cut) shows) few
+  all_told fault (too_many other shows end many) = full_told other (subst (λ (v : List ℕ). ShowsFault count until v other) (sym cut) shows) end many
 
 pub are_told : QueriesAreOne → FaultsAreTold
-are_told kinds count until input input' out out' bytes fault left few shows = shown_told kinds count until bytes few input input' out out' left fault shows
+are_told kinds count until input input' out out' bytes fault left tells =
+    all_told kinds count until bytes (heard bytes) refl input input' out out' left fault tells

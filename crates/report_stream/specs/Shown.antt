@@ -1,5 +1,5 @@
 -- What bytes of an input show: why they are refused, where the lines before are right.
-use Rattle.std.specs.Prelude.{◌≡◌, ◌≢◌, ◌⊎◌, ℕ, ◌+◌, ◌<◌, ◌≤◌, false, List, [], ◌∷◌, ◌++◌, length}
+use Rattle.std.specs.Prelude.{◌≡◌, ◌≢◌, ◌⊎◌, ℕ, ◌+◌, ◌<◌, ◌≤◌, List, [], ◌∷◌, ◌++◌, length, take}
 use Rattle.std.specs.declared.option.Option.TheVariants.{Some, None}
 use Rattle.outer_world.specs.Device.{Rose, SinkState, SourceState}
 use Rattle.query_kinds.specs.Kinds.{AsksOther, IsNoQuery}
@@ -12,13 +12,13 @@ use Rattle.report_parts.specs.declared.combination.Until.{Until}
 use Rattle.report_parts.specs.declared.fault.BlockFault.{BlockFault}
 use Rattle.report_parts.specs.declared.fault.BlockFault.TheVariants as b
 use Rattle.report_parts.specs.declared.part.Place.TheVariants.{Query}
-use Rattle.source_lines.specs.Lines.{has_line, line_length, most_bytes, most_line}
+use Rattle.source_lines.specs.Lines.{IsRest, line_length, most_bytes, most_line}
 use Rattle.report_stream.specs.Accepted.{BlocksFit}
 use Rattle.report_stream.specs.Faults.{of_block}
 use Rattle.report_stream.specs.Streams.{AreLines, Combined, IsLine, IsTask, StreamCause, first_line, lines_text}
 use Rattle.report_stream.specs.declared.fault.LineRefusal.TheVariants as r
 use Rattle.report_stream.specs.declared.fault.StreamFault.{StreamFault}
-use Rattle.report_stream.specs.declared.fault.StreamFault.TheVariants.{EndsEarly, Line, NoMemory, OtherCount, WriteFault}
+use Rattle.report_stream.specs.declared.fault.StreamFault.TheVariants.{EndsEarly, Line, NoMemory, OtherCount, TooLong, WriteFault}
 
 -- the bytes begin with these lines, which the parts take; each block that they complete fits, and their combined report goes on
 pub record GoesRight (wanted : ℕ) (until : Until) (bytes : List ℕ) (lines : List (List ℕ)) (rest : List ℕ) : Type 0 where
@@ -29,11 +29,6 @@ pub record GoesRight (wanted : ℕ) (until : Until) (bytes : List ℕ) (lines : 
   pub is_task : IsTask wanted until (first_line lines) task
   pub combines : Combines task lines body None
   pub fit : BlocksFit task combines.parts
-
--- no line stands there
-pub record IsRest (rest : List ℕ) : Type 0 where
-  pub no_line : has_line rest ≡ false
-  pub short : length rest ≤ most_line
 
 -- this line comes next
 pub record IsNext (rest line behind : List ℕ) : Type 0 where
@@ -108,15 +103,33 @@ pub data ShowsFault (wanted : ℕ) (until : Until) (bytes : List ℕ) : StreamFa
       (fault : BlockFault) (why : StreamFault) → IsNext rest line behind → IsUnwritten g.task (lines ++ line ∷ []) fault →
       number ≡ length lines + 1 → why ≡ of_block number fault → ShowsFault wanted until bytes why
 
+-- ---- all that comes
+
+-- as many of the bytes as may come
+abbrev pub heard : List ℕ → List ℕ
+heard bytes = take most_bytes bytes
+
+-- it is told at the end of the input
+abbrev pub IsOfEnd : StreamFault → Type 0
+IsOfEnd (EndsEarly tag) = Unit {0}
+IsOfEnd (OtherCount number) = Unit {0}
+IsOfEnd other = ⊥
+
+-- what is told is what the bytes show that may come; where more come, and these only end too early, it is that the input is too long
+pub data TellsFault (wanted : ℕ) (until : Until) (bytes : List ℕ) : StreamFault → Type 0 where
+  shown : (fault : StreamFault) → ShowsFault wanted until (heard bytes) fault → (IsOfEnd fault → length bytes ≤ most_bytes) →
+      TellsFault wanted until bytes fault
+  too_many : (fault : StreamFault) → ShowsFault wanted until (heard bytes) fault → IsOfEnd fault → most_bytes < length bytes →
+      TellsFault wanted until bytes TooLong
+
 -- the report is not written to its end, and nothing but this is told, or that memory ran out, unless a device fails
 pub record IsTold (wanted : ℕ) (until : Until) (input input' : SourceState) (out out' : SinkState) (fault : StreamFault) : Type 0 where
   pub undone : Combined wanted until input input' out out' → ⊥
   pub stopped : (why : StreamFault) → StreamCause wanted until input input' out out' why →
       (why ≡ fault) ⊎ (why ≡ NoMemory) ⊎ Rose input.faults input'.faults ⊎ ((why ≡ WriteFault) × Rose out.faults out'.faults)
 
--- so it is where an input of not too many bytes tells them
+-- so it is where an input tells them
 abbrev pub FaultsAreTold : Type 0
 FaultsAreTold =
     (wanted : ℕ) (until : Until) (input input' : SourceState) (out out' : SinkState) (bytes : List ℕ) (fault : StreamFault) →
-    input.left ≡ Some bytes → length bytes ≤ most_bytes → ShowsFault wanted until bytes fault →
-    IsTold wanted until input input' out out' fault
+    input.left ≡ Some bytes → TellsFault wanted until bytes fault → IsTold wanted until input input' out out' fault

@@ -17,7 +17,7 @@ use Rattle.report_parts.specs.declared.combination.Until.{Until}
 use Rattle.report_parts.specs.declared.fault.BlockFault.{BlockFault}
 use Rattle.report_parts.specs.declared.fault.EndFault.TheVariants as e
 use Rattle.report_parts.specs.declared.fault.InputFault.{InputFault}
-use Rattle.source_lines.specs.Lines.{has_line, line_length, most_bytes, most_line}
+use Rattle.source_lines.specs.Lines.{IsRest, has_line, line_length, most_bytes, most_line}
 use Rattle.report_stream.specs.Faults.{of_block, of_input}
 use Rattle.report_stream.specs.declared.fault.LineRefusal.{LineRefusal}
 use Rattle.report_stream.specs.declared.fault.LineRefusal.TheVariants as r
@@ -41,10 +41,11 @@ abbrev pub AreLines : List (List ℕ) → Type 0
 AreLines [] = Unit {0}
 AreLines (line ∷ lines) = IsLine line × AreLines lines
 
--- these lines were read, and then these bytes
+-- these lines were read, and then these bytes, in all no more than may be
 pub record ReadsLines (input input' : SourceState) (lines : List (List ℕ)) (rest : List ℕ) : Type 0 where
   pub came : Consumes input.left input'.left (lines_text lines ++ rest)
   pub are_lines : AreLines lines
+  pub few : length (lines_text lines ++ rest) ≤ most_bytes
 
 -- ---- what is asked
 
@@ -172,13 +173,12 @@ pub record RefusesLength (count : ℕ) (until : Until) (input input' : SourceSta
 
 -- ---- why the input may not end
 
--- it ends behind these lines; a rest without its line feed is no line, and not longer than one may be
+-- it ends behind these lines; a rest without its line feed is no line
 pub record Ends (count : ℕ) (until : Until) (input input' : SourceState) (out out' : SinkState) (lines : List (List ℕ)) : Type 0 where
   pub rest : List ℕ
   pub read : ReadsLines input input' lines rest
   pub ended : IsAtEnd input'.left
-  pub no_line : has_line rest ≡ false
-  pub short : line_length rest ≤ most_line
+  pub is_rest : IsRest rest
   pub written : HasWritten count until out out' lines
 
 -- what the parts have told there, in the order of their tags
@@ -206,14 +206,15 @@ pub record HasOtherCount (count : ℕ) (until : Until) (input input' : SourceSta
 
 -- ---- why else it stops
 
--- behind these lines one byte more came than may come, and no line before it
+-- behind these lines one byte more came than may come, and no line before it, nor more bytes than a line may have
 pub record IsFull (count : ℕ) (until : Until) (input input' : SourceState) (out out' : SinkState) : Type 0 where
   pub lines : List (List ℕ)
   pub rest : List ℕ
   pub last : ℕ
-  pub read : ReadsLines input input' lines (rest ++ last ∷ [])
+  pub came : Consumes input.left input'.left (lines_text lines ++ (rest ++ last ∷ []))
+  pub are_lines : AreLines lines
   pub full : length (lines_text lines ++ rest) ≡ most_bytes
-  pub no_line : has_line rest ≡ false
+  pub is_rest : IsRest rest
   pub written : HasWritten count until out out' lines
 
 -- the input failed before a line more came
@@ -221,7 +222,7 @@ pub record IsBroken (count : ℕ) (until : Until) (input input' : SourceState) (
   pub lines : List (List ℕ)
   pub rest : List ℕ
   pub read : ReadsLines input input' lines rest
-  pub no_line : has_line rest ≡ false
+  pub is_rest : IsRest rest
   pub rose : Rose input.faults input'.faults
   pub written : HasWritten count until out out' lines
 

@@ -1,6 +1,7 @@
 -- `combine`: the reports of the parts of a table, line by line, become one report of the whole.
-use Rattle.std.specs.Prelude.{◌≡◌, ◌≢◌, ℕ, ◌<◌, ◌≤◌, ℤ, List, [], length, slice_get, slice_index_or, Some, None}
+use Rattle.std.specs.Prelude.{◌≡◌, ◌≢◌, ℕ, ◌<◌, ℤ, List, [], ◌++◌, slice_get, slice_index_or, Some, None}
 use Rattle.std.specs.declared.option.Option.{Option}
+use Rattle.std.specs.Io.KnownBytes.{Consumes}
 use Rattle.command_line.specs.Commands.{Combine}
 use Rattle.outer_world.specs.Device.{SinkState, SourceState}
 use Rattle.query_kinds.specs.declared.beside.Beside.{Beside}
@@ -13,10 +14,9 @@ use Rattle.report_parts.specs.Headline.{IsAverageIn, IsBesideIn, IsCertainIn, Is
 use Rattle.report_parts.specs.Told.{Told}
 use Rattle.report_parts.specs.declared.combination.Until.{Until}
 use Rattle.report_parts.specs.declared.shape.Shape.{Shape}
-use Rattle.source_lines.specs.Lines.{most_bytes}
 use Rattle.report_stream.specs.Accepted.{AreReports}
-use Rattle.report_stream.specs.Shown.{ShowsFault}
-use Rattle.report_stream.specs.Streams.{Combined, IsTask, ReadsLines, StreamCause, first_line}
+use Rattle.report_stream.specs.Shown.{TellsFault}
+use Rattle.report_stream.specs.Streams.{AreLines, Combined, IsTask, StreamCause, first_line, lines_text}
 use Rattle.report_stream.specs.declared.fault.StreamFault.{StreamFault}
 use Rattle.daq_cli.specs.Faults as of
 use Rattle.daq_cli.specs.declared.refusal.Refusal.{Refusal}
@@ -29,8 +29,7 @@ until_of c = record { width = c.width; rounds = c.rounds }
 pub record ShowsReports (c : Combine) (bytes : List ℕ) (why : Refusal) : Type 0 where
   pub fault : StreamFault
   pub is : why ≡ of.reports c.parts fault
-  pub few : length bytes ≤ most_bytes
-  pub shown : ShowsFault c.parts (until_of c) bytes fault
+  pub shown : TellsFault c.parts (until_of c) bytes fault
 
 -- what an input shows that tells its bytes
 abbrev pub CombineShows : Combine → Option (List ℕ) → Refusal → Type 0
@@ -78,6 +77,7 @@ pub record BeginsReport (c : Combine) (input input' : SourceState) : Type 0 wher
   pub rest : List ℕ
   pub task : Task
   pub parts : List Told
-  pub read : ReadsLines input input' lines rest
+  pub came : Consumes input.left input'.left (lines_text lines ++ rest)
+  pub are_lines : AreLines lines
   pub is_task : IsTask c.parts (until_of c) (first_line lines) task
   pub told : Tell task [] lines parts
