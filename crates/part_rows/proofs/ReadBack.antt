@@ -1,16 +1,18 @@
 -- The block over all parts is read back as the block of a report.
-use Rattle.std.proofs.Common.{◌≡◌, ℕ, ◌+◌, ◌-◌, ◌<◌, Bool, true, not, cond, List, [], ◌∷◌, ◌++◌, length, refl, sym, ap, ◌∙◌, subst, arith, inl, inr, map, Some}
+use Rattle.std.proofs.Common.{◌≡◌, ℕ, ◌+◌, ◌-◌, ◌<◌, Bool, true, false, not, cond, List, [], ◌∷◌, ◌++◌, length, refl, sym, ap, ◌∙◌, subst, arith, inl, inr, map, Some, All}
 use Rattle.std.specs.Prelude.{slice_get}
 use Rattle.std.proofs.lemmas.List.{append_assoc, append-nil, get_or-append-add, length-append}
+use Rattle.std.proofs.lemmas.List.Elements.{All-cons, All-nil}
 use Rattle.std.proofs.lemmas.Option.{none-some, slice_get-get_or}
-use Rattle.report_text.specs.RowBlocks.{is_behind, last_row, tag_bytes}
-use Rattle.report_text.specs.Rows.{IsShownRow, IsTopLine, row_line}
+use Rattle.report_text.specs.RowBlocks.{IsFirstLine, is_behind, last_row, tag_bytes}
+use Rattle.report_text.specs.Rows.{IsShownRow, row_line}
+use Rattle.report_text.specs.declared.row_blocks.RowsTop.{RowsTop}
+use Rattle.report_text.specs.declared.row_blocks.RowsTop.TheVariants.{Counts, Skipped}
 use Rattle.report_text.specs.declared.rows.RowLine.{RowLine}
-use Rattle.report_text.specs.declared.rows.TopLine.{TopLine}
 use Rattle.query_kinds.specs.declared.rows.FirstRows.{FirstRows}
-use Rattle.part_rows.specs.Combined.{Listing, PartListing, block_of, joined_tag, line_by, line_of, listings, listings_from, listings_of, rows_of, skipped_block, standing_in, told_lines}
-use Rattle.part_rows.specs.ReadBack.{AreShownParts, AreTaken, BlocksAreReadBack, IsReadBack}
-use Rattle.part_rows.specs.Rising.{AreRisingLines}
+use Rattle.part_rows.specs.Combined.{CombinedRows, Listing, PartListing, block_of, is_skipped, joined_tag, line_by, line_of, listings, listings_from, listings_of, rows_of, skipped_block, standing_in, told_lines, top_of}
+use Rattle.part_rows.specs.ReadBack.{AreShownParts, AreTaken, BlocksAreReadBack, IsReadBack, LinesAreShown}
+use Rattle.part_rows.specs.Rising.{AreRisingLines, AreRisingParts}
 use Rattle.part_rows.specs.Tables.{is_excluded}
 use Rattle.part_rows.specs.Worlds.{IsIn}
 use Rattle.part_rows.proofs.Joins.{in_either}
@@ -38,13 +40,13 @@ follows_next done row [] p = tt
 follows_next done row (next ∷ rest) p =
     ap (λ last. is_behind last next.name) (last_is done row) ∙ p.0 next (inl refl)
 
-rows_taken : (limit : ℕ) (top : TopLine) (done rest : List RowLine) → ((line : RowLine) → IsIn line rest → IsShownRow line) → AreRisingLines rest →
+rows_taken : (limit : ℕ) (top : RowsTop) (done rest : List RowLine) → ((line : RowLine) → IsIn line rest → IsShownRow line) → AreRisingLines rest →
     Follows done rest →
     AreTaken limit (record { top = Some top; rows = done }) (map row_line rest) (record { top = Some top; rows = done ++ rest })
 rows_taken limit top done [] shown p f = λ i. record { top = Some top; rows = sym (append-nil done) i }
 rows_taken limit top done (row ∷ rest) shown p f = (
   record { top = Some top; rows = done ++ row ∷ [] },
-  inr (row, record { begun = λ e. none-some top (sym e); is_shown = shown row (inl refl); is_line = refl; behind = f }, refl),
+  inr (inl (row, record { begun = λ e. none-some top (sym e); is_shown = shown row (inl refl); is_line = refl; behind = f }, refl)),
   subst (λ rows. AreTaken limit (record { top = Some top; rows = done ++ row ∷ [] }) (map row_line rest) (record { top = Some top; rows = rows }))
       (append_assoc done (row ∷ []) rest)
       (rows_taken limit top (done ++ row ∷ []) rest (λ line i. shown line (inr i)) p.1 (follows_next done row rest p)),
@@ -90,18 +92,45 @@ shown_lines asked parts s line i =
     let from = chosen (line_of asked rows) (λ row. not (is_excluded (standing_in asked rows row))) (listings parts) line i in
     subst IsShownRow (sym from.same) (shown_line (line_of asked rows from.element).certain from.element (can_show 0 parts s from.element from.is))
 
-pub blocks_are_read_back : BlocksAreReadBack
-blocks_are_read_back asked parts s r none top =
-    let lines = told_lines asked (listings parts) in
+each_of : {X : Type 0} (P : X → Type 0) (xs : List X) → ((x : X) → IsIn x xs → P x) → All P xs
+each_of P [] h = All-nil P
+each_of P (x ∷ xs) h = All-cons P x xs (h x (inl refl)) (each_of P xs (λ y i. h y (inr i)))
+
+pub lines_are_shown : LinesAreShown
+lines_are_shown asked parts s =
+    let skipped = skipped_block asked.limit in
     let block = block_of asked (listings parts) in
-    let skipped = skipped_block asked.limit (length (listings parts)) in
-    let is_top : IsTopLine block.top = subst (λ b. IsTopLine (cond b skipped block).top) none top in
-    let read : IsReadBack asked.limit block = record {
+    elim (is_skipped parts) as (λ b. All IsShownRow (cond b skipped block).rows) [
+      | true ↦ All-nil IsShownRow
+      | false ↦ each_of IsShownRow block.rows (shown_lines asked parts s)
+    ]
+
+-- a block whose rows are judged
+judged_back : (asked : FirstRows) (parts : List PartListing) → AreShownParts parts → AreRisingParts parts →
+    IsFirstLine (block_of asked (listings parts)).top → IsReadBack asked.limit (block_of asked (listings parts))
+judged_back asked parts s r is_top =
+    let lines = told_lines asked (listings parts) in
+    let top = top_of asked.limit lines in
+    record {
       taken = (
-        record { top = Some block.top; rows = [] },
-        inl (block.top, record { first = refl; is_top = is_top; asked = refl; is_line = refl }, refl),
-        rows_taken asked.limit block.top [] lines (shown_lines asked parts s) (lines_rise asked parts r) (first_follows lines),
+        record { top = Some (Counts top); rows = [] },
+        inl (top, record { first = refl; is_top = is_top; asked = refl; is_line = refl }, refl),
+        rows_taken asked.limit (Counts top) [] lines (shown_lines asked parts s) (lines_rise asked parts r) (first_follows lines),
       );
-      whole = record { top = block.top; is_told = refl; certain = refl; possible = refl };
-    } in
-    subst (λ b. IsReadBack asked.limit (cond b skipped block)) (sym none) read
+      whole = (refl, refl);
+    }
+
+-- one in which none is
+skipped_back : (limit : ℕ) → IsReadBack limit (skipped_block limit)
+skipped_back limit = record {
+  taken = (record { top = Some (Skipped limit); rows = [] }, inr (inr (record { first = refl; is_line = refl }, refl)), refl);
+  whole = tt;
+}
+
+back_by : (b : Bool) (limit : ℕ) (block : CombinedRows) → IsFirstLine (cond b (skipped_block limit) block).top →
+    (IsFirstLine block.top → IsReadBack limit block) → IsReadBack limit (cond b (skipped_block limit) block)
+back_by true limit block top judged = skipped_back limit
+back_by false limit block top judged = judged top
+
+pub blocks_are_read_back : BlocksAreReadBack
+blocks_are_read_back asked parts s r top = back_by (is_skipped parts) asked.limit (block_of asked (listings parts)) top (judged_back asked parts s r)

@@ -1,14 +1,15 @@
 -- What a block of first rows over all parts says.
-use Rattle.std.specs.Prelude.{ℕ, ◌+◌, nat_lt, Bool, true, false, not, List, [], ◌∷◌, ◌++◌, codes, length, map, if◌then◌else◌}
+use Rattle.std.specs.Prelude.{ℕ, ◌+◌, nat_lt, Bool, true, false, not, ◌||◌, List, [], ◌∷◌, ◌++◌, codes, length, map, if◌then◌else◌}
 use Rattle.std.specs.List.{filter, list_any}
 use Rattle.std.specs.declared.option.Option.TheVariants.{Some}
 use Rattle.part_groups.specs.Cells.{span_of}
-use Rattle.report_text.specs.RowBlocks.{certain_rows, possible_rows, tag_bytes}
+use Rattle.report_text.specs.RowBlocks.{RowsTold, certain_rows, possible_rows, tag_bytes, told_rows}
 use Rattle.query_model.specs.declared.bounds.Standing.{Standing}
 use Rattle.query_model.specs.declared.bounds.Standing.TheVariants.{Certain, Possible, Excluded}
+use Rattle.report_text.specs.declared.row_blocks.RowsTop.{RowsTop}
+use Rattle.report_text.specs.declared.row_blocks.RowsTop.TheVariants.{Counts, Skipped}
 use Rattle.report_text.specs.declared.rows.RowLine.{RowLine}
 use Rattle.report_text.specs.declared.rows.TopLine.{TopLine}
-use Rattle.part_rows.specs.declared.combined.CombinedRows.{CombinedRows}
 use Rattle.part_rows.specs.declared.listed.ListedRow.{ListedRow}
 use Rattle.part_rows.specs.declared.listed.ListedRows.{ListedRows}
 use Rattle.query_kinds.specs.declared.rows.FirstRows.{FirstRows}
@@ -27,13 +28,14 @@ pub record Listing : Type 0 where
 abbrev pub listing : ListedRow → Listing
 listing row = record { part = row.part; tag = row.tag.now; line = row.line.now }
 
--- what a part lists: its tag, and the lines of its rows
+-- what a part lists: its tag, whether its own report has judged no row, and the lines of its rows
 pub record PartListing : Type 0 where
   pub tag : List ℕ
+  pub skipped : Bool
   pub rows : List RowLine
 
 abbrev pub part_listing : ListedRows → PartListing
-part_listing part = record { tag = part.tag.now; rows = part.rows.now }
+part_listing part = record { tag = part.tag.now; skipped = part.skipped; rows = part.rows.now }
 
 abbrev pub part_listings : List ListedRows → List PartListing
 part_listings parts = map part_listing parts
@@ -98,25 +100,34 @@ lines_of asked rows listed = map (line_of asked rows) (filter (λ row. not (is_e
 abbrev pub told_lines : FirstRows → List Listing → List RowLine
 told_lines asked listed = lines_of asked (rows_of listed) listed
 
+-- what stands before the rows, and the lines of those that are listed
+pub record CombinedRows : Type 0 where
+  pub top : RowsTop
+  pub rows : List RowLine
+
+-- what it tells as the block of a report
+abbrev pub told_by : CombinedRows → RowsTold
+told_by block = told_rows block.top block.rows
+
 abbrev pub top_of : ℕ → List RowLine → TopLine
 top_of limit lines = record { limit = limit; certain = certain_rows lines; possible = possible_rows lines }
 
 abbrev pub block_of : FirstRows → List Listing → CombinedRows
-block_of asked listed = record { top = top_of asked.limit (told_lines asked listed); rows = told_lines asked listed }
+block_of asked listed = record { top = Counts (top_of asked.limit (told_lines asked listed)); rows = told_lines asked listed }
 
--- the block of so many rows that are not judged: each is possible, and none has a line
-abbrev pub skipped_block : ℕ → ℕ → CombinedRows
-skipped_block limit listed = record { top = record { limit = limit; certain = 0; possible = listed }; rows = [] }
+-- the block in which no row is judged, and none has a line
+abbrev pub skipped_block : ℕ → CombinedRows
+skipped_block limit = record { top = Skipped limit; rows = [] }
 
 -- a part may list so many rows in a block that is judged
 abbrev pub most_rows : ℕ
 most_rows = 100000
 
--- some part lists more
+-- some part lists more, or has judged none itself
 abbrev pub is_skipped : List PartListing → Bool
-is_skipped parts = list_any (λ part. nat_lt most_rows (length part.rows)) parts
+is_skipped parts = list_any (λ part. part.skipped || nat_lt most_rows (length part.rows)) parts
 
 -- the block over all parts
 abbrev pub combined : FirstRows → List PartListing → CombinedRows
 combined asked parts =
-    if is_skipped parts then skipped_block asked.limit (length (listings parts)) else block_of asked (listings parts)
+    if is_skipped parts then skipped_block asked.limit else block_of asked (listings parts)

@@ -1,9 +1,10 @@
 //! The block of first rows over all parts.
 
 ghost use Rattle.std.specs.Prelude.{◌≡◌, ◌++◌, IfErr, IfOk, OnOk, map};
+ghost use Rattle.report_text.specs.RowBlocks.{IsFirstLine};
 ghost use Rattle.report_text.specs.Rows.{IsTopLine};
 ghost use Rattle.part_rows.specs.Combined.{block_of, combined, is_skipped, joined_tag, line_by, line_if};
-ghost use Rattle.part_rows.specs.Combined.{lines_of, listing, part_listings, row_of, skipped_block, top_of};
+ghost use Rattle.part_rows.specs.Combined.{lines_of, listing, part_listings, row_of, skipped_block, told_by, top_of};
 ghost use Rattle.part_rows.specs.Faults.{AreAlike, AreClear, IsRowsFault, IsTagFault, is_clear};
 
 use crate::fault::RowsFault;
@@ -11,18 +12,11 @@ use crate::forms::are_alike;
 use crate::listed::{ListedRow, ListedRows, copied, listed_rows, rows_of, tag_bytes};
 use crate::row::PartRow;
 use crate::standings::judge;
-use daq_table::{Listed, Text};
+use daq_table::Text;
 use query_kinds::FirstRows;
 use query_model::Standing;
-use report_text::{RowLine, RowName, ShownEnds, ShownSpan, TextEnds, TopLine};
+use report_text::{RowLine, RowName, RowsBlock, RowsTop, ShownEnds, ShownSpan, TextEnds, TopLine};
 use std::alloc::{AllocError, Global};
-
-/// What a block of first rows says: how many rows there are, and the lines of those that are listed.
-#[derive(Drop, Debug)]
-pub struct CombinedRows {
-    pub top: TopLine,
-    pub rows: Listed<RowLine>,
-}
 
 // A part may list so many rows in a block that is judged.
 const MOST_ROWS: usize = 100_000;
@@ -52,12 +46,12 @@ fn check_tags(parts: &[ListedRows<'_>]) -> Result<(), RowsFault>
     Ok(())
 }
 
-// Whether some part lists too many rows.
+// Whether some part lists too many rows, or has judged none itself.
 fn is_skipped(parts: &[ListedRows<'_>]) -> bool
     ensures { result ≡ is_skipped (part_listings parts.now) }
 {
     for part in parts {
-        if part.rows.len() > MOST_ROWS {
+        if part.skipped || part.rows.len() > MOST_ROWS {
             return true;
         }
     }
@@ -178,43 +172,33 @@ fn judged(
     alloc: Global,
     asked: FirstRows,
     listed: &[ListedRow<'_>],
-) -> Result<CombinedRows, AllocError>
-    ensures block { IfOk result (λ block. block ≡ block_of asked (map listing listed.now)) }
-    ensures top { IfOk result (λ block. IsTopLine block.top) }
+) -> Result<RowsBlock, AllocError>
+    ensures block { IfOk result (λ block. block ≡ told_by (block_of asked (map listing listed.now))) }
+    ensures top { IfOk result (λ _. IsFirstLine (block_of asked (map listing listed.now)).top) }
 {
     let rows = rows_of(alloc, listed)?;
     let lines = lines_of(alloc, asked, listed, &rows)?;
-    Ok(CombinedRows {
-        top: top_of(asked.limit, &lines),
-        rows: Listed::new(lines),
-    })
+    let top = RowsTop::Counts(top_of(asked.limit, &lines));
+    Ok(RowsBlock::from_lines(top, lines))
 }
 
-// The block of so many rows that are not judged.
-fn skipped(alloc: Global, limit: u64, listed: usize) -> CombinedRows
-    ensures block { result ≡ skipped_block limit listed }
-    ensures top { IsTopLine result.top }
+// The block in which no row is judged.
+fn skipped(alloc: Global, limit: u64) -> RowsBlock
+    ensures { result ≡ told_by (skipped_block limit) }
 {
-    CombinedRows {
-        top: TopLine {
-            limit,
-            certain: 0,
-            possible: listed as u64,
-        },
-        rows: Listed::new(Vec::new(alloc)),
-    }
+    RowsBlock::from_lines(RowsTop::Skipped(limit), Vec::new(alloc))
 }
 
 /// The block of first rows over all parts, which stand in the order of their tags. Each part gives the rows that its block lists. They are
 /// judged anew among all, and a row is named by the tag of its part, the tag that its own report gives it, if there is one, and its number.
-/// Where a part lists more than 100,000 rows none is judged: each counts as possible, and none is listed.
+/// Where a part lists more than 100,000 rows, or has judged none itself, none is judged, and none listed.
 pub fn combine_rows(
     alloc: Global,
     asked: FirstRows,
     parts: &[ListedRows<'_>],
-) -> Result<CombinedRows, RowsFault>
-    ensures block { IfOk result (λ block. block ≡ combined asked (part_listings parts.now)) }
-    ensures top { IfOk result (λ block. IsTopLine block.top) }
+) -> Result<RowsBlock, RowsFault>
+    ensures block { IfOk result (λ block. block ≡ told_by (combined asked (part_listings parts.now))) }
+    ensures top { IfOk result (λ _. IsFirstLine (combined asked (part_listings parts.now)).top) }
     ensures clear { IfOk result (λ _. AreClear (part_listings parts.now)) }
     ensures alike { IfOk result (λ _. AreAlike (part_listings parts.now)) }
     ensures fault { IfErr result (λ why. IsRowsFault why (part_listings parts.now)) }
@@ -225,7 +209,7 @@ pub fn combine_rows(
         return Err(RowsFault::OtherForm);
     }
     if is_skipped(parts) {
-        return Ok(skipped(alloc, asked.limit, listed.len()));
+        return Ok(skipped(alloc, asked.limit));
     }
     Ok(judged(alloc, asked, &listed)?)
 }

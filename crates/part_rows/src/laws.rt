@@ -2,7 +2,7 @@
 
 ghost use Rattle.part_rows.specs.Joined.{JoinedLinesNest, LinesHold};
 ghost use Rattle.part_rows.specs.Laws.{OrderIsFree, StandingsAreRight, StandingsBecomeExact, StandingsNest};
-ghost use Rattle.part_rows.specs.ReadBack.{BlocksAreReadBack};
+ghost use Rattle.part_rows.specs.ReadBack.{BlocksAreReadBack, LinesAreShown};
 ghost use Rattle.part_rows.specs.Rising.{LinesRise};
 ghost use Rattle.part_rows.specs.Tables.{LaterReportsJoin, ReportsBecomeExact, ReportsHold, ReportsJoin, ReportsNest};
 ghost use Rattle.part_rows.specs.Told.{LinesAreRight, LinesBecomeExact, LinesNest};
@@ -94,8 +94,13 @@ pub fn lines_rise()
     ensures { LinesRise }
 {}
 
-/// The block over all parts is read back as that of a report, where its rows are judged, the lines of the parts can be shown and rise, and
-/// so do the tags of the parts, which are clear.
+/// Where the lines of the parts can be shown, and each tag has a byte or more, so can those of the block over all parts.
+pub fn lines_are_shown()
+    ensures { LinesAreShown }
+{}
+
+/// The block over all parts is read back as that of a report, where the lines of the parts can be shown and rise, and so do the tags of
+/// the parts, which are clear.
 pub fn blocks_are_read_back()
     ensures { BlocksAreReadBack }
 {}

@@ -10,10 +10,11 @@ use part_groups::span_of;
 use report_text::RowLine;
 use std::alloc::{AllocError, Global};
 
-/// The rows that the report of a part lists, and the tag of the part.
+/// The rows that the report of a part lists, and the tag of the part. A report that is itself of several parts may have judged no row.
 #[derive(Clone, Copy)]
 pub struct ListedRows<'a> {
     pub tag: &'a [u8],
+    pub skipped: bool,
     pub rows: &'a [RowLine],
 }
 
