@@ -3,6 +3,7 @@ mod Ends
 mod Exact
 mod Joined
 mod Joins
+mod KeyNumbers
 mod Later
 mod Lines
 mod Lists

@@ -26,7 +26,8 @@ use Rattle.part_rows.specs.Laws.{AreLater, IsExact, IsNarrower}
 use Rattle.part_rows.specs.Marks.{key_at}
 use Rattle.part_rows.specs.Tables.{IsKeyed, LaterReportsJoin, Part, ReportsBecomeExact, ReportsNest, is_certain, is_excluded, listed, report, span_of, standing_in}
 use Rattle.part_rows.proofs.Joins.{in_either, in_left, in_right}
-use Rattle.part_rows.proofs.Reports.{choose, chosen, is_told, of_table, value_in_order}
+use Rattle.part_rows.proofs.KeyNumbers.{AreOfColumn}
+use Rattle.part_rows.proofs.Reports.{choose, chosen, is_told, key_ends, key_range, of_table, value_in_order}
 
 -- ---- the keys of a range
 
@@ -74,10 +75,11 @@ lies_by Always low high value h = absurd (false≢true h.number)
 same_number : (x : ℤ) → x ≤ℤ x
 same_number x = omega (arith, ints)
 
-within : (part : Part) → IsKeyed part → (inner outer : Range) → inner.numbers.low ≤ℤ inner.numbers.high → IsNarrowerRange inner outer →
+within : (part : Part) → IsKeyed part → (inner outer : Range) → AreOfColumn (key_ends part) inner → AreOfColumn (key_ends part) outer →
+    inner.numbers.low ≤ℤ inner.numbers.high → IsNarrowerRange inner outer →
     (key : Option KeyValue) → IsTrue (allows (span_of part.value inner) key) → IsTrue (allows (span_of part.value outer) key)
-within part keyed inner outer ordered h None t = h.values None t
-within part keyed inner outer ordered h (Some v) t =
+within part keyed inner outer of_inner of_outer ordered h None t = h.values None t
+within part keyed inner outer of_inner of_outer ordered h (Some v) t =
     let low = part.value inner.numbers.low in
     let high = part.value inner.numbers.high in
     let is = lies_in inner.null low high v t in
@@ -85,8 +87,8 @@ within part keyed inner outer ordered h (Some v) t =
     lies_by outer.null (part.value outer.numbers.low) (part.value outer.numbers.high) v
     (record {
       number = some.0;
-      above = follows (part.value outer.numbers.low) low v (value_in_order part keyed outer.numbers.low inner.numbers.low h.numbers.low) is.above;
-      below = follows v high (part.value outer.numbers.high) is.below (value_in_order part keyed inner.numbers.high outer.numbers.high h.numbers.high);
+      above = follows (part.value outer.numbers.low) low v (value_in_order part keyed outer.numbers.low inner.numbers.low of_outer.low of_inner.low h.numbers.low) is.above;
+      below = follows v high (part.value outer.numbers.high) is.below (value_in_order part keyed inner.numbers.high outer.numbers.high of_inner.high of_outer.high h.numbers.high);
     })
 
 -- ---- a row later
@@ -124,22 +126,23 @@ ordered part known keyed knows r r_in =
     range_ordered (ends_at part.frame part.order.key) (known_at known part.order.key).read (prefix_at known part.order.key r)
     (knows.legal part.order.key r keyed.column r_in)
 
-narrower_row : (part : Part) (known later : Knowledge) → IsKeyed part → IsLaterKnown part known later → (r : ℕ) → r < part.frame.rows →
+narrower_row : (part : Part) (known later : Knowledge) → IsKeyed part → IsKnowledge part.frame known → IsLaterKnown part known later → (r : ℕ) → r < part.frame.rows →
     IsNarrower part.order.down (listed part known r) (listed part later r)
-narrower_row part known later keyed h r r_in =
+narrower_row part known later keyed knows h r r_in =
     let range = ranges_of part.frame later r part.order.key in
+    let of = key_range part later keyed h.knows r r_in in
     let up = ordered part later keyed h.knows r r_in in
     record {
       named = refl;
       ends = λ end. ends_allowed range.null (part.value range.numbers.low) (part.value range.numbers.high)
-          (value_in_order part keyed range.numbers.low range.numbers.high up) part.order.down end;
-      within = within part keyed range (ranges_of part.frame known r part.order.key) up (h.narrower r r_in);
+          (value_in_order part keyed range.numbers.low range.numbers.high of.low of.high up) part.order.down end;
+      within = within part keyed range (ranges_of part.frame known r part.order.key) of (key_range part known keyed knows r r_in) up (h.narrower r r_in);
       certain = certain_stays (standing_in part known r) (standing_in part later r) (h.kept r r_in);
     }
 
-later_by : (part : Part) (known later : Knowledge) → IsKeyed part → IsLaterKnown part known later →
+later_by : (part : Part) (known later : Knowledge) → IsKeyed part → IsKnowledge part.frame known → IsLaterKnown part known later →
     AreLater part.order.down (report part known) (report part later)
-later_by part known later keyed h =
+later_by part known later keyed knows h =
     record {
       listed = λ row i.
           let from = chosen (listed part later) (is_told part later) (rows_of part.frame) row i in
@@ -149,7 +152,7 @@ later_by part known later keyed h =
             old = listed part known r;
             is = choose (listed part known) (is_told part known) r (rows_of part.frame) from.is
                 (told_before (standing_in part known r) (standing_in part later r) (h.kept r r_in) from.passes);
-            narrower = subst (λ z. IsNarrower part.order.down (listed part known r) z) (sym from.same) (narrower_row part known later keyed h r r_in);
+            narrower = subst (λ z. IsNarrower part.order.down (listed part known r) z) (sym from.same) (narrower_row part known later keyed knows h r r_in);
           };
       kept = λ old i t.
           let from = chosen (listed part known) (is_told part known) (rows_of part.frame) old i in
@@ -166,7 +169,7 @@ later_by part known later keyed h =
 pub reports_nest : StandingsNest → RangesNest → TakenIsKnowledge → ReportsNest
 reports_nest stand narrow take part known keyed knows =
     record {
-      stays = later_by part known known keyed
+      stays = later_by part known known keyed knows
           (record {
             kept = λ r r_in. kept_itself (standing_in part known r);
             narrower = λ r r_in. record {
@@ -178,7 +181,7 @@ reports_nest stand narrow take part known keyed knows =
             };
             knows = knows;
           });
-      plane = λ c bits can. later_by part known (taken known c bits) keyed
+      plane = λ c bits can. later_by part known (taken known c bits) keyed knows
           (record {
             kept = λ r r_in. stand part.pred part.order part.frame known c bits r knows can r_in;
             narrower = λ r r_in. narrow part.frame known c bits r part.order.key knows can r_in;

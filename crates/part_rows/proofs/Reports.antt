@@ -10,11 +10,13 @@ use Rattle.std.proofs.lemmas.Bool.{and_from, and_parts, both_ways, cases_Bool, c
 use Rattle.std.proofs.lemmas.Cmp.{int_cmp_total, nat_cmp_total, tied_itself}
 use Rattle.std.proofs.lemmas.Int.{ints}
 use Rattle.std.proofs.lemmas.List.Sums.{length-filter}
-use Rattle.daq_table.specs.Tables.{Cells, Frame, row_of, rows_of}
+use Rattle.daq_table.specs.Tables.{Cells, Frame, IsTable, ends_at, row_of, rows_of}
+use Rattle.daq_table.specs.declared.head.Ends.{Ends}
 use Rattle.query_model.specs.declared.bounds.Standing.{Standing}
 use Rattle.query_model.specs.declared.bounds.Standing.TheVariants.{Certain, Possible, Excluded}
 use Rattle.query_model.specs.Answers.{same_value}
-use Rattle.query_model.specs.Knowledge.{IsCompletion, IsKnowledge, Knowledge, ranges_of}
+use Rattle.query_model.specs.Groups.{IsKeyPart}
+use Rattle.query_model.specs.Knowledge.{IsCompletion, IsKnowledge, Knowledge, known_at, prefix_at, ranges_of}
 use Rattle.query_model.specs.Laws.{AreValuesWithin, CompletionsAreSelections, StandingsAreRight}
 use Rattle.query_model.specs.Meaning.{holds}
 use Rattle.query_model.specs.Ranking.{beats, belongs, comes_before as number_before, key_before, rows_with}
@@ -25,10 +27,11 @@ use Rattle.shard_groups.specs.Keys.{allows, at_most, is_between}
 use Rattle.part_rows.specs.declared.row.PartRow.{PartRow}
 use Rattle.part_rows.specs.declared.row.RowName.{RowName}
 use Rattle.part_rows.specs.Marks.{Mark, comes_before, key_cmp, name_cmp, value_cmp}
-use Rattle.part_rows.specs.Tables.{IsKeyed, Part, ReportsHold, asked_of, is_certain, is_excluded, listed, mark_in, name_of, passing, report, span_of, standing_in}
+use Rattle.part_rows.specs.Tables.{IsKeyed, IsKeyNumber, Part, ReportsHold, asked_of, is_certain, is_excluded, listed, mark_in, name_of, passing, report, span_of, standing_in}
 use Rattle.part_rows.specs.Worlds.{AreNamedOnce, HasMark, IsFirstOfPart, IsIn, IsListed}
 use Rattle.part_rows.proofs.Counts.{step}
 use Rattle.part_rows.proofs.Joins.{ahead, named_by}
+use Rattle.part_rows.proofs.KeyNumbers.{AreOfColumn, of_column, of_range, of_row}
 use Rattle.part_rows.proofs.Ranking.{count_filtered}
 
 -- ---- lists of what is chosen from some numbers
@@ -102,6 +105,9 @@ once_chosen g f p numbered a (suc n) =
 
 -- ---- the order of numbers is that of their values
 
+abbrev pub key_ends : Part → Ends
+key_ends part = ends_at part.frame part.order.key
+
 number_first : (y r : ℕ) → is_lt (nat_cmp (y + 1) (r + 1)) ≡ nat_lt y r
 number_first y r =
     elim (cases_lt y r) [
@@ -128,15 +134,16 @@ eq_back o Less e = ap is_eq e
 eq_back o Equal e = ap is_eq e
 eq_back o Greater e = ap is_eq e
 
-key_first : (value : ℤ → KeyValue) → ((a b : ℤ) → value_cmp (value a) (value b) ≡ int_cmp a b) → (down : Bool) (a b : Option ℤ) (o : Ordering) (n : Bool) →
-    is_lt o ≡ n → is_lt (ordering_then (key_cmp down (option_map value a) (option_map value b)) o) ≡ (key_before down a b || (same_value a b && n))
-key_first value h down None None o n e = e
-key_first value h down None (Some b) o n e = refl
-key_first value h down (Some a) None o n e = refl
-key_first value h true (Some a) (Some b) o n e =
-    ap (λ k. is_lt (ordering_then k o)) (h b a) ∙ int_then b a o n e
+key_first : (value : ℤ → KeyValue) (ends : Ends) → ((a b : ℤ) → IsKeyPart ends (Some a) → IsKeyPart ends (Some b) → value_cmp (value a) (value b) ≡ int_cmp a b) →
+    (down : Bool) (a b : Option ℤ) (o : Ordering) (n : Bool) → IsKeyPart ends a → IsKeyPart ends b → is_lt o ≡ n →
+    is_lt (ordering_then (key_cmp down (option_map value a) (option_map value b)) o) ≡ (key_before down a b || (same_value a b && n))
+key_first value ends h down None None o n is_a is_b e = e
+key_first value ends h down None (Some b) o n is_a is_b e = refl
+key_first value ends h down (Some a) None o n is_a is_b e = refl
+key_first value ends h true (Some a) (Some b) o n is_a is_b e =
+    ap (λ k. is_lt (ordering_then k o)) (h b a is_b is_a) ∙ int_then b a o n e
     ∙ ap (λ s. int_lt b a || (s && n)) (eq_back (int_cmp b a) (int_cmp a b) (int_cmp_total.antisymm b a))
-key_first value h false (Some a) (Some b) o n e = ap (λ k. is_lt (ordering_then k o)) (h a b) ∙ int_then a b o n e
+key_first value ends h false (Some a) (Some b) o n is_a is_b e = ap (λ k. is_lt (ordering_then k o)) (h a b is_a is_b) ∙ int_then a b o n e
 
 -- of one part the row with the lesser number comes first
 name_first : (part : Part) (y r : ℕ) → is_lt (name_cmp (name_of part y) (name_of part r)) ≡ nat_lt y r
@@ -144,13 +151,15 @@ name_first part y r =
     ap (λ o. is_lt (ordering_then (ordering_then o (slice_cmp nat_cmp [] [])) (nat_cmp (y + 1) (r + 1)))) (tied_itself nat_cmp_total part.place)
     ∙ number_first y r
 
-ahead_is : (part : Part) (cells : Cells) → IsKeyed part → (r y : ℕ) →
+ahead_is : (part : Part) (cells : Cells) → IsKeyed part → IsTable part.frame cells → (r y : ℕ) →
     ahead (asked_of part) (mark_in part cells r) (mark_in part cells y)
     ≡ number_before part.order.down (row_of part.frame cells y part.order.key) y (row_of part.frame cells r part.order.key) r
-ahead_is part cells keyed r y =
+ahead_is part cells keyed table r y =
+    let key = part.order.key in
+    let of = of_row part.frame cells table key keyed.column in
     ap (λ b. b && comes_before part.order.down (mark_in part cells y) (mark_in part cells r)) (eq-eqb part.place part.place refl)
-    ∙ key_first part.value keyed.ordered part.order.down (row_of part.frame cells y part.order.key) (row_of part.frame cells r part.order.key)
-    (name_cmp (name_of part y) (name_of part r)) (nat_lt y r) (name_first part y r)
+    ∙ key_first part.value (ends_at part.frame key) keyed.ordered part.order.down (row_of part.frame cells y key) (row_of part.frame cells r key)
+    (name_cmp (name_of part y) (name_of part r)) (nat_lt y r) (of y) (of r) (name_first part y r)
 
 -- ---- as many rows come first
 
@@ -158,15 +167,15 @@ pub count_mapped : {X Y : Type 0} (f : X → Y) (q : Y → Bool) (xs : List X) �
 count_mapped f q [] = refl
 count_mapped f q (x ∷ xs) = omega (arith, step q (f x) (map f xs), step (λ z. q (f z)) x xs, count_mapped f q xs)
 
-rank_is : (part : Part) (cells : Cells) → IsKeyed part → (r : ℕ) →
+rank_is : (part : Part) (cells : Cells) → IsKeyed part → IsTable part.frame cells → (r : ℕ) →
     count_by (ahead (asked_of part) (mark_in part cells r)) (passing part cells)
     ≡ rows_with part.frame (λ y. beats part.pred part.order part.frame cells y r)
-rank_is part cells keyed r =
+rank_is part cells keyed table r =
     let passes = λ (y : ℕ). holds part.pred (row_of part.frame cells y) in
     let test = ahead (asked_of part) (mark_in part cells r) in
     count_mapped (mark_in part cells) test (filter passes (rows_of part.frame))
     ∙ count_filtered passes (λ y. test (mark_in part cells y)) (rows_of part.frame)
-    ∙ (λ i. count_by (λ y. passes y && ahead_is part cells keyed r y i) (rows_of part.frame))
+    ∙ (λ i. count_by (λ y. passes y && ahead_is part cells keyed table r y i) (rows_of part.frame))
     ∙ sym (length-filter (λ y. beats part.pred part.order part.frame cells y r) (rows_of part.frame))
 
 -- ---- keys
@@ -186,17 +195,20 @@ up_to : (a b : ℤ) → a ≤ℤ b → is_gt (int_cmp a b) ≡ false
 up_to a b t = grind (arith, ints)
 
 -- numbers in order have values in order
-pub value_in_order : (part : Part) → IsKeyed part → (a b : ℤ) → a ≤ℤ b → IsTrue (at_most (part.value a) (part.value b))
-value_in_order part keyed a b t = value_at_most (part.value a) (part.value b) (ap is_gt (keyed.ordered a b) ∙ up_to a b t)
+pub value_in_order : (part : Part) → IsKeyed part → (a b : ℤ) → IsKeyNumber part a → IsKeyNumber part b → a ≤ℤ b →
+    IsTrue (at_most (part.value a) (part.value b))
+value_in_order part keyed a b is_a is_b t = value_at_most (part.value a) (part.value b) (ap is_gt (keyed.ordered a b is_a is_b) ∙ up_to a b t)
 
-allowed : (part : Part) → IsKeyed part → (range : Range) (k : Option ℤ) → IsInRange range k → IsTrue (allows (span_of part.value range) (option_map part.value k))
-allowed part keyed range None t = t
-allowed part keyed range (Some x) t =
+allowed : (part : Part) → IsKeyed part → (range : Range) (k : Option ℤ) → AreOfColumn (key_ends part) range → IsInRange range k →
+    IsTrue (allows (span_of part.value range) (option_map part.value k))
+allowed part keyed range None of t = t
+allowed part keyed range (Some x) of t =
+    let is = of_column (key_ends part) range x of t.1.above t.1.below in
     subst (λ b. IsTrue (is_between (cond b (Some (record { low = part.value range.numbers.low; high = part.value range.numbers.high })) None) (part.value x)))
     (sym t.0)
     (and_from (at_most (part.value range.numbers.low) (part.value x)) (at_most (part.value x) (part.value range.numbers.high))
-    (value_in_order part keyed range.numbers.low x t.1.above)
-    (value_in_order part keyed x range.numbers.high t.1.below))
+    (value_in_order part keyed range.numbers.low x of.low is t.1.above)
+    (value_in_order part keyed x range.numbers.high is of.high t.1.below))
 
 -- ---- the report
 
@@ -230,6 +242,13 @@ ahead_of part cells r = rows_with part.frame (λ y. beats part.pred part.order p
 pub of_table : (frame : Frame) (r : ℕ) → IsIn r (rows_of frame) → r < frame.rows
 of_table frame r i = let h = in_range 0 frame.rows r i in omega (arith, h.1)
 
+-- what is known of a key are numbers that its column may hold
+pub key_range : (part : Part) (known : Knowledge) → IsKeyed part → IsKnowledge part.frame known → (r : ℕ) → r < part.frame.rows →
+    AreOfColumn (key_ends part) (ranges_of part.frame known r part.order.key)
+key_range part known keyed knows r r_in =
+    let key = part.order.key in
+    of_range (ends_at part.frame key) (known_at known key).read (prefix_at known key r) (knows.legal key r keyed.column r_in)
+
 certain : (part : Part) (known : Knowledge) (cells : Cells) → Setting part known cells → (row : PartRow) → IsIn row (report part known) →
     IsTrue row.certain → HasMark (asked_of part) (passing part cells) row.name
 certain part known cells s row i t =
@@ -242,7 +261,7 @@ certain part known cells s row i t =
       mark = mark_in part cells r;
       is = choose (mark_in part cells) (passes part cells) r (rows_of part.frame) from.is parts.0;
       named = ap (λ (z : PartRow). z.name) (sym from.same);
-      first = subst (λ n. n < part.order.limit) (sym (rank_is part cells s.keyed r)) (ltb-true (ahead_of part cells r) part.order.limit parts.1);
+      first = subst (λ n. n < part.order.limit) (sym (rank_is part cells s.keyed s.completion.table r)) (ltb-true (ahead_of part cells r) part.order.limit parts.1);
     }
 
 told : (part : Part) (known : Knowledge) (cells : Cells) → Setting part known cells → (mark : Mark) → IsIn mark (passing part cells) →
@@ -251,7 +270,7 @@ told part known cells s mark i first =
     let from = chosen (mark_in part cells) (passes part cells) (rows_of part.frame) mark i in
     let r = from.element in
     let right = s.right part.pred part.order part.frame known r s.knows (of_table part.frame r from.is) in
-    let below = subst (λ n. n < part.order.limit) (rank_is part cells s.keyed r)
+    let below = subst (λ n. n < part.order.limit) (rank_is part cells s.keyed s.completion.table r)
     (subst (λ m. IsFirstOfPart (asked_of part) (passing part cells) m) from.same first) in
     let so = and_from (passes part cells r) (nat_lt (ahead_of part cells r) part.order.limit) from.passes
     (lt-ltb (ahead_of part cells r) part.order.limit below) in
@@ -273,6 +292,7 @@ keys_told part known cells s row mark i j e =
     ap (λ (m : Mark). m.name.number) (sym b.same) ∙ ap (λ n. n.number) e ∙ ap (λ (z : PartRow). z.name.number) a.same in
     let same : r ≡ b.element = omega (arith, numbers) in
     let here = allowed part s.keyed (ranges_of part.frame known r part.order.key) (row_of part.frame cells r part.order.key)
+    (key_range part known s.keyed s.knows r (of_table part.frame r a.is))
     (s.within r part.order.key (of_table part.frame r a.is) s.keyed.column) in
     subst (λ (z : PartRow). IsTrue (allows z.key mark.key)) (sym a.same)
     (subst (λ (m : Mark). IsTrue (allows (listed part known r).key m.key)) (sym b.same)

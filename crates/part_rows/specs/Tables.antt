@@ -1,19 +1,23 @@
 -- What the report of a part lists where the part is a table of which something is known; and the reports of several parts.
-use Rattle.std.specs.Prelude.{◌≡◌, ℕ, ◌+◌, ◌<◌, ℤ, Bool, true, false}
-use Rattle.std.specs.Prelude.{not, List, [], ◌++◌, length, map, IsTrue, if◌then◌else◌}
+use Rattle.std.specs.Prelude.{◌≡◌, ℕ, ◌+◌, ◌-◌, ◌<◌, ℤ, pos, Bool, true, false}
+use Rattle.std.specs.Prelude.{not, List, [], ◌++◌, length, map, slice_index_or, IsTrue, if◌then◌else◌}
 use Rattle.std.specs.declared.option.Option.TheVariants.{Some, None}
+use Rattle.std.specs.Cmp.Lexicographic.{slice_cmp}
 use Rattle.std.specs.List.{filter}
+use Rattle.std.specs.List.Sorted.{IsStrictlySortedBy}
 use Rattle.std.specs.Option.{option_map}
-use Rattle.std.specs.Ordering.{int_cmp}
-use Rattle.daq_table.specs.Tables.{Cells, Frame, row_of, rows_of}
+use Rattle.std.specs.Ordering.{int_cmp, nat_cmp}
+use Rattle.daq_table.specs.Tables.{Cells, Frame, ends_at, row_of, rows_of}
 use Rattle.query_model.specs.declared.bounds.Standing.{Standing}
 use Rattle.query_model.specs.declared.bounds.Standing.TheVariants.{Certain, Possible, Excluded}
+use Rattle.query_model.specs.Groups.{IsKeyPart}
 use Rattle.query_model.specs.Knowledge.{CanTake, IsAllRead, IsCompletion, IsKnowledge, Knowledge, ranges_of, taken}
 use Rattle.query_model.specs.Meaning.{holds}
 use Rattle.query_model.specs.Queries.{Condition}
 use Rattle.query_model.specs.Ranking.{Order, standing_of}
 use Rattle.query_model.specs.Truths.{Range, may_be_null, may_be_number}
 use Rattle.shard_groups.specs.declared.keys.KeyValue.{KeyValue}
+use Rattle.shard_groups.specs.declared.keys.KeyValue.TheVariants.{Number, Text}
 use Rattle.shard_groups.specs.declared.keys.Span.{Span}
 use Rattle.query_kinds.specs.declared.rows.FirstRows.{FirstRows}
 use Rattle.part_rows.specs.declared.row.PartRow.{PartRow}
@@ -88,10 +92,33 @@ pub record Holds (asked : FirstRows) (rows : List PartRow) (world : World) : Typ
   pub named : AreNamedOnce (names_of rows)
   pub is_world : IsWorld asked rows world
 
--- the numbers of the sort key, which is a column, are ordered as their values are
+-- the sort key may have the number: its column may hold it
+abbrev pub IsKeyNumber : Part → ℤ → Type 0
+IsKeyNumber part number = IsKeyPart (ends_at part.frame part.order.key) (Some number)
+
+-- the sort key is a column, and its numbers are ordered as their values are
 pub record IsKeyed (part : Part) : Type 0 where
   pub column : part.order.key < length part.frame.columns
-  pub ordered : (a b : ℤ) → value_cmp (part.value a) (part.value b) ≡ int_cmp a b
+  pub ordered : (a b : ℤ) → IsKeyNumber part a → IsKeyNumber part b → value_cmp (part.value a) (part.value b) ≡ int_cmp a b
+
+-- the values of the sort key are its numbers, as those of a column of numbers or dates are
+abbrev pub HasNumbers : Part → Type 0
+HasNumbers part = (number : ℤ) → part.value number ≡ Number number
+
+-- they are texts that rise, and its numbers are their places, as in a column of texts
+pub record HasTexts (part : Part) (texts : List (List ℕ)) : Type 0 where
+  pub rising : IsStrictlySortedBy (slice_cmp nat_cmp) texts
+  pub base : (ends_at part.frame part.order.key).base ≡ pos 0
+  pub top : (ends_at part.frame part.order.key).top ≡ pos (length texts - 1)
+  pub value : (place : ℕ) → part.value (pos place) ≡ Text (slice_index_or texts place [])
+
+-- so each column can be the sort key
+pub record CanBeKeyed (part : Part) : Type 0 where
+  pub numbers : HasNumbers part → IsKeyed part
+  pub texts : (texts : List (List ℕ)) → HasTexts part texts → IsKeyed part
+
+abbrev pub ColumnsCanBeKeyed : Type 0
+ColumnsCanBeKeyed = (part : Part) → part.order.key < length part.frame.columns → CanBeKeyed part
 
 -- the report of a table holds of each of its completions
 abbrev pub ReportsHold : Type 0

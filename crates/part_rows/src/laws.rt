@@ -4,7 +4,7 @@ ghost use Rattle.part_rows.specs.Joined.{JoinedLinesNest, LinesHold};
 ghost use Rattle.part_rows.specs.Laws.{OrderIsFree, StandingsAreRight, StandingsBecomeExact, StandingsNest};
 ghost use Rattle.part_rows.specs.ReadBack.{BlocksAreReadBack, LinesAreShown};
 ghost use Rattle.part_rows.specs.Rising.{LinesRise};
-ghost use Rattle.part_rows.specs.Tables.{LaterReportsJoin, ReportsBecomeExact, ReportsHold, ReportsJoin, ReportsNest};
+ghost use Rattle.part_rows.specs.Tables.{ColumnsCanBeKeyed, LaterReportsJoin, ReportsBecomeExact, ReportsHold, ReportsJoin, ReportsNest};
 ghost use Rattle.part_rows.specs.Told.{LinesAreRight, LinesBecomeExact, LinesNest};
 ghost use Rattle.part_rows.specs.Trees.{ToldRowsHold, ToldRowsNest};
 
@@ -31,6 +31,11 @@ pub fn standings_become_exact()
 /// The order in which the parts' rows are listed makes no difference.
 pub fn order_is_free()
     ensures { OrderIsFree }
+{}
+
+/// Each column can be the sort key: of numbers, of dates, and of texts.
+pub fn columns_can_be_keyed()
+    ensures { ColumnsCanBeKeyed }
 {}
 
 /// What is listed of a table of which something is known, by the standings and the ranges of its rows, holds of each of its completions.
