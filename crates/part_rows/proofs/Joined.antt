@@ -20,7 +20,7 @@ use Rattle.part_rows.specs.Faults.{is_clear}
 use Rattle.part_rows.specs.Joined.{AreOfSoMany, JoinedLinesNest, LinesHold, joined_name, listed_at, tag_at}
 use Rattle.part_rows.specs.Laws.{AreLater}
 use Rattle.part_rows.specs.Marks.{Mark, name_cmp}
-use Rattle.part_rows.specs.Rising.{AreInOrder, AreRisingParts}
+use Rattle.part_rows.specs.Rising.{AreInOrder}
 use Rattle.part_rows.specs.Standings.{standing}
 use Rattle.part_rows.specs.Tables.{Holds, is_certain, is_excluded}
 use Rattle.part_rows.specs.Trees.{AreOfOnePart, renamed, told_row, told_rows}
@@ -44,14 +44,19 @@ between before (x ∷ xs) i zero d p less lt = absurd (omega (arith, less))
 between before (x ∷ xs) zero (suc j) d p less lt = p.0 (get_or xs j d) (in_at xs j d (omega (arith, lt)))
 between before (x ∷ xs) (suc i) (suc j) d p less lt = between before xs i j d p.1 (omega (arith, less)) (omega (arith, lt))
 
-clear_at : (parts : List PartListing) → AreRisingParts parts → (j : ℕ) → j < length parts → IsTrue (is_clear (tag_at parts j))
+-- they are clear and rise
+pub record HasTags (parts : List PartListing) : Type 0 where
+  pub clear : (part : PartListing) → IsIn part parts → IsTrue (is_clear part.tag)
+  pub tags : AreInOrder (λ a b. is_lt (slice_cmp nat_cmp a.tag b.tag)) parts
+
+clear_at : (parts : List PartListing) → HasTags parts → (j : ℕ) → j < length parts → IsTrue (is_clear (tag_at parts j))
 clear_at parts r j lt =
     let tag : PartListing → List ℕ = λ part. part.tag in
     let there : j < length (map tag parts) = subst (λ n. j < n) (sym (length-map parts tag)) lt in
     let from = out_of_map tag parts (tag_at parts j) (in_at (map tag parts) j [] there) in
     subst (λ t. IsTrue (is_clear t)) (sym from.same) (r.clear from.element from.is)
 
-rises_at : (parts : List PartListing) → AreRisingParts parts → (i j : ℕ) (s t : List ℕ) → i < j → j < length parts →
+rises_at : (parts : List PartListing) → HasTags parts → (i j : ℕ) (s t : List ℕ) → i < j → j < length parts →
     IsTrue (is_lt (slice_cmp nat_cmp (joined_tag (tag_at parts i) s) (joined_tag (tag_at parts j) t)))
 rises_at parts r i j s t less lt =
     let tag : PartListing → List ℕ = λ part. part.tag in
@@ -63,12 +68,12 @@ rises_at parts r i j s t less lt =
 
 -- ---- joined names stand in the order of the names
 
-less_by : (o : Ordering) → IsTrue (is_lt o) → o ≡ Less
+pub less_by : (o : Ordering) → IsTrue (is_lt o) → o ≡ Less
 less_by Less t = refl
 less_by Equal t = absurd (false≢true t)
 less_by Greater t = absurd (false≢true t)
 
-tags_alike : (parts : List PartListing) → AreRisingParts parts → (i j : ℕ) (s t : List ℕ) → i < length parts → j < length parts →
+tags_alike : (parts : List PartListing) → HasTags parts → (i j : ℕ) (s t : List ℕ) → i < length parts → j < length parts →
     slice_cmp nat_cmp (joined_tag (tag_at parts i) s) (joined_tag (tag_at parts j) t) ≡ ordering_then (nat_cmp i j) (slice_cmp nat_cmp s t)
 tags_alike parts r i j s t here there =
     let one = joined_tag (tag_at parts i) s in
@@ -87,7 +92,7 @@ tags_alike parts r i j s t here there =
       ]
     ]
 
-names_alike : (place : ℕ) (parts : List PartListing) → AreRisingParts parts → (a b : RowName) → a.part < length parts → b.part < length parts →
+pub names_alike : (place : ℕ) (parts : List PartListing) → HasTags parts → (a b : RowName) → a.part < length parts → b.part < length parts →
     name_cmp (joined_name place parts a) (joined_name place parts b) ≡ name_cmp a b
 names_alike place parts r a b here there =
     let tags = slice_cmp nat_cmp (joined_tag (tag_at parts a.part) a.tag) (joined_tag (tag_at parts b.part) b.tag) in
@@ -98,13 +103,13 @@ names_alike place parts r a b here there =
 -- ---- the rows of the parts
 
 -- the place and the tag of a row are those of its part
-record IsAt (place : ℕ) (parts : List PartListing) (row : Listing) : Type 0 where
-  at : ℕ
-  part_is : row.part ≡ place + at
-  below : at < length parts
-  tag_is : row.tag ≡ tag_at parts at
+pub record IsAt (place : ℕ) (parts : List PartListing) (row : Listing) : Type 0 where
+  pub at : ℕ
+  pub part_is : row.part ≡ place + at
+  pub below : at < length parts
+  pub tag_is : row.tag ≡ tag_at parts at
 
-is_at : (place : ℕ) (parts : List PartListing) (row : Listing) → IsIn row (listings_from place parts) → IsAt place parts row
+pub is_at : (place : ℕ) (parts : List PartListing) (row : Listing) → IsIn row (listings_from place parts) → IsAt place parts row
 is_at place [] row i = absurd i
 is_at place (part ∷ parts) row i =
     elim (in_either row (listings_of place part) (listings_from (place + 1) parts) i) [
@@ -119,7 +124,7 @@ is_at place (part ∷ parts) row i =
     ]
 
 -- a row has the tag of the part that it names
-tag_of : (parts : List PartListing) (row : Listing) → IsIn row (listings parts) → row.tag ≡ tag_at parts row.part
+pub tag_of : (parts : List PartListing) (row : Listing) → IsIn row (listings parts) → row.tag ≡ tag_at parts row.part
 tag_of parts row i =
     let at = is_at 0 parts row i in
     let there : at.at ≡ row.part = omega (arith, at.part_is) in
@@ -173,9 +178,10 @@ lines_hold place tag asked parts world r of h =
     let listed = listings parts in
     let rows = rows_of listed in
     let rename = joined_name place parts in
+    let tags : HasTags parts = record { clear = r.clear; tags = r.tags } in
     let one : AreOfOnePart rename place (names_of rows ++ names_in world) = record {
       part_is = λ name. refl;
-      ordered = λ a b i j. names_alike place parts r a b (name_below parts world of a i) (name_below parts world of b j);
+      ordered = λ a b i j. names_alike place parts tags a b (name_below parts world of a i) (name_below parts world of b j);
     } in
     let same = told_is place tag asked parts rows listed (tag_of parts) in
     subst (λ rs. Holds asked rs (renamed rename world)) (sym same) (told_rows_hold rename place asked rows world one h)

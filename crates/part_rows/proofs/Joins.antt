@@ -42,7 +42,7 @@ named_by f name (x ∷ xs) (inl e) = record { element = x; is = inl refl; named 
 named_by f name (x ∷ xs) (inr i) =
     let found = named_by f name xs i in record { element = found.element; is = inr found.is; named = found.named }
 
-once_together : {X : Type 0} (f : X → RowName) (xs ys : List X) → AreNamedOnce (map f xs) → AreNamedOnce (map f ys) →
+pub once_together : {X : Type 0} (f : X → RowName) (xs ys : List X) → AreNamedOnce (map f xs) → AreNamedOnce (map f ys) →
     ((x y : X) → IsIn x xs → IsIn y ys → f x ≢ f y) → AreNamedOnce (map f (xs ++ ys))
 once_together f [] ys n m apart = m
 once_together f (x ∷ xs) ys n m apart = (

@@ -15,7 +15,9 @@ mod ReadBack
 mod Reports
 mod Right
 mod Rising
+pub mod RisingRows
 mod Standing
 mod Told
 mod ToldLater
 mod Trees
+pub mod Whole

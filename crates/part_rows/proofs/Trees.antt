@@ -43,7 +43,7 @@ second_equal Greater p e = absurd (false≢true (ap is_eq e))
 same_text : (s t : List ℕ) → slice_cmp nat_cmp s t ≡ Equal → s ≡ t
 same_text s t e = (bytes_eq-Decides s t).0 (sym (is_eq-slice_cmp s t) ∙ ap is_eq e)
 
-same_name : (a b : RowName) → name_cmp a b ≡ Equal → a ≡ b
+pub same_name : (a b : RowName) → name_cmp a b ≡ Equal → a ≡ b
 same_name a b e =
     let front = first_equal (ordering_then (nat_cmp a.part b.part) (slice_cmp nat_cmp a.tag b.tag)) (nat_cmp a.number b.number) e in
     let part = nat_cmp-IsAntisymmetric a.part b.part (first_equal (nat_cmp a.part b.part) (slice_cmp nat_cmp a.tag b.tag) front) in

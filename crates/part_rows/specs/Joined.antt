@@ -1,10 +1,11 @@
 -- The lines of the block over all parts as those of one part of more.
-use Rattle.std.specs.Prelude.{◌≡◌, ℕ, ◌<◌, List, [], get_or, length, map}
+use Rattle.std.specs.Prelude.{◌≡◌, ℕ, ◌<◌, Bool, List, [], get_or, length, map}
 use Rattle.report_text.specs.declared.rows.RowLine.{RowLine}
 use Rattle.query_kinds.specs.declared.rows.FirstRows.{FirstRows}
+use Rattle.part_rows.specs.declared.row.PartRow.{PartRow}
 use Rattle.part_rows.specs.declared.row.RowName.{RowName}
 use Rattle.part_rows.specs.Combined.{Listing, PartListing, joined_tag, listings, rows_of, told_lines}
-use Rattle.part_rows.specs.Laws.{AreLater}
+use Rattle.part_rows.specs.Laws.{AreLater, IsExact}
 use Rattle.part_rows.specs.Marks.{Mark}
 use Rattle.part_rows.specs.Rising.{AreRisingParts}
 use Rattle.part_rows.specs.Tables.{Holds}
@@ -43,3 +44,14 @@ JoinedLinesNest =
     AreLater asked.down (rows_of (listings olds)) (rows_of (listings parts)) →
     AreLater asked.down (rows_of (listed_at place tag (told_lines asked (listings olds))))
     (rows_of (listed_at place tag (told_lines asked (listings parts))))
+
+-- each row is certain, and has one key
+abbrev pub AreAllExact : Bool → List PartRow → Type 0
+AreAllExact down rows = (row : PartRow) → IsIn row rows → IsExact down row
+
+-- so it is of these lines, where it is of what the parts list
+abbrev pub JoinedLinesBecomeExact : Type 0
+JoinedLinesBecomeExact =
+    (place : ℕ) (tag : List ℕ) (asked : FirstRows) (parts : List PartListing) →
+    AreAllExact asked.down (rows_of (listings parts)) →
+    AreAllExact asked.down (rows_of (listed_at place tag (told_lines asked (listings parts))))

@@ -10,4 +10,5 @@ pub mod Standings
 pub mod Tables
 pub mod Told
 pub mod Trees
+pub mod Whole
 pub mod Worlds

@@ -5,9 +5,9 @@ use Rattle.std.specs.Ordering.{is_lt, nat_cmp}
 use Rattle.report_text.specs.RowBlocks.{comes_before as stands_before}
 use Rattle.report_text.specs.declared.rows.RowLine.{RowLine}
 use Rattle.query_kinds.specs.declared.rows.FirstRows.{FirstRows}
-use Rattle.part_rows.specs.Combined.{PartListing, listings, told_lines}
+use Rattle.part_rows.specs.Combined.{PartListing, listings, rows_of, told_lines}
 use Rattle.part_rows.specs.Faults.{is_clear}
-use Rattle.part_rows.specs.Worlds.{IsIn}
+use Rattle.part_rows.specs.Worlds.{AreNamedOnce, IsIn, names_of}
 
 -- each stands before those behind it
 abbrev pub AreInOrder : {X : Type 0} → (X → X → Bool) → List X → Type 0
@@ -27,3 +27,9 @@ pub record AreRisingParts (parts : List PartListing) : Type 0 where
 -- then the lines of the block over all parts rise, as those of a report that can be read back do
 abbrev pub LinesRise : Type 0
 LinesRise = (asked : FirstRows) (parts : List PartListing) → AreRisingParts parts → AreRisingLines (told_lines asked (listings parts))
+
+-- where the lines of each part rise, no row is listed twice
+abbrev pub RisingLinesAreListedOnce : Type 0
+RisingLinesAreListedOnce =
+    (parts : List PartListing) → ((part : PartListing) → IsIn part parts → AreRisingLines part.rows) →
+    AreNamedOnce (names_of (rows_of (listings parts)))

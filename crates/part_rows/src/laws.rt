@@ -1,12 +1,13 @@
 //! The laws of standings over all parts. Each stands on a function that does nothing.
 
-ghost use Rattle.part_rows.specs.Joined.{JoinedLinesNest, LinesHold};
+ghost use Rattle.part_rows.specs.Joined.{JoinedLinesBecomeExact, JoinedLinesNest, LinesHold};
 ghost use Rattle.part_rows.specs.Laws.{OrderIsFree, StandingsAreRight, StandingsBecomeExact, StandingsNest};
 ghost use Rattle.part_rows.specs.ReadBack.{BlocksAreReadBack, LinesAreShown};
-ghost use Rattle.part_rows.specs.Rising.{LinesRise};
+ghost use Rattle.part_rows.specs.Rising.{LinesRise, RisingLinesAreListedOnce};
 ghost use Rattle.part_rows.specs.Tables.{ColumnsCanBeKeyed, LaterReportsJoin, ReportsBecomeExact, ReportsHold, ReportsJoin, ReportsNest};
 ghost use Rattle.part_rows.specs.Told.{LinesAreRight, LinesBecomeExact, LinesNest};
 ghost use Rattle.part_rows.specs.Trees.{ToldRowsHold, ToldRowsNest};
+ghost use Rattle.part_rows.specs.Whole.{NamedLinesAreRight, NamesAreApart, PartsAreLater};
 
 use query_model::{
     completions_are_selections, ranges_become_exact, ranges_nest, taken_is_knowledge,
@@ -123,4 +124,30 @@ pub fn told_rows_nest()
 /// With later reports of the parts, under the same tags, the lines of the block over all parts are later ones of one part.
 pub fn joined_lines_nest()
     ensures { JoinedLinesNest }
+{}
+
+/// Where each row that the parts list is certain and has one key, so is each line of the block over all parts.
+pub fn joined_lines_become_exact()
+    ensures { JoinedLinesBecomeExact }
+{}
+
+/// Where the tags of the parts rise and are clear, the lines of the block over all parts tell rows apart by what they show of them.
+pub fn names_are_apart()
+    ensures { NamesAreApart }
+{}
+
+/// In each world in which the parts' reports hold a line that says certain is that of a row among the first, each of these has a line, and
+/// lines show the names of rows, and spans in which their keys are.
+pub fn named_lines_are_right()
+    ensures { NamedLinesAreRight }
+{}
+
+/// Where what each part lists is a later report, so is what all parts list together.
+pub fn parts_are_later()
+    ensures { PartsAreLater }
+{}
+
+/// Where the lines of each part rise, no row is listed twice.
+pub fn rising_lines_are_listed_once()
+    ensures { RisingLinesAreListedOnce }
 {}
