@@ -1,14 +1,16 @@
 -- The block over all parts is read back as the block of a report.
 use Rattle.std.proofs.Common.{◌≡◌, ℕ, ◌+◌, ◌-◌, ◌<◌, Bool, true, false, not, cond, List, [], ◌∷◌, ◌++◌, length, refl, sym, ap, ◌∙◌, subst, arith, inl, inr, map, Some, All}
-use Rattle.std.specs.Prelude.{slice_get}
+use Rattle.std.specs.Prelude.{count_by, slice_get}
+use Rattle.std.proofs.lemmas.Bool.{lt-ltb}
 use Rattle.std.proofs.lemmas.List.{append_assoc, append-nil, get_or-append-add, length-append}
 use Rattle.std.proofs.lemmas.List.Elements.{All-cons, All-nil}
-use Rattle.std.proofs.lemmas.Option.{none-some, slice_get-get_or}
-use Rattle.report_text.specs.RowBlocks.{IsFirstLine, is_behind, last_row, tag_bytes}
+use Rattle.std.proofs.lemmas.List.Sums.{sum_by-append, sum_by-cons}
+use Rattle.std.proofs.lemmas.Option.{slice_get-get_or}
+use Rattle.report_text.specs.RowBlocks.{IsFirstLine, certain_rows, is_behind, is_lacking, last_row, possible_rows, tag_bytes, told_rows}
 use Rattle.report_text.specs.Rows.{IsShownRow, row_line}
-use Rattle.report_text.specs.declared.row_blocks.RowsTop.{RowsTop}
 use Rattle.report_text.specs.declared.row_blocks.RowsTop.TheVariants.{Counts, Skipped}
 use Rattle.report_text.specs.declared.rows.RowLine.{RowLine}
+use Rattle.report_text.specs.declared.rows.TopLine.{TopLine}
 use Rattle.query_kinds.specs.declared.rows.FirstRows.{FirstRows}
 use Rattle.part_rows.specs.Combined.{CombinedRows, Listing, PartListing, block_of, is_skipped, joined_tag, line_by, line_of, listings, listings_from, listings_of, rows_of, skipped_block, standing_in, told_lines, top_of}
 use Rattle.part_rows.specs.ReadBack.{AreShownParts, AreTaken, BlocksAreReadBack, IsReadBack, LinesAreShown}
@@ -40,17 +42,40 @@ follows_next done row [] p = tt
 follows_next done row (next ∷ rest) p =
     ap (λ last. is_behind last next.name) (last_is done row) ∙ p.0 next (inl refl)
 
-rows_taken : (limit : ℕ) (top : RowsTop) (done rest : List RowLine) → ((line : RowLine) → IsIn line rest → IsShownRow line) → AreRisingLines rest →
-    Follows done rest →
-    AreTaken limit (record { top = Some top; rows = done }) (map row_line rest) (record { top = Some top; rows = done ++ rest })
-rows_taken limit top done [] shown p f = λ i. record { top = Some top; rows = sym (append-nil done) i }
-rows_taken limit top done (row ∷ rest) shown p f = (
-  record { top = Some top; rows = done ++ row ∷ [] },
-  inr (inl (row, record { begun = λ e. none-some top (sym e); is_shown = shown row (inl refl); is_line = refl; behind = f }, refl)),
-  subst (λ rows. AreTaken limit (record { top = Some top; rows = done ++ row ∷ [] }) (map row_line rest) (record { top = Some top; rows = rows }))
-      (append_assoc done (row ∷ []) rest)
-      (rows_taken limit top (done ++ row ∷ []) rest (λ line i. shown line (inr i)) p.1 (follows_next done row rest p)),
-)
+-- how many rows there are with one more among them
+with_one : (is : RowLine → Bool) (done : List RowLine) (row : RowLine) (rest : List RowLine) →
+    count_by is (done ++ row ∷ rest) ≡ count_by is done + (cond (is row) 1 0 + count_by is rest)
+with_one is done row rest =
+    let each : RowLine → ℕ = λ r. cond (is r) 1 0 in
+    sum_by-append each done (row ∷ rest) ∙ ap (λ n. count_by is done + n) (sum_by-cons each row rest)
+
+-- the numbers are those of these rows
+record AreCounted (top : TopLine) (rows : List RowLine) : Type 0 where
+  certain : certain_rows rows ≡ top.certain
+  possible : possible_rows rows ≡ top.possible
+
+-- so one of them was not counted before
+lacking : (top : TopLine) (done : List RowLine) (row : RowLine) (rest : List RowLine) (certain : Bool) → row.certain ≡ certain →
+    AreCounted top (done ++ row ∷ rest) → is_lacking (Some (Counts top)) done certain ≡ true
+lacking top done row rest true e c =
+    let one : ◌≡◌ {A = ℕ} (cond row.certain 1 0) 1 = ap (λ b. cond b 1 0) e in
+    lt-ltb (certain_rows done) top.certain (omega (arith, one, with_one (λ r. r.certain) done row rest, c.certain))
+lacking top done row rest false e c =
+    let one : ◌≡◌ {A = ℕ} (cond (not row.certain) 1 0) 1 = ap (λ b. cond (not b) 1 0) e in
+    lt-ltb (possible_rows done) top.possible (omega (arith, one, with_one (λ r. not r.certain) done row rest, c.possible))
+
+rows_taken : (limit : ℕ) (top : TopLine) (done rest : List RowLine) → ((line : RowLine) → IsIn line rest → IsShownRow line) →
+    AreRisingLines rest → Follows done rest → AreCounted top (done ++ rest) →
+    AreTaken limit (told_rows (Counts top) done) (map row_line rest) (told_rows (Counts top) (done ++ rest))
+rows_taken limit top done [] shown p f c = λ i. told_rows (Counts top) (sym (append-nil done) i)
+rows_taken limit top done (row ∷ rest) shown p f c =
+    let same = append_assoc done (row ∷ []) rest in (
+      told_rows (Counts top) (done ++ row ∷ []),
+      inr (inl (row, record { lacking = lacking top done row rest row.certain refl c; is_shown = shown row (inl refl); is_line = refl; behind = f }, refl)),
+      subst (λ rows. AreTaken limit (told_rows (Counts top) (done ++ row ∷ [])) (map row_line rest) (told_rows (Counts top) rows)) same
+          (rows_taken limit top (done ++ row ∷ []) rest (λ line i. shown line (inr i)) p.1 (follows_next done row rest p)
+          (subst (AreCounted top) (sym same) c)),
+    )
 
 first_follows : (lines : List RowLine) → Follows [] lines
 first_follows [] = tt
@@ -115,7 +140,8 @@ judged_back asked parts s r is_top =
       taken = (
         record { top = Some (Counts top); rows = [] },
         inl (top, record { first = refl; is_top = is_top; asked = refl; is_line = refl }, refl),
-        rows_taken asked.limit (Counts top) [] lines (shown_lines asked parts s) (lines_rise asked parts r) (first_follows lines),
+        rows_taken asked.limit top [] lines (shown_lines asked parts s) (lines_rise asked parts r) (first_follows lines)
+            (record { certain = refl; possible = refl }),
       );
       whole = (refl, refl);
     }
