@@ -17,8 +17,8 @@ pub use laws::{
     blocks_are_read_back, columns_can_be_keyed, joined_lines_become_exact, joined_lines_nest,
     later_reports_join, lines_are_right, lines_are_shown, lines_become_exact, lines_hold,
     lines_nest, lines_rise, named_lines_are_right, names_are_apart, order_is_free, parts_are_later,
-    reports_become_exact, reports_hold, reports_join, reports_nest, standings_are_right,
-    standings_become_exact, standings_nest, told_rows_hold, told_rows_nest,
+    reports_become_exact, reports_hold, reports_join, reports_nest, rising_lines_are_listed_once,
+    standings_are_right, standings_become_exact, standings_nest, told_rows_hold, told_rows_nest,
 };
 pub use listed::ListedRows;
 pub use row::{PartRow, RowName};
