@@ -1,9 +1,11 @@
 //! The sums of many cells by the digits of their rows.
 
-ghost use Rattle.std.specs.Prelude.{◌≡◌, ◌<◌, ◌≤◌, length, take, slice_get, Some, IfOk, IsTrue};
-ghost use Rattle.query_model.specs.declared.query.ItemKind.TheVariants.{Sum};
+ghost use Rattle.std.specs.Prelude.{◌≡◌, ◌<◌, ◌≤◌, List, length, take, slice_get, Some, IfOk, IsTrue};
+ghost use Rattle.query_model.specs.declared.query.ItemKind.TheVariants.{Count, Sum};
+ghost use Rattle.query_model.specs.Bounds.{Pair};
 ghost use Rattle.query_model.specs.Validity.{IsSumKind};
-ghost use Rattle.aggregates.specs.Runnings.{IsAdded, IsBlank, IsCopied, MayCount};
+ghost use Rattle.aggregates.specs.Runnings.{IsAdded, IsBlank, IsCopied, MayCount, StandsFor};
+ghost use Rattle.aggregates.specs.Tallies.{tally_of};
 ghost use Rattle.digit_sums.specs.Digits.{AreDigits, pair_by};
 
 use crate::cell::CellDigits;
@@ -104,6 +106,19 @@ impl DigitSums {
         ensures { slice_get self.now.tallies.cells cell ≡ Some result }
     {
         self.sums[cell as usize].tally(self.ends)
+    }
+
+    /// What a count of the rows of a cell keeps of them.
+    pub fn count(&self, cell: u32) -> Tally
+        requires { cell < length self.now.tallies.cells }
+        ensures { (ps : List Pair) → StandsFor self.now.tallies cell ps → result ≡ tally_of Count ps }
+    {
+        let tally = self.tally(cell);
+        Tally {
+            certain: tally.certain,
+            all: tally.all,
+            ..Tally::none()
+        }
     }
 
     /// Makes the cells of a sum or an average stand for what these stand for.
