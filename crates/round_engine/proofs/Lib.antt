@@ -13,6 +13,7 @@ pub mod Declared
 pub mod DigitCells
 pub mod Places
 pub mod PresenceCounts
+pub mod ToldSums
 pub mod Unmoved
 pub mod Covers
 pub mod Walks

@@ -1,10 +1,14 @@
 -- Sums of many cells over a bare column, by the digits of its numbers.
-use Rattle.std.specs.Prelude.{◌≡◌, ℕ, ◌<◌, Bool, List, length, take}
+use Rattle.std.specs.Prelude.{◌≡◌, ℕ, ◌<◌, Bool, List, length, slice_get, take}
+use Rattle.std.specs.declared.option.Option.TheVariants.{Some}
 use Rattle.digit_sums.specs.Digits.{AreEndsOf, DigitTallies}
 use Rattle.known_column.specs.Columns.{KnownColumn, rows_of_column}
 use Rattle.known_column.specs.KnownTables.{KnownTable, column_at}
+use Rattle.query_model.specs.declared.bounds.Nullity.TheVariants.{Never}
+use Rattle.query_model.specs.Knowledge.{ranges_of}
 use Rattle.query_model.specs.Queries.{Aggregate, Column}
-use Rattle.round_engine.specs.CellAnswers.{StandBelow}
+use Rattle.query_model.specs.Truths.{null_of}
+use Rattle.round_engine.specs.CellAnswers.{StandBelow, StandForCells}
 use Rattle.round_engine.specs.Cells.{cells_in}
 use Rattle.round_engine.specs.Stages.{Stage}
 
@@ -23,3 +27,18 @@ pub record AreDigitSums
   pub stand : StandBelow stage item rows sums.tallies
   pub ends : AreEndsOf known sums.ends
   pub certain : sums.certain ≡ take (cells_in stage) single
+
+-- the item's argument is null at no row, and each cell stands for the item's pairs of all its rows
+pub record AreToldByDigits (stage : Stage) (item : Aggregate) (sums : DigitTallies) : Type 0 where
+  pub never_null : (row : ℕ) → null_of item.arg (ranges_of stage.frame stage.known row) ≡ Never
+  pub stand : StandForCells stage item sums.tallies
+
+-- of some item, or of the query's item of this number
+pub record AreSomeTold (stage : Stage) (sums : DigitTallies) : Type 0 where
+  pub item : Aggregate
+  pub told : AreToldByDigits stage item sums
+
+pub record IsTold (stage : Stage) (number : ℕ) (sums : DigitTallies) : Type 0 where
+  pub item : Aggregate
+  pub at : slice_get stage.query.items number ≡ Some item
+  pub told : AreToldByDigits stage item sums

@@ -1,9 +1,11 @@
 //! Sums of many cells over a bare column, to which rows are added by the digits of their numbers.
 
-ghost use Rattle.std.specs.Prelude.{◌≡◌, ◌<◌, ◌+◌, ◌*◌, min, IsTrue};
+ghost use Rattle.std.specs.Prelude.{◌≡◌, ◌<◌, ◌+◌, ◌*◌, length, min, IfSome, IsTrue};
 ghost use Rattle.kleene_filter.specs.Filters.{truths_under};
+ghost use Rattle.query_model.specs.Answers.{every_row, groups_of};
+ghost use Rattle.row_groups.specs.Partition.{AreCells};
 ghost use Rattle.round_engine.specs.CellAnswers.{HasRoom, IsParted, StandForCells};
-ghost use Rattle.round_engine.specs.DigitCells.{AreDigitSums, IsOverColumn};
+ghost use Rattle.round_engine.specs.DigitCells.{AreDigitSums, AreSomeTold, AreToldByDigits, IsOverColumn, IsTold};
 ghost use Rattle.round_engine.specs.Engines.{stage_of};
 ghost use Rattle.round_engine.specs.OneCell.{HoldMasks};
 ghost use Rattle.round_engine.specs.Stages.{IsOpenItem, IsOpenStage};
@@ -15,7 +17,7 @@ use digit_sums::{DigitSums, digit_ends};
 use kleene_filter::Filter;
 use known_column::{Known, LentColumns};
 use query_model::{Expr, Item, TypedQuery, pairs_are_few};
-use row_groups::{Cells, cells_tell_keys};
+use row_groups::{Cells, FEW_CELLS, cells_tell_keys};
 
 // What is known of a column and of a condition, the cells that the rows are in, and of each cell whether it holds one key.
 #[derive(Clone, Copy)]
@@ -89,9 +91,60 @@ fn sum_rows(
     true
 }
 
+// The first item that is a sum or an average over a bare column. It affects speed alone which is taken.
+fn first_sum(query: &TypedQuery) -> Option<usize>
+    ensures { IfSome result (λ item. item < length query.now.items) }
+{
+    for (i, item) in query.items.as_slice().iter().enumerate() {
+        if is_summed(item.kind) && matches!(&item.arg, Expr::Column(_)) {
+            return Some(i);
+        }
+    }
+    None
+}
+
 impl CellMasks {
-    // Makes each cell stand for its rows, where the digits of a column's numbers tell what the item keeps of them, the condition is decided
+    // Adds each row to its cell by the digits of a column's numbers, where these tell what the item keeps of it, the condition is decided
     // at each row, and there is room for all cells.
+    fn tell_digits(
+        &mut self,
+        query: &TypedQuery,
+        item: &Item,
+        columns: &LentColumns<'_>,
+        filter: &Filter,
+        cells: &Cells,
+        single: &[bool],
+    ) -> bool
+        requires open_stage { IsOpenStage (stage_of query.now columns.now) }
+        requires open_item { IsOpenItem columns.now.frame item.now }
+        requires judged { filter.now.truths ≡ truths_under query.now.pred columns.now }
+        requires parted { IsParted (stage_of query.now columns.now) cells.now single.now }
+        requires masks { HoldMasks columns.now.frame.rows self.old }
+        ensures masks { HoldMasks columns.now.frame.rows self.new }
+        ensures told { IsTrue result → AreToldByDigits (stage_of query.now columns.now) item.now self.new.digits }
+    {
+        let Expr::Column(column) = &item.arg else {
+            return false;
+        };
+        if !is_summed(item.kind) || filter.unknown() > 0 || self.digits.room() != single.len() {
+            return false;
+        }
+        let known = columns.column(*column as usize);
+        let Some(ends) = digit_ends(known) else {
+            return false;
+        };
+        cells_tell_keys();
+        self.digits.begin(item.kind, ends, cells.count(), single);
+        let rows = ColumnRows {
+            known,
+            filter,
+            cells,
+            single,
+        };
+        sum_rows(query, item, columns, rows, &mut self.digits)
+    }
+
+    // Makes each cell stand for its rows, where digits tell what the item keeps of them.
     pub(crate) fn fill_digits(
         &mut self,
         query: &TypedQuery,
@@ -112,28 +165,64 @@ impl CellMasks {
         ensures room { HasRoom (stage_of query.now columns.now) item.now running.new }
         ensures stand { IsTrue result → StandForCells (stage_of query.now columns.now) item.now running.new }
     {
-        let Expr::Column(column) = &item.arg else {
-            return false;
-        };
-        if !is_summed(item.kind) || filter.unknown() > 0 || self.digits.room() != single.len() {
-            return false;
+        let told = self.tell_digits(query, item, columns, filter, cells, single);
+        if told {
+            self.digits.copy_to(running);
         }
-        let known = columns.column(*column as usize);
-        let Some(ends) = digit_ends(known) else {
-            return false;
-        };
+        told
+    }
+
+    // Makes the cells of a count stand for the rows that were added by digits.
+    fn count_digits(
+        &self,
+        query: &TypedQuery,
+        columns: &LentColumns<'_>,
+        cells: &Cells,
+        presence: &mut Running,
+    )
+        requires open_stage { IsOpenStage (stage_of query.now columns.now) }
+        requires cells { AreCells columns.now.frame columns.now.known (groups_of query.now.shape) cells.now }
+        requires told { AreSomeTold (stage_of query.now columns.now) self.now.digits }
+        requires room { HasRoom (stage_of query.now columns.now) every_row presence.old }
+        ensures stand { StandForCells (stage_of query.now columns.now) every_row presence.new }
+    {
         cells_tell_keys();
-        self.digits.begin(item.kind, ends, cells.count(), single);
-        let rows = ColumnRows {
-            known,
-            filter,
-            cells,
-            single,
-        };
-        if !sum_rows(query, item, columns, rows, &mut self.digits) {
-            return false;
+        presence.begin(cells.count() as usize);
+        for cell in 0..cells.count() {
+            presence.set(cell, self.digits.count(cell));
         }
-        self.digits.copy_to(running);
-        true
+    }
+
+    // Adds all rows to a sum over a bare column by digits, where these tell it and there are more cells than masks tell, and makes the
+    // cells of a count stand for these rows. Says which item that is.
+    pub(crate) fn tell_presence(
+        &mut self,
+        query: &TypedQuery,
+        columns: &LentColumns<'_>,
+        filter: &Filter,
+        cells: &Cells,
+        single: &[bool],
+        presence: &mut Running,
+    ) -> Option<usize>
+        requires open_stage { IsOpenStage (stage_of query.now columns.now) }
+        requires judged { filter.now.truths ≡ truths_under query.now.pred columns.now }
+        requires parted { IsParted (stage_of query.now columns.now) cells.now single.now }
+        requires masks { HoldMasks columns.now.frame.rows self.old }
+        requires room { HasRoom (stage_of query.now columns.now) every_row presence.old }
+        ensures masks { HoldMasks columns.now.frame.rows self.new }
+        ensures room { HasRoom (stage_of query.now columns.now) every_row presence.new }
+        ensures told { IfSome result (λ item. IsTold (stage_of query.now columns.now) item self.new.digits) }
+        ensures presence { IfSome result (λ item. StandForCells (stage_of query.now columns.now) every_row presence.new) }
+    {
+        if cells.count() <= FEW_CELLS {
+            return None;
+        }
+        let told = first_sum(query)?;
+        let item = &query.items.as_slice()[told];
+        if !self.tell_digits(query, item, columns, filter, cells, single) {
+            return None;
+        }
+        self.count_digits(query, columns, cells, presence);
+        Some(told)
     }
 }

@@ -9,6 +9,7 @@ ghost use Rattle.query_model.specs.Bounds.{fractions_of};
 ghost use Rattle.round_engine.specs.CellAnswers.{AreGroups, HasCell, HasItem, HasRoom, HaveCells, HoldGroups, most_cells};
 ghost use Rattle.round_engine.specs.CellAnswers.{IsParted, StandForCells, StandForEach, StandForOthers, WereGroups};
 ghost use Rattle.row_groups.specs.Partition.{is_legal_cell, ranges_in, ranges_of_cell};
+ghost use Rattle.round_engine.specs.DigitCells.{IsTold};
 ghost use Rattle.round_engine.specs.Cells.{absence_in_cell, average_in_cell, bound_in_cell, cells_in, parts_in};
 ghost use Rattle.round_engine.specs.Engines.{stage_of};
 ghost use Rattle.round_engine.specs.KeptCells.{AreKeptParts, HaveKeptParts};
@@ -112,7 +113,8 @@ fn fill_item(
     }
 }
 
-// Adds all rows to the count of each cell's rows, of which nothing is kept.
+// Adds all rows to the count of each cell's rows, of which nothing is kept. Where digits tell a sum, its rows are those of the count: says
+// which item that is.
 fn fill_presence(
     query: &TypedQuery,
     columns: &LentColumns<'_>,
@@ -122,7 +124,7 @@ fn fill_presence(
     single: &[bool],
     masks: &mut CellMasks,
     presence: &mut Running,
-)
+) -> Option<usize>
     requires open_stage { IsOpenStage (stage_of query.now columns.now) }
     requires judged { filter.now.truths ≡ truths_under query.now.pred columns.now }
     requires same { block.old.frame.columns ≡ columns.now.frame.columns }
@@ -131,8 +133,12 @@ fn fill_presence(
     requires room { HasRoom (stage_of query.now columns.now) every_row presence.old }
     ensures same { block.new.frame.columns ≡ columns.now.frame.columns }
     ensures masks { HoldMasks columns.now.frame.rows masks.new }
+    ensures told { IfSome result (λ item. IsTold (stage_of query.now columns.now) item masks.new.digits) }
     ensures stand { StandForCells (stage_of query.now columns.now) every_row presence.new }
 {
+    if let Some(told) = masks.tell_presence(query, columns, filter, cells, single, presence) {
+        return Some(told);
+    }
     let mut kept = KeptParts::none();
     fill_item(
         query,
@@ -146,6 +152,27 @@ fn fill_presence(
         presence,
         &mut kept,
     );
+    None
+}
+
+// Makes the cells of an item stand for its rows, where digits told it. It is marked no more.
+fn copy_told(
+    query: &TypedQuery,
+    columns: &LentColumns<'_>,
+    told: Option<usize>,
+    masks: &CellMasks,
+    marks: &mut [bool; 16],
+    runnings: &mut [Running],
+)
+    requires open_stage { IsOpenStage (stage_of query.now columns.now) }
+    requires told { IfSome told (λ item. IsTold (stage_of query.now columns.now) item masks.now.digits) }
+    requires others { StandForOthers (stage_of query.now columns.now) marks.old runnings.old }
+    ensures others { StandForOthers (stage_of query.now columns.now) marks.new runnings.new }
+{
+    if let Some(told) = told {
+        masks.digits.copy_to(&mut runnings[told]);
+        marks[told] = false;
+    }
 }
 
 // Adds all rows of each marked item anew.
@@ -192,6 +219,13 @@ fn fill_each(
     }
 }
 
+// What was counted of the rows of each cell, and the item that digits told with it.
+#[derive(Clone, Copy)]
+struct Counted<'a> {
+    presence: &'a Running,
+    told: Option<usize>,
+}
+
 // Adds all rows of each item anew. COUNT(*) is told by the rows that were counted of each cell.
 fn fill_all(
     query: &TypedQuery,
@@ -200,7 +234,7 @@ fn fill_all(
     block: &mut RowBlock,
     cells: &Cells,
     single: &[bool],
-    presence: &Running,
+    counted: Counted<'_>,
     masks: &mut CellMasks,
     runnings: &mut [Running],
     kept: &mut [KeptParts],
@@ -209,7 +243,8 @@ fn fill_all(
     requires judged { filter.now.truths ≡ truths_under query.now.pred columns.now }
     requires same { block.old.frame.columns ≡ columns.now.frame.columns }
     requires parted { IsParted (stage_of query.now columns.now) cells.now single.now }
-    requires presence { StandForCells (stage_of query.now columns.now) every_row presence.now }
+    requires presence { StandForCells (stage_of query.now columns.now) every_row counted.presence.now }
+    requires told { IfSome counted.told (λ item. IsTold (stage_of query.now columns.now) item masks.old.digits) }
     requires masks { HoldMasks columns.now.frame.rows masks.old }
     requires room { HaveCells query.now.items (most_cells (stage_of query.now columns.now)) runnings.old }
     requires kept { HaveKeptParts columns.now query.now.items kept.old }
@@ -218,9 +253,10 @@ fn fill_all(
     ensures masks { HoldMasks columns.now.frame.rows masks.new }
     ensures stand { StandForEach (stage_of query.now columns.now) runnings.new }
 {
-    let others = copy_each(query, columns, cells, presence, runnings);
+    let mut marks = copy_each(query, columns, cells, counted.presence, runnings);
+    copy_told(query, columns, counted.told, masks, &mut marks, runnings);
     fill_each(
-        query, columns, filter, block, cells, single, &others, masks, runnings, kept,
+        query, columns, filter, block, cells, single, &marks, masks, runnings, kept,
     );
 }
 
@@ -271,7 +307,7 @@ impl Groups {
         ensures same { block.new.frame.columns ≡ columns.now.frame.columns }
         ensures answers { AreGroups (stage_of query.now columns.now) self.new }
     {
-        fill_presence(
+        let told = fill_presence(
             query,
             columns,
             filter,
@@ -281,6 +317,10 @@ impl Groups {
             &mut self.masks,
             &mut self.presence,
         );
+        let counted = Counted {
+            presence: &self.presence,
+            told,
+        };
         fill_all(
             query,
             columns,
@@ -288,7 +328,7 @@ impl Groups {
             block,
             &self.cells,
             &self.single,
-            &self.presence,
+            counted,
             &mut self.masks,
             &mut self.runnings,
             &mut self.kept,

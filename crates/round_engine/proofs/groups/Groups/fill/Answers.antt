@@ -25,7 +25,7 @@ returns-clause-answers c =
     record {
       grouped = room.grouped;
       parted = room.parted;
-      presence = c.fill_presence.ensures.stand;
+      presence = c.fill_presence-told.ensures.stand;
       items = subst (StandForEach (stage_of c.args.query.now c.args.columns.now)) (sym same) c.fill_all.ensures.stand;
       masks = c.fill_all.ensures.masks;
       kept = subst (HaveKeptParts c.args.columns.now c.args.query.now.items) (sym same_kept) c.fill_all.ensures.kept;
