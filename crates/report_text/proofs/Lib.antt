@@ -10,6 +10,7 @@ pub mod NumberTexts
 pub mod OneAnswer
 pub mod OneGroup
 pub mod OneRow
+pub mod OneText
 pub mod Outside
 pub mod ReadKeys
 pub mod RoundLines

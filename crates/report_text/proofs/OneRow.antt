@@ -83,7 +83,7 @@ part_one true true (Some a) (Some b) h k e =
 part_one true false (Some a) (Some b) h k e = absurd (no_null b (ends_between a) k (sym e))
 part_one false true (Some a) (Some b) h k e = absurd (no_null a (ends_between b) h e)
 
-interval_one : (a b : ShownSpan) → IsShownSpan a → IsShownSpan b → key_interval a ≡ key_interval b → a ≡ b
+pub interval_one : (a b : ShownSpan) → IsShownSpan a → IsShownSpan b → key_interval a ≡ key_interval b → a ≡ b
 interval_one a b h k e =
     let same = part_one a.null b.null a.ends b.ends h k e in
     ap (λ (x : Bool). record { null = x; ends = a.ends }) same.0 ∙ ap (λ (x : Option ShownEnds). record { null = b.null; ends = x }) same.1

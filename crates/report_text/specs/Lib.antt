@@ -14,4 +14,5 @@ pub mod Quotes
 pub mod Reading
 pub mod RowBlocks
 pub mod Rows
+pub mod TextAnswers
 pub mod Words

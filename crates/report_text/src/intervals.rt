@@ -99,7 +99,7 @@ fn append_values(ends: &ValueEnds, text: &mut Vec<u8>) -> Result<(), AllocError>
 }
 
 // Appends the texts.
-fn append_texts(ends: &TextEnds, text: &mut Vec<u8>) -> Result<(), AllocError>
+pub(crate) fn append_texts(ends: &TextEnds, text: &mut Vec<u8>) -> Result<(), AllocError>
     ensures { OnOk result (text.new.items ≡ text.old.items ++ ends_between (Texts ends.now)) }
 {
     if ends.low.as_slice() == ends.high.as_slice() {
