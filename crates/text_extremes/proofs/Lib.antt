@@ -1,0 +1,6 @@
+pub mod TextOrder
+pub mod Joining
+pub mod TwoParts
+pub mod ManyParts
+pub mod Naming
+pub mod Worlds

@@ -1,0 +1,5 @@
+pub mod Bounds
+pub mod Laws
+pub mod Loans
+pub mod Shards
+pub mod Texts

@@ -1,0 +1,98 @@
+-- Shards of a table, each under a knowledge of its own. The numbers of a column of texts stand for these in the shard's own dictionary.
+use Rattle.std.specs.Prelude.{◌≡◌, ℕ, ℤ, ◌≤ℤ◌, true, false, List, [], ◌∷◌, map, IsTrue}
+use Rattle.std.specs.declared.option.Option.{Option}
+use Rattle.std.specs.declared.option.Option.TheVariants.{Some, None}
+use Rattle.daq_table.specs.Tables.{Cells}
+use Rattle.query_model.specs.declared.bounds.Bound.{Bound}
+use Rattle.query_model.specs.declared.bounds.Nullity.{Nullity}
+use Rattle.query_model.specs.declared.bounds.Nullity.TheVariants.{Never, Possibly, Always}
+use Rattle.query_model.specs.declared.query.ItemKind.{ItemKind}
+use Rattle.query_model.specs.declared.query.ItemKind.TheVariants.{Min, Max}
+use Rattle.shard_bounds.specs.Shards.{Shard, AreAllRead, AreCompletions, AreKnown, IsReadOn, ReadOnce, reported, values_at}
+use Rattle.text_extremes.specs.Bounds.{Admits, IsExtremes, IsNested, Tells, combined}
+use Rattle.text_extremes.specs.Laws.{OfEach, answer_over}
+use Rattle.text_extremes.specs.Texts.{text_le}
+use Rattle.text_extremes.specs.declared.bound.Extreme.{Extreme}
+use Rattle.text_extremes.specs.declared.bound.Extreme.TheVariants.{Least, Greatest}
+use Rattle.text_extremes.specs.declared.bound.TextBound.{TextBound}
+
+-- a shard, and the text of each number
+pub record TextShard : Type 0 where
+  pub shard : Shard
+  pub name : ℤ → List ℕ
+
+-- of two numbers the greater one has no lesser text, since a dictionary is in order
+abbrev pub IsRising : (ℤ → List ℕ) → Type 0
+IsRising name = (x y : ℤ) → x ≤ℤ y → IsTrue (text_le (name x) (name y))
+
+abbrev pub AreRising : List TextShard → Type 0
+AreRising [] = Unit {0}
+AreRising (part ∷ parts) = IsRising part.name × AreRising parts
+
+abbrev pub shards_of : List TextShard → List Shard
+shards_of parts = map (λ part. part.shard) parts
+
+abbrev pub kind_of : Extreme → ItemKind
+kind_of Least = Min
+kind_of Greatest = Max
+
+-- the texts that a shard gives to the item
+abbrev pub texts_in : List TextShard → List Cells → List (List (List ℕ))
+texts_in [] tables = []
+texts_in (part ∷ parts) [] = []
+texts_in (part ∷ parts) (cells ∷ more) = map part.name (values_at part.shard cells) ∷ texts_in parts more
+
+abbrev pub answer_in : Extreme → List TextShard → List Cells → Option (List ℕ)
+answer_in extreme parts tables = answer_over extreme (texts_in parts tables)
+
+-- the bound of numbers, by the texts that they stand for
+abbrev pub named_by : (ℤ → List ℕ) → Nullity → ℤ → ℤ → Option TextBound
+named_by name Never low high = Some (record { certain = true; low = name low; high = name high })
+named_by name Possibly low high = Some (record { certain = false; low = name low; high = name high })
+named_by name Always low high = None
+
+abbrev pub named : (ℤ → List ℕ) → Bound → Option TextBound
+named name bound = named_by name bound.null bound.lo bound.hi
+
+-- the bound that each reports, and the bound over all
+abbrev pub told : TextShard → Option TextBound
+told part = named part.name (reported part.shard)
+
+abbrev pub bound_over : Extreme → List TextShard → Option TextBound
+bound_over extreme parts = combined extreme (map told parts)
+
+-- ---- laws
+
+-- the bound over all shards admits the answer of each choice of completions
+abbrev pub ShardsContain : Type 0
+ShardsContain =
+    (extreme : Extreme) (parts : List TextShard) (tables : List Cells) →
+    AreRising parts → AreKnown (kind_of extreme) (shards_of parts) → AreCompletions (shards_of parts) tables →
+    Admits (bound_over extreme parts) (answer_in extreme parts tables)
+
+-- where the item is read-once, it is the extremes over all of them
+abbrev pub ShardsAreExtremes : Type 0
+ShardsAreExtremes =
+    (extreme : Extreme) (parts : List TextShard) →
+    AreRising parts → AreKnown (kind_of extreme) (shards_of parts) → ReadOnce (shards_of parts) →
+    IsExtremes (AreCompletions (shards_of parts)) (answer_in extreme parts) (bound_over extreme parts)
+
+-- a shard of which nothing or one plane more is read, with the same dictionary
+pub record IsPartReadOn (old new : TextShard) : Type 0 where
+  pub shard : IsReadOn old.shard new.shard
+  pub name : new.name ≡ old.name
+
+-- with more of the shards read, each at its own pace, the bound over all lies within the one before
+abbrev pub ShardsNest : Type 0
+ShardsNest =
+    (extreme : Extreme) (olds news : List TextShard) →
+    AreRising olds → AreKnown (kind_of extreme) (shards_of olds) → OfEach IsPartReadOn olds news →
+    IsNested (bound_over extreme olds) (bound_over extreme news)
+
+-- with nothing unread it says the answer
+abbrev pub ShardsBecomeExact : Type 0
+ShardsBecomeExact =
+    (extreme : Extreme) (parts : List TextShard) (tables : List Cells) →
+    AreRising parts → AreKnown (kind_of extreme) (shards_of parts) →
+    AreAllRead (shards_of parts) → AreCompletions (shards_of parts) tables →
+    Tells (bound_over extreme parts) (answer_in extreme parts tables)
