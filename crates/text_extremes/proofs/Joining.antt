@@ -3,12 +3,11 @@ use Rattle.std.proofs.Common.{◌≡◌, ℕ, Bool, true, false, ◌||◌, List,
 use Rattle.shard_bounds.specs.Laws.{flattened}
 use Rattle.shard_bounds.proofs.Orders.{folded}
 use Rattle.text_extremes.proofs.TextOrder.{first_assoc, first_comm, last_assoc, last_comm}
-use Rattle.text_extremes.specs.Bounds.{bound_with, combined, far_by, joined}
+use Rattle.text_extremes.specs.Bounds.{TextBound, bound_with, combined, far_by, joined}
 use Rattle.text_extremes.specs.Laws.{GroupsCombine, OnePartIsAll, OrderIsFree}
 use Rattle.text_extremes.specs.Texts.{extreme_of, first_of, of_all, of_both}
-use Rattle.text_extremes.specs.declared.bound.Extreme.{Extreme}
-use Rattle.text_extremes.specs.declared.bound.Extreme.TheVariants.{Least, Greatest}
-use Rattle.text_extremes.specs.declared.bound.TextBound.{TextBound}
+use Rattle.text_extremes.specs.declared.extreme.Extreme.{Extreme}
+use Rattle.text_extremes.specs.declared.extreme.Extreme.TheVariants.{Least, Greatest}
 
 -- ---- two bounds
 

@@ -4,3 +4,4 @@ pub mod TwoParts
 pub mod ManyParts
 pub mod Naming
 pub mod Worlds
+pub mod Saying

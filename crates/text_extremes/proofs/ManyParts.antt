@@ -2,11 +2,10 @@
 use Rattle.std.proofs.Common.{ℕ, List, [], ◌∷◌, map, Option, sym, subst}
 use Rattle.text_extremes.proofs.Joining.{answers_join}
 use Rattle.text_extremes.proofs.TwoParts.{joined_admits, joined_nests, joined_tells}
-use Rattle.text_extremes.specs.Bounds.{Admits, Tells, combined}
+use Rattle.text_extremes.specs.Bounds.{Admits, Tells, TextBound, combined}
 use Rattle.text_extremes.specs.Laws.{CombinationsContain, CombinationsNest, CombinationsTell, OfEach}
 use Rattle.text_extremes.specs.Texts.{extreme_of, first_of, of_all}
-use Rattle.text_extremes.specs.declared.bound.Extreme.{Extreme}
-use Rattle.text_extremes.specs.declared.bound.TextBound.{TextBound}
+use Rattle.text_extremes.specs.declared.extreme.Extreme.{Extreme}
 
 all_admit : (e : Extreme) (bounds : List (Option TextBound)) (parts : List (List (List ℕ))) →
     OfEach (λ bound texts. Admits bound (extreme_of e texts)) bounds parts → Admits (combined e bounds) (of_all (first_of e) (map (extreme_of e) parts))

@@ -15,8 +15,8 @@ use Rattle.text_extremes.proofs.TextOrder.{before_first, first_left, first_right
 use Rattle.text_extremes.specs.Bounds.{Admits, IsAttained, IsExtremes, IsNested, Tells}
 use Rattle.text_extremes.specs.Shards.{IsRising, kind_of, named, named_by}
 use Rattle.text_extremes.specs.Texts.{comes_first, extreme_of, first_of, of_both}
-use Rattle.text_extremes.specs.declared.bound.Extreme.{Extreme}
-use Rattle.text_extremes.specs.declared.bound.Extreme.TheVariants.{Least, Greatest}
+use Rattle.text_extremes.specs.declared.extreme.Extreme.{Extreme}
+use Rattle.text_extremes.specs.declared.extreme.Extreme.TheVariants.{Least, Greatest}
 
 never_always : Never ≡ Always → ⊥
 never_always e = cc

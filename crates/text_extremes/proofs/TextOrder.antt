@@ -9,8 +9,8 @@ use Rattle.std.proofs.lemmas.Cmp.{nat_list_cmp_total, tied_itself, upto}
 use Rattle.std.proofs.lemmas.Map.Text.{is_eq-slice_cmp}
 use Rattle.std.proofs.lemmas.Slice.Eq.{bytes_eq-Decides}
 use Rattle.text_extremes.specs.Texts.{comes_first, first_of, last_of, text_le}
-use Rattle.text_extremes.specs.declared.bound.Extreme.{Extreme}
-use Rattle.text_extremes.specs.declared.bound.Extreme.TheVariants.{Least, Greatest}
+use Rattle.text_extremes.specs.declared.extreme.Extreme.{Extreme}
+use Rattle.text_extremes.specs.declared.extreme.Extreme.TheVariants.{Least, Greatest}
 
 -- ---- bytes
 

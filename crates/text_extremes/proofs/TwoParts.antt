@@ -2,11 +2,10 @@
 use Rattle.std.proofs.Common.{◌≡◌, ℕ, Bool, true, false, ◌||◌, List, Option, Some, None, refl, sym, ap, subst, ◌∙◌, IsTrue}
 use Rattle.std.proofs.lemmas.Bool.{false≢true, or_from, or_left, or_right}
 use Rattle.text_extremes.proofs.TextOrder.{before_first, behind_last, chain, first_left, first_right, last_left, last_right}
-use Rattle.text_extremes.specs.Bounds.{Admits, IsNested, IsWithin, Tells, bound_with, far_by, far_end, joined, near_end}
+use Rattle.text_extremes.specs.Bounds.{Admits, IsNested, IsWithin, Tells, TextBound, bound_with, far_by, far_end, joined, near_end}
 use Rattle.text_extremes.specs.Texts.{comes_first, first_of, last_of, of_both}
-use Rattle.text_extremes.specs.declared.bound.Extreme.{Extreme}
-use Rattle.text_extremes.specs.declared.bound.Extreme.TheVariants.{Least, Greatest}
-use Rattle.text_extremes.specs.declared.bound.TextBound.{TextBound}
+use Rattle.text_extremes.specs.declared.extreme.Extreme.{Extreme}
+use Rattle.text_extremes.specs.declared.extreme.Extreme.TheVariants.{Least, Greatest}
 
 -- ---- the ends, near and far
 
@@ -50,7 +49,7 @@ far_second e false true u s t f h = h
 far_second e false false u s t f h = chain e u t (last_of e s t) h (last_right e s t)
 
 -- and what lies before both far ends lies before it
-far_both : (e : Extreme) (p q : Bool) (u s t : List ℕ) → IsTrue (comes_first e u s) → IsTrue (comes_first e u t) →
+pub far_both : (e : Extreme) (p q : Bool) (u s t : List ℕ) → IsTrue (comes_first e u s) → IsTrue (comes_first e u t) →
     IsTrue (comes_first e u (far_by e p q s t))
 far_both e true true u s t h k = before_first e u s t h k
 far_both e true false u s t h k = h

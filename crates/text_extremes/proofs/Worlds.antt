@@ -23,13 +23,12 @@ use Rattle.shard_bounds.proofs.Unions.{lists_give_bounds}
 use Rattle.text_extremes.proofs.Joining.{answers_join}
 use Rattle.text_extremes.proofs.ManyParts.{combinations_contain, combinations_nest, combinations_tell}
 use Rattle.text_extremes.proofs.Naming.{named_admits, named_answer, named_extremes, named_nests, named_tells}
-use Rattle.text_extremes.specs.Bounds.{Admits, IsAttained, IsExtremes, IsNested, Tells, bound_with, far_by, far_end, joined, near_end}
+use Rattle.text_extremes.specs.Bounds.{Admits, IsAttained, IsExtremes, IsNested, Tells, TextBound, bound_with, far_by, far_end, joined, near_end}
 use Rattle.text_extremes.specs.Laws.{OfEach}
 use Rattle.text_extremes.specs.Shards.{AreRising, IsPartReadOn, IsRising, ShardsAreExtremes, ShardsBecomeExact, ShardsContain, ShardsNest, TextShard, answer_in, bound_over, kind_of, named, shards_of, texts_in, told}
 use Rattle.text_extremes.specs.Texts.{comes_first, extreme_of, first_of, of_all, of_both}
-use Rattle.text_extremes.specs.declared.bound.Extreme.{Extreme}
-use Rattle.text_extremes.specs.declared.bound.Extreme.TheVariants.{Least, Greatest}
-use Rattle.text_extremes.specs.declared.bound.TextBound.{TextBound}
+use Rattle.text_extremes.specs.declared.extreme.Extreme.{Extreme}
+use Rattle.text_extremes.specs.declared.extreme.Extreme.TheVariants.{Least, Greatest}
 
 -- ---- one shard
 

@@ -4,9 +4,14 @@ use Rattle.std.specs.declared.option.Option.{Option}
 use Rattle.std.specs.declared.option.Option.TheVariants.{Some, None}
 use Rattle.query_model.specs.Bounds.{Occurs}
 use Rattle.text_extremes.specs.Texts.{first_of, last_of, of_all, text_le}
-use Rattle.text_extremes.specs.declared.bound.Extreme.{Extreme}
-use Rattle.text_extremes.specs.declared.bound.Extreme.TheVariants.{Least, Greatest}
-use Rattle.text_extremes.specs.declared.bound.TextBound.{TextBound}
+use Rattle.text_extremes.specs.declared.extreme.Extreme.{Extreme}
+use Rattle.text_extremes.specs.declared.extreme.Extreme.TheVariants.{Least, Greatest}
+
+-- the text lies between two, both included; if it is not certain, there may be none
+pub record TextBound : Type 0 where
+  pub certain : Bool
+  pub low : List ℕ
+  pub high : List ℕ
 
 -- ---- what a bound says
 

@@ -4,10 +4,9 @@ use Rattle.std.specs.Prelude.{◌≡◌, ℕ, List, [], ◌∷◌, map}
 use Rattle.std.specs.declared.option.Option.{Option}
 use Rattle.shard_bounds.specs.Combined.{Reordered}
 use Rattle.shard_bounds.specs.Laws.{flattened}
-use Rattle.text_extremes.specs.Bounds.{Admits, IsNested, Tells, combined}
+use Rattle.text_extremes.specs.Bounds.{Admits, IsNested, Tells, TextBound, combined}
 use Rattle.text_extremes.specs.Texts.{extreme_of}
-use Rattle.text_extremes.specs.declared.bound.Extreme.{Extreme}
-use Rattle.text_extremes.specs.declared.bound.TextBound.{TextBound}
+use Rattle.text_extremes.specs.declared.extreme.Extreme.{Extreme}
 
 -- the answer over the rows of all parts
 abbrev pub answer_over : Extreme → List (List (List ℕ)) → Option (List ℕ)

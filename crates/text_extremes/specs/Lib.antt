@@ -1,5 +1,5 @@
+pub mod Answers
 pub mod Bounds
 pub mod Laws
-pub mod Loans
 pub mod Shards
 pub mod Texts

@@ -9,12 +9,11 @@ use Rattle.query_model.specs.declared.bounds.Nullity.TheVariants.{Never, Possibl
 use Rattle.query_model.specs.declared.query.ItemKind.{ItemKind}
 use Rattle.query_model.specs.declared.query.ItemKind.TheVariants.{Min, Max}
 use Rattle.shard_bounds.specs.Shards.{Shard, AreAllRead, AreCompletions, AreKnown, IsReadOn, ReadOnce, reported, values_at}
-use Rattle.text_extremes.specs.Bounds.{Admits, IsExtremes, IsNested, Tells, combined}
+use Rattle.text_extremes.specs.Bounds.{Admits, IsExtremes, IsNested, Tells, TextBound, combined}
 use Rattle.text_extremes.specs.Laws.{OfEach, answer_over}
 use Rattle.text_extremes.specs.Texts.{text_le}
-use Rattle.text_extremes.specs.declared.bound.Extreme.{Extreme}
-use Rattle.text_extremes.specs.declared.bound.Extreme.TheVariants.{Least, Greatest}
-use Rattle.text_extremes.specs.declared.bound.TextBound.{TextBound}
+use Rattle.text_extremes.specs.declared.extreme.Extreme.{Extreme}
+use Rattle.text_extremes.specs.declared.extreme.Extreme.TheVariants.{Least, Greatest}
 
 -- a shard, and the text of each number
 pub record TextShard : Type 0 where

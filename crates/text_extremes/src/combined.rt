@@ -1,13 +1,14 @@
-//! The bound over all parts.
+//! What is said over all parts of the least or the greatest text.
 
-ghost use Rattle.std.specs.Prelude.{◌≡◌, IfOk, List, ℕ};
+ghost use Rattle.std.specs.Prelude.{◌≡◌, IfOk};
 ghost use Rattle.std.specs.Option.{option_map};
-ghost use Rattle.text_extremes.specs.Bounds.{bound_with, combined, far_by, far_end, joined, near_end};
-ghost use Rattle.text_extremes.specs.Loans.{bound_of};
+ghost use Rattle.text_extremes.specs.Answers.{answer_by, bound_of, bound_told, said_over};
+ghost use Rattle.text_extremes.specs.Bounds.{bound_with, far_by, far_end, joined, near_end};
 ghost use Rattle.text_extremes.specs.Texts.{comes_first, first_of, last_of, of_both};
 
-use crate::bound::{Extreme, TextBound};
+use crate::extreme::Extreme;
 use daq_table::Text;
+use report_text::{TextAnswer, TextEnds};
 use std::alloc::{AllocError, Global};
 
 // A bound whose texts stand elsewhere.
@@ -116,17 +117,17 @@ fn both<'a>(extreme: Extreme, one: Option<Loan<'a>>, other: Option<Loan<'a>>) ->
     }
 }
 
-fn lent(bound: &Option<TextBound>) -> Option<Loan<'_>>
-    ensures { option_map bound_of result ≡ bound.now }
+// The bound that a line tells.
+fn told(answer: &Option<TextAnswer>) -> Option<Loan<'_>>
+    ensures { option_map bound_of result ≡ bound_told answer.now }
 {
-    match bound {
-        Some(bound) => Some(Loan {
-            certain: bound.certain,
-            low: bound.low.as_slice(),
-            high: bound.high.as_slice(),
-        }),
-        None => None,
-    }
+    let answer = answer.as_ref()?;
+    let ends = answer.ends.as_ref()?;
+    Some(Loan {
+        certain: !answer.null,
+        low: ends.low.as_slice(),
+        high: ends.high.as_slice(),
+    })
 }
 
 fn copied(alloc: Global, text: &[u8]) -> Result<Text, AllocError>
@@ -135,32 +136,37 @@ fn copied(alloc: Global, text: &[u8]) -> Result<Text, AllocError>
     Ok(Text::new(Vec::from_slice(alloc, text)?))
 }
 
-fn owned(alloc: Global, loan: Option<Loan<'_>>) -> Result<Option<TextBound>, AllocError>
-    ensures { IfOk result (λ bound. bound ≡ option_map bound_of loan.entry) }
+// The answer that says a bound.
+fn answer_by(alloc: Global, loan: Option<Loan<'_>>) -> Result<Option<TextAnswer>, AllocError>
+    ensures { IfOk result (λ answer. answer ≡ answer_by (option_map bound_of loan.entry)) }
 {
     match loan {
-        Some(loan) => Ok(Some(TextBound {
-            certain: loan.certain,
-            low: copied(alloc, loan.low)?,
-            high: copied(alloc, loan.high)?,
-        })),
+        Some(loan) => {
+            let low = copied(alloc, loan.low)?;
+            let high = copied(alloc, loan.high)?;
+            Ok(Some(TextAnswer {
+                null: !loan.certain,
+                ends: Some(TextEnds { low, high }),
+            }))
+        }
         None => Ok(None),
     }
 }
 
-/// The bound over all parts, from those that the parts report. None is the bound of a part that has no text, and is left out.
+/// What is said over all parts, from what the parts' reports say. None is null: there is no text. Where a part's ends are in order, as its
+/// report has them, so are these.
 pub fn combine(
     alloc: Global,
     extreme: Extreme,
-    bounds: &[Option<TextBound>],
-) -> Result<Option<TextBound>, AllocError>
-    ensures { IfOk result (λ bound. bound ≡ combined extreme bounds.now) }
+    answers: &[Option<TextAnswer>],
+) -> Result<Option<TextAnswer>, AllocError>
+    ensures { IfOk result (λ answer. answer ≡ said_over extreme answers.now) }
 {
     let mut whole: Option<Loan<'_>> = None;
-    let mut i = bounds.len();
+    let mut i = answers.len();
     while i > 0 {
         i -= 1;
-        whole = both(extreme, lent(&bounds[i]), whole);
+        whole = both(extreme, told(&answers[i]), whole);
     }
-    owned(alloc, whole)
+    answer_by(alloc, whole)
 }

@@ -1,8 +1,14 @@
 //! The laws of bounds of texts over parts. Each stands on a function that does nothing.
 
+ghost use Rattle.text_extremes.specs.Answers.{AnswersAreShown};
 ghost use Rattle.text_extremes.specs.Laws.{CombinationsContain, CombinationsNest, CombinationsTell};
 ghost use Rattle.text_extremes.specs.Laws.{GroupsCombine, OnePartIsAll, OrderIsFree};
 ghost use Rattle.text_extremes.specs.Shards.{ShardsAreExtremes, ShardsBecomeExact, ShardsContain, ShardsNest};
+
+/// Where a report can show what each part says, it can show what is said over all.
+pub fn answers_are_shown()
+    ensures { AnswersAreShown }
+{}
 
 /// Where the bound of each part admits the part's answer, the bound over all parts admits the answer over all.
 pub fn combinations_contain()
