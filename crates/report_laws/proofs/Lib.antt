@@ -3,3 +3,4 @@ pub mod Keys
 pub mod Names
 pub mod Rows
 pub mod Shown
+pub mod Texts

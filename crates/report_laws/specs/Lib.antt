@@ -1,3 +1,4 @@
 pub mod Groups
 pub mod Laws
 pub mod Rows
+pub mod Texts

@@ -4,6 +4,7 @@ ghost use Rattle.report_laws.specs.Groups.{GroupsAreShown, KeysAreShown};
 ghost use Rattle.report_laws.specs.Rows.{FirstRowsAreShown};
 ghost use Rattle.report_laws.specs.Laws.{AveragesAreShown, AveragesCanBeRead, BoundsAreShown, BoundsCanBeRead};
 ghost use Rattle.report_laws.specs.Laws.{ClipsAreShown, ExactAveragesAreShown, RowsAreShown};
+ghost use Rattle.report_laws.specs.Texts.{TextsAreShown};
 
 use query_model::illegal_cells_are_empty;
 use row_groups::cells_tell_keys;
@@ -59,4 +60,9 @@ pub fn groups_are_shown()
 /// So are the lines of a query of first rows: how many there are, and each row with where its sort key lies.
 pub fn first_rows_are_shown()
     ensures { FirstRowsAreShown }
+{}
+
+/// So is where the least or the greatest text of a column lies.
+pub fn texts_are_shown()
+    ensures { TextsAreShown }
 {}
