@@ -13,8 +13,8 @@ use Rattle.query_model.specs.Bounds.{Occurs, WordIsRight}
 use Rattle.shard_bounds.specs.Laws as numbers_laws
 use Rattle.text_extremes.proofs.TextOrder.{before_first, first_left, first_right, one_text}
 use Rattle.text_extremes.specs.Bounds.{Admits, IsAttained, IsExtremes, IsNested, Tells}
-use Rattle.text_extremes.specs.Shards.{IsRising, kind_of, named, named_by}
-use Rattle.text_extremes.specs.Texts.{comes_first, extreme_of, first_of, of_both}
+use Rattle.text_extremes.specs.Shards.{kind_of, named, named_by}
+use Rattle.text_extremes.specs.Texts.{comes_first, extreme_of, first_of, of_both, text_le}
 use Rattle.text_extremes.specs.declared.extreme.Extreme.{Extreme}
 use Rattle.text_extremes.specs.declared.extreme.Extreme.TheVariants.{Least, Greatest}
 
@@ -26,6 +26,10 @@ never_possibly e = cc
 
 possibly_always : Possibly ≡ Always → ⊥
 possibly_always e = cc
+
+-- of two numbers the greater one has no lesser text
+abbrev pub IsRising : (ℤ → List ℕ) → Type 0
+IsRising name = (x y : ℤ) → x ≤ℤ y → IsTrue (text_le (name x) (name y))
 
 module _ (name : ℤ → List ℕ) (rise : IsRising name) where
   -- ---- answers

@@ -1,5 +1,5 @@
 -- Shards, each under a knowledge of its own.
-use Rattle.std.proofs.Common.{◌≡◌, ◌≢◌, ℕ, ℤ, Bool, true, false, ◌||◌, List, [], ◌∷◌, map, Option, Some, None, inl, inr, refl, sym, ap, subst, ◌∙◌, append-nil}
+use Rattle.std.proofs.Common.{◌≡◌, ◌≢◌, ℕ, Bool, true, false, ◌||◌, List, [], ◌∷◌, map, Option, Some, None, inl, inr, refl, sym, ap, subst, ◌∙◌, append-nil}
 use Rattle.std.specs.Option.{option_map}
 use Rattle.std.proofs.lemmas.Bool.{cond_both, or_parts}
 use Rattle.daq_table.specs.Tables.{Cells}
@@ -22,10 +22,11 @@ use Rattle.shard_bounds.proofs.Single.{one_shard_is_all}
 use Rattle.shard_bounds.proofs.Unions.{lists_give_bounds}
 use Rattle.text_extremes.proofs.Joining.{answers_join}
 use Rattle.text_extremes.proofs.ManyParts.{combinations_contain, combinations_nest, combinations_tell}
-use Rattle.text_extremes.proofs.Naming.{named_admits, named_answer, named_extremes, named_nests, named_tells}
+use Rattle.text_extremes.proofs.Dictionaries.{names_rise}
+use Rattle.text_extremes.proofs.Naming.{IsRising, named_admits, named_answer, named_extremes, named_nests, named_tells}
 use Rattle.text_extremes.specs.Bounds.{Admits, IsAttained, IsExtremes, IsNested, Tells, TextBound, bound_with, far_by, far_end, joined, near_end}
 use Rattle.text_extremes.specs.Laws.{OfEach}
-use Rattle.text_extremes.specs.Shards.{AreRising, IsPartReadOn, IsRising, ShardsAreExtremes, ShardsBecomeExact, ShardsContain, ShardsNest, TextShard, answer_in, bound_over, kind_of, named, shards_of, texts_in, told}
+use Rattle.text_extremes.specs.Shards.{AreAscending, IsPartReadOn, ShardsAreExtremes, ShardsBecomeExact, ShardsContain, ShardsNest, TextShard, answer_in, bound_over, kind_of, name_in, name_of, named, shards_of, texts_in, told}
 use Rattle.text_extremes.specs.Texts.{comes_first, extreme_of, first_of, of_all, of_both}
 use Rattle.text_extremes.specs.declared.extreme.Extreme.{Extreme}
 use Rattle.text_extremes.specs.declared.extreme.Extreme.TheVariants.{Least, Greatest}
@@ -52,30 +53,30 @@ answer_alone e shard cells = ap (answer (kind_of e)) (append-nil (values_at shar
 
 -- the answer of a shard, as a text
 abbrev text_at : Extreme → TextShard → Cells → Option (List ℕ)
-text_at e part cells = extreme_of e (map part.name (values_at part.shard cells))
+text_at e part cells = extreme_of e (map (name_of part) (values_at part.shard cells))
 
-named_at : (e : Extreme) (part : TextShard) (cells : Cells) → IsRising part.name →
-    text_at e part cells ≡ option_map part.name (shards.answer_in (kind_of e) (part.shard ∷ []) (cells ∷ []))
+named_at : (e : Extreme) (part : TextShard) (cells : Cells) → IsRising (name_of part) →
+    text_at e part cells ≡ option_map (name_of part) (shards.answer_in (kind_of e) (part.shard ∷ []) (cells ∷ []))
 named_at e part cells rise =
-    named_answer part.name rise e (values_at part.shard cells) ∙ ap (option_map part.name) (sym (answer_alone e part.shard cells))
+    named_answer (name_of part) rise e (values_at part.shard cells) ∙ ap (option_map (name_of part)) (sym (answer_alone e part.shard cells))
 
 -- ---- contains
 
-part_admits : (e : Extreme) (part : TextShard) (cells : Cells) → IsRising part.name → IsKnown (kind_of e) part.shard →
+part_admits : (e : Extreme) (part : TextShard) (cells : Cells) → IsRising (name_of part) → IsKnown (kind_of e) part.shard →
     AreCompletions (part.shard ∷ []) (cells ∷ []) → Admits (told part) (text_at e part cells)
 part_admits e part cells rise h c =
     let admits = known.shards_contain (kind_of e) (part.shard ∷ []) (cells ∷ []) (no_average e) (h.0, h.1, tt) c in
     subst (Admits (told part)) (sym (named_at e part cells rise))
-    (named_admits part.name rise (reported part.shard) (shards.answer_in (kind_of e) (part.shard ∷ []) (cells ∷ []))
+    (named_admits (name_of part) rise (reported part.shard) (shards.answer_in (kind_of e) (part.shard ∷ []) (cells ∷ []))
     (subst (λ (b : Bound). numbers.Admits b (shards.answer_in (kind_of e) (part.shard ∷ []) (cells ∷ []))) (alone e part.shard h) admits))
 
-parts_admit : (e : Extreme) (parts : List TextShard) (tables : List Cells) → AreRising parts → AreKnown (kind_of e) (shards_of parts) →
+parts_admit : (e : Extreme) (parts : List TextShard) (tables : List Cells) → AreAscending parts → AreKnown (kind_of e) (shards_of parts) →
     AreCompletions (shards_of parts) tables → OfEach (λ bound texts. Admits bound (extreme_of e texts)) (map told parts) (texts_in parts tables)
 parts_admit e [] [] r h c = tt
 parts_admit e [] (cells ∷ more) r h c = absurd c
 parts_admit e (part ∷ parts) [] r h c = absurd c
 parts_admit e (part ∷ parts) (cells ∷ more) r h c =
-    (part_admits e part cells r.0 (h.0, h.1) (c.0, tt), parts_admit e parts more r.1 h.2 c.1)
+    (part_admits e part cells (names_rise part.names r.0) (h.0, h.1) (c.0, tt), parts_admit e parts more r.1 h.2 c.1)
 
 pub shards_contain : ShardsContain
 shards_contain e parts tables r h c = combinations_contain e (map told parts) (texts_in parts tables) (parts_admit e parts tables r h c)
@@ -87,43 +88,43 @@ part_known kind old new h (inl same) = subst (IsKnown kind) (sym same) h
 part_known kind old new h (inr (c, bits, can, is)) =
     subst (IsKnown kind) (sym is) (h.0, taken_is_knowledge old.frame old.known c bits h.1 can)
 
-part_nests : (e : Extreme) (old new : TextShard) → IsRising old.name → IsKnown (kind_of e) old.shard → IsPartReadOn old new → IsNested (told old) (told new)
+part_nests : (e : Extreme) (old new : TextShard) → IsRising (name_of old) → IsKnown (kind_of e) old.shard → IsPartReadOn old new → IsNested (told old) (told new)
 part_nests e old new rise h r =
     let nests = known.shards_nest (kind_of e) (old.shard ∷ []) (new.shard ∷ []) (no_average e) (h.0, h.1, tt) (r.shard, tt) in
     let from : numbers.IsNested (reported old.shard) (shards.bound_over (kind_of e) (new.shard ∷ [])) =
     subst (λ (b : Bound). numbers.IsNested b (shards.bound_over (kind_of e) (new.shard ∷ []))) (alone e old.shard h) nests in
     let both : numbers.IsNested (reported old.shard) (reported new.shard) =
     subst (numbers.IsNested (reported old.shard)) (alone e new.shard (part_known (kind_of e) old.shard new.shard h r.shard)) from in
-    subst (λ (name : ℤ → List ℕ). IsNested (told old) (named name (reported new.shard))) (sym r.name)
-    (named_nests old.name rise (reported old.shard) (reported new.shard) both)
+    subst (λ (names : List (List ℕ)). IsNested (told old) (named (name_in names) (reported new.shard))) (sym r.names)
+    (named_nests (name_of old) rise (reported old.shard) (reported new.shard) both)
 
-parts_nest : (e : Extreme) (olds news : List TextShard) → AreRising olds → AreKnown (kind_of e) (shards_of olds) → OfEach IsPartReadOn olds news →
+parts_nest : (e : Extreme) (olds news : List TextShard) → AreAscending olds → AreKnown (kind_of e) (shards_of olds) → OfEach IsPartReadOn olds news →
     OfEach IsNested (map told olds) (map told news)
 parts_nest e [] [] r h on = tt
 parts_nest e [] (new ∷ news) r h on = absurd on
 parts_nest e (old ∷ olds) [] r h on = absurd on
-parts_nest e (old ∷ olds) (new ∷ news) r h on = (part_nests e old new r.0 (h.0, h.1) on.0, parts_nest e olds news r.1 h.2 on.1)
+parts_nest e (old ∷ olds) (new ∷ news) r h on = (part_nests e old new (names_rise old.names r.0) (h.0, h.1) on.0, parts_nest e olds news r.1 h.2 on.1)
 
 pub shards_nest : ShardsNest
 shards_nest e olds news r h on = combinations_nest e (map told olds) (map told news) (parts_nest e olds news r h on)
 
 -- ---- exact
 
-part_tells : (e : Extreme) (part : TextShard) (cells : Cells) → IsRising part.name → IsKnown (kind_of e) part.shard →
+part_tells : (e : Extreme) (part : TextShard) (cells : Cells) → IsRising (name_of part) → IsKnown (kind_of e) part.shard →
     AreAllRead (part.shard ∷ []) → AreCompletions (part.shard ∷ []) (cells ∷ []) → Tells (told part) (text_at e part cells)
 part_tells e part cells rise h all c =
     let tells = known.shards_become_exact (kind_of e) (part.shard ∷ []) (cells ∷ []) (no_average e) (h.0, h.1, tt) all c in
     subst (Tells (told part)) (sym (named_at e part cells rise))
-    (named_tells part.name rise (reported part.shard) (shards.answer_in (kind_of e) (part.shard ∷ []) (cells ∷ []))
+    (named_tells (name_of part) rise (reported part.shard) (shards.answer_in (kind_of e) (part.shard ∷ []) (cells ∷ []))
     (subst (λ (b : Bound). numbers_laws.Tells b (shards.answer_in (kind_of e) (part.shard ∷ []) (cells ∷ []))) (alone e part.shard h) tells))
 
-parts_tell : (e : Extreme) (parts : List TextShard) (tables : List Cells) → AreRising parts → AreKnown (kind_of e) (shards_of parts) →
+parts_tell : (e : Extreme) (parts : List TextShard) (tables : List Cells) → AreAscending parts → AreKnown (kind_of e) (shards_of parts) →
     AreAllRead (shards_of parts) → AreCompletions (shards_of parts) tables → OfEach (λ bound texts. Tells bound (extreme_of e texts)) (map told parts) (texts_in parts tables)
 parts_tell e [] [] r h all c = tt
 parts_tell e [] (cells ∷ more) r h all c = absurd c
 parts_tell e (part ∷ parts) [] r h all c = absurd c
 parts_tell e (part ∷ parts) (cells ∷ more) r h all c =
-    (part_tells e part cells r.0 (h.0, h.1) (all.0, tt) (c.0, tt), parts_tell e parts more r.1 h.2 all.1 c.1)
+    (part_tells e part cells (names_rise part.names r.0) (h.0, h.1) (all.0, tt) (c.0, tt), parts_tell e parts more r.1 h.2 all.1 c.1)
 
 pub shards_become_exact : ShardsBecomeExact
 shards_become_exact e parts tables r h all c = combinations_tell e (map told parts) (texts_in parts tables) (parts_tell e parts tables r h all c)
@@ -184,7 +185,7 @@ module _ (e : Extreme) {V W X : Type 0} (IsV : V → Type 0) (IsW : W → Type 0
 abbrev joined_in : Extreme → List TextShard → List Cells → Option (List ℕ)
 joined_in e parts tables = of_all (first_of e) (map (extreme_of e) (texts_in parts tables))
 
-part_is_extremes : (e : Extreme) (part : TextShard) → IsRising part.name → IsKnown (kind_of e) part.shard → ReadOnce (part.shard ∷ []) →
+part_is_extremes : (e : Extreme) (part : TextShard) → IsRising (name_of part) → IsKnown (kind_of e) part.shard → ReadOnce (part.shard ∷ []) →
     numbers.IsExtremes (AreCompletions (part.shard ∷ [])) (shards.answer_in (kind_of e) (part.shard ∷ [])) (reported part.shard)
 part_is_extremes e part rise h once =
     subst (numbers.IsExtremes (AreCompletions (part.shard ∷ [])) (shards.answer_in (kind_of e) (part.shard ∷ []))) (alone e part.shard h)
@@ -197,15 +198,15 @@ some_tables kind (shard ∷ list) h =
     let more = some_tables kind list h.2 in
     (cells.0 ∷ more.0, (cells.1, more.1))
 
-admits_in : (e : Extreme) (parts : List TextShard) (tables : List Cells) → AreRising parts → AreKnown (kind_of e) (shards_of parts) →
+admits_in : (e : Extreme) (parts : List TextShard) (tables : List Cells) → AreAscending parts → AreKnown (kind_of e) (shards_of parts) →
     AreCompletions (shards_of parts) tables → Admits (bound_over e parts) (joined_in e parts tables)
 admits_in e parts tables r h c = subst (Admits (bound_over e parts)) (answers_join e (texts_in parts tables)) (shards_contain e parts tables r h c)
 
 -- a world of the first shard alone, and one of the others
 abbrev named_in : Extreme → TextShard → List Cells → Option (List ℕ)
-named_in e part tables = option_map part.name (shards.answer_in (kind_of e) (part.shard ∷ []) tables)
+named_in e part tables = option_map (name_of part) (shards.answer_in (kind_of e) (part.shard ∷ []) tables)
 
-pair_at : (e : Extreme) (part : TextShard) (parts : List TextShard) → IsRising part.name → (s t : Option (List ℕ)) →
+pair_at : (e : Extreme) (part : TextShard) (parts : List TextShard) → IsRising (name_of part) → (s t : Option (List ℕ)) →
     Occurs (AreCompletions (part.shard ∷ [])) (named_in e part) s → Occurs (AreCompletions (shards_of parts)) (joined_in e parts) t →
     Occurs (AreCompletions (shards_of (part ∷ parts))) (joined_in e (part ∷ parts)) (of_both (first_of e) s t)
 pair_at e part parts rise s t ([], is, gives) found = absurd is
@@ -216,17 +217,17 @@ pair_at e part parts rise s t (cells ∷ [], is, gives) found = (
   ap (λ (x : Option (List ℕ)). of_both (first_of e) x (joined_in e parts found.0)) (named_at e part cells rise ∙ gives) ∙ ap (of_both (first_of e) s) found.2,
 )
 
-all_attained : (e : Extreme) (parts : List TextShard) → AreRising parts → AreKnown (kind_of e) (shards_of parts) → ReadOnce (shards_of parts) →
+all_attained : (e : Extreme) (parts : List TextShard) → AreAscending parts → AreKnown (kind_of e) (shards_of parts) → ReadOnce (shards_of parts) →
     IsAttained (AreCompletions (shards_of parts)) (joined_in e parts) (bound_over e parts)
 all_attained e [] r h once = tt
 all_attained e (part ∷ parts) r h once =
     let first = some_tables (kind_of e) (part.shard ∷ []) (h.0, h.1, tt) in
     let rest = some_tables (kind_of e) (shards_of parts) h.2 in
     joined_attained e (AreCompletions (part.shard ∷ [])) (AreCompletions (shards_of parts)) (AreCompletions (shards_of (part ∷ parts)))
-    (named_in e part) (joined_in e parts) (joined_in e (part ∷ parts)) (pair_at e part parts r.0) first.0 first.1 rest.0 rest.1
+    (named_in e part) (joined_in e parts) (joined_in e (part ∷ parts)) (pair_at e part parts (names_rise part.names r.0)) first.0 first.1 rest.0 rest.1
     (told part) (bound_over e parts)
-    (named_extremes part.name r.0 (AreCompletions (part.shard ∷ [])) (shards.answer_in (kind_of e) (part.shard ∷ [])) (reported part.shard)
-    (part_is_extremes e part r.0 (h.0, h.1) (once.0, tt)))
+    (named_extremes (name_of part) (names_rise part.names r.0) (AreCompletions (part.shard ∷ [])) (shards.answer_in (kind_of e) (part.shard ∷ [])) (reported part.shard)
+    (part_is_extremes e part (names_rise part.names r.0) (h.0, h.1) (once.0, tt)))
     (record { admits = λ tables c. admits_in e parts tables r.1 h.2 c; attained = all_attained e parts r.1 h.2 once.1 })
 
 same_occurs : {W A : Type 0} (IsWorld : W → Type 0) (f g : W → Option A) → ((w : W) → f w ≡ g w) → (a : Option A) → Occurs IsWorld f a → Occurs IsWorld g a
