@@ -4,8 +4,7 @@ use Rattle.std.proofs.lemmas.List.{append_assoc, drop_more}
 use Rattle.query_model.specs.declared.query.ItemKind.{ItemKind}
 use Rattle.report_text.specs.Lines.{item_line}
 use Rattle.report_text.specs.declared.answers.Answer.{Answer}
-use Rattle.part_groups.specs.Combined.{IsCombineFault}
-use Rattle.part_groups.specs.Whole.{groups_over}
+use Rattle.part_groups.specs.Whole.{IsFaultOver, groups_over}
 use Rattle.report_parts.specs.Faults.{IsFaultBy, of_groups}
 use Rattle.report_parts.specs.Reports.{answer_lines, block_by}
 use Rattle.report_parts.specs.Rounds.{all_groups_in}
@@ -20,7 +19,7 @@ by_groups zero round kinds parts some = absurd (omega (arith, some))
 by_groups (suc columns) round kinds parts some = refl
 
 pub fault_by_groups : (columns : ℕ) (why : BlockFault) (round : ℕ) (kinds : List ItemKind) (parts : List Told) → 0 < columns →
-    IsCombineFault (of_groups why) columns kinds (all_groups_in round parts) → IsFaultBy columns why round kinds parts
+    IsFaultOver (of_groups why) columns kinds (all_groups_in round parts) → IsFaultBy columns why round kinds parts
 fault_by_groups zero why round kinds parts some fault = absurd (omega (arith, some))
 fault_by_groups (suc columns) why round kinds parts some fault = fault
 

@@ -10,7 +10,7 @@ use Rattle.report_parts.proofs.Kept.{not_all_yet}
 use Rattle.report_parts.proofs.Said.{fault_once, fault_unsaid, which}
 use Rattle.report_parts.proofs.Telling.{grown}
 use Rattle.report_parts.specs.Course.{Combines, Stops, StopsBy, Task, Tell, is_over_before, wanted_of}
-use Rattle.report_parts.specs.Faults.{CanSay, IsBlockFault, IsExact}
+use Rattle.report_parts.specs.Faults.{CanSay, IsBlockFault}
 use Rattle.report_parts.specs.Laws.{AllReach}
 use Rattle.report_parts.specs.Rounds.{has_block, is_over}
 use Rattle.report_parts.specs.Told.{Told}
@@ -52,35 +52,34 @@ still_on query wanted parts laters (suc round) h before has = elim (yes_or_no (l
 ]
 
 not_written : (task : Task) (parts laters : List Told) (text before after body : List ℕ) (end : Option ReportEnd) (why : BlockFault) →
-    AllReach task.query task.shape parts laters → Stops task parts text before after why → IsExact why task.shape.columns →
+    AllReach task.query task.shape parts laters → Stops task parts text before after why → why ≢ NoMemory →
     Writes (wanted_of task) laters 0 body end → ⊥
-not_written task parts laters text before after body end why reach s exact writes =
+not_written task parts laters text before after body end why reach s some writes =
     let wanted = wanted_of task in
     let passed = passes_on task.query wanted parts laters s.round (text ++ s.more) reach s.passed in
     let on = still_on task.query wanted parts laters s.round reach s.goes s.has in
     let opened : (r : ℕ) → r < s.round → end_at wanted r laters ≡ None =
     λ r below. goes_on wanted laters r (passed.wide r below) (passed.more r below) (all_go wanted laters s.round (text ++ s.more) passed on r below) in
     let has = all_keep task.query task.shape s.round parts laters reach s.has in
-    fault_unsaid why s.round task.shape laters exact (fault_stays task.query task.shape why s.round parts laters reach s.has s.fault)
+    fault_unsaid why s.round task.shape laters some (fault_stays task.query task.shape why s.round parts laters reach s.has s.fault)
     (said_at wanted laters 0 s.round body end (omega arith) passed.has opened has writes)
 
 -- where a block cannot be written, no lines behind lead on
 pub never_combined : (task : Task) (lines others : List (List ℕ)) (parts : List Told) (text before after body : List ℕ) (end : Option ReportEnd) (why : BlockFault) →
-    Tell task [] lines parts → length parts ≡ task.count → Stops task parts text before after why → IsExact why task.shape.columns →
+    Tell task [] lines parts → length parts ≡ task.count → Stops task parts text before after why → why ≢ NoMemory →
     Combines task (lines ++ others) body end → ⊥
-never_combined task lines others parts text before after body end why told all s exact k =
+never_combined task lines others parts text before after body end why told all s some k =
     let g = grown task parts k.parts lines others all told k.told in
-    not_written task parts k.parts text before after body end why g.reach s exact (k.is_text.whole g.all)
+    not_written task parts k.parts text before after body end why g.reach s some (k.is_text.whole g.all)
 
--- where the blocks before have no fault, there is one reason
-pub stops_once : (task : Task) (parts : List Told) (text other before mid after last : List ℕ) (a b : BlockFault) (s : Stops task parts text before after a) →
-    Stops task parts other mid last b → IsExact a task.shape.columns → b ≢ NoMemory →
-    ((round : ℕ) (why : BlockFault) → round < s.round → why ≢ NoMemory → IsBlockFault why round task.shape parts → ⊥) → a ≡ b
-stops_once task parts text other before mid after last a b s t exact some none = elim (which s.round t.round) [
-  | inl less ↦ absurd (fault_unsaid a s.round task.shape parts exact s.fault (t.passed.said s.round less))
+-- there is one reason, at one block
+pub stops_once : (task : Task) (parts : List Told) (text other before mid after last : List ℕ) (a b : BlockFault) →
+    Stops task parts text before after a → Stops task parts other mid last b → a ≢ NoMemory → b ≢ NoMemory → a ≡ b
+stops_once task parts text other before mid after last a b s t one two = elim (which s.round t.round) [
+  | inl less ↦ absurd (fault_unsaid a s.round task.shape parts one s.fault (t.passed.said s.round less))
   | inr (inl same) ↦
-      fault_once a b s.round task.shape parts exact some s.fault (subst (λ (n : ℕ). IsBlockFault b n task.shape parts) (sym same) t.fault)
-  | inr (inr more) ↦ absurd (none t.round b more some t.fault)
+      fault_once a b s.round task.shape parts one two s.fault (subst (λ (n : ℕ). IsBlockFault b n task.shape parts) (sym same) t.fault)
+  | inr (inr more) ↦ absurd (fault_unsaid b t.round task.shape parts two t.fault (s.passed.said t.round more))
 ]
 
 pub as_stops : (why : BlockFault) (task : Task) (parts : List Told) (text before after : List ℕ) → why ≢ NoMemory → StopsBy why task parts text before after →

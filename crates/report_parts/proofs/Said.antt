@@ -2,9 +2,12 @@
 use Rattle.std.proofs.Common.{◌≡◌, ◌≢◌, ◌⊎◌, ℕ, zero, suc, ◌+◌, ◌<◌, ◌≤◌, Some, slice_get, List, length, refl, sym, ap, ◌∙◌, subst, inl, inr, arith}
 use Rattle.std.proofs.lemmas.Option.{slice_get_within}
 use Rattle.query_model.specs.declared.query.ItemKind.{ItemKind}
-use Rattle.part_groups.specs.Combined.{IsCombineFault, ShareForms}
+use Rattle.part_groups.proofs.Once.{faults_are_one}
+use Rattle.part_groups.specs.Whole.{CanBeCombined, IsFaultOver}
+use Rattle.part_groups.specs.declared.fault.CombineFault.{CombineFault as GroupsFault}
+use Rattle.part_groups.specs.declared.fault.CombineFault.TheVariants as groups_fault
 use Rattle.part_groups.specs.declared.group.Group.{Group as GroupTold}
-use Rattle.report_parts.specs.Faults.{CanBeSaid, CanSay, CanSayBefore, CanSayBy, IsBlockFault, IsExact, IsFaultBy, IsFirstFault, IsItemFault, IsTotalsFault, of_groups}
+use Rattle.report_parts.specs.Faults.{CanBeSaid, CanSay, CanSayBefore, CanSayBy, IsBlockFault, IsFaultBy, IsFirstFault, IsItemFault, IsTotalsFault, of_groups}
 use Rattle.report_parts.specs.Rounds.{all_groups_in, entries_in}
 use Rattle.report_parts.specs.Told.{Told}
 use Rattle.report_parts.specs.declared.entry.Entry.{Entry}
@@ -21,7 +24,7 @@ module _ (round : ℕ) (kinds : List ItemKind) (parts laters : List Told) (same 
 
   pub said_as : (columns : ℕ) → CanSayBy columns round kinds parts → CanSayBy columns round kinds laters
   said_as zero h = before_as (length kinds) h
-  said_as (suc columns) h = subst (λ (all : List (List GroupTold)). ShareForms (suc columns) kinds all) (sym groups) h
+  said_as (suc columns) h = subst (λ (all : List (List GroupTold)). CanBeCombined (suc columns) kinds all) (sym groups) h
 
   first_as : (why : BlockFault) → IsFirstFault why round kinds parts → IsFirstFault why round kinds laters
   first_as why h = record {
@@ -40,7 +43,7 @@ module _ (round : ℕ) (kinds : List ItemKind) (parts laters : List Told) (same 
 
   pub fault_as : (columns : ℕ) (why : BlockFault) → IsFaultBy columns why round kinds parts → IsFaultBy columns why round kinds laters
   fault_as zero why h = totals_as why h
-  fault_as (suc columns) why h = subst (λ (all : List (List GroupTold)). IsCombineFault (of_groups why) (suc columns) kinds all) (sym groups) h
+  fault_as (suc columns) why h = subst (λ (all : List (List GroupTold)). IsFaultOver (of_groups why) (suc columns) kinds all) (sym groups) h
 
 -- ---- an item more
 
@@ -131,62 +134,49 @@ as_first NoMemory round kinds parts some h = absurd (some refl)
 
 -- ---- groups
 
-least_once : (P : ℕ → Type 0) (a b : ℕ) → (P a → ⊥) → ((place : ℕ) → place < a → P place) → (P b → ⊥) → ((place : ℕ) → place < b → P place) → a ≡ b
-least_once P a b not_a below_a not_b below_b = elim (which a b) [
-  | inl less ↦ absurd (not_a (below_b a less))
-  | inr (inl same) ↦ same
-  | inr (inr more) ↦ absurd (not_b (below_a b more))
-]
+-- a block's fault from one of groups
+abbrev from_groups : GroupsFault → BlockFault
+from_groups (groups_fault.OtherColumn column) = OtherColumn column
+from_groups (groups_fault.OtherItem item) = OtherDecimals item
+from_groups (groups_fault.TooWide item) = TooWide item
+from_groups groups_fault.NoMemory = NoMemory
 
-groups_once : (a b : BlockFault) (columns : ℕ) (kinds : List ItemKind) (all : List (List GroupTold)) → IsExact a (suc columns) → b ≢ NoMemory →
-    IsCombineFault (of_groups a) (suc columns) kinds all → IsCombineFault (of_groups b) (suc columns) kinds all → a ≡ b
-groups_once (OtherColumn column) (OtherColumn again) columns kinds all exact some h k = ap (λ (n : ℕ). OtherColumn n) (least_once _ column again h.other h.before k.other k.before)
-groups_once (OtherColumn column) (OtherDecimals item) columns kinds all exact some h k = absurd (h.other (k.0.1.alike column h.there))
-groups_once (OtherColumn column) (TooWide item) columns kinds all exact some h k = absurd (h.other (k.0.2.columns_shared.alike column h.there))
-groups_once (OtherColumn column) NoMemory columns kinds all exact some h k = absurd (some refl)
-groups_once (OtherDecimals item) (OtherColumn column) columns kinds all exact some h k = absurd (k.other (h.0.1.alike column k.there))
-groups_once (OtherDecimals item) (OtherDecimals again) columns kinds all exact some h k =
-    ap (λ (n : ℕ). OtherDecimals n) (least_once _ item again h.1.other h.1.before k.1.other k.1.before)
-groups_once (OtherDecimals item) (TooWide again) columns kinds all exact some h k = absurd (h.1.other (k.0.2.items_shared.alike item h.1.there))
-groups_once (OtherDecimals item) NoMemory columns kinds all exact some h k = absurd (some refl)
-groups_once (TooWide item) b columns kinds all exact some h k = let none : suc columns ≡ 0 = exact in absurd (omega (arith, none))
-groups_once NoMemory b columns kinds all exact some h k = absurd exact
+same_fault : (why : BlockFault) → from_groups (of_groups why) ≡ why
+same_fault (OtherColumn column) = refl
+same_fault (OtherDecimals item) = refl
+same_fault (TooWide item) = refl
+same_fault NoMemory = refl
 
-groups_unsaid : (why : BlockFault) (columns : ℕ) (kinds : List ItemKind) (all : List (List GroupTold)) → IsExact why (suc columns) →
-    IsCombineFault (of_groups why) (suc columns) kinds all → ShareForms (suc columns) kinds all → ⊥
-groups_unsaid (OtherColumn column) columns kinds all exact h share = h.other (share.2.columns_shared.alike column h.there)
-groups_unsaid (OtherDecimals item) columns kinds all exact h share = h.1.other (share.2.items_shared.alike item h.1.there)
-groups_unsaid (TooWide item) columns kinds all exact h share = let none : suc columns ≡ 0 = exact in absurd (omega (arith, none))
-groups_unsaid NoMemory columns kinds all exact h share = exact
+some_fault : (why : BlockFault) → why ≢ NoMemory → of_groups why ≢ groups_fault.NoMemory
+some_fault why some e = some (sym (same_fault why) ∙ ap from_groups e)
 
 -- ---- both
 
-none_exact : (columns : ℕ) (why : BlockFault) → IsExact why columns → why ≢ NoMemory
-none_exact columns why exact same = subst (λ (w : BlockFault). IsExact w columns) same exact
-
-once_by : (columns : ℕ) (a b : BlockFault) (round : ℕ) (kinds : List ItemKind) (parts : List Told) → IsExact a columns → b ≢ NoMemory →
+once_by : (columns : ℕ) (a b : BlockFault) (round : ℕ) (kinds : List ItemKind) (parts : List Told) → a ≢ NoMemory → b ≢ NoMemory →
     IsFaultBy columns a round kinds parts → IsFaultBy columns b round kinds parts → a ≡ b
-once_by zero a b round kinds parts exact some h k =
-    let one = none_exact zero a exact in
-    first_once a b round kinds parts one some (as_first a round kinds parts one h) (as_first b round kinds parts some k)
-once_by (suc columns) a b round kinds parts exact some h k = groups_once a b columns kinds (all_groups_in round parts) exact some h k
+once_by zero a b round kinds parts one two h k =
+    first_once a b round kinds parts one two (as_first a round kinds parts one h) (as_first b round kinds parts two k)
+once_by (suc columns) a b round kinds parts one two h k =
+    sym (same_fault a)
+    ∙ ap from_groups (faults_are_one.alone (of_groups a) (of_groups b) (suc columns) kinds (all_groups_in round parts) (some_fault a one) (some_fault b two) h k)
+    ∙ same_fault b
 
--- a fault that is exact is the one that there is
-pub fault_once : (a b : BlockFault) (round : ℕ) (shape : Shape) (parts : List Told) → IsExact a shape.columns → b ≢ NoMemory →
+-- there is one fault
+pub fault_once : (a b : BlockFault) (round : ℕ) (shape : Shape) (parts : List Told) → a ≢ NoMemory → b ≢ NoMemory →
     IsBlockFault a round shape parts → IsBlockFault b round shape parts → a ≡ b
-fault_once a b round shape parts exact some h k = once_by shape.columns a b round shape.kinds parts exact some h k
+fault_once a b round shape parts one two h k = once_by shape.columns a b round shape.kinds parts one two h k
 
-unsaid_by : (columns : ℕ) (why : BlockFault) (round : ℕ) (kinds : List ItemKind) (parts : List Told) → IsExact why columns →
+unsaid_by : (columns : ℕ) (why : BlockFault) (round : ℕ) (kinds : List ItemKind) (parts : List Told) → why ≢ NoMemory →
     IsFaultBy columns why round kinds parts → CanSayBy columns round kinds parts → ⊥
-unsaid_by zero why round kinds parts exact h said =
-    let some = none_exact zero why exact in
+unsaid_by zero why round kinds parts some h said =
     first_unsaid why round kinds parts some (as_first why round kinds parts some h) said
-unsaid_by (suc columns) why round kinds parts exact h said = groups_unsaid why columns kinds (all_groups_in round parts) exact h said
+unsaid_by (suc columns) why round kinds parts some h said =
+    faults_are_one.none (of_groups why) (suc columns) kinds (all_groups_in round parts) (some_fault why some) h said
 
 -- and such a block cannot be written
-pub fault_unsaid : (why : BlockFault) (round : ℕ) (shape : Shape) (parts : List Told) → IsExact why shape.columns → IsBlockFault why round shape parts →
+pub fault_unsaid : (why : BlockFault) (round : ℕ) (shape : Shape) (parts : List Told) → why ≢ NoMemory → IsBlockFault why round shape parts →
     CanSay round shape parts → ⊥
-fault_unsaid why round shape parts exact h said = unsaid_by shape.columns why round shape.kinds parts exact h said
+fault_unsaid why round shape parts some h said = unsaid_by shape.columns why round shape.kinds parts some h said
 
 -- where there are no group columns, it is the items that are said
 pub said_totals : (round : ℕ) (shape : Shape) (parts : List Told) (kinds : List ItemKind) → shape.columns ≡ 0 → kinds ≡ shape.kinds →

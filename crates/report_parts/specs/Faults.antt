@@ -2,7 +2,7 @@
 use Rattle.std.specs.Prelude.{◌≡◌, ℕ, zero, suc, ◌<◌, List, length, slice_get}
 use Rattle.std.specs.declared.option.Option.TheVariants.{Some}
 use Rattle.query_model.specs.declared.query.ItemKind.{ItemKind}
-use Rattle.part_groups.specs.Combined.{IsCombineFault, ShareForms}
+use Rattle.part_groups.specs.Whole.{CanBeCombined, IsFaultOver}
 use Rattle.part_groups.specs.declared.fault.CombineFault.{CombineFault as GroupsFault}
 use Rattle.part_groups.specs.declared.fault.CombineFault.TheVariants as groups
 use Rattle.report_parts.specs.Combined.{AreAlikeEntries, FitEntries}
@@ -27,10 +27,10 @@ CanSayBefore place round kinds parts =
 
 abbrev pub CanSayBy : ℕ → ℕ → List ItemKind → List Told → Type 0
 CanSayBy zero round kinds parts = CanSayBefore (length kinds) round kinds parts
-CanSayBy (suc columns) round kinds parts = ShareForms (suc columns) kinds (all_groups_in round parts)
+CanSayBy (suc columns) round kinds parts = CanBeCombined (suc columns) kinds (all_groups_in round parts)
 
--- so each block over all parts is that is written: each item can be said, or, where there are group columns, all lines write each column,
--- and each item, in one form
+-- so each block over all parts is that is written: each item can be said, or, where there are group columns, the groups of all parts can be
+-- combined
 abbrev pub CanSay : ℕ → Shape → List Told → Type 0
 CanSay round shape parts = CanSayBy shape.columns round shape.kinds parts
 
@@ -66,14 +66,7 @@ of_groups NoMemory = groups.NoMemory
 
 abbrev pub IsFaultBy : ℕ → BlockFault → ℕ → List ItemKind → List Told → Type 0
 IsFaultBy zero why round kinds parts = IsTotalsFault why round kinds parts
-IsFaultBy (suc columns) why round kinds parts = IsCombineFault (of_groups why) (suc columns) kinds (all_groups_in round parts)
+IsFaultBy (suc columns) why round kinds parts = IsFaultOver (of_groups why) (suc columns) kinds (all_groups_in round parts)
 
 abbrev pub IsBlockFault : BlockFault → ℕ → Shape → List Told → Type 0
 IsBlockFault why round shape parts = IsFaultBy shape.columns why round shape.kinds parts
-
--- the definition tells one such fault at most: of groups it does not tell which item that is too wide comes first
-abbrev pub IsExact : BlockFault → ℕ → Type 0
-IsExact (OtherColumn column) columns = Unit {0}
-IsExact (OtherDecimals item) columns = Unit {0}
-IsExact (TooWide item) columns = columns ≡ 0
-IsExact NoMemory columns = ⊥

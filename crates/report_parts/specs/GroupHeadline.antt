@@ -12,7 +12,8 @@ use Rattle.shard_groups.specs.Laws.{IsLater, IsLaterAverage}
 use Rattle.shard_groups.specs.declared.cells.Cell.{Cell}
 use Rattle.part_groups.specs.Laws.{AreAllAveragesToldIn, AreAllToldIn, AreAveragesCertainIn, AreCertainIn, AreCountedIn, AreKeysShown}
 use Rattle.part_groups.specs.Laws.{IsGroupOf, IsNestedAverageGroup, IsNestedGroup, average_in, bound_in, keys_by}
-use Rattle.part_groups.specs.Whole.{AreWrittenAlike, cell_by}
+use Rattle.part_groups.specs.Forms.{AreWrittenAlike}
+use Rattle.part_groups.specs.Whole.{cell_by}
 use Rattle.part_groups.specs.declared.group.Group.{Group}
 use Rattle.report_parts.specs.Blocks.{groups_of, no_block}
 use Rattle.report_parts.specs.Course.{Task, Tell}

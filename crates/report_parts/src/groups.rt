@@ -3,8 +3,8 @@
 ghost use Rattle.std.specs.Prelude.{◌≡◌, ◌<◌, ◌++◌, IfErr, IfOk, OnOk, codes};
 ghost use Rattle.std.specs.List.{All};
 ghost use Rattle.part_groups.specs.Cells.{slices};
-ghost use Rattle.part_groups.specs.Combined.{IsCombineFault, IsShown, ShareForms};
-ghost use Rattle.part_groups.specs.Whole.{AreKeyed, groups_over};
+ghost use Rattle.part_groups.specs.Combined.{IsShown};
+ghost use Rattle.part_groups.specs.Whole.{AreKeyed, CanBeCombined, IsFaultOver, groups_over};
 ghost use Rattle.report_text.specs.Answers.{CanBeWritten};
 ghost use Rattle.report_text.specs.Groups.{group_line};
 ghost use Rattle.report_text.specs.Lines.{item_line};
@@ -15,7 +15,7 @@ ghost use Rattle.report_parts.specs.Rounds.{all_groups_in};
 use crate::blocks::push_line;
 use crate::fault::BlockFault;
 use crate::part::Part;
-use part_groups::{Group, combine, combined_is_whole};
+use part_groups::{Group, combine, combined_can_be, combined_is_whole, faults_are_whole};
 use query_model::ItemKind;
 use report_text::{Answer, written_group, written_item};
 use std::alloc::{AllocError, Global};
@@ -43,10 +43,12 @@ pub(crate) fn groups_over(
     requires keyed { AreKeyed columns (all_groups_in round parts.now) }
     ensures groups { IfOk result (λ groups. groups.items ≡ groups_over columns kinds.now (all_groups_in round parts.now)) }
     ensures shown { IfOk result (λ groups. All IsShown groups.items) }
-    ensures share { OnOk result (ShareForms columns kinds.now (all_groups_in round parts.now)) }
-    ensures fault { IfErr result (λ why. IsCombineFault (of_groups why) columns kinds.now (all_groups_in round parts.now)) }
+    ensures can { OnOk result (CanBeCombined columns kinds.now (all_groups_in round parts.now)) }
+    ensures fault { IfErr result (λ why. IsFaultOver (of_groups why) columns kinds.now (all_groups_in round parts.now)) }
 {
     combined_is_whole();
+    combined_can_be();
+    faults_are_whole();
     let groups = all_groups_in(alloc, round, parts)?;
     Ok(combine(alloc, columns, kinds, &groups)?)
 }
