@@ -20,10 +20,12 @@ use Rattle.report_parts.specs.Ends.{end_of_all, ends_narrow}
 use Rattle.report_parts.specs.Faults.{CanSay, IsBlockFault}
 use Rattle.report_parts.specs.Passed.{AllTellFrom, TellsFrom}
 use Rattle.part_groups.specs.Whole.{groups_over}
-use Rattle.report_parts.specs.Blocks.{groups_of, entries_of, no_block}
+use Rattle.report_parts.specs.Blocks.{groups_of, entries_of, is_skipped, no_block, rows_of}
 use Rattle.report_parts.specs.Entries.{answers_of, ends_with_extra, last_entry, no_entry}
 use Rattle.report_parts.specs.Reports.{block_beside, block_by, block_over, entries_over}
-use Rattle.report_parts.specs.Rounds.{all_groups_in, groups_in, entries_in, entry_in, has_block, is_over}
+use Rattle.query_kinds.specs.declared.rows.FirstRows.{FirstRows}
+use Rattle.part_rows.specs.Combined.{PartListing, combined, told_by}
+use Rattle.report_parts.specs.Rounds.{all_groups_in, all_listed_in, block_for, groups_in, entries_in, entry_in, has_block, is_over, listed_in}
 use Rattle.report_parts.specs.Tags.{AreInOrder, CannotTake, IsLineRefused, IsRefused, TakesTagged, against, behind_tag, by_order, tag_of, told_of, with_part}
 use Rattle.report_parts.specs.Told.{Answers, BeginsGroup, Closes, Extends, GoesOn, GroupsGoOn, IsUnlisted, ListsRow, OrElse, PassesBehind, PassesBehindSection, PassesInside, RowsGoOn, Takes, TakesAt, TakesBehind, TakesBehindAnswer, TakesBetween, TakesInside, TakesRest, Told, at_place, block_done, closed, closed_by, completed, completed_by, is_whole, nothing_told, opened_by, rows_done, settled, with_answer, with_current, with_extra, with_group, with_rows}
 use Rattle.report_parts.specs.declared.block.Block.{Block}
@@ -140,15 +142,27 @@ same_groups from round (whole ∷ wholes) (part ∷ parts) le h =
     let one : groups_in round part ≡ groups_in round whole = ap groups_of (h.0.same round le) in
     rw (one, same_groups from round wholes parts le h.1) refl
 
-same_block_by : (from round columns : ℕ) (kinds : List ItemKind) (wholes parts : List Told) → from ≤ round → AllTellFrom from wholes parts →
-    block_by columns round kinds parts ≡ block_by columns round kinds wholes
-same_block_by from round zero kinds wholes parts le h = ap (λ (entries : List Entry). Totals entries) (same_entries_over from round 0 kinds wholes parts le h)
-same_block_by from round (suc columns) kinds wholes parts le h =
+pub same_listed : (from round : ℕ) (wholes parts : List Told) → from ≤ round → AllTellFrom from wholes parts → all_listed_in round parts ≡ all_listed_in round wholes
+same_listed from round [] [] le h = refl
+same_listed from round [] (part ∷ parts) le h = absurd h
+same_listed from round (whole ∷ wholes) [] le h = absurd h
+same_listed from round (whole ∷ wholes) (part ∷ parts) le h =
+    let rows : rows_of (block_for round part) ≡ rows_of (block_for round whole) = ap rows_of (h.0.same round le) in
+    let skipped : is_skipped (block_for round part) ≡ is_skipped (block_for round whole) = ap is_skipped (h.0.same round le) in
+    let one : listed_in round part ≡ listed_in round whole = λ i. record { tag = h.0.tag i; skipped = skipped i; rows = rows i } in
+    rw (one, same_listed from round wholes parts le h.1) refl
+
+same_block_by : (asked : Option FirstRows) (from round columns : ℕ) (kinds : List ItemKind) (wholes parts : List Told) → from ≤ round →
+    AllTellFrom from wholes parts → block_by columns asked round kinds parts ≡ block_by columns asked round kinds wholes
+same_block_by (Some asked) from round zero kinds wholes parts le h =
+    ap (λ (all : List PartListing). Rows (told_by (combined asked all))) (same_listed from round wholes parts le h)
+same_block_by None from round zero kinds wholes parts le h = ap (λ (entries : List Entry). Totals entries) (same_entries_over from round 0 kinds wholes parts le h)
+same_block_by asked from round (suc columns) kinds wholes parts le h =
     ap (λ (all : List (List GroupTold)). Groups (groups_over (suc columns) kinds all)) (same_groups from round wholes parts le h)
 
 pub same_block_over : (from round : ℕ) (shape : Shape) (wholes parts : List Told) → from ≤ round → AllTellFrom from wholes parts →
     block_over round shape parts ≡ block_over round shape wholes
-same_block_over from round shape wholes parts le h = ap (block_beside shape.besides) (same_block_by from round shape.columns shape.kinds wholes parts le h)
+same_block_over from round shape wholes parts le h = ap (block_beside shape.besides) (same_block_by shape.rows from round shape.columns shape.kinds wholes parts le h)
 
 -- ---- a line more
 
@@ -713,12 +727,14 @@ refused_too (Line why) query shape most round wholes parts line h refused = (
 -- a block that can be written, and one that is not
 pub said_too : (round : ℕ) (shape : Shape) (wholes parts : List Told) → AllTellFrom round wholes parts → CanSay round shape parts → CanSay round shape wholes
 said_too round shape wholes parts h said =
-    said_as round shape.kinds parts wholes (λ item. sym (same_in round round item wholes parts (omega arith) h)) (sym (same_groups round round wholes parts (omega arith) h)) shape.columns said
+    said_as round shape.kinds parts wholes (λ item. sym (same_in round round item wholes parts (omega arith) h)) (sym (same_groups round round wholes parts (omega arith) h))
+    (sym (same_listed round round wholes parts (omega arith) h)) shape.columns shape.rows said
 
 pub block_fault_too : (why : BlockFault) (round : ℕ) (shape : Shape) (wholes parts : List Told) → AllTellFrom round wholes parts →
     IsBlockFault why round shape parts → IsBlockFault why round shape wholes
 block_fault_too why round shape wholes parts h refused =
-    fault_as round shape.kinds parts wholes (λ item. sym (same_in round round item wholes parts (omega arith) h)) (sym (same_groups round round wholes parts (omega arith) h)) shape.columns why refused
+    fault_as round shape.kinds parts wholes (λ item. sym (same_in round round item wholes parts (omega arith) h)) (sym (same_groups round round wholes parts (omega arith) h))
+    (sym (same_listed round round wholes parts (omega arith) h)) shape.columns shape.rows why refused
 
 -- ---- a block among those that are kept
 

@@ -56,7 +56,7 @@ combined : WholeIsCombined → (task : Task) (parts : List Told) → 0 < task.sh
 combined law task parts some round alike =
     let columns = task.shape.columns in
     let kinds = task.shape.kinds in
-    subst (IsCombinedReport columns kinds (all_groups_in round parts)) (sym (ap (λ (b : Block). groups_of (block_beside task.shape.besides b)) (by_groups columns round kinds parts some)))
+    subst (IsCombinedReport columns kinds (all_groups_in round parts)) (sym (ap (λ (b : Block). groups_of (block_beside task.shape.besides b)) (by_groups columns task.shape.rows round kinds parts some)))
     (law columns kinds (all_groups_in round parts) alike)
 
 -- ---- the forms
@@ -64,8 +64,8 @@ combined law task parts some round alike =
 forms : (shape : Shape) (parts : List Told) → 0 < shape.columns → (round : ℕ) → AreAlikeIn round shape parts ⊎ HasFaultIn round shape parts
 forms shape parts some round = elim (alike_or_other shape.columns shape.kinds (all_groups_in round parts)) [
   | inl alike ↦ inl alike
-  | inr (inl (column, fault)) ↦ inr (OtherColumn column, λ e. cc, fault_by_groups shape.columns (OtherColumn column) round shape.kinds parts some fault)
-  | inr (inr (item, fault)) ↦ inr (OtherDecimals item, λ e. cc, fault_by_groups shape.columns (OtherDecimals item) round shape.kinds parts some fault)
+  | inr (inl (column, fault)) ↦ inr (OtherColumn column, λ e. cc, fault_by_groups shape.columns shape.rows (OtherColumn column) round shape.kinds parts some fault)
+  | inr (inr (item, fault)) ↦ inr (OtherDecimals item, λ e. cc, fault_by_groups shape.columns shape.rows (OtherDecimals item) round shape.kinds parts some fault)
 ]
 
 -- ---- the next round

@@ -1,11 +1,12 @@
 -- What is said over all parts of groups, where there are group columns, and its lines.
-use Rattle.std.proofs.Common.{◌≡◌, ℕ, zero, suc, ◌+◌, ◌<◌, List, ◌++◌, length, drop, get_or, codes, refl, sym, ap, ◌∙◌, arith}
+use Rattle.std.proofs.Common.{Option, ◌≡◌, ℕ, zero, suc, ◌+◌, ◌<◌, List, ◌++◌, length, drop, get_or, codes, refl, sym, ap, ◌∙◌, arith}
 use Rattle.std.proofs.lemmas.List.{append_assoc, drop_more}
 use Rattle.query_model.specs.declared.query.ItemKind.{ItemKind}
 use Rattle.report_text.specs.Lines.{item_line}
 use Rattle.report_text.specs.declared.answers.Answer.{Answer}
-use Rattle.part_groups.specs.Whole.{IsFaultOver, groups_over}
-use Rattle.report_parts.specs.Faults.{IsFaultBy, of_groups}
+use Rattle.query_kinds.specs.declared.rows.FirstRows.{FirstRows}
+use Rattle.part_groups.specs.Whole.{groups_over}
+use Rattle.report_parts.specs.Faults.{IsFaultBy, IsGroupsFault}
 use Rattle.report_parts.specs.Reports.{answer_lines, block_by}
 use Rattle.report_parts.specs.Rounds.{all_groups_in}
 use Rattle.report_parts.specs.Told.{Told}
@@ -13,15 +14,15 @@ use Rattle.report_parts.specs.declared.block.Block.TheVariants.{Groups}
 use Rattle.report_parts.specs.declared.fault.BlockFault.{BlockFault}
 
 -- where there are group columns, groups are asked for
-pub by_groups : (columns round : ℕ) (kinds : List ItemKind) (parts : List Told) → 0 < columns →
-    block_by columns round kinds parts ≡ Groups (groups_over columns kinds (all_groups_in round parts))
-by_groups zero round kinds parts some = absurd (omega (arith, some))
-by_groups (suc columns) round kinds parts some = refl
+pub by_groups : (columns : ℕ) (asked : Option FirstRows) (round : ℕ) (kinds : List ItemKind) (parts : List Told) → 0 < columns →
+    block_by columns asked round kinds parts ≡ Groups (groups_over columns kinds (all_groups_in round parts))
+by_groups zero asked round kinds parts some = absurd (omega (arith, some))
+by_groups (suc columns) asked round kinds parts some = refl
 
-pub fault_by_groups : (columns : ℕ) (why : BlockFault) (round : ℕ) (kinds : List ItemKind) (parts : List Told) → 0 < columns →
-    IsFaultOver (of_groups why) columns kinds (all_groups_in round parts) → IsFaultBy columns why round kinds parts
-fault_by_groups zero why round kinds parts some fault = absurd (omega (arith, some))
-fault_by_groups (suc columns) why round kinds parts some fault = fault
+pub fault_by_groups : (columns : ℕ) (asked : Option FirstRows) (why : BlockFault) (round : ℕ) (kinds : List ItemKind) (parts : List Told) → 0 < columns →
+    IsGroupsFault why columns kinds (all_groups_in round parts) → IsFaultBy columns asked why round kinds parts
+fault_by_groups zero asked why round kinds parts some fault = absurd (omega (arith, some))
+fault_by_groups (suc columns) asked why round kinds parts some fault = fault
 
 answers_from : (number : ℕ) (answers : List Answer) (place : ℕ) (answer : Answer) → place < length answers →
     answer_lines number (drop place answers)

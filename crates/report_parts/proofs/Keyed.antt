@@ -1,13 +1,12 @@
 -- That each group of which parts tell has a key, whatever lines come.
-use Rattle.std.proofs.Common.{◌≡◌, ℕ, ◌+◌, ◌-◌, ◌<◌, ◌≤◌, min, Bool, true, false, ltb, Option, Some, None, List, [], ◌∷◌, ◌++◌, length, set, get_or, if◌then◌else◌, refl, sym, ap, subst, ◌∙◌, inl, inr, arith, length-append, All}
-use Rattle.std.proofs.lemmas.Bool.{ltb-false, ltb-true}
-use Rattle.std.proofs.lemmas.List.{get_or_append_left, get_or_push}
+use Rattle.std.proofs.Common.{◌≡◌, ℕ, ◌+◌, ◌-◌, ◌≤◌, min, Bool, true, false, Option, Some, None, List, [], ◌∷◌, ◌++◌, length, set, get_or, if◌then◌else◌, refl, sym, subst, inl, inr, arith, All}
 use Rattle.std.proofs.lemmas.List.Elements.{All-cons, All-head, All-nil, All-push, All-tail}
 use Rattle.std.specs.declared.cmp.Ordering.{Ordering}
 use Rattle.std.specs.declared.cmp.Ordering.TheVariants.{Less, Equal, Greater}
 use Rattle.report_text.specs.declared.groups.GroupLine.{GroupLine}
 use Rattle.part_groups.specs.Whole.{AreKeyed, IsKeyed}
 use Rattle.part_groups.specs.declared.group.Group.{Group as GroupTold}
+use Rattle.report_parts.proofs.Pushed.{at_later}
 use Rattle.report_parts.specs.Blocks.{groups_of, no_block}
 use Rattle.report_parts.specs.Entries.{answers_of, last_entry}
 use Rattle.report_parts.specs.Keyed.{AreKeyedFrom, IsBegunKeyed, IsKeyedFrom}
@@ -24,31 +23,10 @@ use Rattle.report_parts.specs.declared.shape.Shape.{Shape}
 
 -- ---- a block more
 
--- the block that stands at the end is what is said in each round behind the blocks before it
-in_blocks : (b : Bool) (columns later : ℕ) (blocks : List Block) (block : Block) → ltb later (length blocks) ≡ b →
-    All (IsKeyed columns) (groups_of (get_or blocks (min later (length blocks - 1)) no_block)) → All (IsKeyed columns) (groups_of block) →
-    All (IsKeyed columns) (groups_of (get_or (blocks ++ block ∷ []) (min later (length (blocks ++ block ∷ []) - 1)) no_block))
-in_blocks true columns later blocks block e h k =
-    let below : later < length blocks = ltb-true later (length blocks) e in
-    let more : length (blocks ++ block ∷ []) ≡ length blocks + 1 = length-append blocks (block ∷ []) in
-    let now : min later (length (blocks ++ block ∷ []) - 1) ≡ later = omega (arith, below, more) in
-    let before : min later (length blocks - 1) ≡ later = omega (arith, below) in
-    subst (λ (b : Block). All (IsKeyed columns) (groups_of b))
-    (ap (λ (i : ℕ). get_or blocks i no_block) before
-    ∙ sym (get_or_append_left blocks (block ∷ []) no_block later below)
-    ∙ sym (ap (λ (i : ℕ). get_or (blocks ++ block ∷ []) i no_block) now)) h
-in_blocks false columns later blocks block e h k =
-    let behind : length blocks ≤ later = ltb-false later (length blocks) e in
-    let more : length (blocks ++ block ∷ []) ≡ length blocks + 1 = length-append blocks (block ∷ []) in
-    let now : length blocks ≡ min later (length (blocks ++ block ∷ []) - 1) = omega (arith, behind, more) in
-    subst (λ (b : Block). All (IsKeyed columns) (groups_of b))
-    (sym (get_or_push blocks block no_block (min later (length (blocks ++ block ∷ []) - 1)) now)) k
-
 block_more : (columns round : ℕ) (told : Told) (block : Block) → IsKeyedFrom columns round told → All (IsKeyed columns) (groups_of block) →
     (later : ℕ) → round ≤ later →
     All (IsKeyed columns) (groups_of (get_or (told.blocks ++ block ∷ []) (min later (length (told.blocks ++ block ∷ []) - 1)) no_block))
-block_more columns round told block h k later le =
-    in_blocks (ltb later (length told.blocks)) columns later told.blocks block refl (h.blocks later le) k
+block_more columns round told block h k later le = at_later (λ b. All (IsKeyed columns) (groups_of b)) later told.blocks block (h.blocks later le) k
 
 -- ---- the ways to go on
 

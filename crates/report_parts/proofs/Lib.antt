@@ -1,3 +1,4 @@
+pub mod BlockFaults
 pub mod Certain
 pub mod Commutes
 pub mod Courses
@@ -10,8 +11,10 @@ pub mod Headlines
 pub mod Keyed
 pub mod Kept
 pub mod Ordered
+pub mod Pushed
 pub mod Reached
 pub mod RowTurns
+pub mod Shown
 pub mod Said
 pub mod Splits
 pub mod Stays

@@ -1,5 +1,5 @@
 -- Of which parts a block can be written, and that there is one reason why one is not.
-use Rattle.std.proofs.Common.{◌≡◌, ◌≢◌, ◌⊎◌, ℕ, zero, suc, ◌+◌, ◌<◌, ◌≤◌, Some, slice_get, List, length, refl, sym, ap, ◌∙◌, subst, inl, inr, arith}
+use Rattle.std.proofs.Common.{Option, None, ◌≡◌, ◌≢◌, ◌⊎◌, ℕ, zero, suc, ◌+◌, ◌<◌, ◌≤◌, Some, slice_get, List, length, refl, sym, ap, ◌∙◌, subst, inl, inr, arith}
 use Rattle.std.proofs.lemmas.Option.{slice_get_within}
 use Rattle.query_model.specs.declared.query.ItemKind.{ItemKind}
 use Rattle.part_groups.proofs.Once.{faults_are_one}
@@ -7,24 +7,28 @@ use Rattle.part_groups.specs.Whole.{CanBeCombined, IsFaultOver}
 use Rattle.part_groups.specs.declared.fault.CombineFault.{CombineFault as GroupsFault}
 use Rattle.part_groups.specs.declared.fault.CombineFault.TheVariants as groups_fault
 use Rattle.part_groups.specs.declared.group.Group.{Group as GroupTold}
-use Rattle.report_parts.specs.Faults.{CanBeSaid, CanSay, CanSayBefore, CanSayBy, IsBlockFault, IsFaultBy, IsFirstFault, IsItemFault, IsTotalsFault, of_groups}
-use Rattle.report_parts.specs.Rounds.{all_groups_in, entries_in}
+use Rattle.part_rows.specs.Combined.{PartListing}
+use Rattle.part_rows.specs.Faults.{AreAlike as AreRowsAlike, AreClear, first_unclear}
+use Rattle.query_kinds.specs.declared.rows.FirstRows.{FirstRows}
+use Rattle.report_parts.specs.Faults.{CanBeSaid, CanSay, CanSayBefore, CanSayBy, IsBlockFault, IsFaultBy, IsFirstFault, IsGroupsFault, IsItemFault, IsListFault, IsTotalsFault, of_groups}
+use Rattle.report_parts.specs.Rounds.{all_groups_in, all_listed_in, entries_in}
 use Rattle.report_parts.specs.Told.{Told}
 use Rattle.report_parts.specs.declared.entry.Entry.{Entry}
 use Rattle.report_parts.specs.declared.fault.BlockFault.{BlockFault}
-use Rattle.report_parts.specs.declared.fault.BlockFault.TheVariants.{NoMemory, OtherColumn, OtherDecimals, TooWide}
+use Rattle.report_parts.specs.declared.fault.BlockFault.TheVariants.{NoMemory, OtherColumn, OtherDecimals, OtherForm, TooWide, UnclearTag}
 use Rattle.report_parts.specs.declared.shape.Shape.{Shape}
 
 -- ---- parts that tell the same
 
 module _ (round : ℕ) (kinds : List ItemKind) (parts laters : List Told) (same : (item : ℕ) → entries_in round item laters ≡ entries_in round item parts)
-    (groups : all_groups_in round laters ≡ all_groups_in round parts) where
+    (groups : all_groups_in round laters ≡ all_groups_in round parts) (listed : all_listed_in round laters ≡ all_listed_in round parts) where
   before_as : (place : ℕ) → CanSayBefore place round kinds parts → CanSayBefore place round kinds laters
   before_as place h item kind less there = subst (λ (entries : List Entry). CanBeSaid kind entries) (sym (same item)) (h item kind less there)
 
-  pub said_as : (columns : ℕ) → CanSayBy columns round kinds parts → CanSayBy columns round kinds laters
-  said_as zero h = before_as (length kinds) h
-  said_as (suc columns) h = subst (λ (all : List (List GroupTold)). CanBeCombined (suc columns) kinds all) (sym groups) h
+  pub said_as : (columns : ℕ) (asked : Option FirstRows) → CanSayBy columns asked round kinds parts → CanSayBy columns asked round kinds laters
+  said_as zero None h = before_as (length kinds) h
+  said_as zero (Some asked) h = subst (λ (all : List PartListing). AreClear all × AreRowsAlike all) (sym listed) h
+  said_as (suc columns) asked h = subst (λ (all : List (List GroupTold)). CanBeCombined (suc columns) kinds all) (sym groups) h
 
   first_as : (why : BlockFault) → IsFirstFault why round kinds parts → IsFirstFault why round kinds laters
   first_as why h = record {
@@ -39,11 +43,15 @@ module _ (round : ℕ) (kinds : List ItemKind) (parts laters : List Told) (same 
   totals_as (OtherColumn column) h = first_as (OtherColumn column) h
   totals_as (OtherDecimals item) h = first_as (OtherDecimals item) h
   totals_as (TooWide item) h = first_as (TooWide item) h
+  totals_as (UnclearTag part) h = first_as (UnclearTag part) h
+  totals_as OtherForm h = first_as OtherForm h
   totals_as NoMemory h = tt
 
-  pub fault_as : (columns : ℕ) (why : BlockFault) → IsFaultBy columns why round kinds parts → IsFaultBy columns why round kinds laters
-  fault_as zero why h = totals_as why h
-  fault_as (suc columns) why h = subst (λ (all : List (List GroupTold)). IsFaultOver (of_groups why) (suc columns) kinds all) (sym groups) h
+  pub fault_as : (columns : ℕ) (asked : Option FirstRows) (why : BlockFault) → IsFaultBy columns asked why round kinds parts →
+      IsFaultBy columns asked why round kinds laters
+  fault_as zero None why h = totals_as why h
+  fault_as zero (Some asked) why h = subst (λ (all : List PartListing). IsListFault why all) (sym listed) h
+  fault_as (suc columns) asked why h = subst (λ (all : List (List GroupTold)). IsGroupsFault why (suc columns) kinds all) (sym groups) h
 
 -- ---- an item more
 
@@ -82,6 +90,8 @@ first_fault why round item place kinds parts kind is at before fault =
     by_case (OtherColumn column) own = absurd own
     by_case (OtherDecimals number) own = record { item = place; kind = kind; there = at; before = before; fault = own }
     by_case (TooWide number) own = record { item = place; kind = kind; there = at; before = before; fault = own }
+    by_case (UnclearTag part) own = absurd own
+    by_case OtherForm own = absurd own
     by_case NoMemory own = tt
 
 -- ---- an item that cannot be said
@@ -90,6 +100,8 @@ unsaid : (why : BlockFault) (item : ℕ) (kind : ItemKind) (entries : List Entry
 unsaid (OtherColumn column) item kind entries some h said = h
 unsaid (OtherDecimals place) item kind entries some h said = h.1 said.alike
 unsaid (TooWide place) item kind entries some h said = h.2 said.fit
+unsaid (UnclearTag part) item kind entries some h said = h
+unsaid OtherForm item kind entries some h said = h
 unsaid NoMemory item kind entries some h said = some refl
 
 item_once : (a b : BlockFault) (item : ℕ) (kind other : ItemKind) (entries : List Entry) → a ≢ NoMemory → b ≢ NoMemory → IsItemFault a item kind entries →
@@ -98,11 +110,17 @@ item_once (OtherColumn column) b item kind other entries one two h k = absurd h
 item_once (OtherDecimals place) (OtherColumn column) item kind other entries one two h k = absurd k
 item_once (OtherDecimals place) (OtherDecimals again) item kind other entries one two h k = ap (λ (n : ℕ). OtherDecimals n) (h.0 ∙ sym k.0)
 item_once (OtherDecimals place) (TooWide again) item kind other entries one two h k = absurd (h.1 k.1)
+item_once (OtherDecimals place) (UnclearTag part) item kind other entries one two h k = absurd k
+item_once (OtherDecimals place) OtherForm item kind other entries one two h k = absurd k
 item_once (OtherDecimals place) NoMemory item kind other entries one two h k = absurd (two refl)
 item_once (TooWide place) (OtherColumn column) item kind other entries one two h k = absurd k
 item_once (TooWide place) (OtherDecimals again) item kind other entries one two h k = absurd (k.1 h.1)
 item_once (TooWide place) (TooWide again) item kind other entries one two h k = ap (λ (n : ℕ). TooWide n) (h.0 ∙ sym k.0)
+item_once (TooWide place) (UnclearTag part) item kind other entries one two h k = absurd k
+item_once (TooWide place) OtherForm item kind other entries one two h k = absurd k
 item_once (TooWide place) NoMemory item kind other entries one two h k = absurd (two refl)
+item_once (UnclearTag part) b item kind other entries one two h k = absurd h
+item_once OtherForm b item kind other entries one two h k = absurd h
 item_once NoMemory b item kind other entries one two h k = absurd (one refl)
 
 pub which : (a b : ℕ) → (a < b) ⊎ ((a ≡ b) ⊎ (b < a))
@@ -130,57 +148,102 @@ as_first : (why : BlockFault) (round : ℕ) (kinds : List ItemKind) (parts : Lis
 as_first (OtherColumn column) round kinds parts some h = h
 as_first (OtherDecimals item) round kinds parts some h = h
 as_first (TooWide item) round kinds parts some h = h
+as_first (UnclearTag part) round kinds parts some h = h
+as_first OtherForm round kinds parts some h = h
 as_first NoMemory round kinds parts some h = absurd (some refl)
 
 -- ---- groups
 
--- a block's fault from one of groups
-abbrev from_groups : GroupsFault → BlockFault
-from_groups (groups_fault.OtherColumn column) = OtherColumn column
-from_groups (groups_fault.OtherItem item) = OtherDecimals item
-from_groups (groups_fault.TooWide item) = TooWide item
-from_groups groups_fault.NoMemory = NoMemory
+-- a fault of the block that is one of groups
+record IsOwn (why : BlockFault) (columns : ℕ) (kinds : List ItemKind) (all : List (List GroupTold)) : Type 0 where
+  own : GroupsFault
+  same : of_groups own ≡ why
+  fault : IsFaultOver own columns kinds all
 
-same_fault : (why : BlockFault) → from_groups (of_groups why) ≡ why
-same_fault (OtherColumn column) = refl
-same_fault (OtherDecimals item) = refl
-same_fault (TooWide item) = refl
-same_fault NoMemory = refl
+own_fault : (why : BlockFault) (columns : ℕ) (kinds : List ItemKind) (all : List (List GroupTold)) → why ≢ NoMemory →
+    IsGroupsFault why columns kinds all → IsOwn why columns kinds all
+own_fault (OtherColumn column) columns kinds all some h = record { own = groups_fault.OtherColumn column; same = refl; fault = h }
+own_fault (OtherDecimals item) columns kinds all some h = record { own = groups_fault.OtherItem item; same = refl; fault = h }
+own_fault (TooWide item) columns kinds all some h = record { own = groups_fault.TooWide item; same = refl; fault = h }
+own_fault (UnclearTag part) columns kinds all some h = absurd h
+own_fault OtherForm columns kinds all some h = absurd h
+own_fault NoMemory columns kinds all some h = absurd (some refl)
 
-some_fault : (why : BlockFault) → why ≢ NoMemory → of_groups why ≢ groups_fault.NoMemory
-some_fault why some e = some (sym (same_fault why) ∙ ap from_groups e)
+some_own : (why : BlockFault) (own : GroupsFault) → of_groups own ≡ why → why ≢ NoMemory → own ≢ groups_fault.NoMemory
+some_own why own same some e = some (sym same ∙ ap of_groups e)
 
--- ---- both
+groups_once : (a b : BlockFault) (columns : ℕ) (kinds : List ItemKind) (all : List (List GroupTold)) → a ≢ NoMemory → b ≢ NoMemory →
+    IsGroupsFault a columns kinds all → IsGroupsFault b columns kinds all → a ≡ b
+groups_once a b columns kinds all one two h k =
+    let x = own_fault a columns kinds all one h in
+    let y = own_fault b columns kinds all two k in
+    sym x.same
+    ∙ ap of_groups (faults_are_one.alone x.own y.own columns kinds all (some_own a x.own x.same one) (some_own b y.own y.same two) x.fault y.fault)
+    ∙ y.same
 
-once_by : (columns : ℕ) (a b : BlockFault) (round : ℕ) (kinds : List ItemKind) (parts : List Told) → a ≢ NoMemory → b ≢ NoMemory →
-    IsFaultBy columns a round kinds parts → IsFaultBy columns b round kinds parts → a ≡ b
-once_by zero a b round kinds parts one two h k =
+groups_unsaid : (why : BlockFault) (columns : ℕ) (kinds : List ItemKind) (all : List (List GroupTold)) → why ≢ NoMemory →
+    IsGroupsFault why columns kinds all → CanBeCombined columns kinds all → ⊥
+groups_unsaid why columns kinds all some h can =
+    let x = own_fault why columns kinds all some h in
+    faults_are_one.none x.own columns kinds all (some_own why x.own x.same some) x.fault can
+
+-- ---- first rows
+
+lists_once : (a b : BlockFault) (all : List PartListing) → a ≢ NoMemory → b ≢ NoMemory → IsListFault a all → IsListFault b all → a ≡ b
+lists_once (OtherColumn column) b all one two h k = absurd h
+lists_once (OtherDecimals item) b all one two h k = absurd h
+lists_once (TooWide item) b all one two h k = absurd h
+lists_once (UnclearTag part) (OtherColumn column) all one two h k = absurd k
+lists_once (UnclearTag part) (OtherDecimals item) all one two h k = absurd k
+lists_once (UnclearTag part) (TooWide item) all one two h k = absurd k
+lists_once (UnclearTag part) (UnclearTag again) all one two h k = ap (λ (n : ℕ). UnclearTag n) (h.0 ∙ sym k.0)
+lists_once (UnclearTag part) OtherForm all one two h k = let clear : first_unclear all ≡ length all = k.0 in absurd (omega (arith, h.0, h.1, clear))
+lists_once (UnclearTag part) NoMemory all one two h k = absurd (two refl)
+lists_once OtherForm (OtherColumn column) all one two h k = absurd k
+lists_once OtherForm (OtherDecimals item) all one two h k = absurd k
+lists_once OtherForm (TooWide item) all one two h k = absurd k
+lists_once OtherForm (UnclearTag part) all one two h k = let clear : first_unclear all ≡ length all = h.0 in absurd (omega (arith, k.0, k.1, clear))
+lists_once OtherForm OtherForm all one two h k = refl
+lists_once OtherForm NoMemory all one two h k = absurd (two refl)
+lists_once NoMemory b all one two h k = absurd (one refl)
+
+lists_unsaid : (why : BlockFault) (all : List PartListing) → why ≢ NoMemory → IsListFault why all → AreClear all × AreRowsAlike all → ⊥
+lists_unsaid (OtherColumn column) all some h said = h
+lists_unsaid (OtherDecimals item) all some h said = h
+lists_unsaid (TooWide item) all some h said = h
+lists_unsaid (UnclearTag part) all some h said = let clear : first_unclear all ≡ length all = said.0 in omega (arith, h.0, h.1, clear)
+lists_unsaid OtherForm all some h said = h.1 said.1
+lists_unsaid NoMemory all some h said = some refl
+
+-- ---- all three
+
+once_by : (columns : ℕ) (asked : Option FirstRows) (a b : BlockFault) (round : ℕ) (kinds : List ItemKind) (parts : List Told) → a ≢ NoMemory → b ≢ NoMemory →
+    IsFaultBy columns asked a round kinds parts → IsFaultBy columns asked b round kinds parts → a ≡ b
+once_by zero (Some asked) a b round kinds parts one two h k = lists_once a b (all_listed_in round parts) one two h k
+once_by zero None a b round kinds parts one two h k =
     first_once a b round kinds parts one two (as_first a round kinds parts one h) (as_first b round kinds parts two k)
-once_by (suc columns) a b round kinds parts one two h k =
-    sym (same_fault a)
-    ∙ ap from_groups (faults_are_one.alone (of_groups a) (of_groups b) (suc columns) kinds (all_groups_in round parts) (some_fault a one) (some_fault b two) h k)
-    ∙ same_fault b
+once_by (suc columns) asked a b round kinds parts one two h k = groups_once a b (suc columns) kinds (all_groups_in round parts) one two h k
 
 -- there is one fault
 pub fault_once : (a b : BlockFault) (round : ℕ) (shape : Shape) (parts : List Told) → a ≢ NoMemory → b ≢ NoMemory →
     IsBlockFault a round shape parts → IsBlockFault b round shape parts → a ≡ b
-fault_once a b round shape parts one two h k = once_by shape.columns a b round shape.kinds parts one two h k
+fault_once a b round shape parts one two h k = once_by shape.columns shape.rows a b round shape.kinds parts one two h k
 
-unsaid_by : (columns : ℕ) (why : BlockFault) (round : ℕ) (kinds : List ItemKind) (parts : List Told) → why ≢ NoMemory →
-    IsFaultBy columns why round kinds parts → CanSayBy columns round kinds parts → ⊥
-unsaid_by zero why round kinds parts some h said =
-    first_unsaid why round kinds parts some (as_first why round kinds parts some h) said
-unsaid_by (suc columns) why round kinds parts some h said =
-    faults_are_one.none (of_groups why) (suc columns) kinds (all_groups_in round parts) (some_fault why some) h said
+unsaid_by : (columns : ℕ) (asked : Option FirstRows) (why : BlockFault) (round : ℕ) (kinds : List ItemKind) (parts : List Told) → why ≢ NoMemory →
+    IsFaultBy columns asked why round kinds parts → CanSayBy columns asked round kinds parts → ⊥
+unsaid_by zero (Some asked) why round kinds parts some h said = lists_unsaid why (all_listed_in round parts) some h said
+unsaid_by zero None why round kinds parts some h said = first_unsaid why round kinds parts some (as_first why round kinds parts some h) said
+unsaid_by (suc columns) asked why round kinds parts some h said = groups_unsaid why (suc columns) kinds (all_groups_in round parts) some h said
 
 -- and such a block cannot be written
 pub fault_unsaid : (why : BlockFault) (round : ℕ) (shape : Shape) (parts : List Told) → why ≢ NoMemory → IsBlockFault why round shape parts →
     CanSay round shape parts → ⊥
-fault_unsaid why round shape parts some h said = unsaid_by shape.columns why round shape.kinds parts some h said
+fault_unsaid why round shape parts some h said = unsaid_by shape.columns shape.rows why round shape.kinds parts some h said
 
 -- where there are no group columns, it is the items that are said
-pub said_totals : (round : ℕ) (shape : Shape) (parts : List Told) (kinds : List ItemKind) → shape.columns ≡ 0 → kinds ≡ shape.kinds →
+pub said_totals : (round : ℕ) (shape : Shape) (parts : List Told) (kinds : List ItemKind) → shape.columns ≡ 0 → shape.rows ≡ None → kinds ≡ shape.kinds →
     CanSayBefore (length kinds) round kinds parts → CanSay round shape parts
-said_totals round shape parts kinds none same said =
-    subst (λ (columns : ℕ). CanSayBy columns round shape.kinds parts) (sym none)
-    (subst (λ (ks : List ItemKind). CanSayBefore (length ks) round ks parts) same said)
+said_totals round shape parts kinds none rows same said =
+    subst (λ (columns : ℕ). CanSayBy columns shape.rows round shape.kinds parts) (sym none)
+    (subst (λ (asked : Option FirstRows). CanSayBy 0 asked round shape.kinds parts) (sym rows)
+    (subst (λ (ks : List ItemKind). CanSayBefore (length ks) round ks parts) same said))

@@ -1,5 +1,5 @@
 -- That lines tell one thing, and that a report which has ended stays as it is.
-use Rattle.std.proofs.Common.{◌≡◌, ℕ, suc, ◌+◌, ◌<◌, ◌≤◌, true, get_or, Option, Some, List, [], ◌∷◌, ◌++◌, length, codes, decimal, refl, sym, ap, subst, ◌∙◌, inl, inr, ◌⊎◌, arith}
+use Rattle.std.proofs.Common.{◌≡◌, ℕ, suc, ◌+◌, ◌<◌, ◌≤◌, true, get_or, Option, Some, List, [], ◌∷◌, ◌++◌, length, codes, decimal, refl, sym, ap, subst, ◌∙◌, inl, inr, ◌⊎◌, arith, length-append}
 use Rattle.std.proofs.lemmas.Bool.{false≢true}
 use Rattle.std.proofs.lemmas.Option.{none-some, same_Some}
 use Rattle.std.specs.List.{list_all}
@@ -14,12 +14,13 @@ use Rattle.report_text.specs.Groups.{presence_text}
 use Rattle.report_text.specs.Intervals.{key_interval}
 use Rattle.report_text.specs.Keys.{keys_text}
 use Rattle.report_text.specs.RowBlocks.{IsNextRow, IsNextTop, RowsTold, TakesRows, with_row, with_top}
-use Rattle.report_text.specs.Rows.{counts_text, name_text, standing_word}
+use Rattle.report_text.specs.Rows.{counts_text, name_text, skip_line, standing_word, top_line}
 use Rattle.report_text.specs.Lines.{end_line}
 use Rattle.report_text.specs.declared.answers.Answer.{Answer}
 use Rattle.report_text.specs.declared.groups.GroupLine.{GroupLine}
 use Rattle.report_text.specs.declared.lines.ReportEnd.{ReportEnd}
 use Rattle.report_text.specs.declared.lines.ReportEnd.TheVariants.{Narrow, Reads, Rounds}
+use Rattle.report_text.specs.declared.row_blocks.RowsTop.TheVariants.{Counts}
 use Rattle.report_text.specs.declared.rows.RowLine.{RowLine}
 use Rattle.report_text.specs.declared.rows.TopLine.{TopLine}
 use Rattle.report_parts.proofs.Courses.{all_reach, few_told, longer}
@@ -146,12 +147,49 @@ behind_row row = codes "ow " ++ (name_text row.name ++ (codes " " ++ (standing_w
 top_or_row : {P : Type 0} (limit : ℕ) (told : RowsTold) (line : List ℕ) (top : TopLine) (row : RowLine) → IsNextTop limit told line top → IsNextRow told line row → P
 top_or_row limit told line top row h k = other_byte 116 114 (behind_top top) (behind_row row) (h.is_line ∙ sym k.is_line) (λ e. omega (arith, e))
 
+-- how many rows there are is another line than that none is judged, by its length
+top_or_skip : {P : Type 0} (top : TopLine) (limit : ℕ) → top.limit ≡ limit → top_line top ≡ skip_line limit → P
+top_or_skip top limit asked e =
+    let word = codes " possible " in
+    let others = decimal top.certain ++ (word ++ decimal top.possible) in
+    let counts = decimal top.limit ++ (codes " certain " ++ others) in
+    let skip = decimal limit ++ codes " certain 0" in
+    let long : length (codes "top " ++ counts) ≡ length (codes "top " ++ skip) = ap length e in
+    let same : length (decimal top.limit) ≡ length (decimal limit) = ap (λ (n : ℕ). length (decimal n)) asked in
+    let nine : length (codes " certain ") ≡ 9 = refl in
+    let ten : length word ≡ 10 = refl in
+    let whole : length (codes " certain 0") ≡ 10 = refl in
+    absurd (omega (
+      arith,
+      long,
+      same,
+      nine,
+      ten,
+      whole,
+      length-append (codes "top ") counts,
+      length-append (codes "top ") skip,
+      length-append (decimal top.limit) (codes " certain " ++ others),
+      length-append (codes " certain ") others,
+      length-append (decimal top.certain) (word ++ decimal top.possible),
+      length-append word (decimal top.possible),
+      length-append (decimal limit) (codes " certain 0"),
+    ))
+
+row_or_skip : {P : Type 0} (told : RowsTold) (row : RowLine) (limit : ℕ) (line : List ℕ) → IsNextRow told line row → skip_line limit ≡ line → P
+row_or_skip told row limit line h e =
+    other_byte 116 114 (codes "op " ++ (decimal limit ++ codes " certain 0")) (behind_row row) (e ∙ sym h.is_line) (λ e. omega (arith, e))
+
 rows_one : (limit : ℕ) (told : RowsTold) (line : List ℕ) (a b : RowsTold) → TakesRows limit told line a → TakesRows limit told line b → b ≡ a
 rows_one limit told line a b (inl h) (inl k) =
-    k.2 ∙ ap (λ (top : TopLine). with_top told top) (sym (tops_say_one h.0 k.0 h.1.is_top k.1.is_top (h.1.is_line ∙ sym k.1.is_line))) ∙ sym h.2
-rows_one limit told line a b (inl h) (inr k) = top_or_row limit told line h.0 k.0 h.1 k.1
-rows_one limit told line a b (inr h) (inl k) = top_or_row limit told line k.0 h.0 k.1 h.1
-rows_one limit told line a b (inr h) (inr k) =
+    k.2 ∙ ap (λ (top : TopLine). with_top told (Counts top)) (sym (tops_say_one h.0 k.0 h.1.is_top k.1.is_top (h.1.is_line ∙ sym k.1.is_line))) ∙ sym h.2
+rows_one limit told line a b (inl h) (inr (inl k)) = top_or_row limit told line h.0 k.0 h.1 k.1
+rows_one limit told line a b (inl h) (inr (inr k)) = top_or_skip h.0 limit h.1.asked (h.1.is_line ∙ sym k.0.is_line)
+rows_one limit told line a b (inr (inl h)) (inl k) = top_or_row limit told line k.0 h.0 k.1 h.1
+rows_one limit told line a b (inr (inr h)) (inl k) = top_or_skip k.0 limit k.1.asked (k.1.is_line ∙ sym h.0.is_line)
+rows_one limit told line a b (inr (inl h)) (inr (inr k)) = row_or_skip told h.0 limit line h.1 k.0.is_line
+rows_one limit told line a b (inr (inr h)) (inr (inl k)) = row_or_skip told k.0 limit line k.1 h.0.is_line
+rows_one limit told line a b (inr (inr h)) (inr (inr k)) = k.1 ∙ sym h.1
+rows_one limit told line a b (inr (inl h)) (inr (inl k)) =
     k.2 ∙ ap (λ (row : RowLine). with_row told row) (sym (rows_say_one h.0 k.0 h.1.is_shown k.1.is_shown (h.1.is_line ∙ sym k.1.is_line))) ∙ sym h.2
 
 rows_go_on : (told a b : Told) → RowsGoOn told a → RowsGoOn told b → b ≡ a

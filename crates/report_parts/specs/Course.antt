@@ -5,6 +5,8 @@ use Rattle.std.specs.declared.option.Option.TheVariants.{Some, None}
 use Rattle.std.specs.List.{list_all}
 use Rattle.report_text.specs.Lines.{parts_line}
 use Rattle.report_text.specs.declared.lines.ReportEnd.{ReportEnd}
+use Rattle.report_text.specs.declared.row_blocks.RowsTop.{RowsTop}
+use Rattle.report_text.specs.declared.row_blocks.RowsTop.TheVariants.{Counts, Skipped}
 use Rattle.report_parts.specs.Faults.{CanSay, IsBlockFault}
 use Rattle.report_parts.specs.Narrowness.{is_narrow}
 use Rattle.report_parts.specs.Passed.{AllTellFrom}
@@ -16,7 +18,7 @@ use Rattle.report_parts.specs.Written.{Wanted, Writes, is_narrow_at}
 use Rattle.report_parts.specs.declared.block.Block.{Block as BlockTold}
 use Rattle.report_parts.specs.declared.block.Block.TheVariants.{Groups, Rows, Totals}
 use Rattle.report_parts.specs.declared.fault.BlockFault.{BlockFault}
-use Rattle.report_parts.specs.declared.fault.BlockFault.TheVariants.{NoMemory, OtherColumn, OtherDecimals, TooWide}
+use Rattle.report_parts.specs.declared.fault.BlockFault.TheVariants.{NoMemory, OtherColumn, OtherDecimals, OtherForm, TooWide, UnclearTag}
 use Rattle.report_parts.specs.declared.fault.CourseFault.{CourseFault}
 use Rattle.report_parts.specs.declared.fault.CourseFault.TheVariants.{Block, Input}
 use Rattle.report_parts.specs.declared.fault.InputFault.{InputFault}
@@ -35,11 +37,17 @@ abbrev pub is_last : Option ℕ → ℕ → Bool
 is_last None round = false
 is_last (Some last) round = last == round
 
--- a block is narrow where each answer is, whatever the lines behind tell, and each group is in the result for certain
+-- it is told that no row is possible: where none is judged it is not
+abbrev pub none_possible : Option RowsTop → Bool
+none_possible None = false
+none_possible (Some (Counts top)) = top.possible == 0
+none_possible (Some (Skipped limit)) = false
+
+-- a block is narrow where each answer is, whatever the lines behind tell, each group is in the result for certain, and no row is possible
 abbrev pub is_narrow_block : ℕ → BlockTold → Bool
 is_narrow_block width (Totals entries) = list_all (λ entry. is_narrow width entry.answer) entries
 is_narrow_block width (Groups groups) = list_all (λ group. group.line.present && list_all (is_narrow width) group.answers) groups
-is_narrow_block width (Rows told) = list_all (λ row. row.certain) told.rows
+is_narrow_block width (Rows told) = none_possible told.top
 
 abbrev pub wanted_of : Task → Wanted
 wanted_of task = record {
@@ -188,6 +196,8 @@ abbrev pub StopsBy : BlockFault → Task → List Told → List ℕ → List ℕ
 StopsBy (OtherColumn column) task parts text before after = Stops task parts text before after (OtherColumn column)
 StopsBy (OtherDecimals item) task parts text before after = Stops task parts text before after (OtherDecimals item)
 StopsBy (TooWide item) task parts text before after = Stops task parts text before after (TooWide item)
+StopsBy (UnclearTag part) task parts text before after = Stops task parts text before after (UnclearTag part)
+StopsBy OtherForm task parts text before after = Stops task parts text before after OtherForm
 StopsBy NoMemory task parts text before after = Unit {0}
 
 -- behind the lines, of which this is the last, a block is not written

@@ -5,6 +5,7 @@ use Rattle.std.specs.declared.option.Option.{Option}
 use Rattle.std.specs.declared.option.Option.TheVariants.{Some, None}
 use Rattle.query_model.specs.declared.query.ItemKind.{ItemKind}
 use Rattle.query_kinds.specs.declared.beside.Beside.{Beside}
+use Rattle.query_kinds.specs.declared.rows.FirstRows.{FirstRows}
 use Rattle.report_text.specs.Extras.{extra_line}
 use Rattle.report_text.specs.Lines.{item_line, parts_line, round_words}
 use Rattle.report_text.specs.declared.answers.Answer.{Answer}
@@ -12,9 +13,14 @@ use Rattle.report_parts.specs.Combined.{HasEntryTexts, entry_over}
 use Rattle.part_groups.specs.Combined.{IsShown}
 use Rattle.part_groups.specs.Whole.{groups_over}
 use Rattle.part_groups.specs.declared.group.Group.{Group}
+use Rattle.part_rows.specs.Combined.{combined, told_by}
 use Rattle.report_text.specs.Groups.{group_line}
+use Rattle.report_text.specs.RowBlocks.{RowsTold, first_line}
+use Rattle.report_text.specs.Rows.{IsShownRow, row_line}
+use Rattle.report_text.specs.declared.row_blocks.RowsTop.{RowsTop}
+use Rattle.report_text.specs.declared.rows.RowLine.{RowLine}
 use Rattle.report_parts.specs.Beside.{entries_beside}
-use Rattle.report_parts.specs.Rounds.{all_groups_in, entries_in, has_block}
+use Rattle.report_parts.specs.Rounds.{all_groups_in, all_listed_in, entries_in, has_block}
 use Rattle.report_parts.specs.Told.{Told}
 use Rattle.report_parts.specs.declared.block.Block.{Block}
 use Rattle.report_parts.specs.declared.block.Block.TheVariants.{Groups, Rows, Totals}
@@ -40,10 +46,12 @@ item_lines number [] entries = []
 item_lines number (kind ∷ kinds) [] = []
 item_lines number (kind ∷ kinds) (entry ∷ entries) = entry_lines kind number entry ++ item_lines (number + 1) kinds entries
 
--- what is said over all parts in a round: of the items, or, where there are group columns, of groups
-abbrev pub block_by : ℕ → ℕ → List ItemKind → List Told → Block
-block_by zero round kinds parts = Totals (entries_over round 0 kinds parts)
-block_by (suc columns) round kinds parts = Groups (groups_over (suc columns) kinds (all_groups_in round parts))
+-- what is said over all parts in a round: of the items, or, where there are group columns, of groups, or, where these are asked for, of first
+-- rows
+abbrev pub block_by : ℕ → Option FirstRows → ℕ → List ItemKind → List Told → Block
+block_by zero None round kinds parts = Totals (entries_over round 0 kinds parts)
+block_by zero (Some asked) round kinds parts = Rows (told_by (combined asked (all_listed_in round parts)))
+block_by (suc columns) asked round kinds parts = Groups (groups_over (suc columns) kinds (all_groups_in round parts))
 
 -- with each average of totals narrowed by what stands beside it
 abbrev pub block_beside : List (Option Beside) → Block → Block
@@ -52,7 +60,7 @@ block_beside besides (Groups groups) = Groups groups
 block_beside besides (Rows told) = Rows told
 
 abbrev pub block_over : ℕ → Shape → List Told → Block
-block_over round shape parts = block_beside shape.besides (block_by shape.columns round shape.kinds parts)
+block_over round shape parts = block_beside shape.besides (block_by shape.columns shape.rows round shape.kinds parts)
 
 -- the lines of answers, numbered from that number on
 abbrev pub answer_lines : ℕ → List Answer → List ℕ
@@ -64,16 +72,28 @@ abbrev pub group_lines : List Group → List ℕ
 group_lines [] = []
 group_lines (group ∷ groups) = ((group_line group.line ++ codes "\n") ++ answer_lines 1 group.answers) ++ group_lines groups
 
+abbrev pub row_lines : List RowLine → List ℕ
+row_lines [] = []
+row_lines (row ∷ rows) = (row_line row ++ codes "\n") ++ row_lines rows
+
+abbrev pub top_lines : Option RowsTop → List ℕ
+top_lines None = []
+top_lines (Some top) = first_line top ++ codes "\n"
+
+-- how many first rows there are, or that none is judged, and the line of each that is listed
+abbrev pub rows_lines : RowsTold → List ℕ
+rows_lines told = top_lines told.top ++ row_lines told.rows
+
 abbrev pub block_lines : List ItemKind → Block → List ℕ
 block_lines kinds (Totals entries) = item_lines 1 kinds entries
 block_lines kinds (Groups groups) = group_lines groups
-block_lines kinds (Rows told) = []
+block_lines kinds (Rows told) = rows_lines told
 
--- each line of a block can be written; those of first rows are not yet
+-- each line of a block can be written
 abbrev pub HasBlockTexts : List ItemKind → Block → Type 0
 HasBlockTexts kinds (Totals entries) = All HasEntryTexts entries × (length kinds ≡ length entries)
 HasBlockTexts kinds (Groups groups) = All IsShown groups
-HasBlockTexts kinds (Rows told) = ⊥
+HasBlockTexts kinds (Rows told) = All IsShownRow told.rows
 
 -- the block of a round: it names no column, since each part reads its own
 abbrev pub block_text : ℕ → Shape → List Told → List ℕ

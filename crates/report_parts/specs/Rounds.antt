@@ -2,7 +2,8 @@
 use Rattle.std.specs.Prelude.{ℕ, ◌-◌, ◌+◌, nat_lt, nat_le, min, Bool, true, false, ◌&&◌, ◌||◌, List, length, map, slice_index_or}
 use Rattle.report_text.specs.declared.answers.Answer.{Answer}
 use Rattle.part_groups.specs.declared.group.Group.{Group as GroupTold}
-use Rattle.report_parts.specs.Blocks.{entries_of, groups_of, no_block}
+use Rattle.part_rows.specs.Combined.{PartListing}
+use Rattle.report_parts.specs.Blocks.{entries_of, groups_of, is_skipped, no_block, rows_of}
 use Rattle.report_parts.specs.Entries.{answers_of, entry_at, extras_of}
 use Rattle.report_parts.specs.Told.{Told}
 use Rattle.report_parts.specs.declared.block.Block.{Block}
@@ -47,6 +48,13 @@ groups_in round told = groups_of (block_for round told)
 
 abbrev pub all_groups_in : ℕ → List Told → List (List GroupTold)
 all_groups_in round parts = map (groups_in round) parts
+
+-- what each part lists of first rows in that round
+abbrev pub listed_in : ℕ → Told → PartListing
+listed_in round told = record { tag = told.tag; skipped = is_skipped (block_for round told); rows = rows_of (block_for round told) }
+
+abbrev pub all_listed_in : ℕ → List Told → List PartListing
+all_listed_in round parts = map (listed_in round) parts
 
 -- no part goes on behind that round
 abbrev pub is_over : ℕ → Told → Bool

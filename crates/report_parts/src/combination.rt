@@ -47,6 +47,7 @@ impl Model for Combination {
     ghost use Rattle.std.specs.Prelude.{◌<◌, ◌^◌};
     ghost use Rattle.report_parts.specs.Course.{Course};
     ghost use Rattle.report_parts.specs.Keyed.{AreKeyedFrom};
+    ghost use Rattle.report_parts.specs.Shown.{AreShownFrom};
 
     ghost Value = { Course };
 
@@ -63,7 +64,7 @@ impl Model for Combination {
       end = c.end;
     } };
 
-    ghost invariant = { λ c. (c.round < 2 ^ 62) × AreKeyedFrom c.asked.shape.columns c.round c.parts };
+    ghost invariant = { λ c. (c.round < 2 ^ 62) × AreKeyedFrom c.asked.shape.columns c.round c.parts × AreShownFrom c.round c.parts };
 }
 
 // More rounds than any report has.
@@ -87,7 +88,7 @@ struct Ahead {
 }
 
 impl Combination {
-    /// No line was taken. There are to be so many parts. First rows are not combined yet: a block of them has no line but its round's.
+    /// No line was taken. There are to be so many parts.
     pub fn new(alloc: Global, asked: Asked, count: usize, until: Until) -> Combination
         requires { 0 < count }
         ensures query { result.task.query ≡ asked.query.items }

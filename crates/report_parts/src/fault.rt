@@ -1,7 +1,7 @@
 //! Why a line is refused, and why answers are not combined.
 
 ghost use Rattle.std.specs.Prelude.{◌≡◌};
-ghost use Rattle.report_parts.specs.Faults.{of_groups};
+ghost use Rattle.report_parts.specs.Faults.{of_groups, of_rows};
 ghost use Rattle.report_parts.specs.declared.fault.BlockFault.TheVariants.{NoMemory as NoBlock};
 ghost use Rattle.report_parts.specs.declared.fault.CombineFault.TheVariants.{NoMemory};
 ghost use Rattle.report_parts.specs.declared.fault.CourseFault.TheVariants.{Block, Input};
@@ -9,6 +9,7 @@ ghost use Rattle.report_parts.specs.declared.fault.InputFault.TheVariants.{Line}
 ghost use Rattle.report_parts.specs.declared.fault.LineFault.TheVariants.{NoMemory as NoRoom};
 
 use part_groups::CombineFault as GroupsFault;
+use part_rows::RowsFault;
 use std::alloc::{AllocError, AllocFailed};
 use thiserror::Error;
 
@@ -136,13 +137,31 @@ pub enum BlockFault {
     /// An end has more than 128 bits, or a number of rows more than 64.
     #[error("item {0}: too wide")]
     TooWide(usize),
+    /// The tag of this part, of those from 0, has a space or a control character, and first rows are asked for.
+    #[error("part {0}: a space or a control character in its tag")]
+    UnclearTag(usize),
+    /// Two first rows write their keys in other forms.
+    #[error("first rows: other decimals")]
+    OtherForm,
     /// Memory ran out.
     #[error("no memory")]
     NoMemory,
 }
 
+impl From<RowsFault> for BlockFault {
+    ghost from_gives = { λ why e. e ≡ of_rows why };
+
+    fn from(why: RowsFault) -> Self {
+        match why {
+            RowsFault::UnclearTag(part) => BlockFault::UnclearTag(part),
+            RowsFault::OtherForm => BlockFault::OtherForm,
+            RowsFault::NoMemory => BlockFault::NoMemory,
+        }
+    }
+}
+
 impl From<GroupsFault> for BlockFault {
-    ghost from_gives = { λ why e. of_groups e ≡ why };
+    ghost from_gives = { λ why e. e ≡ of_groups why };
 
     fn from(why: GroupsFault) -> Self {
         match why {

@@ -4,11 +4,11 @@ ghost use Rattle.std.specs.Prelude.{◌≡◌, ◌<◌, ◌++◌, IfErr, IfOk, O
 ghost use Rattle.std.specs.List.{All};
 ghost use Rattle.part_groups.specs.Cells.{slices};
 ghost use Rattle.part_groups.specs.Combined.{IsShown};
-ghost use Rattle.part_groups.specs.Whole.{AreKeyed, CanBeCombined, IsFaultOver, groups_over};
+ghost use Rattle.part_groups.specs.Whole.{AreKeyed, CanBeCombined, groups_over};
 ghost use Rattle.report_text.specs.Answers.{CanBeWritten};
 ghost use Rattle.report_text.specs.Groups.{group_line};
 ghost use Rattle.report_text.specs.Lines.{item_line};
-ghost use Rattle.report_parts.specs.Faults.{of_groups};
+ghost use Rattle.report_parts.specs.Faults.{IsGroupsFault};
 ghost use Rattle.report_parts.specs.Reports.{answer_lines, group_lines};
 ghost use Rattle.report_parts.specs.Rounds.{all_groups_in};
 
@@ -44,7 +44,7 @@ pub(crate) fn groups_over(
     ensures groups { IfOk result (λ groups. groups.items ≡ groups_over columns kinds.now (all_groups_in round parts.now)) }
     ensures shown { IfOk result (λ groups. All IsShown groups.items) }
     ensures can { OnOk result (CanBeCombined columns kinds.now (all_groups_in round parts.now)) }
-    ensures fault { IfErr result (λ why. IsFaultOver (of_groups why) columns kinds.now (all_groups_in round parts.now)) }
+    ensures fault { IfErr result (λ why. IsGroupsFault why columns kinds.now (all_groups_in round parts.now)) }
 {
     combined_is_whole();
     combined_can_be();

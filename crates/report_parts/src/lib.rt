@@ -26,6 +26,7 @@ mod part;
 mod parts;
 mod rounds;
 mod rows;
+mod rows_over;
 mod shape;
 mod tags;
 mod values;

@@ -2,7 +2,7 @@
 
 ghost use Rattle.std.specs.Prelude.{◌≡◌, ◌&&◌};
 ghost use Rattle.std.specs.List.{list_all};
-ghost use Rattle.report_parts.specs.Course.{is_narrow_block};
+ghost use Rattle.report_parts.specs.Course.{is_narrow_block, none_possible};
 ghost use Rattle.report_parts.specs.Narrowness.{is_narrow, is_told, near_numbers};
 
 use crate::averages::fraction_of;
@@ -11,7 +11,7 @@ use crate::entry::Entry;
 use crate::near::are_near;
 use part_groups::Group;
 use query_model::{Bound, Nullity};
-use report_text::{Answer, RowLine};
+use report_text::{Answer, RowsTop};
 
 // Whether it is known that there is an answer, and its ends are near, or that there is none.
 fn is_told(null: Nullity, near: bool) -> bool
@@ -81,25 +81,23 @@ fn groups_are_narrow(width: u64, groups: &[Group]) -> bool
     true
 }
 
-// Whether each row is among the first for certain.
-fn rows_are_certain(rows: &[RowLine]) -> bool
-    ensures { result ≡ list_all (λ row. row.certain) rows.now }
+// Whether it is told that no row is possible.
+fn none_possible(top: Option<RowsTop>) -> bool
+    ensures { result ≡ none_possible top }
 {
-    for row in rows {
-        if !row.certain {
-            return false;
-        }
+    match top {
+        Some(RowsTop::Counts(top)) => top.possible == 0,
+        Some(RowsTop::Skipped(_)) | None => false,
     }
-    true
 }
 
-// Whether the block is narrow: each answer is, each group is in the result for certain, and each row is among the first for certain.
+// Whether the block is narrow: each answer is, each group is in the result for certain, and no row is possible.
 pub(crate) fn is_narrow_block(width: u64, block: &Block) -> bool
     ensures { result ≡ is_narrow_block width block.now }
 {
     match block {
         Block::Totals(entries) => are_narrow(width, entries.as_slice()),
         Block::Groups(groups) => groups_are_narrow(width, groups.as_slice()),
-        Block::Rows(rows) => rows_are_certain(rows.rows()),
+        Block::Rows(rows) => none_possible(rows.top()),
     }
 }

@@ -5,6 +5,7 @@ ghost use Rattle.part_groups.specs.Whole.{AreKeyed};
 ghost use Rattle.report_parts.specs.Faults.{CanSay, IsBlockFault};
 ghost use Rattle.report_parts.specs.Reports.{HasBlockTexts, block_lines, block_over};
 ghost use Rattle.report_parts.specs.Rounds.{all_groups_in};
+ghost use Rattle.report_parts.specs.Shown.{AreShownFrom};
 ghost use Rattle.report_text.specs.Lines.{round_words};
 
 use crate::beside::entries_beside;
@@ -13,20 +14,22 @@ use crate::blocks::{entries_over, push_items, written_start};
 use crate::fault::BlockFault;
 use crate::groups::{groups_over, push_groups};
 use crate::part::Part;
+use crate::rows_over::{push_rows, rows_over};
 use crate::shape::Shape;
 use daq_table::Listed;
 use part_groups::Groups;
 use query_model::ItemKind;
 use std::alloc::{AllocError, Global};
 
-// What is said over all parts in a round: of the items, or of groups.
+// What is said over all parts in a round: of the items, of groups, or of first rows.
 pub(crate) fn block_over(
     alloc: Global,
     round: usize,
     shape: &Shape,
     parts: &[Part],
 ) -> Result<Block, BlockFault>
-    requires { AreKeyed shape.now.columns (all_groups_in round parts.now) }
+    requires keyed { AreKeyed shape.now.columns (all_groups_in round parts.now) }
+    requires shown { AreShownFrom round parts.now }
     ensures block { IfOk result (λ block. block ≡ block_over round shape.now parts.now) }
     ensures texts { IfOk result (HasBlockTexts shape.now.kinds) }
     ensures said { OnOk result (CanSay round shape.now parts.now) }
@@ -34,6 +37,9 @@ pub(crate) fn block_over(
 {
     let kinds = shape.kinds.as_slice();
     if shape.columns == 0 {
+        if let Some(asked) = shape.rows {
+            return Ok(Block::Rows(rows_over(alloc, round, asked, parts)?));
+        }
         let entries = entries_over(alloc, round, kinds, parts)?;
         let entries = entries_beside(alloc, shape.besides.as_slice(), &entries)?;
         return Ok(Block::Totals(Listed::new(entries)));
@@ -55,7 +61,7 @@ fn push_block(
     match block {
         Block::Totals(entries) => push_items(text, kinds, entries.as_slice()),
         Block::Groups(groups) => push_groups(alloc, text, groups.as_slice()),
-        Block::Rows(_) => Ok(()),
+        Block::Rows(rows) => push_rows(alloc, text, rows),
     }
 }
 

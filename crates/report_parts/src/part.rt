@@ -1,7 +1,7 @@
 //! The report of a part, read line by line. Blocks that are no longer asked for are forgotten.
 
 ghost use Rattle.std.specs.Prelude.{◌≡◌, ◌≢◌, ◌+◌, ◌<◌, ◌^◌, Err, MatchOption, OnOk, length};
-ghost use Rattle.report_parts.specs.Blocks.{entries_of, groups_of, no_block, rows_of};
+ghost use Rattle.report_parts.specs.Blocks.{entries_of, groups_of, is_skipped, no_block, rows_of};
 ghost use Rattle.report_parts.specs.Passed.{TellsFrom};
 ghost use Rattle.report_parts.specs.Rounds.{block_for};
 ghost use Rattle.report_parts.specs.Told.{IsUnlisted, Refuses, Takes, TakesInside, at_place, nothing_told};
@@ -152,6 +152,16 @@ impl Part {
         match self.block_for(round) {
             Some(block) => block.rows(),
             None => &[],
+        }
+    }
+
+    /// Whether it judges no row in that round, where it is of first rows.
+    pub fn is_skipped(&self, round: usize) -> bool
+        ensures { result ≡ is_skipped (block_for round self.now) }
+    {
+        match self.block_for(round) {
+            Some(block) => block.is_skipped(),
+            None => false,
         }
     }
 
