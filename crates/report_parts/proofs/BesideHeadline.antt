@@ -161,7 +161,7 @@ plain_nests narrow round item parts k =
     (all_divisible (answers_in round item parts)) (all_divisible (answers_in (round + 1) item parts)) (next_reports round item parts k)))
 
 pub besides_certain : CombinationsContain → CombinationsNest → CombinationsTell → CombinationsReportAverages → AveragesNest → BesidesStand → CombinedBesidesAreCertain
-besides_certain contains nests tells reports narrow stand item beside shape parts tables round there stands own h =
+besides_certain contains nests tells reports narrow stand item beside shape parts tables round totals there stands own h =
     let a = sums contains nests tells item beside parts tables shape.kinds h round in
     let b = counts contains nests tells item beside parts tables shape.kinds h round in
     let a' = sums contains nests tells item beside parts tables shape.kinds h (round + 1) in
@@ -185,8 +185,8 @@ besides_certain contains nests tells reports narrow stand item beside shape part
     record {
       entry = said_in (Some beside) round item Avg shape.kinds parts;
       next = said_in (Some beside) (round + 1) item Avg shape.kinds parts;
-      printed = printed_item round item shape Avg parts there ∙ ap (λ (o : Option Beside). Some (said_in o round item Avg shape.kinds parts)) stands;
-      printed_next = printed_item (round + 1) item shape Avg parts there ∙ ap (λ (o : Option Beside). Some (said_in o (round + 1) item Avg shape.kinds parts)) stands;
+      printed = printed_item round item shape Avg parts totals there ∙ ap (λ (o : Option Beside). Some (said_in o round item Avg shape.kinds parts)) stands;
+      printed_next = printed_item (round + 1) item shape Avg parts totals there ∙ ap (λ (o : Option Beside). Some (said_in o (round + 1) item Avg shape.kinds parts)) stands;
       contains = said_contains stand tables sum count sum' count' other other' said said' is is' d d' k k';
       reports = λ room. said_reports stand tables sum count sum' count' other other' said said' is is' d d' k k' x room;
       nests = λ m. said_nests stand tables sum count sum' count' other other' said said' is is' d d' k k' a.nests b.nests (plain_nests narrow round item parts m);

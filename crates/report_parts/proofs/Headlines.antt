@@ -11,18 +11,19 @@ use Rattle.shard_bounds.specs.Laws.{AreAdmitted, AreAveragesAdmitted, AreAverage
 use Rattle.shard_bounds.specs.Laws.{CombinationsContain, CombinationsNest, CombinationsReportAverages, CombinationsTell, CombinationsTellAverages}
 use Rattle.shard_bounds.proofs.EqualEnds.{nested-refl}
 use Rattle.query_kinds.specs.declared.beside.Beside.{Beside}
+use Rattle.query_kinds.specs.declared.rows.FirstRows.{FirstRows}
 use Rattle.report_text.specs.declared.answers.Answer.{Answer}
 use Rattle.report_text.specs.declared.answers.Answer.TheVariants.{Average, Value}
 use Rattle.report_text.specs.declared.bounds.ShownBound.{ShownBound}
 use Rattle.report_parts.proofs.FromRounds.{cases_lt}
 use Rattle.report_parts.proofs.Certain.{all_divisible, averages, contain, nest, tell}
-use Rattle.report_parts.specs.Beside.{answer_beside, entries_by, entry_by}
+use Rattle.report_parts.specs.Beside.{answer_beside, entries_beside, entries_by, entry_by}
 use Rattle.report_parts.specs.Blocks.{entries_of, no_block}
 use Rattle.report_parts.specs.Combined.{answer_over, average_of, bound_of, entry_over, extra_of_all, extra_over}
 use Rattle.report_parts.specs.Entries.{answers_of, entry_at, extras_of, have_extras, or_no_answer}
-use Rattle.report_parts.specs.Headline.{AreCertainAverages, AreCertainBlocks, AreClippedOf, AreExactOf, AverageNests, DoAveragesNest, IsCertainOver, IsClippedOf, IsExactOf, OfEach, extra_at, printed_in}
+use Rattle.report_parts.specs.Headline.{AreCertainAverages, AreCertainBlocks, AreClippedOf, AreExactOf, AverageNests, DoAveragesNest, IsCertainOver, IsClippedOf, IsExactOf, IsOfTotals, OfEach, extra_at, printed_in}
 use Rattle.report_parts.specs.Headline.{CombinedAveragesAreCertain, CombinedClipsAreCertain, CombinedExactAveragesAreCertain, CombinedIsCertain}
-use Rattle.report_parts.specs.Reports.{entries_over}
+use Rattle.report_parts.specs.Reports.{block_beside, block_by, entries_over}
 use Rattle.report_parts.specs.Rounds.{answers_in, entries_in, entry_in, extras_in}
 use Rattle.report_parts.specs.Told.{Told}
 use Rattle.report_parts.specs.declared.entry.Entry.{Entry}
@@ -85,12 +86,20 @@ printed_by block besides from (suc item) (first ∷ entries) entry e =
 abbrev pub said_in : Option Beside → ℕ → ℕ → ItemKind → List ItemKind → List Told → Entry
 said_in beside round item kind kinds parts = entry_by (entries_over round 0 kinds parts) beside (entry_over kind (entries_in round item parts))
 
-pub printed_item : (round item : ℕ) (shape : Shape) (kind : ItemKind) (parts : List Told) → slice_get shape.kinds item ≡ Some kind →
+-- what is printed of totals
+printed_totals : (round : ℕ) (shape : Shape) (parts : List Told) → IsOfTotals shape →
+    printed_in round shape parts ≡ entries_beside shape.besides (entries_over round 0 shape.kinds parts)
+printed_totals round shape parts totals =
+    ap (λ (columns : ℕ). entries_of (block_beside shape.besides (block_by columns shape.rows round shape.kinds parts))) totals.no_groups
+    ∙ ap (λ (rows : Option FirstRows). entries_of (block_beside shape.besides (block_by 0 rows round shape.kinds parts))) totals.no_rows
+
+pub printed_item : (round item : ℕ) (shape : Shape) (kind : ItemKind) (parts : List Told) → IsOfTotals shape → slice_get shape.kinds item ≡ Some kind →
     slice_get (printed_in round shape parts) item ≡ Some (said_in (get_or shape.besides item None) round item kind shape.kinds parts)
-printed_item round item shape kind parts e =
+printed_item round item shape kind parts totals e =
     let here : 0 + item ≡ item = omega arith in
     let block = entries_over round 0 shape.kinds parts in
-    printed_by block shape.besides 0 item block (entry_over kind (entries_in round item parts)) (printed_first round item shape.kinds kind parts e)
+    ap (λ (entries : List Entry). slice_get entries item) (printed_totals round shape parts totals)
+    ∙ printed_by block shape.besides 0 item block (entry_over kind (entries_in round item parts)) (printed_first round item shape.kinds kind parts e)
     ∙ ap (λ (n : ℕ). Some (entry_by block (get_or shape.besides n None) (entry_over kind (entries_in round item parts)))) here
 
 -- ---- each part in a round
@@ -167,9 +176,9 @@ certain_by contains nests tells reads round item kind parts tables other h = rec
 }
 
 pub certain : CombinationsContain → CombinationsNest → CombinationsTell → CombinedIsCertain
-certain contains nests tells item kind shape parts tables round other there h = record {
+certain contains nests tells item kind shape parts tables round totals other there h = record {
   entry = said_in (get_or shape.besides item None) round item kind shape.kinds parts;
-  printed = printed_item round item shape kind parts there;
+  printed = printed_item round item shape kind parts totals there;
   is = answer_stays (entries_over round 0 shape.kinds parts) (get_or shape.besides item None) kind (entries_in round item parts) other;
   certain = certain_by contains nests tells (λ entry. entry.answer) round item kind parts tables other h;
 }
@@ -207,9 +216,9 @@ each_certain item kind (part ∷ parts) [] h = absurd h
 each_certain item kind (part ∷ parts) (values ∷ tables) h = (h.0.certain, each_certain item kind parts tables h.1)
 
 pub clips_certain : CombinationsContain → CombinationsNest → CombinationsTell → CombinedClipsAreCertain
-clips_certain contains nests tells item kind shape parts tables round other there h = record {
+clips_certain contains nests tells item kind shape parts tables round totals other there h = record {
   entry = said_in (get_or shape.besides item None) round item kind shape.kinds parts;
-  printed = printed_item round item shape kind parts there;
+  printed = printed_item round item shape kind parts totals there;
   is =
       extra_stays (entries_over round 0 shape.kinds parts) (get_or shape.besides item None) (entry_over kind (entries_in round item parts))
       ∙ told_behind kind (entries_in round item parts) (shown_in (IsClippedOf item kind) round item parts tables (λ t v k. k.certain.some) (λ t v k. k.shown) h)
@@ -235,9 +244,9 @@ exact_nested round item (part ∷ parts) (values ∷ tables) h = (
 )
 
 pub exact_certain : HullsContain → HullsNest → CombinedExactAveragesAreCertain
-exact_certain contains nests item shape parts tables round there h = record {
+exact_certain contains nests item shape parts tables round totals there h = record {
   entry = said_in (get_or shape.besides item None) round item Avg shape.kinds parts;
-  printed = printed_item round item shape Avg parts there;
+  printed = printed_item round item shape Avg parts totals there;
   is =
       extra_stays (entries_over round 0 shape.kinds parts) (get_or shape.besides item None) (entry_over Avg (entries_in round item parts))
       ∙ told_behind Avg (entries_in round item parts) (shown_in (IsExactOf item) round item parts tables (λ t v k. k.some) (λ t v k. k.shown) h);
@@ -270,9 +279,9 @@ next_reports round item [] h = tt
 next_reports round item (part ∷ parts) h = (next_report round item part h.0, next_reports round item parts h.1)
 
 pub averages_certain : CombinationsReportAverages → AveragesNest → CombinationsTellAverages → CombinedAveragesAreCertain
-averages_certain law narrow tells item shape parts tables round there none h = record {
+averages_certain law narrow tells item shape parts tables round totals there none h = record {
   entry = entry_over Avg (entries_in round item parts);
-  printed = printed_item round item shape Avg parts there
+  printed = printed_item round item shape Avg parts totals there
       ∙ ap (λ (beside : Option Beside). Some (said_in beside round item Avg shape.kinds parts)) none;
   is = refl;
   reports = averages law (answers_in round item parts) tables (reported round item parts tables h);

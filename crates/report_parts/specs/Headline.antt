@@ -14,10 +14,9 @@ use Rattle.shard_bounds.specs.Combined as shards
 use Rattle.shard_bounds.specs.Combined.{IsBoundOf}
 use Rattle.shard_bounds.specs.Laws.{AreAveragesTold, AreTold, IsNestedReport, Tells}
 use Rattle.report_parts.specs.Blocks.{entries_of, no_block}
-use Rattle.report_parts.specs.Beside.{entries_beside}
 use Rattle.report_parts.specs.Combined.{AreAlike, answer_over, average_of, bound_of, exact_over}
 use Rattle.report_parts.specs.Entries.{entry_at, or_no_answer}
-use Rattle.report_parts.specs.Reports.{entries_over}
+use Rattle.report_parts.specs.Reports.{block_over}
 use Rattle.report_parts.specs.Rounds.{answers_in, extras_in}
 use Rattle.report_parts.specs.Told.{Told}
 use Rattle.report_parts.specs.declared.entry.Entry.{Entry}
@@ -61,9 +60,14 @@ pub record IsCertainOver (kind : ItemKind) (answers nexts : List Answer) (tables
   pub nests : IsNested (bound_of (answer_over kind answers)) (bound_of (answer_over kind nexts))
   pub exact : AreTold kind (map bound_of answers) tables → Tells (bound_of (answer_over kind answers)) (shards.answer_over kind tables)
 
--- what is printed of the items in a round, where the query is of totals
+-- the query is of totals
+pub record IsOfTotals (shape : Shape) : Type 0 where
+  pub no_groups : shape.columns ≡ 0
+  pub no_rows : shape.rows ≡ None
+
+-- what is printed of its items in a round
 abbrev pub printed_in : ℕ → Shape → List Told → List Entry
-printed_in round shape parts = entries_beside shape.besides (entries_over round 0 shape.kinds parts)
+printed_in round shape parts = entries_of (block_over round shape parts)
 
 -- what is printed of the item in a round, beside the next round's
 pub record IsCertainIn (round item : ℕ) (kind : ItemKind) (shape : Shape) (parts : List Told) (tables : List (List ℤ)) : Type 0 where
@@ -75,7 +79,7 @@ pub record IsCertainIn (round item : ℕ) (kind : ItemKind) (shape : Shape) (par
 -- the headline for parts: of each item but an average
 abbrev pub CombinedIsCertain : Type 0
 CombinedIsCertain =
-    (item : ℕ) (kind : ItemKind) (shape : Shape) (parts : List Told) (tables : List (List ℤ)) (round : ℕ) →
+    (item : ℕ) (kind : ItemKind) (shape : Shape) (parts : List Told) (tables : List (List ℤ)) (round : ℕ) → IsOfTotals shape →
     kind ≢ Avg → slice_get shape.kinds item ≡ Some kind → AreCertainOf item kind parts tables →
     IsCertainIn round item kind shape parts tables
 
@@ -98,7 +102,7 @@ pub record IsClippedIn (round item : ℕ) (kind : ItemKind) (shape : Shape) (par
 
 abbrev pub CombinedClipsAreCertain : Type 0
 CombinedClipsAreCertain =
-    (item : ℕ) (kind : ItemKind) (shape : Shape) (parts : List Told) (tables : List (List ℤ)) (round : ℕ) →
+    (item : ℕ) (kind : ItemKind) (shape : Shape) (parts : List Told) (tables : List (List ℤ)) (round : ℕ) → IsOfTotals shape →
     kind ≢ Avg → slice_get shape.kinds item ≡ Some kind → AreClippedOf item kind parts tables →
     IsClippedIn round item kind shape parts tables
 
@@ -138,7 +142,7 @@ pub record IsAverageIn (round item : ℕ) (shape : Shape) (parts : List Told) (t
 
 abbrev pub CombinedAveragesAreCertain : Type 0
 CombinedAveragesAreCertain =
-    (item : ℕ) (shape : Shape) (parts : List Told) (tables : List (List ℤ)) (round : ℕ) →
+    (item : ℕ) (shape : Shape) (parts : List Told) (tables : List (List ℤ)) (round : ℕ) → IsOfTotals shape →
     slice_get shape.kinds item ≡ Some Avg → slice_index_or shape.besides item None ≡ None → AreCertainAverages item parts tables →
     IsAverageIn round item shape parts tables
 
@@ -183,7 +187,7 @@ pub record IsBesideIn (round item : ℕ) (beside : Beside) (shape : Shape) (part
 
 abbrev pub CombinedBesidesAreCertain : Type 0
 CombinedBesidesAreCertain =
-    (item : ℕ) (beside : Beside) (shape : Shape) (parts : List Told) (tables : List (List ℤ)) (round : ℕ) →
+    (item : ℕ) (beside : Beside) (shape : Shape) (parts : List Told) (tables : List (List ℤ)) (round : ℕ) → IsOfTotals shape →
     slice_get shape.kinds item ≡ Some Avg → slice_index_or shape.besides item None ≡ Some beside → AreCertainAverages item parts tables →
     AreCertainBeside item beside shape.kinds parts tables → IsBesideIn round item beside shape parts tables
 
@@ -213,5 +217,5 @@ pub record IsExactIn (round item : ℕ) (shape : Shape) (parts : List Told) (tab
 
 abbrev pub CombinedExactAveragesAreCertain : Type 0
 CombinedExactAveragesAreCertain =
-    (item : ℕ) (shape : Shape) (parts : List Told) (tables : List (List ℤ)) (round : ℕ) →
+    (item : ℕ) (shape : Shape) (parts : List Told) (tables : List (List ℤ)) (round : ℕ) → IsOfTotals shape →
     slice_get shape.kinds item ≡ Some Avg → AreExactOf item parts tables → IsExactIn round item shape parts tables
