@@ -1,23 +1,24 @@
--- That each first row of which parts tell can be shown, whatever lines come.
-use Rattle.std.proofs.Common.{◌≡◌, ℕ, ◌-◌, ◌<◌, ◌≤◌, min, Bool, true, false, Option, Some, None, List, [], ◌∷◌, ◌++◌, length, set, get_or, if◌then◌else◌, refl, sym, subst, inl, inr, arith, map, All}
+-- That a report shows the first rows of which parts tell, each behind those before it, whatever lines come.
+use Rattle.std.proofs.Common.{◌≡◌, ℕ, ◌-◌, ◌<◌, ◌≤◌, min, Bool, true, false, Option, Some, None, List, [], ◌∷◌, ◌++◌, length, set, get_or, if◌then◌else◌, sym, subst, inl, inr, arith, All}
 use Rattle.std.proofs.lemmas.List.Elements.{All-cons, All-head, All-nil, All-push, All-tail}
 use Rattle.std.specs.declared.cmp.Ordering.{Ordering}
 use Rattle.std.specs.declared.cmp.Ordering.TheVariants.{Less, Equal, Greater}
 use Rattle.report_text.specs.RowBlocks.{RowsTold, TakesRows}
 use Rattle.report_text.specs.Rows.{IsShownRow}
 use Rattle.report_text.specs.declared.groups.GroupLine.{GroupLine}
-use Rattle.report_text.specs.declared.rows.RowLine.{RowLine}
 use Rattle.part_rows.specs.Combined.{PartListing}
 use Rattle.part_rows.specs.ReadBack.{AreShownParts}
+use Rattle.part_rows.specs.Rising.{AreRisingLines}
 use Rattle.part_rows.specs.Worlds.{IsIn}
+use Rattle.part_rows.proofs.RisingRows.{rises_on}
 use Rattle.report_parts.proofs.Pushed.{at_later}
 use Rattle.report_parts.specs.Blocks.{no_block, rows_of}
 use Rattle.report_parts.specs.Entries.{last_entry}
 use Rattle.report_parts.specs.Passed.{AllTellFrom, TellsFrom}
-use Rattle.report_parts.specs.Rounds.{all_listed_in, block_for, listed_in}
-use Rattle.report_parts.specs.Shown.{AreShownFrom, IsShownFrom}
+use Rattle.report_parts.specs.Rounds.{all_listed_in, listed_in}
+use Rattle.report_parts.specs.Shown.{AreShownFrom, AreTakenRows, IsShownFrom}
 use Rattle.report_parts.specs.Tags.{TakesTagged, against, behind_tag, by_order, tag_of, told_of, with_part}
-use Rattle.report_parts.specs.Told.{BeginsGroup, GoesOn, GroupsGoOn, ListsRow, RowsGoOn, Takes, TakesAt, TakesBehindAnswer, TakesInside, TakesRest, Told, at_place, block_done, closed, closed_by, completed, completed_by, is_whole, nothing_told, opened_by, rows_done, with_current, with_group, with_rows}
+use Rattle.report_parts.specs.Told.{BeginsGroup, GoesOn, GroupsGoOn, ListsRow, RowsGoOn, TakesAt, TakesBehindAnswer, TakesInside, TakesRest, Told, at_place, block_done, closed, closed_by, completed, completed_by, is_whole, nothing_told, opened_by, rows_done, with_current, with_group, with_rows}
 use Rattle.report_parts.specs.declared.block.Block.{Block}
 use Rattle.report_parts.specs.declared.block.Block.TheVariants.{Groups, Rows, Totals}
 use Rattle.report_parts.specs.declared.entry.Entry.{Entry}
@@ -27,13 +28,16 @@ use Rattle.report_parts.specs.declared.shape.Shape.{Shape}
 
 -- ---- the ways to go on
 
-block_more : (round : ℕ) (told : Told) (block : Block) → IsShownFrom round told → All IsShownRow (rows_of block) → (later : ℕ) → round ≤ later →
-    All IsShownRow (rows_of (get_or (told.blocks ++ block ∷ []) (min later (length (told.blocks ++ block ∷ []) - 1)) no_block))
-block_more round told block h k later le = at_later (λ b. All IsShownRow (rows_of b)) later told.blocks block (h.blocks later le) k
+none_taken : AreTakenRows []
+none_taken = record { shown = All-nil IsShownRow; rising = tt }
+
+block_more : (round : ℕ) (told : Told) (block : Block) → IsShownFrom round told → AreTakenRows (rows_of block) → (later : ℕ) → round ≤ later →
+    AreTakenRows (rows_of (get_or (told.blocks ++ block ∷ []) (min later (length (told.blocks ++ block ∷ []) - 1)) no_block))
+block_more round told block h k later le = at_later (λ b. AreTakenRows (rows_of b)) later told.blocks block (h.blocks later le) k
 
 -- before the first line
 nothing_shown : (round : ℕ) (tag : List ℕ) → 0 < length tag → IsShownFrom round (nothing_told tag)
-nothing_shown round tag some = record { tag = some; blocks = λ later le. All-nil IsShownRow; begun = All-nil IsShownRow }
+nothing_shown round tag some = record { tag = some; blocks = λ later le. none_taken; begun = none_taken }
 
 same_shown : (round : ℕ) (told next : Told) → next ≡ told → IsShownFrom round told → IsShownFrom round next
 same_shown round told next e h = subst (λ (t : Told). IsShownFrom round t) (sym e) h
@@ -45,12 +49,12 @@ placed round told next place e h =
 -- the block of totals is whole, or the section of the group
 closed_shown : (round : ℕ) (group : Option GroupLine) (told : Told) → IsShownFrom round told → IsShownFrom round (closed_by group told)
 closed_shown round None told h =
-    record { tag = h.tag; blocks = block_more round told (Totals told.current) h (All-nil IsShownRow); begun = h.begun }
+    record { tag = h.tag; blocks = block_more round told (Totals told.current) h none_taken; begun = h.begun }
 closed_shown round (Some group) told h = record { tag = h.tag; blocks = h.blocks; begun = h.begun }
 
 done_shown : (round : ℕ) (told : Told) → IsShownFrom round told → IsShownFrom round (block_done told)
 done_shown round told h =
-    record { tag = h.tag; blocks = block_more round told (Groups told.sections) h (All-nil IsShownRow); begun = h.begun }
+    record { tag = h.tag; blocks = block_more round told (Groups told.sections) h none_taken; begun = h.begun }
 
 completed_shown : (round : ℕ) (group : Option GroupLine) (told : Told) → IsShownFrom round told → IsShownFrom round (completed_by group told)
 completed_shown round None told h = closed_shown round None told h
@@ -84,22 +88,22 @@ between shape round told next line (inl h) k = begins_group shape.columns round 
 between shape round told next line (inr h) k = goes_on shape round (block_done told) next line h (done_shown round told k)
 
 -- a row more
-rows_shown : (limit : ℕ) (told : RowsTold) (line : List ℕ) (next : RowsTold) → TakesRows limit told line next → All IsShownRow told.rows →
-    All IsShownRow next.rows
-rows_shown limit told line next (inl h) k = subst (λ (rows : RowsTold). All IsShownRow rows.rows) (sym h.2) k
+rows_shown : (limit : ℕ) (told : RowsTold) (line : List ℕ) (next : RowsTold) → TakesRows limit told line next → AreTakenRows told.rows →
+    AreTakenRows next.rows
+rows_shown limit told line next (inl h) k = subst (λ (rows : RowsTold). AreTakenRows rows.rows) (sym h.2) k
 rows_shown limit told line next (inr (inl h)) k =
-    subst (λ (rows : RowsTold). All IsShownRow rows.rows) (sym h.2) (All-push IsShownRow told.rows h.0 k h.1.is_shown)
-rows_shown limit told line next (inr (inr h)) k = subst (λ (rows : RowsTold). All IsShownRow rows.rows) (sym h.1) k
+    subst (λ (rows : RowsTold). AreTakenRows rows.rows) (sym h.2) (record { shown = All-push IsShownRow told.rows h.0 k.shown h.1.is_shown; rising = rises_on told.rows h.0 k.rising h.1.behind })
+rows_shown limit told line next (inr (inr h)) k = subst (λ (rows : RowsTold). AreTakenRows rows.rows) (sym h.1) k
 
 lists_row : (shape : Shape) (round : ℕ) (told next : Told) (line : List ℕ) → ListsRow shape told line next → IsShownFrom round told → IsShownFrom round next
 lists_row shape round told next line h k = by h.goes_on
   where
-    shown : All IsShownRow h.rows.rows
+    shown : AreTakenRows h.rows.rows
     shown = rows_shown h.asked.limit told.rows line h.rows h.taken k.begun
 
     by : RowsGoOn (with_rows told h.rows) next → IsShownFrom round next
     by (inl g) = same_shown round (rows_done (with_rows told h.rows)) next g.1
-        (record { tag = k.tag; blocks = block_more round told (Rows h.rows) k shown; begun = All-nil IsShownRow })
+        (record { tag = k.tag; blocks = block_more round told (Rows h.rows) k shown; begun = none_taken })
     by (inr g) = same_shown round (with_rows told h.rows) next g.1 (record { tag = k.tag; blocks = k.blocks; begun = shown })
 
 rest : (shape : Shape) (round : ℕ) (told : Told) (line : List ℕ) (next : Told) → TakesRest shape told line next → IsShownFrom round told →
@@ -174,8 +178,8 @@ one_passed : (from to : ℕ) (whole told : Told) → TellsFrom to whole told →
 one_passed from to whole told h le k = record {
   tag = subst (λ (tag : List ℕ). 0 < length tag) (sym h.tag) k.tag;
   blocks = λ later there.
-      subst (λ (b : Block). All IsShownRow (rows_of b)) (sym (h.same later there)) (k.blocks later (omega (arith, le, there)));
-  begun = subst (λ (rows : RowsTold). All IsShownRow rows.rows) (sym h.rows) k.begun;
+      subst (λ (b : Block). AreTakenRows (rows_of b)) (sym (h.same later there)) (k.blocks later (omega (arith, le, there)));
+  begun = subst (λ (rows : RowsTold). AreTakenRows rows.rows) (sym h.rows) k.begun;
 }
 
 -- of parts that tell the same from a round on
@@ -197,7 +201,7 @@ one_of P (y ∷ ys) x (inr i) h = one_of P ys x i (All-tail P y ys h)
 
 -- the part shows each row that it lists in that round
 abbrev IsShownListing : PartListing → Type 0
-IsShownListing part = (0 < length part.tag) × All IsShownRow part.rows
+IsShownListing part = (0 < length part.tag) × AreTakenRows part.rows
 
 each_listing : (round : ℕ) (parts : List Told) → AreShownFrom round parts → All IsShownListing (all_listed_in round parts)
 each_listing round [] h = All-nil IsShownListing
@@ -212,5 +216,10 @@ shown_here round parts h =
     let each = each_listing round parts h in
     record {
       tags = λ part i. (one_of IsShownListing all part i each).0;
-      lines = λ part i line j. one_of IsShownRow part.rows line j (one_of IsShownListing all part i each).1;
+      lines = λ part i line j. one_of IsShownRow part.rows line j (one_of IsShownListing all part i each).1.shown;
     }
+
+-- the lines of each part rise
+pub rising_here : (round : ℕ) (parts : List Told) → AreShownFrom round parts → (part : PartListing) → IsIn part (all_listed_in round parts) →
+    AreRisingLines part.rows
+rising_here round parts h part i = (one_of IsShownListing (all_listed_in round parts) part i (each_listing round parts h)).1.rising
