@@ -13,6 +13,7 @@ pub mod Kept
 pub mod Ordered
 pub mod Pushed
 pub mod Reached
+pub mod RowHeadlines
 pub mod RowTurns
 pub mod Shown
 pub mod Said

@@ -13,6 +13,7 @@ pub mod Narrowness
 pub mod Passed
 pub mod Reports
 pub mod Rounds
+pub mod RowHeadline
 pub mod Shown
 pub mod Tags
 pub mod Telling

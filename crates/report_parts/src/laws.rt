@@ -6,6 +6,7 @@ ghost use Rattle.report_parts.specs.Headline.{CombinedAveragesAreCertain, Combin
 ghost use Rattle.report_parts.specs.Headline.{CombinedExactAveragesAreCertain, CombinedIsCertain};
 ghost use Rattle.report_parts.specs.Laws.{AnswersContain, AnswersNest, AnswersTell, AveragesReport};
 ghost use Rattle.report_parts.specs.Laws.{LinesOnlyAdd, ReportsOnlyGrow, ToldBlocksStay};
+ghost use Rattle.report_parts.specs.RowHeadline.{CombinedRowsAreCertain};
 ghost use Rattle.report_parts.specs.Telling.{EndedStays, TellingIsOne};
 ghost use Rattle.report_parts.specs.Written.{WrittenStays};
 
@@ -13,6 +14,10 @@ use narrow_averages::besides_stand;
 use part_groups::{
     groups_contain, groups_nest, groups_nest_averages, groups_report_averages, groups_tell,
     groups_tell_averages, groups_tell_keys, whole_is_combined,
+};
+use part_rows::{
+    joined_lines_become_exact, joined_lines_nest, lines_hold, named_lines_are_right,
+    names_are_apart, parts_are_later, rising_lines_are_listed_once,
 };
 use shard_bounds::{
     averages_nest, combinations_contain, combinations_nest, combinations_report_averages,
@@ -161,4 +166,19 @@ pub fn combined_groups_are_certain()
     groups_report_averages();
     groups_nest_averages();
     groups_tell_averages();
+}
+
+/// The same of first rows: in each round in which rows are judged a line that says certain is that of a row among the first of all parts,
+/// and each of these has a line; later reports of the parts make what is printed a later report; where each part lists certain rows alone,
+/// with one key each, so are all that are printed; and what is printed holds as the report of one part of more.
+pub fn combined_rows_are_certain()
+    ensures { CombinedRowsAreCertain }
+{
+    names_are_apart();
+    named_lines_are_right();
+    parts_are_later();
+    joined_lines_nest();
+    joined_lines_become_exact();
+    rising_lines_are_listed_once();
+    lines_hold();
 }

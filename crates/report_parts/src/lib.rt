@@ -42,9 +42,9 @@ pub use fault::{BlockFault, CombineFault, CourseFault, EndFault, InputFault, Lin
 pub use laws::{
     answers_contain, answers_nest, answers_tell, averages_report, combined_averages_are_certain,
     combined_besides_are_certain, combined_clips_are_certain, combined_exact_averages_are_certain,
-    combined_groups_are_certain, combined_is_certain, combined_text_is_one, ended_reports_stay,
-    lines_only_add, order_of_lines_is_free, reports_only_grow, stands_are_combined,
-    tellings_are_one, told_blocks_stay, written_stays,
+    combined_groups_are_certain, combined_is_certain, combined_rows_are_certain,
+    combined_text_is_one, ended_reports_stay, lines_only_add, order_of_lines_is_free,
+    reports_only_grow, stands_are_combined, tellings_are_one, told_blocks_stay, written_stays,
 };
 pub use narrowness::is_narrow;
 pub use part::{Part, Place};
