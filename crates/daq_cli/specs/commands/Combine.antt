@@ -5,12 +5,14 @@ use Rattle.std.specs.Io.KnownBytes.{Consumes}
 use Rattle.command_line.specs.Commands.{Combine}
 use Rattle.outer_world.specs.Device.{SinkState, SourceState}
 use Rattle.query_kinds.specs.declared.beside.Beside.{Beside}
+use Rattle.query_kinds.specs.declared.rows.FirstRows.{FirstRows}
 use Rattle.query_model.specs.declared.query.ItemKind.{ItemKind}
 use Rattle.query_model.specs.declared.query.ItemKind.TheVariants.{Avg}
 use Rattle.report_parts.specs.Course.{Task, Tell}
 use Rattle.report_parts.specs.GroupHeadline.{AreGroupsCertain}
 use Rattle.report_parts.specs.Headline.{AreCertainAverages, AreCertainBeside, AreCertainOf, AreClippedOf, AreExactOf}
-use Rattle.report_parts.specs.Headline.{IsAverageIn, IsBesideIn, IsCertainIn, IsClippedIn, IsExactIn}
+use Rattle.report_parts.specs.Headline.{IsAverageIn, IsBesideIn, IsCertainIn, IsClippedIn, IsExactIn, IsOfTotals}
+use Rattle.report_parts.specs.RowHeadline.{AreRowsCertain}
 use Rattle.report_parts.specs.Told.{Told}
 use Rattle.report_parts.specs.declared.combination.Until.{Until}
 use Rattle.report_parts.specs.declared.shape.Shape.{Shape}
@@ -58,12 +60,14 @@ pub record AreCertainTogether (shape : Shape) (parts : List Told) : Type 0 where
   pub exact_averages : (item : ℕ) (tables : List (List ℤ)) (round : ℕ) → slice_get shape.kinds item ≡ Some Avg →
       AreExactOf item parts tables → IsExactIn round item shape parts tables
 
--- the combined report of the lines that were read was written to its end. Each interval in it is certain, where those of the parts are; of
--- a query by groups, so is each group
+-- the combined report of the lines that were read was written to its end. Of totals each interval in it is certain, where those of the
+-- parts are; so is each group of a query by groups, and each row where first rows are asked for
 pub record CombinesReports (c : Combine) (input input' : SourceState) (out out' : SinkState) : Type 0 where
   pub combined : Combined c.parts (until_of c) input input' out out'
-  pub headline : AreCertainTogether combined.task.shape combined.combines.parts
+  pub headline : IsOfTotals combined.task.shape → AreCertainTogether combined.task.shape combined.combines.parts
   pub groups : 0 < combined.task.shape.columns → AreGroupsCertain combined.task.shape combined.combines.parts
+  pub rows : (asked : FirstRows) → combined.task.shape.columns ≡ 0 → combined.task.shape.rows ≡ Some asked →
+      AreRowsCertain asked combined.task.shape combined.combines.parts
 
 -- why a `combine` stops, and with that what was read and written
 pub record CombineCause (c : Combine) (input input' : SourceState) (out out' : SinkState) (why : Refusal) : Type 0 where

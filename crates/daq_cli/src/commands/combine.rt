@@ -10,6 +10,7 @@ use outer_world::{Sink, Source};
 use report_parts::{
     Until, combined_averages_are_certain, combined_besides_are_certain, combined_clips_are_certain,
     combined_exact_averages_are_certain, combined_groups_are_certain, combined_is_certain,
+    combined_rows_are_certain,
 };
 use report_stream::combine_reports;
 use std::alloc::Global;
@@ -33,6 +34,7 @@ pub(crate) fn carry_out<S: Source, K: Sink>(
     combined_clips_are_certain();
     combined_exact_averages_are_certain();
     combined_groups_are_certain();
+    combined_rows_are_certain();
     let until = Until {
         width: asked.width,
         rounds: asked.rounds,
