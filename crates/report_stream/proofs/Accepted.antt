@@ -131,9 +131,9 @@ module _ (kinds : QueriesAreOne) (count : ℕ) (until : Until) where
           let n = is_next h.lines h.line (h.rest ++ t.behind) h.read.are_lines (split_by (h.lines ++ h.line ∷ []) h.rest h.read)
           (block_open kinds count until h.lines h.line h.task h.body h.is_task h.earlier) in
           let same = own_task h.lines h.line h.task n h.is_task in
-          let told : Tell m.task [] ((h.lines ++ h.line ∷ []) ++ n.others) m.combines.parts =
-          subst (λ (ls : List (List ℕ)). Tell m.task [] ls m.combines.parts) (one_more h.lines h.line n) m.combines.told in
-          refuses_block m.task h.lines n.others h.line h.body h.more m.combines.parts h.fault m.fit told (λ e. absurd (let f : Line number why ≡ NoMemory = h.is ∙ ap (of_block number) e in cc))
+          let all : Combines m.task ((h.lines ++ h.line ∷ []) ++ n.others) m.body (Some m.end) =
+          subst (λ (ls : List (List ℕ)). Combines m.task ls m.body (Some m.end)) (one_more h.lines h.line n) m.combines in
+          refuses_block m.task h.lines n.others h.line h.body h.more m.body (Some m.end) h.fault all (λ e. absurd (let f : Line number why ≡ NoMemory = h.is ∙ ap (of_block number) e in cc))
           (subst (λ (t : Task). IsStopped t (h.lines ++ h.line ∷ []) h.body [] h.more h.fault) same h.stopped)
 
       stops_length : (number : ℕ) (why : LineRefusal) → RefusesLength count until input input' out out' number why → ⊥

@@ -296,9 +296,9 @@ module _ (kinds : QueriesAreOne) (count : ℕ) (until : Until) (whole bytes : Li
           by (inl b) =
               let e = same_next h.lines h.line y is b in
               let same = next_task h.lines b.others h.line h.task e h.is_task in
-              let told : Tell g.task [] ((h.lines ++ h.line ∷ []) ++ b.others) g.combines.parts =
-              subst (λ (ls : List (List ℕ)). Tell g.task [] ls g.combines.parts) (sym (append_assoc h.lines (h.line ∷ []) b.others)) (next_told h.lines b.others h.line e) in
-              absurd (refuses_block g.task h.lines b.others h.line h.body h.more g.combines.parts h.fault g.fit told
+              let all : Combines g.task ((h.lines ++ h.line ∷ []) ++ b.others) g.body None =
+              subst (λ (ls : List (List ℕ)). Combines g.task ls g.body None) (e ∙ sym (append_assoc h.lines (h.line ∷ []) b.others)) g.combines in
+              absurd (refuses_block g.task h.lines b.others h.line h.body h.more g.body None h.fault all
               (λ n. absurd (let f : Line number why ≡ NoMemory = h.is ∙ ap (of_block number) n in cc))
               (subst (λ (t : Task). IsStopped t (h.lines ++ h.line ∷ []) h.body [] h.more h.fault) same h.stopped))
           by (inr (inl (e, f))) =
@@ -658,7 +658,7 @@ module _ (kinds : QueriesAreOne) (count : ℕ) (until : Until) (whole bytes : Li
 
       on : (others : List (List ℕ)) (body : List ℕ) (end : Option ReportEnd) → Combines g.task (own ++ line ∷ others) body end → ⊥
       on others body end combines =
-          never_combined g.task (own ++ line ∷ []) others un.parts [] [] un.body body end fault un.told un.all un.stops un.exact
+          never_combined g.task (own ++ line ∷ []) others un.parts [] [] un.body body end fault un.told un.all un.stops un.some
           (subst (λ (ls : List (List ℕ)). Combines g.task ls body end) (sym (append_assoc own (line ∷ []) others)) combines)
 
       one : (f : BlockFault) (body more : List ℕ) → f ≢ b.NoMemory → IsStopped g.task (own ++ line ∷ []) body [] more f → fault ≡ f
@@ -666,7 +666,7 @@ module _ (kinds : QueriesAreOne) (count : ℕ) (until : Until) (whole bytes : Li
           let parts = telling_one g.task [] (own ++ line ∷ []) un.parts stopped.parts un.told stopped.told in
           stops_once g.task un.parts [] body [] [] un.body more fault f un.stops
           (subst (λ (ps : List PartTold). Stops g.task ps body [] more f) parts (as_stops f g.task stopped.parts body [] more some stopped.stops))
-          un.exact some un.first
+          un.some some
 
   -- ---- where no line was taken
 

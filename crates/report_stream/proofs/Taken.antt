@@ -1,5 +1,5 @@
 -- That a line which the parts take is not refused.
-use Rattle.std.proofs.Common.{◌≡◌, ◌≢◌, ℕ, zero, suc, ◌+◌, ◌<◌, ◌≤◌, nat_lt, ◌==◌, Bool, true, false, List, [], ◌∷◌, ◌++◌, length, codes, decimal, refl, sym, ap, ◌∙◌, subst, inl, inr, arith, length-append}
+use Rattle.std.proofs.Common.{◌≡◌, ◌≢◌, Option, ℕ, zero, suc, ◌+◌, ◌<◌, ◌≤◌, nat_lt, ◌==◌, Bool, true, false, List, [], ◌∷◌, ◌++◌, length, codes, decimal, refl, sym, ap, ◌∙◌, subst, inl, inr, arith, length-append}
 use Rattle.std.proofs.lemmas.Bool.Decides.{nat_tests}
 use Rattle.std.proofs.lemmas.List.{drop_all}
 use Rattle.std.specs.List.{position_or_len}
@@ -13,12 +13,11 @@ use Rattle.report_text.specs.Lines.{end_line}
 use Rattle.report_text.specs.RowBlocks.{TakesRows}
 use Rattle.report_text.specs.declared.lines.ReportEnd.{ReportEnd}
 use Rattle.report_text.specs.declared.lines.ReportEnd.TheVariants.{Narrow, Reads, Rounds}
-use Rattle.report_parts.proofs.Courses.{passes_on, tag_of_told, tag_stays}
-use Rattle.report_parts.proofs.Grows.{all_keep, fault_stays}
+use Rattle.report_parts.proofs.Courses.{tag_of_told, tag_stays}
+use Rattle.report_parts.proofs.Reached.{as_stops, never_combined}
 use Rattle.report_parts.proofs.Stays.{follows}
-use Rattle.report_parts.proofs.Telling.{grown, telling_one, tells_split}
-use Rattle.report_parts.specs.Course.{IsLineFault, IsStopped, Stops, StopsBy, TakesLine, Task, Tell, wanted_of}
-use Rattle.report_parts.specs.Laws.{AllReach}
+use Rattle.report_parts.proofs.Telling.{telling_one, tells_split}
+use Rattle.report_parts.specs.Course.{Combines, IsLineFault, IsStopped, TakesLine, Task, Tell}
 use Rattle.report_parts.specs.Tags.{HasTab, IsRefused, IsTag, against, behind_tag, by_order, part_at, tag_of, told_of, with_part}
 use Rattle.report_parts.specs.Told.{GoesOn, GroupsGoOn, ListsRow, TakesAt, TakesBehindAnswer, TakesRest, Told, block_done, closed, completed, nothing_told}
 use Rattle.report_parts.specs.declared.fault.BlockFault.{BlockFault}
@@ -29,7 +28,6 @@ use Rattle.report_parts.specs.declared.fault.LineFault.TheVariants as l
 use Rattle.report_parts.specs.declared.part.Place.{Place}
 use Rattle.report_parts.specs.declared.part.Place.TheVariants.{Query, Opened, Round, Group, Items, Row, Ended}
 use Rattle.report_parts.specs.declared.shape.Shape.{Shape}
-use Rattle.report_stream.specs.Accepted.{BlocksFit}
 
 -- ---- a line without a tab
 
@@ -168,25 +166,12 @@ refuses_line task lines others line parts fault some told memory f =
     let same = telling_one task [] lines f.parts mid f.told before in
     not_refused fault task f.parts line next some (tell_started task [] lines f.parts tt f.told) (subst (λ (ps : List Told). TakesLine task ps line next) same takes) memory f.refused
 
-stood : (task : Task) (parts laters : List Told) (body more : List ℕ) (fault : BlockFault) → BlocksFit task laters → AllReach task.query task.shape parts laters →
-    fault ≢ b.NoMemory → Stops task parts body [] more fault → ⊥
-stood task parts laters body more fault fit reach memory s =
-    fit s.round (body ++ s.more) fault (passes_on task.query (wanted_of task) parts laters s.round (body ++ s.more) reach s.passed)
-    (all_keep task.query task.shape s.round parts laters reach s.has) memory
-    (fault_stays task.query task.shape fault s.round parts laters reach s.has s.fault)
-
--- a block that is not written is none that fits
-blocks_stand : (task : Task) (parts laters : List Told) (body more : List ℕ) (fault : BlockFault) → BlocksFit task laters → AllReach task.query task.shape parts laters →
-    fault ≢ b.NoMemory → StopsBy fault task parts body [] more → ⊥
-blocks_stand task parts laters body more (b.OtherColumn column) fit reach memory s = stood task parts laters body more (b.OtherColumn column) fit reach memory s
-blocks_stand task parts laters body more (b.OtherDecimals item) fit reach memory s = stood task parts laters body more (b.OtherDecimals item) fit reach memory s
-blocks_stand task parts laters body more (b.TooWide item) fit reach memory s = stood task parts laters body more (b.TooWide item) fit reach memory s
-blocks_stand task parts laters body more b.NoMemory fit reach memory s = memory refl
-
-pub refuses_block : (task : Task) (lines others : List (List ℕ)) (line body more : List ℕ) (laters : List Told) (fault : BlockFault) → BlocksFit task laters →
-    Tell task [] ((lines ++ line ∷ []) ++ others) laters → fault ≢ b.NoMemory → IsStopped task (lines ++ line ∷ []) body [] more fault → ⊥
-refuses_block task lines others line body more laters fault fit told memory s =
-    blocks_stand task s.parts laters body more fault fit (grown task s.parts laters (lines ++ line ∷ []) others s.all s.told told).reach memory s.stops
+-- behind a block that is not written no report goes on
+pub refuses_block : (task : Task) (lines others : List (List ℕ)) (line body more text : List ℕ) (end : Option ReportEnd) (fault : BlockFault) →
+    Combines task ((lines ++ line ∷ []) ++ others) text end → fault ≢ b.NoMemory → IsStopped task (lines ++ line ∷ []) body [] more fault → ⊥
+refuses_block task lines others line body more text end fault combines some s =
+    never_combined task (lines ++ line ∷ []) others s.parts body [] more text end fault s.told s.all
+    (as_stops fault task s.parts body [] more some s.stops) some combines
 
 -- ---- tags
 

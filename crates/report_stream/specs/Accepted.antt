@@ -1,27 +1,15 @@
 -- Which bytes of an input are accepted: the lines of reports that are combined to their end, and their combined report.
-use Rattle.std.specs.Prelude.{◌≡◌, ◌≢◌, ◌⊎◌, ℕ, ◌≤◌, true, List, ◌++◌, length}
+use Rattle.std.specs.Prelude.{◌≡◌, ◌⊎◌, ℕ, ◌≤◌, List, ◌++◌, length}
 use Rattle.std.specs.declared.option.Option.TheVariants.{Some}
-use Rattle.std.specs.List.{list_all}
 use Rattle.outer_world.specs.Device.{Rose, SinkState, SourceState}
 use Rattle.outer_world.specs.Whole.{Writes}
 use Rattle.report_text.specs.declared.lines.ReportEnd.{ReportEnd}
-use Rattle.report_parts.specs.Course.{Combines, Passes, Task, wanted_of}
-use Rattle.report_parts.specs.Faults.{IsBlockFault}
-use Rattle.report_parts.specs.Rounds.{has_block}
-use Rattle.report_parts.specs.Told.{Told}
+use Rattle.report_parts.specs.Course.{Combines, Task}
 use Rattle.report_parts.specs.declared.combination.Until.{Until}
-use Rattle.report_parts.specs.declared.fault.BlockFault.{BlockFault}
-use Rattle.report_parts.specs.declared.fault.BlockFault.TheVariants as b
 use Rattle.source_lines.specs.Lines.{most_bytes}
 use Rattle.report_stream.specs.Streams.{AreLines, Combined, IsTask, StreamCause, combined_text, first_line, lines_text, whole}
 use Rattle.report_stream.specs.declared.fault.StreamFault.{StreamFault}
 use Rattle.report_stream.specs.declared.fault.StreamFault.TheVariants.{NoMemory}
-
--- each block that is reached can be written: all lines write each item, and each group column, in the same form, and what is combined fits
-abbrev pub BlocksFit : Task → List Told → Type 0
-BlocksFit task parts =
-    (round : ℕ) (before : List ℕ) (why : BlockFault) → Passes (wanted_of task) parts round before →
-    list_all (has_block round) parts ≡ true → why ≢ b.NoMemory → IsBlockFault why round task.shape parts → ⊥
 
 -- the bytes begin with the lines of reports of one query, which are combined to their end, and this is the combined report
 pub record AreReports (count : ℕ) (until : Until) (bytes text : List ℕ) : Type 0 where
@@ -35,7 +23,6 @@ pub record AreReports (count : ℕ) (until : Until) (bytes text : List ℕ) : Ty
   pub few : length (lines_text lines) ≤ most_bytes
   pub is_task : IsTask count until (first_line lines) task
   pub combines : Combines task lines body (Some end)
-  pub fit : BlocksFit task combines.parts
   pub is : text ≡ combined_text task body
 
 -- the bytes have one combined report at most

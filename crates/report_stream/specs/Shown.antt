@@ -5,7 +5,6 @@ use Rattle.outer_world.specs.Device.{Rose, SinkState, SourceState}
 use Rattle.query_kinds.specs.Kinds.{AsksOther, IsNoQuery}
 use Rattle.report_parts.specs.Course.{Combines, Stops, Task, Tell}
 use Rattle.report_parts.specs.Ends.{first_open}
-use Rattle.report_parts.specs.Faults.{IsBlockFault, IsExact}
 use Rattle.report_parts.specs.Tags.{CannotTake, HasTab, IsTag, IsTagged, behind_tag, part_at, tag_of, told_of}
 use Rattle.report_parts.specs.Told.{IsUnlisted, Told, nothing_told}
 use Rattle.report_parts.specs.declared.combination.Until.{Until}
@@ -13,14 +12,13 @@ use Rattle.report_parts.specs.declared.fault.BlockFault.{BlockFault}
 use Rattle.report_parts.specs.declared.fault.BlockFault.TheVariants as b
 use Rattle.report_parts.specs.declared.part.Place.TheVariants.{Query}
 use Rattle.source_lines.specs.Lines.{IsRest, line_length, most_bytes, most_line}
-use Rattle.report_stream.specs.Accepted.{BlocksFit}
 use Rattle.report_stream.specs.Faults.{of_block}
 use Rattle.report_stream.specs.Streams.{AreLines, Combined, IsLine, IsTask, StreamCause, first_line, lines_text}
 use Rattle.report_stream.specs.declared.fault.LineRefusal.TheVariants as r
 use Rattle.report_stream.specs.declared.fault.StreamFault.{StreamFault}
 use Rattle.report_stream.specs.declared.fault.StreamFault.TheVariants.{EndsEarly, Line, NoMemory, OtherCount, TooLong, WriteFault}
 
--- the bytes begin with these lines, which the parts take; each block that they complete fits, and their combined report goes on
+-- the bytes begin with these lines, which the parts take, and their combined report goes on
 pub record GoesRight (wanted : ℕ) (until : Until) (bytes : List ℕ) (lines : List (List ℕ)) (rest : List ℕ) : Type 0 where
   pub task : Task
   pub body : List ℕ
@@ -28,7 +26,6 @@ pub record GoesRight (wanted : ℕ) (until : Until) (bytes : List ℕ) (lines : 
   pub are_lines : AreLines lines
   pub is_task : IsTask wanted until (first_line lines) task
   pub combines : Combines task lines body None
-  pub fit : BlocksFit task combines.parts
 
 -- this line comes next
 pub record IsNext (rest line behind : List ℕ) : Type 0 where
@@ -44,16 +41,14 @@ pub record ComesNext (rest line behind : List ℕ) : Type 0 where
 abbrev pub GoesTooFar : List ℕ → Type 0
 GoesTooFar rest = most_line < line_length rest
 
--- behind these lines a block that all parts have told cannot be written, for this reason, which is told exactly; no block before it has a
--- fault
+-- behind these lines a block that all parts have told cannot be written, for this reason, and those before it can
 pub record IsUnwritten (task : Task) (lines : List (List ℕ)) (fault : BlockFault) : Type 0 where
   pub parts : List Told
   pub told : Tell task [] lines parts
   pub all : length parts ≡ task.count
   pub body : List ℕ
   pub stops : Stops task parts [] [] body fault
-  pub exact : IsExact fault task.shape.columns
-  pub first : (round : ℕ) (why : BlockFault) → round < stops.round → why ≢ b.NoMemory → IsBlockFault why round task.shape parts → ⊥
+  pub some : fault ≢ b.NoMemory
 
 pub data ShowsFault (wanted : ℕ) (until : Until) (bytes : List ℕ) : StreamFault → Type 0 where
   no_line : IsRest bytes → ShowsFault wanted until bytes (OtherCount 0)
