@@ -20,7 +20,7 @@ use crate::fault::{BlockFault, CourseFault, EndFault, InputFault, LineFault};
 use crate::narrowness::is_narrow_block;
 use crate::over::{block_over, written_over};
 use crate::parts::{Asked, Parts};
-use crate::rounds::{all_have_block, have_all_ended};
+use crate::rounds::{all_have_block, first_behind, have_all_ended, is_behind};
 use report_text::ReportEnd;
 use std::alloc::Global;
 use std::marker::Model;
@@ -41,6 +41,8 @@ pub struct Combination {
     parts: Parts,
     round: usize,
     end: Option<ReportEnd>,
+    // A part that was behind: where it still is, no other is asked.
+    waited: usize,
 }
 
 impl Model for Combination {
@@ -106,6 +108,7 @@ impl Combination {
             parts: Parts::new(alloc),
             round: 0,
             end: None,
+            waited: 0,
         }
     }
 
@@ -239,7 +242,9 @@ impl Combination {
     fn has_block(&self) -> bool
         ensures { result ≡ (is_none self.now.end && list_all (has_block self.now.round) self.now.parts) }
     {
-        self.end.is_none() && all_have_block(self.round, self.parts.as_slice())
+        self.end.is_none()
+            && !is_behind(self.round, self.parts.as_slice(), self.waited)
+            && all_have_block(self.round, self.parts.as_slice())
     }
 
     // Writes the blocks that stand, and the end.
@@ -268,9 +273,8 @@ impl Combination {
         self.parts.as_slice().len() == self.count
     }
 
-    /// Takes a line of the input, without its line feed, and puts behind the text the whole blocks that stand now and were not written,
-    /// and the end, if it is reached. A line that the parts refuse changes nothing. Where a block is not written, those before it are.
-    pub fn take(
+    // Takes a line, and puts behind the text the blocks that stand.
+    fn take_and_write(
         &mut self,
         alloc: Global,
         line: &[u8],
@@ -286,5 +290,36 @@ impl Combination {
             self.write(alloc, text)?;
         }
         Ok(())
+    }
+
+    // Notes which part is behind, where one is and the one that was is not.
+    fn look_on(&mut self)
+        ensures { self.new ≡ self.old }
+    {
+        let parts = self.parts.as_slice();
+        if is_behind(self.round, parts, self.waited) {
+            return;
+        }
+        if let Some(place) = first_behind(self.round, parts) {
+            self.waited = place;
+        }
+    }
+
+    /// Takes a line of the input, without its line feed, and puts behind the text the whole blocks that stand now and were not written,
+    /// and the end, if it is reached. A line that the parts refuse changes nothing. Where a block is not written, those before it are.
+    pub fn take(
+        &mut self,
+        alloc: Global,
+        line: &[u8],
+        text: &mut Vec<u8>,
+    ) -> Result<(), CourseFault>
+        requires { self.old.end ≡ None }
+        ensures task { self.new.task ≡ self.old.task }
+        ensures taken { OnOk result (TakesOn self.old self.new line.now text.old.items text.new.items) }
+        ensures refused { IfErr result (λ why. IsCourseFault why self.old line.now text.old.items text.new.items) }
+    {
+        let taken = self.take_and_write(alloc, line, text);
+        self.look_on();
+        taken
     }
 }

@@ -1,6 +1,6 @@
 //! What the parts say in a round.
 
-ghost use Rattle.std.specs.Prelude.{◌≡◌, ◌<◌, ◌+◌, ◌^◌, IfOk};
+ghost use Rattle.std.specs.Prelude.{◌≡◌, ◌<◌, ◌+◌, ◌^◌, IfOk, false, not, position, true};
 ghost use Rattle.std.specs.List.{list_all};
 ghost use Rattle.report_parts.specs.Entries.{entry_at};
 ghost use Rattle.report_parts.specs.Rounds.{entries_in, entry_in, has_block, is_ended, is_over};
@@ -37,6 +37,20 @@ pub fn all_have_block(round: usize, parts: &[Part]) -> bool
         }
     }
     true
+}
+
+// Whether the part at that place has still to tell what it knows in that round.
+pub(crate) fn is_behind(round: usize, parts: &[Part], place: usize) -> bool
+    ensures { result ≡ true → list_all (has_block round) parts.now ≡ false }
+{
+    place < parts.len() && !has_block(round, &parts[place])
+}
+
+// The place of the first part that has.
+pub(crate) fn first_behind(round: usize, parts: &[Part]) -> Option<usize>
+    ensures { result ≡ position (λ part. not (has_block round part)) parts.now }
+{
+    parts.iter().position(|part| !has_block(round, part))
 }
 
 // Whether the part's report has ended, and has no block behind that round.

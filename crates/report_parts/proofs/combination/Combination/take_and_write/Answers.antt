@@ -1,7 +1,7 @@
 use Rattle.std.proofs.Common.{[], ◌∷◌, ◌++◌, sym, refl, ◌∙◌, length}
 use Rattle.std.proofs.lemmas.Result.{err_from_is_err_and}
 use Rattle.report_parts.proofs.Courses.{adds_rests, line_fault, other_number, ready_behind, same_number, stopped_behind, waits_for_parts}
-use Rattle.report_parts.proofs.combination.Combination.take.Goals as goal
+use Rattle.report_parts.proofs.combination.Combination.take_and_write.Goals as goal
 
 pub returns-in_err-take_line-clause-refused : goal.returns-in_err-take_line-clause-refused
 returns-in_err-take_line-clause-refused c =
