@@ -25,3 +25,5 @@ mod scripts;
 mod sql_words;
 #[cfg(test)]
 mod streamed_reports;
+#[cfg(test)]
+mod text_parts;
