@@ -63,6 +63,8 @@ stops_empty : (task : Task) (lines : List (List ℕ)) (body before after : List 
 stops_empty task lines body before after (b.OtherColumn column) number why e h = stops_of task lines body before after (b.OtherColumn column) h h.stops (λ more own. own)
 stops_empty task lines body before after (b.OtherDecimals item) number why e h = stops_of task lines body before after (b.OtherDecimals item) h h.stops (λ more own. own)
 stops_empty task lines body before after (b.TooWide item) number why e h = stops_of task lines body before after (b.TooWide item) h h.stops (λ more own. own)
+stops_empty task lines body before after (b.UnclearTag part) number why e h = stops_of task lines body before after (b.UnclearTag part) h h.stops (λ more own. own)
+stops_empty task lines body before after b.OtherForm number why e h = stops_of task lines body before after b.OtherForm h h.stops (λ more own. own)
 stops_empty task lines body before after b.NoMemory number why e h = absurd (not_memory number why e)
 
 module _ (count : ℕ) (until : Until) (input source : SourceState) (out sink next : SinkState) (reader : LinesState) (old : Course) (text : List ℕ)

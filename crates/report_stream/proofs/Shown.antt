@@ -843,6 +843,8 @@ module _ (kinds : QueriesAreOne) (count : ℕ) (until : Until) (whole bytes : Li
   query_only first tab tag none (r.OtherColumn column) h = absurd h
   query_only first tab tag none (r.OtherDecimals item) h = absurd h
   query_only first tab tag none (r.TooWide item) h = absurd h
+  query_only first tab tag none (r.UnclearTag part) h = absurd h
+  query_only first tab tag none r.OtherForm h = absurd h
   query_only first tab tag none r.TooLong h = absurd h
 
   totals_only : (first : List ℕ) → HasTab first → IsTag (tag_of first) → AsksOther (behind_tag first) → (why : LineRefusal) → IsFirstRefused why first → Line 1 why ≡ Line 1 r.NoTotals
@@ -857,6 +859,8 @@ module _ (kinds : QueriesAreOne) (count : ℕ) (until : Until) (whole bytes : Li
   totals_only first tab tag other (r.OtherColumn column) h = absurd h
   totals_only first tab tag other (r.OtherDecimals item) h = absurd h
   totals_only first tab tag other (r.TooWide item) h = absurd h
+  totals_only first tab tag other (r.UnclearTag part) h = absurd h
+  totals_only first tab tag other r.OtherForm h = absurd h
   totals_only first tab tag other r.TooLong h = absurd h
 
   tab_only : (first : List ℕ) → ¬ HasTab first → (why : LineRefusal) → IsFirstRefused why first → Line 1 why ≡ Line 1 r.NoTab
@@ -871,6 +875,8 @@ module _ (kinds : QueriesAreOne) (count : ℕ) (until : Until) (whole bytes : Li
   tab_only first none (r.OtherColumn column) h = absurd h
   tab_only first none (r.OtherDecimals item) h = absurd h
   tab_only first none (r.TooWide item) h = absurd h
+  tab_only first none (r.UnclearTag part) h = absurd h
+  tab_only first none r.OtherForm h = absurd h
   tab_only first none r.TooLong h = absurd h
 
   tag_only : (first : List ℕ) → HasTab first → ¬ IsTag (tag_of first) → (why : LineRefusal) → IsFirstRefused why first → Line 1 why ≡ Line 1 r.NoTag
@@ -885,6 +891,8 @@ module _ (kinds : QueriesAreOne) (count : ℕ) (until : Until) (whole bytes : Li
   tag_only first tab none (r.OtherColumn column) h = absurd h
   tag_only first tab none (r.OtherDecimals item) h = absurd h
   tag_only first tab none (r.TooWide item) h = absurd h
+  tag_only first tab none (r.UnclearTag part) h = absurd h
+  tag_only first tab none r.OtherForm h = absurd h
   tag_only first tab none r.TooLong h = absurd h
 
   -- what is shown is told

@@ -72,7 +72,8 @@ none_row shape told next h = by h.taken
   where
     by : TakesRows h.asked.limit told.rows [] h.rows → ⊥
     by (inl k) = absurd (let e = k.1.is_line in cc)
-    by (inr k) = absurd (let e = k.1.is_line in cc)
+    by (inr (inl k)) = absurd (let e = k.1.is_line in cc)
+    by (inr (inr k)) = absurd (let e = k.0.is_line in cc)
 
 none_rest : (shape : Shape) (told next : Told) → TakesRest shape told [] next → ⊥
 none_rest shape told next (inl h) = none_rows (length told.current) h.is_line

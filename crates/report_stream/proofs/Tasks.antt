@@ -103,4 +103,6 @@ module _ (kinds : QueriesAreOne) (count : ℕ) (until : Until) where
   first_not_refused (r.OtherColumn column) first task is h = absurd h
   first_not_refused (r.OtherDecimals item) first task is h = absurd h
   first_not_refused (r.TooWide item) first task is h = absurd h
+  first_not_refused (r.UnclearTag part) first task is h = absurd h
+  first_not_refused r.OtherForm first task is h = absurd h
   first_not_refused r.TooLong first task is h = absurd h

@@ -34,6 +34,8 @@ abbrev pub of_block : ℕ → BlockFault → StreamFault
 of_block line (b.OtherColumn column) = Line line (r.OtherColumn column)
 of_block line (b.OtherDecimals item) = Line line (r.OtherDecimals item)
 of_block line (b.TooWide item) = Line line (r.TooWide item)
+of_block line (b.UnclearTag part) = Line line (r.UnclearTag part)
+of_block line b.OtherForm = Line line r.OtherForm
 of_block line b.NoMemory = NoMemory
 
 -- the line with that number does not come

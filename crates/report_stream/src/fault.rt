@@ -82,6 +82,12 @@ pub enum LineRefusal {
     /// An end of the item has more than 128 bits, or a number of rows more than 64.
     #[error("item {0} too wide")]
     TooWide(usize),
+    /// First rows are asked for, and the tag of the part with this place in the order of tags has a space or a control character.
+    #[error("a space or a control character in the tag of part {0}")]
+    UnclearTag(usize),
+    /// First rows are asked for, and two lines write their keys with other decimals, or as dates, numbers and texts.
+    #[error("scales of first rows differ")]
+    OtherForm,
     /// It has more bytes than a line may have.
     #[error("too long")]
     TooLong,

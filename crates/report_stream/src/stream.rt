@@ -123,6 +123,13 @@ fn take<K: Sink>(
             let why = LineRefusal::TooWide(item);
             Err(write_before(out, text, number, why))
         }
+        Err(CourseFault::Block(BlockFault::UnclearTag(part))) => {
+            let why = LineRefusal::UnclearTag(part);
+            Err(write_before(out, text, number, why))
+        }
+        Err(CourseFault::Block(BlockFault::OtherForm)) => {
+            Err(write_before(out, text, number, LineRefusal::OtherForm))
+        }
         Err(CourseFault::Block(BlockFault::NoMemory)) => Err(StreamFault::NoMemory),
     }
 }

@@ -58,3 +58,25 @@ returns-in-Err-Block-TooWide-clause-refused g c =
     c.deref-in-Err-Block-TooWide.result.now c.args.number c.args.out.now c.write_before-in-Err-Block-TooWide.new.out (b.TooWide arm.item)
     (r.TooWide arm.item) c.write_before-in-Err-Block-TooWide.result refl stopped c.deref-in-Err-Block-TooWide.ensures.value
     c.write_before-in-Err-Block-TooWide.ensures
+
+pub returns-in-Err-Block-UnclearTag-clause-refused : goal.returns-in-Err-Block-UnclearTag-clause-refused
+returns-in-Err-Block-UnclearTag-clause-refused g c =
+    let arm = c.in-Err-Block-UnclearTag in
+    let stopped = subst (λ (f : BlockFault). IsCourseFault (Block f) c.args.combination.now c.args.line.now c.args.text.now.items c.take.new.text.items)
+    arm.field-0-0-is (subst (λ (f : CourseFault). IsCourseFault f c.args.combination.now c.args.line.now c.args.text.now.items c.take.new.text.items)
+    arm.field-0-is arm.ensures.refused) in
+    block_stops g.K.Sink.state c.args.combination.now c.args.line.now c.args.text.now.items c.take.new.text.items
+    c.deref-in-Err-Block-UnclearTag.result.now c.args.number c.args.out.now c.write_before-in-Err-Block-UnclearTag.new.out (b.UnclearTag arm.part)
+    (r.UnclearTag arm.part) c.write_before-in-Err-Block-UnclearTag.result refl stopped c.deref-in-Err-Block-UnclearTag.ensures.value
+    c.write_before-in-Err-Block-UnclearTag.ensures
+
+pub returns-in-Err-Block-OtherForm-clause-refused : goal.returns-in-Err-Block-OtherForm-clause-refused
+returns-in-Err-Block-OtherForm-clause-refused g c =
+    let arm = c.in-Err-Block-OtherForm in
+    let stopped = subst (λ (f : BlockFault). IsCourseFault (Block f) c.args.combination.now c.args.line.now c.args.text.now.items c.take.new.text.items)
+    arm.field-0-0-is (subst (λ (f : CourseFault). IsCourseFault f c.args.combination.now c.args.line.now c.args.text.now.items c.take.new.text.items)
+    arm.field-0-is arm.ensures.refused) in
+    block_stops g.K.Sink.state c.args.combination.now c.args.line.now c.args.text.now.items c.take.new.text.items
+    c.deref-in-Err-Block-OtherForm.result.now c.args.number c.args.out.now c.write_before-in-Err-Block-OtherForm.new.out b.OtherForm
+    r.OtherForm c.write_before-in-Err-Block-OtherForm.result refl stopped c.deref-in-Err-Block-OtherForm.ensures.value
+    c.write_before-in-Err-Block-OtherForm.ensures
