@@ -929,6 +929,8 @@ module _ (kinds : QueriesAreOne) (count : ℕ) (until : Until) (whole bytes : Li
   no_end number (b.OtherColumn column) end = end
   no_end number (b.OtherDecimals item) end = end
   no_end number (b.TooWide item) end = end
+  no_end number (b.UnclearTag part) end = end
+  no_end number b.OtherForm end = end
   no_end number b.NoMemory end = end
 
   -- where the bytes that may come only end too early, and more come, that is told
