@@ -63,13 +63,19 @@ fn written_line_refusal(parts: u32, why: LineRefusal) -> TextBuf
         LineRefusal::NoTag => plain(b"a tag of no byte or more than 255"),
         LineRefusal::MoreParts => with_number(b"more than ", u128::from(parts), b" parts"),
         LineRefusal::NoQuery => plain(b"no query"),
-        LineRefusal::NoTotals => plain(b"no query of totals or groups"),
+        LineRefusal::NoItems => plain(b"no query of totals or groups"),
         LineRefusal::OtherQuery => plain(b"another query"),
         LineRefusal::Unlisted => plain(b"possible rows are not listed"),
         LineRefusal::OtherLine => plain(b"no line of a report at this place"),
         LineRefusal::OtherColumn(column) => {
             with_number(b"scales of group column ", after(column), b" differ")
         }
+        LineRefusal::UnclearTag(part) => with_number(
+            b"the tag of part ",
+            after(part),
+            b" has a space or a control character",
+        ),
+        LineRefusal::OtherForm => plain(b"scales of the sort column differ"),
         LineRefusal::OtherDecimals(item) => {
             with_number(b"scales of item ", after(item), b" differ")
         }

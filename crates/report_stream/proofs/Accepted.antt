@@ -9,7 +9,7 @@ use Rattle.report_parts.specs.Course.{Combines, IsLineFault, IsStopped, Task, Te
 use Rattle.report_parts.specs.declared.combination.Until.{Until}
 use Rattle.source_lines.specs.Lines.{line_length, most_bytes}
 use Rattle.report_stream.proofs.LineTexts.{GoOn, all_before, ends_there, front_line, last_line, line_more, lines_behind, no_earlier, not_long, not_rest, plain, same_line, which_goes_on}
-use Rattle.report_stream.proofs.Taken.{asks_some, refuses_block, refuses_line}
+use Rattle.report_stream.proofs.Taken.{refuses_block, refuses_line, shape_some}
 use Rattle.report_stream.proofs.Tasks.{IsOpen, QueriesAreOne, Told, block_open, either, first_not_refused, some_lines, task_of_more, told_by, written_open}
 use Rattle.report_stream.specs.Accepted.{AreReports, ReportsAreAnswered, ReportsAreOne}
 use Rattle.report_stream.specs.Faults.{of_block, of_input}
@@ -122,7 +122,7 @@ module _ (kinds : QueriesAreOne) (count : ℕ) (until : Until) where
           let n = is_next h.lines h.line (h.rest ++ t.behind) h.read.are_lines (split_by (h.lines ++ h.line ∷ []) h.rest h.read) (written_open kinds count until out out' h.lines h.written) in
           let same = own_task h.lines h.line h.task n h.is_task in
           let told : Tell m.task [] (h.lines ++ h.line ∷ n.others) m.combines.parts = subst (λ (ls : List (List ℕ)). Tell m.task [] ls m.combines.parts) n.lines_are m.combines.told in
-          refuses_line m.task h.lines n.others h.line m.combines.parts h.fault (asks_some m.task.query m.task.shape.kinds m.task.shape.columns m.is_task.asks) told (λ e. absurd (let f : Line number why ≡ NoMemory = h.is ∙ ap (of_input number) e in cc))
+          refuses_line m.task h.lines n.others h.line m.combines.parts h.fault (shape_some m.task.query m.task.shape m.is_task.is_shape) told (λ e. absurd (let f : Line number why ≡ NoMemory = h.is ∙ ap (of_input number) e in cc))
           (subst (λ (t : Task). IsLineFault t h.lines h.line h.fault) same h.refused)
 
       stops_block : (number : ℕ) (why : LineRefusal) → RefusesBlock count until input input' out out' number why → ⊥

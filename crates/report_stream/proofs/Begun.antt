@@ -1,8 +1,6 @@
 -- The first line, and what it asks.
-use Rattle.std.proofs.Common.{◌≡◌, ℕ, ◌≤◌, true, None, List, [], ◌∷◌, refl, sym, ap, subst, ◌∙◌, inl}
+use Rattle.std.proofs.Common.{◌≡◌, ℕ, ◌≤◌, true, None, List, [], ◌∷◌, refl, sym, subst, ◌∙◌, inl}
 use Rattle.outer_world.specs.Device.{SinkState, SourceState}
-use Rattle.query_kinds.specs.Beside.{TellsBeside}
-use Rattle.query_kinds.specs.Kinds.{Asks}
 use Rattle.report_parts.specs.declared.shape.Shape.{Shape}
 use Rattle.report_parts.specs.Course.{Course, Stands, Task, opening_text}
 use Rattle.report_parts.specs.declared.combination.Until.{Until}
@@ -13,7 +11,7 @@ use Rattle.report_stream.proofs.NoLines.{no_line_comes}
 use Rattle.report_stream.proofs.Ended.{nothing_came}
 use Rattle.report_stream.proofs.Runs.{Runs, begins}
 use Rattle.report_stream.specs.Steps.{IsAsked, IsFirstFault, StopsAt}
-use Rattle.report_stream.specs.Streams.{IsTask, StreamCause}
+use Rattle.report_stream.specs.Streams.{IsShapeOf, IsTask, StreamCause}
 use Rattle.report_stream.specs.declared.fault.StreamFault.{StreamFault}
 use Rattle.report_stream.specs.declared.fault.StreamFault.TheVariants.{EndsEarly, Line, NoMemory, OtherCount, ReadFault, TooLong, WriteFault}
 
@@ -70,11 +68,7 @@ task_of : (count : ℕ) (until : Until) (first query : List ℕ) (shape : Shape)
 task_of count until first query shape task h q k n w l = record {
   is_tag = h.is_tag;
   query = q ∙ h.is_query;
-  asks = subst (λ (own : Shape). Asks task.query own.kinds own.columns) (sym k)
-      (subst (λ (own : List ℕ). Asks own shape.kinds shape.columns) (sym q) h.asks);
-  besides = subst (λ (own : Shape). TellsBeside task.query own.besides) (sym k)
-      (subst (λ (own : List ℕ). TellsBeside own shape.besides) (sym q) h.besides);
-  no_rows = ap (λ (own : Shape). own.rows) k ∙ h.no_rows;
+  is_shape = subst (λ (own : Shape). IsShapeOf task.query own) (sym k) (subst (λ (own : List ℕ). IsShapeOf own shape) (sym q) h.is_shape);
   count = n;
   width = w;
   last = l;

@@ -5,7 +5,7 @@ use Rattle.std.proofs.lemmas.List.{length-take-le, take_at}
 use Rattle.std.proofs.lemmas.Option.{none-some}
 use Rattle.std.specs.Io.KnownBytes.{IsAtEnd}
 use Rattle.outer_world.specs.Device.{Rose, SinkState, SourceState}
-use Rattle.query_kinds.specs.Kinds.{Asks, AsksOther, IsNoQuery}
+use Rattle.query_kinds.specs.Kinds.{IsNoQuery}
 use Rattle.report_text.specs.declared.lines.ReportEnd.{ReportEnd}
 use Rattle.report_parts.proofs.Reached.{as_stops, never_combined, stops_once}
 use Rattle.report_parts.proofs.Telling.{ended_stays, telling_one, tells_split}
@@ -24,13 +24,13 @@ use Rattle.report_parts.specs.declared.part.Place.TheVariants.{Opened, Query, Ro
 use Rattle.report_parts.specs.declared.shape.Shape.{Shape}
 use Rattle.source_lines.specs.Lines.{IsRest, has_line, line_length, most_bytes, most_line}
 use Rattle.report_stream.proofs.LineTexts.{all_before, front_line, last_line, line_more, no_earlier, not_long, not_rest, plain, same_line, which_goes_on}
-use Rattle.report_stream.proofs.Taken.{asks_some, no_tab as no_tab_behind, not_refused, refuses_block, refuses_line, tell_started}
-use Rattle.report_stream.proofs.Tasks.{IsOpen, QueriesAreOne, Told, block_open, either, first_not_refused, some_lines, task_of_more, told_by, written_open}
+use Rattle.report_stream.proofs.Taken.{no_tab as no_tab_behind, not_refused, refuses_block, refuses_line, shape_some, tell_started}
+use Rattle.report_stream.proofs.Tasks.{IsOpen, QueriesAreOne, Told, block_open, either, first_not_refused, some_lines, some_query, some_shape, task_of_more, told_by, written_open}
 use Rattle.report_stream.specs.Faults.{of_block, of_input}
 use Rattle.report_stream.specs.Shown.{ComesNext, FaultsAreTold, GoesRight, GoesTooFar, IsNext, IsOfEnd, IsTold, IsUnwritten, ShowsFault, TellsFault, heard}
-use Rattle.report_stream.specs.Shown.{ends_early, first_too_long, first_without_tab, first_without_tag, more_parts, no_line, no_query, no_tab, no_tag, no_totals}
+use Rattle.report_stream.specs.Shown.{ends_early, first_too_long, first_without_tab, first_without_tag, more_parts, no_line, no_query, no_tab, no_tag, no_items}
 use Rattle.report_stream.specs.Shown.{other_block, other_count, other_line, other_query, shown, too_long, too_many, unlisted}
-use Rattle.report_stream.specs.Streams.{AreLines, Combined, Ends, IsFirstRefused, IsFull, IsLine, IsTask, ReadsLines, RefusesBlock, RefusesFirst, RefusesLength, RefusesLine, StreamCause, first_line, lines_text}
+use Rattle.report_stream.specs.Streams.{AreLines, AsksNothing, Combined, Ends, IsFirstRefused, IsFull, IsLine, IsShapeOf, IsTask, ReadsLines, RefusesBlock, RefusesFirst, RefusesLength, RefusesLine, StreamCause, first_line, lines_text}
 use Rattle.report_stream.specs.declared.fault.LineRefusal.{LineRefusal}
 use Rattle.report_stream.specs.declared.fault.LineRefusal.TheVariants as r
 use Rattle.report_stream.specs.declared.fault.StreamFault.{StreamFault}
@@ -271,7 +271,7 @@ module _ (kinds : QueriesAreOne) (count : ℕ) (until : Until) (whole bytes : Li
           by (inl b) =
               let e = same_next h.lines h.line y is b in
               let same = next_task h.lines b.others h.line h.task e h.is_task in
-              absurd (refuses_line g.task h.lines b.others h.line g.combines.parts h.fault (asks_some g.task.query g.task.shape.kinds g.task.shape.columns g.is_task.asks) (next_told h.lines b.others h.line e)
+              absurd (refuses_line g.task h.lines b.others h.line g.combines.parts h.fault (shape_some g.task.query g.task.shape g.is_task.is_shape) (next_told h.lines b.others h.line e)
               (λ n. absurd (let f : Line number why ≡ NoMemory = h.is ∙ ap (of_input number) n in cc)) (subst (λ (t : Task). IsLineFault t h.lines h.line h.fault) same h.refused))
           by (inr (inl (e, f))) =
               let mine : IsTask count until (first_line (own ++ h.line ∷ [])) h.task = subst (λ (ls : List (List ℕ)). IsTask count until (first_line (ls ++ h.line ∷ [])) h.task) e h.is_task in
@@ -529,7 +529,7 @@ module _ (kinds : QueriesAreOne) (count : ℕ) (until : Until) (whole bytes : Li
       (line_here own rest line behind g (Line number r.MoreParts) comes.next full only)
     where
       full : (next : List PartTold) → TakesLine g.task g.combines.parts line next → ⊥
-      full next takes = not_refused i.OtherPart g.task g.combines.parts line next (asks_some g.task.query g.task.shape.kinds g.task.shape.columns g.is_task.asks) (tell_started g.task [] own g.combines.parts tt g.combines.told) takes
+      full next takes = not_refused i.OtherPart g.task g.combines.parts line next (shape_some g.task.query g.task.shape g.is_task.is_shape) (tell_started g.task [] own g.combines.parts tt g.combines.told) takes
           (λ e. absurd cc) (comes.tagged, (subst (λ (n : ℕ). n ≤ length g.combines.parts) (sym g.is_task.count) many, new))
 
       mine : PartTold
@@ -555,7 +555,7 @@ module _ (kinds : QueriesAreOne) (count : ℕ) (until : Until) (whole bytes : Li
   started : (own : List (List ℕ)) (rest : List ℕ) (g : GoesRight count until bytes own rest) (f : InputFault) (line : List ℕ) (next : List PartTold) → f ≢ i.Line l.NoMemory →
       Refuting line own rest g f → TakesLine g.task g.combines.parts line next → ⊥
   started own rest g f line next memory refused takes =
-      not_refused f g.task g.combines.parts line next (asks_some g.task.query g.task.shape.kinds g.task.shape.columns g.is_task.asks) (tell_started g.task [] own g.combines.parts tt g.combines.told) takes memory refused
+      not_refused f g.task g.combines.parts line next (shape_some g.task.query g.task.shape g.is_task.is_shape) (tell_started g.task [] own g.combines.parts tt g.combines.told) takes memory refused
 
   -- no tab stands in the line
   tab_told : (own : List (List ℕ)) (rest line behind : List ℕ) (g : GoesRight count until bytes own rest) (number : ℕ) → IsNext rest line behind → ¬ HasTab line →
@@ -637,7 +637,7 @@ module _ (kinds : QueriesAreOne) (count : ℕ) (until : Until) (whole bytes : Li
         stuck = λ other after others body end e is combines. on others body end
             (subst (λ (v : List ℕ). Combines g.task (own ++ v ∷ others) body end) (same other after e is) combines);
         line = λ other after n why f e is at said refused.
-            absurd (refuses_line g.task own [] line un.parts f (asks_some g.task.query g.task.shape.kinds g.task.shape.columns g.is_task.asks) un.told
+            absurd (refuses_line g.task own [] line un.parts f (shape_some g.task.query g.task.shape g.is_task.is_shape) un.told
             (λ m. absurd (let none : Line n why ≡ NoMemory = said ∙ ap (of_input n) m in cc)) (record {
               parts = g.combines.parts;
               told = g.combines.told;
@@ -835,7 +835,7 @@ module _ (kinds : QueriesAreOne) (count : ℕ) (until : Until) (whole bytes : Li
   query_only first tab tag none r.NoTab h = absurd (h tab)
   query_only first tab tag none r.NoTag h = absurd (h.1 tag)
   query_only first tab tag none r.NoQuery h = refl
-  query_only first tab tag none r.NoTotals h = absurd (none h.1.query h.1.is_line)
+  query_only first tab tag none r.NoItems h = absurd (none h.1.0.query h.1.0.is_line)
   query_only first tab tag none r.MoreParts h = absurd h
   query_only first tab tag none r.OtherQuery h = absurd h
   query_only first tab tag none r.Unlisted h = absurd h
@@ -847,27 +847,27 @@ module _ (kinds : QueriesAreOne) (count : ℕ) (until : Until) (whole bytes : Li
   query_only first tab tag none r.OtherForm h = absurd h
   query_only first tab tag none r.TooLong h = absurd h
 
-  totals_only : (first : List ℕ) → HasTab first → IsTag (tag_of first) → AsksOther (behind_tag first) → (why : LineRefusal) → IsFirstRefused why first → Line 1 why ≡ Line 1 r.NoTotals
-  totals_only first tab tag other r.NoTab h = absurd (h tab)
-  totals_only first tab tag other r.NoTag h = absurd (h.1 tag)
-  totals_only first tab tag other r.NoQuery h = absurd (h.1 other.query other.is_line)
-  totals_only first tab tag other r.NoTotals h = refl
-  totals_only first tab tag other r.MoreParts h = absurd h
-  totals_only first tab tag other r.OtherQuery h = absurd h
-  totals_only first tab tag other r.Unlisted h = absurd h
-  totals_only first tab tag other r.OtherLine h = absurd h
-  totals_only first tab tag other (r.OtherColumn column) h = absurd h
-  totals_only first tab tag other (r.OtherDecimals item) h = absurd h
-  totals_only first tab tag other (r.TooWide item) h = absurd h
-  totals_only first tab tag other (r.UnclearTag part) h = absurd h
-  totals_only first tab tag other r.OtherForm h = absurd h
-  totals_only first tab tag other r.TooLong h = absurd h
+  items_only : (first : List ℕ) → HasTab first → IsTag (tag_of first) → AsksNothing (behind_tag first) → (why : LineRefusal) → IsFirstRefused why first → Line 1 why ≡ Line 1 r.NoItems
+  items_only first tab tag other r.NoTab h = absurd (h tab)
+  items_only first tab tag other r.NoTag h = absurd (h.1 tag)
+  items_only first tab tag other r.NoQuery h = absurd (h.1 other.0.query other.0.is_line)
+  items_only first tab tag other r.NoItems h = refl
+  items_only first tab tag other r.MoreParts h = absurd h
+  items_only first tab tag other r.OtherQuery h = absurd h
+  items_only first tab tag other r.Unlisted h = absurd h
+  items_only first tab tag other r.OtherLine h = absurd h
+  items_only first tab tag other (r.OtherColumn column) h = absurd h
+  items_only first tab tag other (r.OtherDecimals item) h = absurd h
+  items_only first tab tag other (r.TooWide item) h = absurd h
+  items_only first tab tag other (r.UnclearTag part) h = absurd h
+  items_only first tab tag other r.OtherForm h = absurd h
+  items_only first tab tag other r.TooLong h = absurd h
 
   tab_only : (first : List ℕ) → ¬ HasTab first → (why : LineRefusal) → IsFirstRefused why first → Line 1 why ≡ Line 1 r.NoTab
   tab_only first none r.NoTab h = refl
   tab_only first none r.NoTag h = absurd (none h.0)
   tab_only first none r.NoQuery h = absurd (none h.0.0)
-  tab_only first none r.NoTotals h = absurd (none h.0.0)
+  tab_only first none r.NoItems h = absurd (none h.0.0)
   tab_only first none r.MoreParts h = absurd h
   tab_only first none r.OtherQuery h = absurd h
   tab_only first none r.Unlisted h = absurd h
@@ -883,7 +883,7 @@ module _ (kinds : QueriesAreOne) (count : ℕ) (until : Until) (whole bytes : Li
   tag_only first tab none r.NoTab h = absurd (h tab)
   tag_only first tab none r.NoTag h = refl
   tag_only first tab none r.NoQuery h = absurd (none h.0.1)
-  tag_only first tab none r.NoTotals h = absurd (none h.0.1)
+  tag_only first tab none r.NoItems h = absurd (none h.0.1)
   tag_only first tab none r.MoreParts h = absurd h
   tag_only first tab none r.OtherQuery h = absurd h
   tag_only first tab none r.Unlisted h = absurd h
@@ -902,15 +902,15 @@ module _ (kinds : QueriesAreOne) (count : ℕ) (until : Until) (whole bytes : Li
   shown_told fault (other_count lines rest g number is none counted) few = other_told lines rest g number is none counted (few tt)
   shown_told fault (no_query first behind comes none) few =
       first_told first behind comes.next
-      (λ task is. kinds.kinds.not_none (behind_tag first) task.shape.kinds task.shape.columns (subst (λ (q : List ℕ). Asks q task.shape.kinds task.shape.columns) is.query is.asks) none)
+      (λ task is. some_query kinds (behind_tag first) task.shape (subst (λ (q : List ℕ). IsShapeOf q task.shape) is.query is.is_shape) none)
       (Line 1 r.NoQuery) (query_only first comes.tagged.0 comes.tagged.1 none)
-  shown_told fault (no_totals first behind comes other) few =
+  shown_told fault (no_items first behind comes other) few =
       first_told first behind comes.next
-      (λ task is. kinds.kinds.not_other (behind_tag first) task.shape.kinds task.shape.columns (subst (λ (q : List ℕ). Asks q task.shape.kinds task.shape.columns) is.query is.asks) other)
-      (Line 1 r.NoTotals) (totals_only first comes.tagged.0 comes.tagged.1 other)
+      (λ task is. some_shape kinds (behind_tag first) task.shape (subst (λ (q : List ℕ). IsShapeOf q task.shape) is.query is.is_shape) other)
+      (Line 1 r.NoItems) (items_only first comes.tagged.0 comes.tagged.1 other)
   shown_told fault (first_without_tab first behind comes none) few =
       first_told first behind comes
-      (λ task is. asks_some task.query task.shape.kinds task.shape.columns is.asks (is.query ∙ no_tab_behind first none)) (Line 1 r.NoTab) (tab_only first none)
+      (λ task is. shape_some task.query task.shape is.is_shape (is.query ∙ no_tab_behind first none)) (Line 1 r.NoTab) (tab_only first none)
   shown_told fault (first_without_tag first behind comes tab none) few =
       first_told first behind comes (λ task is. none is.is_tag) (Line 1 r.NoTag) (tag_only first tab none)
   shown_told fault (first_too_long far) few = far_told far
@@ -942,7 +942,7 @@ module _ (kinds : QueriesAreOne) (count : ℕ) (until : Until) (whole bytes : Li
   full_told fault (first_without_tag first behind comes tab none) end many = absurd end
   full_told fault (first_too_long far) end many = absurd end
   full_told fault (no_query first behind comes none) end many = absurd end
-  full_told fault (no_totals first behind comes other) end many = absurd end
+  full_told fault (no_items first behind comes other) end many = absurd end
   full_told fault (no_tab lines rest line behind g number comes none counted) end many = absurd end
   full_told fault (no_tag lines rest line behind g number comes tab none counted) end many = absurd end
   full_told fault (too_long lines rest g number far counted) end many = absurd end

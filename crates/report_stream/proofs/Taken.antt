@@ -28,6 +28,7 @@ use Rattle.report_parts.specs.declared.fault.LineFault.TheVariants as l
 use Rattle.report_parts.specs.declared.part.Place.{Place}
 use Rattle.report_parts.specs.declared.part.Place.TheVariants.{Query, Opened, Round, Group, Items, Row, Ended}
 use Rattle.report_parts.specs.declared.shape.Shape.{Shape}
+use Rattle.report_stream.specs.Streams.{IsShapeOf}
 
 -- ---- a line without a tab
 
@@ -41,8 +42,14 @@ no_tab line none = by (nat_lt (position_or_len (λ c. c == 9) line) (length line
     by true e = absurd (none (position_or_len (λ c. c == 9) line, rw e refl))
     by false e = drop_all (position_or_len (λ c. c == 9) line + 1) line (none_before (position_or_len (λ c. c == 9) line) (length line) e)
 
-pub asks_some : (query : List ℕ) (kinds : List ItemKind) (columns : ℕ) → Asks query kinds columns → query ≢ []
+asks_some : (query : List ℕ) (kinds : List ItemKind) (columns : ℕ) → Asks query kinds columns → query ≢ []
 asks_some query kinds columns asks none = absurd (let e : [] ≡ codes "query " ++ asks.is_line.text = sym none ∙ asks.is_line.spelled in cc)
+
+-- a line that asks for blocks of some shape is not empty
+pub shape_some : (query : List ℕ) (shape : Shape) → IsShapeOf query shape → query ≢ []
+shape_some query shape (inl items) none = asks_some query shape.kinds shape.columns items.asks none
+shape_some query shape (inr rows) none =
+    absurd (let e : [] ≡ codes "query " ++ rows.asks.is_line.text = sym none ∙ rows.asks.is_line.spelled in cc)
 
 -- no line of an item is empty
 none_spelled : (number : ℕ) (text : List ℕ) → decimal number ++ (codes " " ++ text) ≡ [] → ⊥

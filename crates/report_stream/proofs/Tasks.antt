@@ -3,8 +3,9 @@ use Rattle.std.proofs.Common.{◌≡◌, ◌≢◌, ℕ, Option, List, [], ◌�
 use Rattle.std.proofs.lemmas.Option.{none-some, same_Some}
 use Rattle.std.specs.Io.KnownBytes.{Consumes}
 use Rattle.outer_world.specs.Device.{SinkState}
-use Rattle.query_kinds.specs.Beside.{BesidesAreOne, TellsBeside}
-use Rattle.query_kinds.specs.Kinds.{Asks, KindsAreOne}
+use Rattle.query_kinds.specs.Beside.{BesidesAreOne}
+use Rattle.query_kinds.specs.Kinds.{IsNoQuery, KindsAreOne}
+use Rattle.query_kinds.specs.Rows.{RowsAreOne}
 use Rattle.query_kinds.specs.declared.beside.Beside.{Beside}
 use Rattle.query_kinds.specs.declared.rows.FirstRows.{FirstRows}
 use Rattle.query_model.specs.declared.query.ItemKind.{ItemKind}
@@ -12,8 +13,8 @@ use Rattle.report_parts.specs.Course.{Combines, Task}
 use Rattle.report_parts.specs.declared.combination.Until.{Until}
 use Rattle.report_parts.specs.declared.shape.Shape.{Shape}
 use Rattle.report_parts.specs.Tags.{behind_tag}
-use Rattle.report_stream.proofs.Taken.{asks_some, no_tab}
-use Rattle.report_stream.specs.Streams.{HasWritten, IsFirstRefused, IsTask, first_line}
+use Rattle.report_stream.proofs.Taken.{no_tab, shape_some}
+use Rattle.report_stream.specs.Streams.{AsksNothing, HasWritten, IsFirstRefused, IsShapeOf, IsTask, first_line, shape_of_rows}
 use Rattle.report_stream.specs.declared.fault.LineRefusal.{LineRefusal}
 use Rattle.report_stream.specs.declared.fault.LineRefusal.TheVariants as r
 
@@ -40,6 +41,7 @@ told_by (Some xs) (Some ys) bytes read e c = record { behind = ys; is_left = ref
 pub record QueriesAreOne : Type 0 where
   pub kinds : KindsAreOne
   pub besides : BesidesAreOne
+  pub rows : RowsAreOne
 
 same_shape : (a b : Shape) → a.kinds ≡ b.kinds → a.columns ≡ b.columns → a.besides ≡ b.besides → a.rows ≡ b.rows → a ≡ b
 same_shape a b kinds columns besides rows =
@@ -48,15 +50,29 @@ same_shape a b kinds columns besides rows =
     ∙ ap (λ (x : List (Option Beside)). record { kinds = b.kinds; columns = b.columns; besides = x; rows = a.rows }) besides
     ∙ ap (λ (x : Option FirstRows). record { kinds = b.kinds; columns = b.columns; besides = b.besides; rows = x }) rows
 
+shapes_same : QueriesAreOne → (query : List ℕ) (a b : Shape) → IsShapeOf query a → IsShapeOf query b → a ≡ b
+shapes_same one query a b (inl h) (inl k) =
+    let same = one.kinds.same query a.kinds b.kinds a.columns b.columns h.asks k.asks in
+    same_shape a b same.0 same.1 (one.besides.same query a.besides b.besides h.besides k.besides) (h.no_rows ∙ sym k.no_rows)
+shapes_same one query a b (inl h) (inr k) = absurd (one.rows.no_items query k.asked a.kinds a.columns k.asks h.asks)
+shapes_same one query a b (inr h) (inl k) = absurd (one.rows.no_items query h.asked b.kinds b.columns h.asks k.asks)
+shapes_same one query a b (inr h) (inr k) = h.is ∙ ap shape_of_rows (one.rows.same query h.asked k.asked h.asks k.asks) ∙ sym k.is
+
+-- the line of a query that asks for something is one
+pub some_query : QueriesAreOne → (query : List ℕ) (shape : Shape) → IsShapeOf query shape → IsNoQuery query → ⊥
+some_query one query shape (inl h) none = one.kinds.not_none query shape.kinds shape.columns h.asks none
+some_query one query shape (inr h) none = none h.asks.query h.asks.is_line
+
+pub some_shape : QueriesAreOne → (query : List ℕ) (shape : Shape) → IsShapeOf query shape → AsksNothing query → ⊥
+some_shape one query shape (inl h) (other, none) = one.kinds.not_other query shape.kinds shape.columns h.asks other
+some_shape one query shape (inr h) (other, none) = one.rows.not_other query h.asked h.asks none
+
 pub same_task : QueriesAreOne → (count : ℕ) (until : Until) (first : List ℕ) (a b : Task) → IsTask count until first a → IsTask count until first b → a ≡ b
 same_task kinds count until first a b h k =
     let query = h.query ∙ sym k.query in
-    let mine : Asks b.query a.shape.kinds a.shape.columns = subst (λ (q : List ℕ). Asks q a.shape.kinds a.shape.columns) query h.asks in
-    let besides = kinds.besides.same b.query a.shape.besides b.shape.besides (subst (λ (q : List ℕ). TellsBeside q a.shape.besides) query h.besides) k.besides in
-    let same = kinds.kinds.same b.query a.shape.kinds b.shape.kinds a.shape.columns b.shape.columns mine k.asks in
+    let shape = shapes_same kinds b.query a.shape b.shape (subst (λ (q : List ℕ). IsShapeOf q a.shape) query h.is_shape) k.is_shape in
     ap (λ (q : List ℕ). record { query = q; shape = a.shape; count = a.count; width = a.width; last = a.last }) query
-    ∙ ap (λ (x : Shape). record { query = b.query; shape = x; count = a.count; width = a.width; last = a.last })
-    (same_shape a.shape b.shape same.0 same.1 besides (h.no_rows ∙ sym k.no_rows))
+    ∙ ap (λ (x : Shape). record { query = b.query; shape = x; count = a.count; width = a.width; last = a.last }) shape
     ∙ ap (λ (n : ℕ). record { query = b.query; shape = b.shape; count = n; width = a.width; last = a.last }) (h.count ∙ sym k.count)
     ∙ ap (λ (n : ℕ). record { query = b.query; shape = b.shape; count = b.count; width = n; last = a.last }) (h.width ∙ sym k.width)
     ∙ ap (λ (o : Option ℕ). record { query = b.query; shape = b.shape; count = b.count; width = b.width; last = o }) (h.last ∙ sym k.last)
@@ -92,10 +108,12 @@ module _ (kinds : QueriesAreOne) (count : ℕ) (until : Until) where
 
   -- a line that asks is not refused as the first
   pub first_not_refused : (why : LineRefusal) (first : List ℕ) (task : Task) → IsTask count until first task → IsFirstRefused why first → ⊥
-  first_not_refused r.NoTab first task is none = asks_some task.query task.shape.kinds task.shape.columns is.asks (is.query ∙ no_tab first none)
+  first_not_refused r.NoTab first task is none = shape_some task.query task.shape is.is_shape (is.query ∙ no_tab first none)
   first_not_refused r.NoTag first task is (tab, none) = none is.is_tag
-  first_not_refused r.NoQuery first task is (tagged, none) = kinds.kinds.not_none (behind_tag first) task.shape.kinds task.shape.columns (subst (λ (q : List ℕ). Asks q task.shape.kinds task.shape.columns) is.query is.asks) none
-  first_not_refused r.NoTotals first task is (tagged, other) = kinds.kinds.not_other (behind_tag first) task.shape.kinds task.shape.columns (subst (λ (q : List ℕ). Asks q task.shape.kinds task.shape.columns) is.query is.asks) other
+  first_not_refused r.NoQuery first task is (tagged, none) =
+      some_query kinds (behind_tag first) task.shape (subst (λ (q : List ℕ). IsShapeOf q task.shape) is.query is.is_shape) none
+  first_not_refused r.NoItems first task is (tagged, nothing) =
+      some_shape kinds (behind_tag first) task.shape (subst (λ (q : List ℕ). IsShapeOf q task.shape) is.query is.is_shape) nothing
   first_not_refused r.MoreParts first task is h = absurd h
   first_not_refused r.OtherQuery first task is h = absurd h
   first_not_refused r.Unlisted first task is h = absurd h

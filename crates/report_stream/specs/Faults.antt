@@ -23,10 +23,10 @@ of_input line (i.Line l.Unlisted) = Line line r.Unlisted
 of_input line (i.Line l.OtherLine) = Line line r.OtherLine
 of_input line (i.Line l.NoMemory) = NoMemory
 
--- the first line is that of no query of totals or groups
+-- the first line is that of no query of totals, groups or first rows
 abbrev pub of_kinds : KindsFault → StreamFault
 of_kinds k.NoQuery = Line 1 r.NoQuery
-of_kinds k.NoTotals = Line 1 r.NoTotals
+of_kinds k.NoTotals = Line 1 r.NoItems
 of_kinds k.NoMemory = NoMemory
 
 -- behind the line with that number a block is not written

@@ -2,7 +2,7 @@
 use Rattle.std.specs.Prelude.{◌≡◌, ◌≢◌, ◌⊎◌, ℕ, ◌+◌, ◌<◌, ◌≤◌, List, [], ◌∷◌, ◌++◌, length, take}
 use Rattle.std.specs.declared.option.Option.TheVariants.{Some, None}
 use Rattle.outer_world.specs.Device.{Rose, SinkState, SourceState}
-use Rattle.query_kinds.specs.Kinds.{AsksOther, IsNoQuery}
+use Rattle.query_kinds.specs.Kinds.{IsNoQuery}
 use Rattle.report_parts.specs.Course.{Combines, Stops, Task, Tell}
 use Rattle.report_parts.specs.Ends.{first_open}
 use Rattle.report_parts.specs.Tags.{CannotTake, HasTab, IsTag, IsTagged, behind_tag, part_at, tag_of, told_of}
@@ -13,7 +13,7 @@ use Rattle.report_parts.specs.declared.fault.BlockFault.TheVariants as b
 use Rattle.report_parts.specs.declared.part.Place.TheVariants.{Query}
 use Rattle.source_lines.specs.Lines.{IsRest, line_length, most_bytes, most_line}
 use Rattle.report_stream.specs.Faults.{of_block}
-use Rattle.report_stream.specs.Streams.{AreLines, Combined, IsLine, IsTask, StreamCause, first_line, lines_text}
+use Rattle.report_stream.specs.Streams.{AreLines, AsksNothing, Combined, IsLine, IsTask, StreamCause, first_line, lines_text}
 use Rattle.report_stream.specs.declared.fault.LineRefusal.TheVariants as r
 use Rattle.report_stream.specs.declared.fault.StreamFault.{StreamFault}
 use Rattle.report_stream.specs.declared.fault.StreamFault.TheVariants.{EndsEarly, Line, NoMemory, OtherCount, TooLong, WriteFault}
@@ -63,8 +63,8 @@ pub data ShowsFault (wanted : ℕ) (until : Until) (bytes : List ℕ) : StreamFa
   first_too_long : GoesTooFar bytes → ShowsFault wanted until bytes (Line 1 r.TooLong)
   no_query : (first behind : List ℕ) → ComesNext bytes first behind → IsNoQuery (behind_tag first) →
       ShowsFault wanted until bytes (Line 1 r.NoQuery)
-  no_totals : (first behind : List ℕ) → ComesNext bytes first behind → AsksOther (behind_tag first) →
-      ShowsFault wanted until bytes (Line 1 r.NoTotals)
+  no_items : (first behind : List ℕ) → ComesNext bytes first behind → AsksNothing (behind_tag first) →
+      ShowsFault wanted until bytes (Line 1 r.NoItems)
   no_tab : (lines : List (List ℕ)) (rest line behind : List ℕ) (g : GoesRight wanted until bytes lines rest) (number : ℕ) →
       IsNext rest line behind → ¬ HasTab line → number ≡ length lines + 1 → ShowsFault wanted until bytes (Line number r.NoTab)
   no_tag : (lines : List (List ℕ)) (rest line behind : List ℕ) (g : GoesRight wanted until bytes lines rest) (number : ℕ) →

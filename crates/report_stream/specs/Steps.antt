@@ -3,8 +3,9 @@ use Rattle.std.specs.Prelude.{◌≡◌, ◌⊎◌, ℕ, List, []}
 use Rattle.std.specs.declared.option.Option.TheVariants.{Some, None}
 use Rattle.outer_world.specs.Device.{SinkState, SourceState}
 use Rattle.outer_world.specs.Whole.{Writes}
-use Rattle.query_kinds.specs.Beside.{TellsBeside}
-use Rattle.query_kinds.specs.Kinds.{Asks}
+use Rattle.query_kinds.specs.Kinds.{IsNoQuery}
+use Rattle.query_kinds.specs.declared.fault.KindsFault.{KindsFault}
+use Rattle.query_kinds.specs.declared.fault.KindsFault.TheVariants as k
 use Rattle.report_parts.specs.Course.{Course, IsCourseFault, Stands, TakesOn}
 use Rattle.report_parts.specs.Ends.{IsEndFault, first_open}
 use Rattle.report_parts.specs.Tags.{IsTag, behind_tag, part_at, tag_of}
@@ -16,7 +17,7 @@ use Rattle.report_parts.specs.declared.shape.Shape.{Shape}
 use Rattle.source_lines.specs.Lines.{LinesState, StopsLines}
 use Rattle.source_lines.specs.declared.fault.LineFault.{LineFault}
 use Rattle.report_stream.specs.Faults.{of_block, of_input, of_source}
-use Rattle.report_stream.specs.Streams.{IsFirstRefused, partly, whole}
+use Rattle.report_stream.specs.Streams.{AsksNothing, IsFirstRefused, IsShapeOf, partly, whole}
 use Rattle.report_stream.specs.declared.fault.LineRefusal.{LineRefusal}
 use Rattle.report_stream.specs.declared.fault.StreamFault.{StreamFault}
 use Rattle.report_stream.specs.declared.fault.StreamFault.TheVariants.{EndsEarly, Line, NoMemory, OtherCount, WriteFault}
@@ -27,14 +28,18 @@ use Rattle.report_stream.specs.declared.fault.StreamFault.TheVariants.{EndsEarly
 pub record IsAsked (first query : List ℕ) (shape : Shape) : Type 0 where
   pub is_tag : IsTag (tag_of first)
   pub is_query : query ≡ behind_tag first
-  pub asks : Asks query shape.kinds shape.columns
-  pub besides : TellsBeside query shape.besides
-  pub no_rows : shape.rows ≡ None
+  pub is_shape : IsShapeOf query shape
 
 abbrev pub IsFirstFault : List ℕ → StreamFault → Type 0
 IsFirstFault first (Line number why) = (number ≡ 1) × IsFirstRefused why first
 IsFirstFault first NoMemory = Unit {0}
 IsFirstFault first other = ⊥
+
+-- why a line asks for blocks of no shape
+abbrev pub IsShapeFault : List ℕ → KindsFault → Type 0
+IsShapeFault line k.NoQuery = IsNoQuery line
+IsShapeFault line k.NoTotals = AsksNothing line
+IsShapeFault line k.NoMemory = Unit {0}
 
 -- ---- a line comes
 

@@ -8,6 +8,8 @@ use Rattle.outer_world.specs.Device.{Rose, SinkState, SourceState}
 use Rattle.outer_world.specs.Whole.{Writes}
 use Rattle.query_kinds.specs.Beside.{TellsBeside}
 use Rattle.query_kinds.specs.Kinds.{Asks, AsksOther, IsNoQuery}
+use Rattle.query_kinds.specs.Rows.{AsksNoRows, AsksRows}
+use Rattle.query_kinds.specs.declared.rows.FirstRows.{FirstRows}
 use Rattle.report_text.specs.declared.lines.ReportEnd.{ReportEnd}
 use Rattle.report_parts.specs.Course.{Combines, IsLineFault, IsStopped, Task, Tell, opening_text}
 use Rattle.report_parts.specs.Ends.{IsEndFault, first_open}
@@ -17,6 +19,7 @@ use Rattle.report_parts.specs.declared.combination.Until.{Until}
 use Rattle.report_parts.specs.declared.fault.BlockFault.{BlockFault}
 use Rattle.report_parts.specs.declared.fault.EndFault.TheVariants as e
 use Rattle.report_parts.specs.declared.fault.InputFault.{InputFault}
+use Rattle.report_parts.specs.declared.shape.Shape.{Shape}
 use Rattle.source_lines.specs.Lines.{IsRest, has_line, line_length, most_bytes, most_line}
 use Rattle.report_stream.specs.Faults.{of_block, of_input}
 use Rattle.report_stream.specs.declared.fault.LineRefusal.{LineRefusal}
@@ -53,13 +56,35 @@ abbrev pub first_line : List (List ℕ) → List ℕ
 first_line [] = []
 first_line (line ∷ lines) = line
 
--- the first line has the query that all parts are to answer, and tells the shape of its blocks; there are to be so many parts, up to that round
+-- a query of totals or groups, whose blocks have this shape
+pub record IsOfItems (query : List ℕ) (shape : Shape) : Type 0 where
+  pub asks : Asks query shape.kinds shape.columns
+  pub besides : TellsBeside query shape.besides
+  pub no_rows : shape.rows ≡ None
+
+-- a block of first rows has no item and no group column
+abbrev pub shape_of_rows : FirstRows → Shape
+shape_of_rows asked = record { kinds = []; columns = 0; besides = []; rows = Some asked }
+
+-- a query of first rows
+pub record IsOfRows (query : List ℕ) (shape : Shape) : Type 0 where
+  pub asked : FirstRows
+  pub asks : AsksRows query asked
+  pub is : shape ≡ shape_of_rows asked
+
+abbrev pub IsShapeOf : List ℕ → Shape → Type 0
+IsShapeOf query shape = IsOfItems query shape ⊎ IsOfRows query shape
+
+-- a query of neither: of columns without groups, of groups without an aggregate, or of a number of rows with decimals
+abbrev pub AsksNothing : List ℕ → Type 0
+AsksNothing query = AsksOther query × AsksNoRows query
+
+-- the first line has the query that all parts are to answer, and tells the shape of its blocks; there are to be so many parts, up to that
+-- round
 pub record IsTask (wanted : ℕ) (until : Until) (first : List ℕ) (task : Task) : Type 0 where
   pub is_tag : IsTag (tag_of first)
   pub query : task.query ≡ behind_tag first
-  pub asks : Asks task.query task.shape.kinds task.shape.columns
-  pub besides : TellsBeside task.query task.shape.besides
-  pub no_rows : task.shape.rows ≡ None
+  pub is_shape : IsShapeOf task.query task.shape
   pub count : task.count ≡ wanted
   pub width : task.width ≡ until.width
   pub last : task.last ≡ until.rounds
@@ -115,7 +140,7 @@ abbrev pub IsFirstRefused : LineRefusal → List ℕ → Type 0
 IsFirstRefused r.NoTab first = ¬ HasTab first
 IsFirstRefused r.NoTag first = HasTab first × ¬ IsTag (tag_of first)
 IsFirstRefused r.NoQuery first = IsTagged first × IsNoQuery (behind_tag first)
-IsFirstRefused r.NoTotals first = IsTagged first × AsksOther (behind_tag first)
+IsFirstRefused r.NoItems first = IsTagged first × AsksNothing (behind_tag first)
 IsFirstRefused other first = ⊥
 
 -- the first line is refused, and nothing is written

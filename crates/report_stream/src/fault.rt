@@ -61,9 +61,10 @@ pub enum LineRefusal {
     /// It is the first, and no line of a query stands behind the tag.
     #[error("no query")]
     NoQuery,
-    /// It is the first, and the query asks for rows, for columns without groups, or for groups without an aggregate.
+    /// It is the first, and the query asks for columns without groups, for groups without an aggregate, or for so many first rows that
+    /// the number has decimals.
     #[error("no query of totals or groups")]
-    NoTotals,
+    NoItems,
     /// It is the first of its part, and is not the line of the query.
     #[error("another query")]
     OtherQuery,
@@ -83,10 +84,10 @@ pub enum LineRefusal {
     #[error("item {0} too wide")]
     TooWide(usize),
     /// First rows are asked for, and the tag of the part with this place in the order of tags has a space or a control character.
-    #[error("a space or a control character in the tag of part {0}")]
+    #[error("the tag of part {0} has a space or a control character")]
     UnclearTag(usize),
     /// First rows are asked for, and two lines write their keys with other decimals, or as dates, numbers and texts.
-    #[error("scales of first rows differ")]
+    #[error("scales of the sort column differ")]
     OtherForm,
     /// It has more bytes than a line may have.
     #[error("too long")]
@@ -165,7 +166,7 @@ pub(crate) fn of_kinds(fault: KindsFault) -> StreamFault
 {
     let why = match fault {
         KindsFault::NoQuery => LineRefusal::NoQuery,
-        KindsFault::NoTotals => LineRefusal::NoTotals,
+        KindsFault::NoTotals => LineRefusal::NoItems,
         KindsFault::NoMemory => return StreamFault::NoMemory,
     };
     StreamFault::Line { line: 1, why }

@@ -3,7 +3,7 @@
 ghost use Rattle.report_stream.specs.Accepted.{ReportsAreAnswered, ReportsAreOne};
 ghost use Rattle.report_stream.specs.Shown.{FaultsAreTold};
 
-use query_kinds::{besides_are_one, kinds_are_one};
+use query_kinds::{besides_are_one, kinds_are_one, rows_are_one};
 
 /// Bytes have one combined report at most.
 pub fn reports_are_one()
@@ -11,6 +11,7 @@ pub fn reports_are_one()
 {
     kinds_are_one();
     besides_are_one();
+    rows_are_one();
 }
 
 /// Where an input tells bytes that are accepted, what is written is their combined report, and nothing but want of memory and faults of
@@ -20,6 +21,7 @@ pub fn reports_are_answered()
 {
     kinds_are_one();
     besides_are_one();
+    rows_are_one();
 }
 
 /// Where right lines are followed by bytes that are refused, only that refusal stops the report, unless memory runs out or a device
@@ -29,4 +31,5 @@ pub fn faults_are_told()
 {
     kinds_are_one();
     besides_are_one();
+    rows_are_one();
 }

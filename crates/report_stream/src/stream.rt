@@ -2,15 +2,18 @@
 
 ghost use Rattle.std.specs.Prelude.{◌≡◌, ◌<◌, ◌≤◌, None, Ok, IfErr, IfOk, OnOk, false, length, true};
 ghost use Rattle.query_kinds.specs.Beside.{TellsBeside};
-ghost use Rattle.query_kinds.specs.Kinds.{IsKindsFault};
-ghost use Rattle.report_stream.specs.Steps.{IsAsked, IsEarly, IsEnd, IsFirstFault, IsOpen, PutsOut, RefusesBlocks, StopsAt, StopsTake};
-ghost use Rattle.report_stream.specs.Streams.{Combined, StreamCause};
+ghost use Rattle.query_kinds.specs.Kinds.{Asks, AsksOther};
+ghost use Rattle.report_stream.specs.Steps.{IsAsked, IsEarly, IsEnd, IsFirstFault, IsOpen, IsShapeFault, PutsOut, RefusesBlocks};
+ghost use Rattle.report_stream.specs.Steps.{StopsAt, StopsTake};
+ghost use Rattle.report_stream.specs.Streams.{Combined, IsOfItems, IsShapeOf, StreamCause, shape_of_rows};
 ghost use Rattle.source_lines.specs.Lines.{Ends, Stands as HasRead, has_line};
 
 use crate::fault::{LineRefusal, StreamFault, Tag, of_input, of_kinds, of_source};
 use daq_table::Listed;
 use outer_world::{Sink, Source, write_whole};
-use query_kinds::{Beside, KindsFault, averages_beside, query_shape};
+use query_kinds::{
+    Beside, FirstRows, KindsFault, QueryShape, averages_beside, first_rows, query_shape,
+};
 use report_parts::{
     Asked, BlockFault, Combination, CourseFault, EndFault, Shape, Until, untagged, written_opening,
 };
@@ -20,11 +23,67 @@ use std::alloc::Global;
 // What stands beside the items of the query, where it asks for totals.
 fn read_besides(alloc: Global, query: &[u8]) -> Result<Vec<Option<Beside>>, KindsFault>
     ensures besides { IfOk result (λ besides. TellsBeside query.now besides.items) }
-    ensures fault { IfErr result (IsKindsFault query.now) }
+    ensures fault { IfErr result (IsShapeFault query.now) }
 {
     match averages_beside(alloc, query) {
         Ok(besides) => Ok(besides),
         Err(KindsFault::NoTotals) => Ok(Vec::new(alloc)),
+        Err(KindsFault::NoQuery) => Err(KindsFault::NoQuery),
+        Err(KindsFault::NoMemory) => Err(KindsFault::NoMemory),
+    }
+}
+
+// The shape of the blocks of a query of totals or groups.
+fn shape_of_items(alloc: Global, query: &[u8], asked: QueryShape) -> Result<Shape, KindsFault>
+    requires { Asks query.now asked.kinds.items asked.columns }
+    ensures shape { IfOk result (IsOfItems query.now) }
+    ensures fault { IfErr result (IsShapeFault query.now) }
+{
+    match read_besides(alloc, query) {
+        Ok(besides) => Ok(Shape {
+            kinds: Listed::new(asked.kinds),
+            columns: asked.columns,
+            besides: Listed::new(besides),
+            rows: None,
+        }),
+        Err(fault) => Err(fault),
+    }
+}
+
+// The shape of the blocks of a query of first rows.
+fn shape_of_rows(alloc: Global, asked: FirstRows) -> Shape
+    ensures { result ≡ shape_of_rows asked }
+{
+    Shape {
+        kinds: Listed::new(Vec::new(alloc)),
+        columns: 0,
+        besides: Listed::new(Vec::new(alloc)),
+        rows: Some(asked),
+    }
+}
+
+// The shape of the blocks of a query of neither totals nor groups, if it is of first rows.
+#[tactic(auto, using(crate::proofs::Steps::rows_refused))]
+fn read_rows(alloc: Global, query: &[u8]) -> Result<Shape, KindsFault>
+    requires { AsksOther query.now }
+    ensures shape { IfOk result (IsShapeOf query.now) }
+    ensures fault { IfErr result (IsShapeFault query.now) }
+{
+    match first_rows(alloc, query) {
+        Ok(Some(asked)) => Ok(shape_of_rows(alloc, asked)),
+        Ok(None) => Err(KindsFault::NoTotals),
+        Err(fault) => Err(fault),
+    }
+}
+
+// The shape of the blocks that the line of a query asks for.
+fn read_shape(alloc: Global, query: &[u8]) -> Result<Shape, KindsFault>
+    ensures shape { IfOk result (IsShapeOf query.now) }
+    ensures fault { IfErr result (IsShapeFault query.now) }
+{
+    match query_shape(alloc, query) {
+        Ok(asked) => shape_of_items(alloc, query, asked),
+        Err(KindsFault::NoTotals) => read_rows(alloc, query),
         Err(KindsFault::NoQuery) => Err(KindsFault::NoQuery),
         Err(KindsFault::NoMemory) => Err(KindsFault::NoMemory),
     }
@@ -40,22 +99,12 @@ fn read_asked(alloc: Global, first: &[u8]) -> Result<Asked, StreamFault>
         Ok(query) => query,
         Err(fault) => return Err(of_input(1, fault)),
     };
-    let asked = match query_shape(alloc, query) {
-        Ok(asked) => asked,
-        Err(fault) => return Err(of_kinds(fault)),
-    };
-    let besides = match read_besides(alloc, query) {
-        Ok(besides) => besides,
+    let shape = match read_shape(alloc, query) {
+        Ok(shape) => shape,
         Err(fault) => return Err(of_kinds(fault)),
     };
     let mut text = Vec::new(alloc);
     text.extend_from_slice(query)?;
-    let shape = Shape {
-        kinds: Listed::new(asked.kinds),
-        columns: asked.columns,
-        besides: Listed::new(besides),
-        rows: None,
-    };
     Ok(Asked { query: text, shape })
 }
 
