@@ -35,16 +35,16 @@ class Row:
 
 
 class Block:
-    """The rows of a block, and how many it says are certain and possible."""
+    """The rows of a block, and how many it says are certain and possible; none where no row is judged."""
 
     def __init__(self, certain, possible):
-        self.certain, self.possible, self.rows = certain, possible, []
+        self.certain, self.possible, self.rows, self.is_skipped = certain, possible, [], False
 
     def count(self, certain):
         return sum(row.certain == certain for row in self.rows)
 
     def has_room(self, row):
-        return self.count(row.certain) < (self.certain if row.certain else self.possible)
+        return not self.is_skipped and self.count(row.certain) < (self.certain if row.certain else self.possible)
 
     def is_whole(self):
         return self.count(True) == self.certain and self.count(False) == self.possible
@@ -52,8 +52,20 @@ class Block:
     def lacks_possible(self):
         return self.count(True) == self.certain and self.possible > 0 and not self.count(False)
 
+    def is_narrow(self):
+        return not self.is_skipped and not self.possible
+
     def lines(self, limit):
+        if self.is_skipped:
+            return ["top %d certain 0" % limit]
         return ["top %d certain %d possible %d" % (limit, self.certain, self.possible)] + [row.line() for row in self.rows]
+
+
+def skipped():
+    """A block of a combined report in which no row is judged."""
+    block = Block(0, 0)
+    block.is_skipped = True
+    return block
 
 
 def asked_by(query):
@@ -64,6 +76,8 @@ def asked_by(query):
 
 def top_at(line, limit):
     """The block that begins with the line."""
+    if line == "top %d certain 0" % limit:
+        return skipped()
     found = TOP.fullmatch(line)
     numbers = [int(number) for number in found.groups()] if found else []
     return Block(*numbers[1:]) if numbers and numbers[0] == limit and max(numbers) < 1 << 64 else None
@@ -101,9 +115,8 @@ def standing(limit, down, rows, name, row):
 
 def combined(limit, down, blocks):
     """The block over all parts. Each block is that of a part by its tag, and the tags rise."""
-    listed = sum(len(block.rows) for _, block in blocks)
-    if any(len(block.rows) > MOST_ROWS for _, block in blocks):
-        return Block(0, listed)
+    if any(block.is_skipped or len(block.rows) > MOST_ROWS for _, block in blocks):
+        return skipped()
     rows = {(place,) + row.name(): row for place, (_, block) in enumerate(blocks) for row in block.rows}
     whole = Block(0, 0)
     for name, row in rows.items():

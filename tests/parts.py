@@ -479,7 +479,7 @@ def look_at_query(line):
     calls = [bool(CALL.match(item)) for item in items[1].split(", ")]
     is_right = any(calls) if columns_of(line) else all(calls)
     if not is_right:
-        raise Refused("no query of totals, groups or first rows")
+        raise Refused("no query of totals or groups")
 
 
 ENDS = ("end narrow", "end rounds", "end reads")
@@ -716,15 +716,15 @@ class Combined:
 
     def write_rows(self, blocks):
         tags = [tag.decode(errors="surrogateescape") for tag in sorted(self.parts)]
-        unclear = [tag for tag in tags if min(map(ord, tag)) <= 32]
+        unclear = [number for number, tag in enumerate(tags, 1) if min(map(ord, tag)) <= 32]
         if unclear:
-            raise Refused("tag %s holds a space or a control character" % unclear[0])
+            raise Refused("the tag of part %d has a space or a control character" % unclear[0])
         if len({row.key.form.name for block in blocks for row in block.rows if row.key.form}) > 1:
-            raise Refused("scales of the sort key differ")
+            raise Refused("scales of the sort column differ")
         limit, down = first_rows.asked_by(self.query)
         block = first_rows.combined(limit, down, list(zip(tags, blocks)))
         self.lines += ["round %d" % self.number] + block.lines(limit)
-        self.end_behind(block, not block.possible)
+        self.end_behind(block, block.is_narrow())
 
     def end_behind(self, block, is_narrow):
         self.blocks.append(block)
