@@ -4,7 +4,7 @@ use Rattle.std.proofs.Math.Seq.{get_or-append_seam, take-append_seam}
 use Rattle.std.proofs.Math.ListN.{get_or-eq_default}
 use Rattle.std.proofs.lemmas.List.{get_or-append_right, get_or-replicate, get_or_append_left, length-replicate}
 use Rattle.std.specs.Cmp.Lexicographic.{slice_cmp}
-use Rattle.std.specs.List.{list_all}
+use Rattle.std.specs.List.{Contains, list_all}
 use Rattle.std.specs.List.Sorted.{IsStrictlySortedBy}
 use Rattle.std.specs.Ordering.{nat_cmp}
 use Rattle.std.specs.declared.cmp.Ordering.{Ordering}
@@ -13,7 +13,7 @@ use Rattle.query_model.specs.declared.query.ItemKind.{ItemKind}
 use Rattle.query_model.specs.declared.query.ItemKind.TheVariants.{Avg}
 use Rattle.report_text.specs.Extras.{IsRowsLine, extra_line}
 use Rattle.report_text.specs.Lines.{IsRoundLine, item_line}
-use Rattle.report_text.specs.RowBlocks.{LacksPossible, RowsTold, TakesRows, no_rows}
+use Rattle.report_text.specs.RowBlocks.{LacksPossible, RowsTold, TakesRows}
 use Rattle.report_text.specs.declared.groups.GroupLine.{GroupLine}
 use Rattle.report_parts.proofs.Said.{fault_as, said_as}
 use Rattle.report_parts.specs.Ends.{end_of_all, ends_narrow}
@@ -26,13 +26,12 @@ use Rattle.report_parts.specs.Reports.{block_beside, block_by, block_over, entri
 use Rattle.query_kinds.specs.declared.rows.FirstRows.{FirstRows}
 use Rattle.part_rows.specs.Combined.{PartListing, combined, told_by}
 use Rattle.report_parts.specs.Rounds.{all_groups_in, all_listed_in, block_for, groups_in, entries_in, entry_in, has_block, is_over, listed_in}
-use Rattle.report_parts.specs.Tags.{AreInOrder, CannotTake, IsLineRefused, IsRefused, TakesTagged, against, behind_tag, by_order, tag_of, told_of, with_part}
+use Rattle.report_parts.specs.Tags.{AreInOrder, CannotTake, HasPart, IsLineRefused, IsOneMore, IsRefused, TakesTagged, against, behind_tag, by_order, tag_of, told_of, with_part}
 use Rattle.report_parts.specs.Told.{Answers, BeginsGroup, Closes, Extends, GoesOn, GroupsGoOn, IsUnlisted, ListsRow, OrElse, PassesBehind, PassesBehindSection, PassesInside, RowsGoOn, Takes, TakesAt, TakesBehind, TakesBehindAnswer, TakesBetween, TakesInside, TakesRest, Told, at_place, block_done, closed, closed_by, completed, completed_by, is_whole, nothing_told, opened_by, rows_done, settled, with_answer, with_current, with_extra, with_group, with_rows}
 use Rattle.report_parts.specs.declared.block.Block.{Block}
 use Rattle.report_parts.specs.declared.block.Block.TheVariants.{Groups, Rows, Totals}
 use Rattle.part_groups.specs.declared.group.Group.{Group as GroupTold}
 use Rattle.report_parts.specs.declared.closing.Closing.{Closing}
-use Rattle.report_parts.specs.declared.closing.Closing.TheVariants.{Unknown}
 use Rattle.report_parts.specs.declared.entry.Entry.{Entry}
 use Rattle.report_parts.specs.declared.fault.BlockFault.{BlockFault}
 use Rattle.report_parts.specs.declared.fault.InputFault.{InputFault}
@@ -668,22 +667,6 @@ same_tags round (whole ∷ wholes) (part ∷ parts) h = rw (h.0.tag, same_tags r
 
 -- ---- what is refused
 
-empty_list : (blocks : List Block) → 0 ≡ length blocks → blocks ≡ []
-empty_list [] e = refl
-empty_list (block ∷ blocks) e = absurd (omega (arith, e))
-
--- a part that has told nothing
-nothing_is : (round : ℕ) (tag : List ℕ) (whole : Told) → TellsFrom round whole (nothing_told tag) → whole ≡ nothing_told tag
-nothing_is round tag whole h =
-    subst (λ (t : List ℕ). whole ≡ record { tag = t; blocks = []; closing = Unknown; sections = []; group = None; current = []; rows = no_rows; place = Query }) (sym h.tag)
-    (subst (λ (b : List Block). whole ≡ record { tag = whole.tag; blocks = b; closing = Unknown; sections = []; group = None; current = []; rows = no_rows; place = Query }) (empty_list whole.blocks h.count)
-    (subst (λ (c : Closing). whole ≡ record { tag = whole.tag; blocks = whole.blocks; closing = c; sections = []; group = None; current = []; rows = no_rows; place = Query }) (sym h.closing)
-    (subst (λ (s : List GroupTold). whole ≡ record { tag = whole.tag; blocks = whole.blocks; closing = whole.closing; sections = s; group = None; current = []; rows = no_rows; place = Query }) (sym h.sections)
-    (subst (λ (g : Option GroupLine). whole ≡ record { tag = whole.tag; blocks = whole.blocks; closing = whole.closing; sections = whole.sections; group = g; current = []; rows = no_rows; place = Query }) (sym h.group)
-    (subst (λ (c : List Entry). whole ≡ record { tag = whole.tag; blocks = whole.blocks; closing = whole.closing; sections = whole.sections; group = whole.group; current = c; rows = no_rows; place = Query }) (sym h.current)
-    (subst (λ (r : RowsTold). whole ≡ record { tag = whole.tag; blocks = whole.blocks; closing = whole.closing; sections = whole.sections; group = whole.group; current = whole.current; rows = r; place = Query }) (sym h.rows)
-    (subst (λ (p : Place). whole ≡ record { tag = whole.tag; blocks = whole.blocks; closing = whole.closing; sections = whole.sections; group = whole.group; current = whole.current; rows = whole.rows; place = p }) (sym h.place) refl)))))))
-
 cannot_too : (query : List ℕ) (shape : Shape) (round : ℕ) (whole told : Told) (line : List ℕ) → TellsFrom round whole told →
     CannotTake query shape told line → CannotTake query shape whole line
 cannot_too query shape round whole told line h cannot next taken =
@@ -705,23 +688,32 @@ line_refused_too OtherLine query shape round whole told line h refused = (
 )
 line_refused_too NoMemory query shape round whole told line h refused = tt
 
+-- the same parts came
+has_too : (tag : List ℕ) (round : ℕ) (wholes parts : List Told) → AllTellFrom round wholes parts → HasPart tag wholes → HasPart tag parts
+has_too tag round wholes parts h has = subst (λ (tags : List (List ℕ)). Contains tags tag) (same_tags round wholes parts h) has
+
+has_back : (tag : List ℕ) (round : ℕ) (wholes parts : List Told) → AllTellFrom round wholes parts → HasPart tag parts → HasPart tag wholes
+has_back tag round wholes parts h has = subst (λ (tags : List (List ℕ)). Contains tags tag) (sym (same_tags round wholes parts h)) has
+
+one_more_too : (tag : List ℕ) (most round : ℕ) (wholes parts : List Told) → AllTellFrom round wholes parts → IsOneMore most parts tag → IsOneMore most wholes tag
+one_more_too tag most round wholes parts h more =
+    let count = same_count round wholes parts h in (omega (arith, count, more.0), λ has. more.1 (has_too tag round wholes parts h has))
+
+one_more_back : (tag : List ℕ) (most round : ℕ) (wholes parts : List Told) → AllTellFrom round wholes parts → IsOneMore most wholes tag → IsOneMore most parts tag
+one_more_back tag most round wholes parts h more =
+    let count = same_count round wholes parts h in (omega (arith, count, more.0), λ has. more.1 (has_back tag round wholes parts h has))
+
 pub refused_too : (why : InputFault) (query : List ℕ) (shape : Shape) (most round : ℕ) (wholes parts : List Told) (line : List ℕ) →
     AllTellFrom round wholes parts → IsRefused why query shape most parts line → IsRefused why query shape most wholes line
 refused_too NoTab query shape most round wholes parts line h refused = refused
 refused_too NoTag query shape most round wholes parts line h refused = refused
 refused_too OtherPart query shape most round wholes parts line h refused =
-    let count = same_count round wholes parts h in (
-      refused.0,
-      (
-        omega (arith, count, refused.1.0),
-        nothing_is round (tag_of line) (told_of (tag_of line) wholes)
-            (subst (λ (t : Told). TellsFrom round (told_of (tag_of line) wholes) t) refused.1.1 (told_of_too round (tag_of line) wholes parts h)),
-      ),
-    )
+    (refused.0, one_more_too (tag_of line) most round wholes parts h refused.1)
 refused_too (Line why) query shape most round wholes parts line h refused = (
   refused.0,
+  λ more. refused.1 (one_more_back (tag_of line) most round wholes parts h more),
   line_refused_too why query shape round (told_of (tag_of line) wholes) (told_of (tag_of line) parts) (behind_tag line)
-      (told_of_too round (tag_of line) wholes parts h) refused.1,
+      (told_of_too round (tag_of line) wholes parts h) refused.2,
 )
 
 -- a block that can be written, and one that is not

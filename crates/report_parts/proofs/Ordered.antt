@@ -13,8 +13,12 @@ use Rattle.std.specs.declared.cmp.Ordering.{Ordering}
 use Rattle.std.specs.declared.cmp.Ordering.TheVariants.{Less, Equal, Greater}
 use Rattle.std.specs.declared.result.Result.{Result}
 use Rattle.std.specs.declared.result.Result.TheVariants.{Ok, Err}
+use Rattle.report_parts.specs.declared.fault.InputFault.{InputFault}
+use Rattle.report_parts.specs.declared.fault.InputFault.TheVariants.{Line}
 use Rattle.report_parts.specs.declared.fault.LineFault.{LineFault}
-use Rattle.report_parts.specs.Tags.{AreInOrder, BelongsAt, StandsAt, against, by_order, part_at, told_of, with_part}
+use Rattle.report_parts.specs.declared.fault.LineFault.TheVariants.{NoMemory}
+use Rattle.report_parts.specs.declared.shape.Shape.{Shape}
+use Rattle.report_parts.specs.Tags.{AreInOrder, BelongsAt, HasPart, IsRefused, StandsAt, against, by_order, part_at, told_of, with_part}
 use Rattle.report_parts.specs.Told.{Told, nothing_told}
 
 -- ---- tags in order
@@ -83,6 +87,52 @@ none_there tag (part ∷ parts) (suc k) le below above =
     rw (below 0 part (omega arith) (omega arith))
     (none_there tag parts k (omega (arith, le)) (λ j d from lt. below (suc j) d (omega arith) (omega (arith, lt))) (λ j d from lt. above (suc j) d (omega (arith, from)) (omega (arith, lt))))
 
+-- a part has the tag of the part that stands at a place
+has_there : (tag : List ℕ) (parts : List Told) (place : ℕ) → place < length parts → (part_at place parts).tag ≡ tag → HasPart tag parts
+has_there tag parts place lt same =
+    let wide : length (map (λ (p : Told). p.tag) parts) ≡ length parts = length-map parts (λ (p : Told). p.tag) in
+    (place, omega (arith, lt, wide), get_or-map (λ (p : Told). p.tag) parts place (nothing_told []) tag lt ∙ same)
+
+-- a tag stands neither before itself nor behind
+not_before : (tag : List ℕ) → slice_cmp nat_cmp tag tag ≡ Less → ⊥
+not_before tag e = let f : Less ≡ Greater = sym e ∙ nat_list_cmp_total.antisymm tag tag ∙ ap ordering_reverse e in cc
+
+not_behind : (tag : List ℕ) → slice_cmp nat_cmp tag tag ≡ Greater → ⊥
+not_behind tag e = let f : Greater ≡ Less = sym e ∙ nat_list_cmp_total.antisymm tag tag ∙ ap ordering_reverse e in cc
+
+absent_by : (tag : List ℕ) (parts : List Told) (place k : ℕ) →
+    AllWithin (λ (y : Told). against tag y ≡ Less) parts 0 place → AllWithin (λ (y : Told). against tag y ≡ Greater) parts place (length parts) →
+    k < length parts → (get_or parts k (nothing_told tag)).tag ≡ tag → (k < place) ⊎ (place ≤ k) → ⊥
+absent_by tag parts place k below above lt same (inl before) =
+    not_before tag (subst (λ (t : List ℕ). slice_cmp nat_cmp t tag ≡ Less) same (below k (nothing_told tag) (omega arith) before))
+absent_by tag parts place k below above lt same (inr behind) =
+    not_behind tag (subst (λ (t : List ℕ). slice_cmp nat_cmp t tag ≡ Greater) same (above k (nothing_told tag) behind lt))
+
+before_or_behind : (k place : ℕ) → (k < place) ⊎ (place ≤ k)
+before_or_behind k place = grind arith
+
+absent_there : (tag : List ℕ) (parts : List Told) (place : ℕ) →
+    AllWithin (λ (y : Told). against tag y ≡ Less) parts 0 place → AllWithin (λ (y : Told). against tag y ≡ Greater) parts place (length parts) →
+    ¬ HasPart tag parts
+absent_there tag parts place below above (k, lt, same) =
+    let wide : length (map (λ (p : Told). p.tag) parts) ≡ length parts = length-map parts (λ (p : Told). p.tag) in
+    let within : k < length parts = omega (arith, lt, wide) in
+    absent_by tag parts place k below above within
+    (sym (get_or-map (λ (p : Told). p.tag) parts k (nothing_told tag) tag within) ∙ same) (before_or_behind k place)
+
+none_by : (tag : List ℕ) (part : Told) (parts : List Told) (o : Ordering) → against tag part ≡ o → (part.tag ≡ tag → ⊥) →
+    told_of tag parts ≡ nothing_told tag → by_order o (told_of tag parts) part (nothing_told tag) ≡ nothing_told tag
+none_by tag part parts Less e other rest = rest
+none_by tag part parts Equal e other rest = absurd (other (tag_is tag part e))
+none_by tag part parts Greater e other rest = refl
+
+-- where no part has the tag, nothing is told of it
+pub absent_none : (tag : List ℕ) (parts : List Told) → ¬ HasPart tag parts → told_of tag parts ≡ nothing_told tag
+absent_none tag [] absent = refl
+absent_none tag (part ∷ parts) absent =
+    none_by tag part parts (against tag part) refl (λ same. absent (0, omega arith, same))
+    (absent_none tag parts (λ has. absent (suc has.0, omega (arith, has.1), has.2)))
+
 put_new : (told : Told) (parts : List Told) (place : ℕ) → place ≤ length parts →
     AllWithin (λ (y : Told). against told.tag y ≡ Less) parts 0 place → AllWithin (λ (y : Told). against told.tag y ≡ Greater) parts place (length parts) →
     with_part told parts ≡ insert parts place told
@@ -101,6 +151,7 @@ searched tag parts (Ok place) sorted within h = record {
   within = within;
   told = told_there tag parts place (nothing_told []) sorted within h;
   tagged = tag_is tag (part_at place parts) (h (nothing_told []));
+  there = has_there tag parts place within (tag_is tag (part_at place parts) (h (nothing_told [])));
   put = λ told e. put_there told parts place sorted within (subst (λ (t : List ℕ). HoldsAt (λ (y : Told). against t y ≡ Equal) parts place) (sym e) h);
 }
 searched tag parts (Err place) sorted within h =
@@ -108,6 +159,7 @@ searched tag parts (Err place) sorted within h =
     record {
       within = within;
       none = none_there tag parts place within point.0 point.1;
+      absent = absent_there tag parts place point.0 point.1;
       put = λ told e. put_new told parts place within
           (subst (λ (t : List ℕ). AllWithin (λ (y : Told). against t y ≡ Less) parts 0 place) (sym e) point.0)
           (subst (λ (t : List ℕ). AllWithin (λ (y : Told). against t y ≡ Greater) parts place (length parts)) (sym e) point.1);
@@ -168,3 +220,11 @@ order_first tag seen old new place (Ok done) Also e belongs sorted came kept =
     let here : BelongsAt tag old place = subst (λ (ps : List Told). BelongsAt tag ps place) e belongs in
     subst (λ (ps : List Told). AreInOrder ps) (here.put came.0 came.1 ∙ sym came.3) (order_stays came.0 old sorted)
 order_first tag seen old new place (Err why) Also e belongs sorted came kept = subst (λ (ps : List Told). AreInOrder ps) (sym kept) sorted
+
+-- where memory ran out the line is of no part more
+pub starved_refused : (why : InputFault) (query : List ℕ) (shape : Shape) (count : ℕ) (parts : List Told) (line : List ℕ) (most : ℕ) (own : List Told) →
+    why ≡ Line NoMemory → most ≡ count → own ≡ parts → IsRefused why query shape count parts line → IsRefused (Line NoMemory) query shape most own line
+starved_refused why query shape count parts line most own is few same refused =
+    subst (λ (n : ℕ). IsRefused (Line NoMemory) query shape n own line) (sym few)
+    (subst (λ (ps : List Told). IsRefused (Line NoMemory) query shape count ps line) (sym same)
+    (subst (λ (f : InputFault). IsRefused f query shape count parts line) is refused))

@@ -2,7 +2,7 @@
 use Rattle.std.specs.Prelude.{◌≡◌, ◌≢◌, ℕ, ◌<◌, ◌≤◌, ◌==◌, List, [], ◌∷◌, length, map, position, slice_index_or, set}
 use Rattle.std.specs.declared.option.Option.TheVariants.{Some}
 use Rattle.std.specs.Cmp.Lexicographic.{slice_cmp}
-use Rattle.std.specs.List.{after_first, before_first, insert}
+use Rattle.std.specs.List.{Contains, after_first, before_first, insert}
 use Rattle.std.specs.List.Sorted.{IsStrictlySortedBy}
 use Rattle.std.specs.Ordering.{nat_cmp}
 use Rattle.std.specs.declared.cmp.Ordering.{Ordering}
@@ -63,6 +63,10 @@ pub record TakesTagged (query : List ℕ) (shape : Shape) (parts : List Told) (l
   pub taken : Takes query shape (told_of (tag_of line) parts) (behind_tag line) told
   pub put : next ≡ with_part told parts
 
+-- a part has that tag
+abbrev pub HasPart : List ℕ → List Told → Type 0
+HasPart tag parts = Contains (map (λ part. part.tag) parts) tag
+
 -- ---- where a part stands
 
 abbrev pub part_at : ℕ → List Told → Told
@@ -73,12 +77,14 @@ pub record StandsAt (tag : List ℕ) (parts : List Told) (place : ℕ) : Type 0 
   pub within : place < length parts
   pub told : told_of tag parts ≡ part_at place parts
   pub tagged : (part_at place parts).tag ≡ tag
+  pub there : HasPart tag parts
   pub put : (told : Told) → told.tag ≡ tag → with_part told parts ≡ set parts place told
 
 -- no part has the tag, and one that has it belongs there
 pub record BelongsAt (tag : List ℕ) (parts : List Told) (place : ℕ) : Type 0 where
   pub within : place ≤ length parts
   pub none : told_of tag parts ≡ nothing_told tag
+  pub absent : ¬ HasPart tag parts
   pub put : (told : Told) → told.tag ≡ tag → with_part told parts ≡ insert parts place told
 
 -- ---- why a line is refused
@@ -95,14 +101,14 @@ IsLineRefused NoMemory query shape told line = Unit {0}
 
 -- so many parts are wanted at most, and this is one more
 abbrev pub IsOneMore : ℕ → List Told → List ℕ → Type 0
-IsOneMore most parts tag = (most ≤ length parts) × (told_of tag parts ≡ nothing_told tag)
+IsOneMore most parts tag = (most ≤ length parts) × ¬ HasPart tag parts
 
 abbrev pub IsRefused : InputFault → List ℕ → Shape → ℕ → List Told → List ℕ → Type 0
 IsRefused NoTab query shape most parts line = ¬ HasTab line
 IsRefused NoTag query shape most parts line = HasTab line × ¬ IsTag (tag_of line)
 IsRefused OtherPart query shape most parts line = IsTagged line × IsOneMore most parts (tag_of line)
 IsRefused (Line why) query shape most parts line =
-    IsTagged line × IsLineRefused why query shape (told_of (tag_of line) parts) (behind_tag line)
+    IsTagged line × (¬ IsOneMore most parts (tag_of line)) × IsLineRefused why query shape (told_of (tag_of line) parts) (behind_tag line)
 
 -- what is refused changes nothing
 abbrev pub IsKept : {X : Type 0} → LineFault → X → X → Type 0
