@@ -7,12 +7,13 @@ use Rattle.std.specs.Io.KnownBytes.{IsAtEnd}
 use Rattle.outer_world.specs.Device.{Rose, SinkState, SourceState}
 use Rattle.query_kinds.specs.Kinds.{IsNoQuery}
 use Rattle.report_text.specs.declared.lines.ReportEnd.{ReportEnd}
+use Rattle.report_parts.proofs.Ordered.{absent_none}
 use Rattle.report_parts.proofs.Reached.{as_stops, never_combined, stops_once}
 use Rattle.report_parts.proofs.Telling.{ended_stays, telling_one, tells_split}
 use Rattle.report_parts.specs.Course.{Combines, IsLineFault, IsStopped, Stops, TakesLine, Task, Tell}
 use Rattle.report_parts.specs.Ends.{first_open}
-use Rattle.report_parts.specs.Tags.{HasTab, IsRefused, IsTag, behind_tag, part_at, tag_of, told_of}
-use Rattle.report_parts.specs.Told.{IsUnlisted, Takes, TakesAt, Told as PartTold, at_place, nothing_told}
+use Rattle.report_parts.specs.Tags.{HasPart, HasTab, IsRefused, IsTag, behind_tag, part_at, tag_of, told_of}
+use Rattle.report_parts.specs.Told.{IsUnlisted, Takes, TakesAt, Told as PartTold, nothing_told}
 use Rattle.report_parts.specs.declared.combination.Until.{Until}
 use Rattle.report_parts.specs.declared.fault.BlockFault.{BlockFault}
 use Rattle.report_parts.specs.declared.fault.BlockFault.TheVariants as b
@@ -20,8 +21,7 @@ use Rattle.report_parts.specs.declared.fault.InputFault.{InputFault}
 use Rattle.report_parts.specs.declared.fault.InputFault.TheVariants as i
 use Rattle.report_parts.specs.declared.fault.LineFault.TheVariants as l
 use Rattle.report_parts.specs.declared.part.Place.{Place}
-use Rattle.report_parts.specs.declared.part.Place.TheVariants.{Opened, Query, Row}
-use Rattle.report_parts.specs.declared.shape.Shape.{Shape}
+use Rattle.report_parts.specs.declared.part.Place.TheVariants.{Query, Row}
 use Rattle.source_lines.specs.Lines.{IsRest, has_line, line_length, most_bytes, most_line}
 use Rattle.report_stream.proofs.LineTexts.{all_before, front_line, last_line, line_more, no_earlier, not_long, not_rest, plain, same_line, which_goes_on}
 use Rattle.report_stream.proofs.Taken.{no_tab as no_tab_behind, not_refused, refuses_block, refuses_line, shape_some, tell_started}
@@ -379,11 +379,6 @@ module _ (kinds : QueriesAreOne) (count : ℕ) (until : Until) (whole bytes : Li
       is_told : IsTold count until input input' out out' fault
       is_told = record { undone = undone; stopped = stopped }
 
--- a part of which nothing was told takes the line of the query
-opens : (told : PartTold) (query line : List ℕ) (asked : Shape) → told.place ≡ Query → line ≡ query → Takes query asked told line (at_place told Opened)
-opens told query line asked there same =
-    subst (λ (p : Place). TakesAt p query asked told line (at_place told Opened)) (sym there) (record { is_query = sym same; opened = refl })
-
 -- where more bytes than a line may have come before a line feed stands no line, and no rest
 no_line_there : (rest line behind : List ℕ) → GoesTooFar rest → rest ≡ line ++ 10 ∷ behind → IsLine line → ⊥
 no_line_there rest line behind far e is = not_long rest [] line behind (append-nil rest ∙ e) is far
@@ -493,9 +488,10 @@ module _ (kinds : QueriesAreOne) (count : ℕ) (until : Until) (whole bytes : Li
           Line n why ≡ Line number r.OtherLine
       only n why i.NoTab e said refuted = absurd (refuted comes.tagged.0)
       only n why i.NoTag e said refuted = absurd (refuted.1 comes.tagged.1)
-      only n why i.OtherPart e said refuted = absurd (begun (ap (λ (t : PartTold). t.place) refuted.1.1))
-      only n why (i.Line l.OtherQuery) e said refuted = absurd (begun refuted.1.0)
-      only n why (i.Line l.Unlisted) e said refuted = absurd (listed refuted.1.0)
+      only n why i.OtherPart e said refuted =
+          absurd (begun (ap (λ (t : PartTold). t.place) (absent_none (tag_of line) g.combines.parts refuted.1.1)))
+      only n why (i.Line l.OtherQuery) e said refuted = absurd (begun refuted.2.0)
+      only n why (i.Line l.Unlisted) e said refuted = absurd (listed refuted.2.0)
       only n why (i.Line l.OtherLine) e said refuted = line_number n number why r.OtherLine (e ∙ sym counted) (why_is n why r.OtherLine said)
       only n why (i.Line l.NoMemory) e said refuted = absurd (let f : Line n why ≡ NoMemory = said in cc)
 
@@ -514,38 +510,36 @@ module _ (kinds : QueriesAreOne) (count : ℕ) (until : Until) (whole bytes : Li
           Line n why ≡ Line number r.Unlisted
       only n why i.NoTab e said refuted = absurd (refuted comes.tagged.0)
       only n why i.NoTag e said refuted = absurd (refuted.1 comes.tagged.1)
-      only n why i.OtherPart e said refuted = absurd (begun (ap (λ (t : PartTold). t.place) refuted.1.1))
-      only n why (i.Line l.OtherQuery) e said refuted = absurd (begun refuted.1.0)
+      only n why i.OtherPart e said refuted =
+          absurd (begun (ap (λ (t : PartTold). t.place) (absent_none (tag_of line) g.combines.parts refuted.1.1)))
+      only n why (i.Line l.OtherQuery) e said refuted = absurd (begun refuted.2.0)
       only n why (i.Line l.Unlisted) e said refuted = line_number n number why r.Unlisted (e ∙ sym counted) (why_is n why r.Unlisted said)
-      only n why (i.Line l.OtherLine) e said refuted = absurd (refuted.1.1 lacks)
+      only n why (i.Line l.OtherLine) e said refuted = absurd (refuted.2.1 lacks)
       only n why (i.Line l.NoMemory) e said refuted = absurd (let f : Line n why ≡ NoMemory = said in cc)
 
   -- there is one part more
   more_told : (own : List (List ℕ)) (rest line behind : List ℕ) (g : GoesRight count until bytes own rest) (number : ℕ) → ComesNext rest line behind →
-      told_of (tag_of line) g.combines.parts ≡ nothing_told (tag_of line) → count ≤ length g.combines.parts → behind_tag line ≡ g.task.query → number ≡ length own + 1 →
+      ¬ HasPart (tag_of line) g.combines.parts → count ≤ length g.combines.parts → number ≡ length own + 1 →
       IsTold count until input input' out out' (Line number r.MoreParts)
-  more_told own rest line behind g number comes new many query counted =
+  more_told own rest line behind g number comes new many counted =
       is_told kinds count until whole bytes cut input input' out out' left own rest g (Line number r.MoreParts)
       (line_here own rest line behind g (Line number r.MoreParts) comes.next full only)
     where
+      more : (g.task.count ≤ length g.combines.parts) × ¬ HasPart (tag_of line) g.combines.parts
+      more = (subst (λ (n : ℕ). n ≤ length g.combines.parts) (sym g.is_task.count) many, new)
+
       full : (next : List PartTold) → TakesLine g.task g.combines.parts line next → ⊥
       full next takes = not_refused i.OtherPart g.task g.combines.parts line next (shape_some g.task.query g.task.shape g.is_task.is_shape) (tell_started g.task [] own g.combines.parts tt g.combines.told) takes
-          (λ e. absurd cc) (comes.tagged, (subst (λ (n : ℕ). n ≤ length g.combines.parts) (sym g.is_task.count) many, new))
-
-      mine : PartTold
-      mine = told_of (tag_of line) g.combines.parts
-
-      can : Takes g.task.query g.task.shape mine (behind_tag line) (at_place mine Opened)
-      can = opens mine g.task.query (behind_tag line) g.task.shape (ap (λ (t : PartTold). t.place) new) query
+          (λ e. absurd cc) (comes.tagged, more)
 
       only : (n : ℕ) (why : LineRefusal) (f : InputFault) → n ≡ length own + 1 → Line n why ≡ of_input n f → IsRefused f g.task.query g.task.shape g.task.count g.combines.parts line →
           Line n why ≡ Line number r.MoreParts
       only n why i.NoTab e said refuted = absurd (refuted comes.tagged.0)
       only n why i.NoTag e said refuted = absurd (refuted.1 comes.tagged.1)
       only n why i.OtherPart e said refuted = line_number n number why r.MoreParts (e ∙ sym counted) (why_is n why r.MoreParts said)
-      only n why (i.Line l.OtherQuery) e said refuted = absurd (refuted.1.1 (at_place mine Opened) can)
-      only n why (i.Line l.Unlisted) e said refuted = absurd (refuted.1.1 (at_place mine Opened) can)
-      only n why (i.Line l.OtherLine) e said refuted = absurd (refuted.1.2 (at_place mine Opened) can)
+      only n why (i.Line l.OtherQuery) e said refuted = absurd (refuted.1 more)
+      only n why (i.Line l.Unlisted) e said refuted = absurd (refuted.1 more)
+      only n why (i.Line l.OtherLine) e said refuted = absurd (refuted.1 more)
       only n why (i.Line l.NoMemory) e said refuted = absurd (let f : Line n why ≡ NoMemory = said in cc)
 
   -- what refuses a line that comes next
@@ -611,8 +605,8 @@ module _ (kinds : QueriesAreOne) (count : ℕ) (until : Until) (whole bytes : Li
       only n why i.NoTag e said refuted = absurd (refuted.1 comes.tagged.1)
       only n why i.OtherPart e said refuted = absurd (let many = refuted.1.0 in let same = g.is_task.count in omega (arith, many, room, same))
       only n why (i.Line l.OtherQuery) e said refuted = line_number n number why r.OtherQuery (e ∙ sym counted) (why_is n why r.OtherQuery said)
-      only n why (i.Line l.Unlisted) e said refuted = absurd (let f : Row ≡ Query = sym refuted.1.0.0 ∙ there in cc)
-      only n why (i.Line l.OtherLine) e said refuted = absurd (refuted.1.0 there)
+      only n why (i.Line l.Unlisted) e said refuted = absurd (let f : Row ≡ Query = sym refuted.2.0.0 ∙ there in cc)
+      only n why (i.Line l.OtherLine) e said refuted = absurd (refuted.2.0 there)
       only n why (i.Line l.NoMemory) e said refuted = absurd (let f : Line n why ≡ NoMemory = said in cc)
 
   -- more bytes than a line may have come before a line feed
@@ -919,7 +913,7 @@ module _ (kinds : QueriesAreOne) (count : ℕ) (until : Until) (whole bytes : Li
   shown_told fault (too_long lines rest g number far counted) few = length_told lines rest g number far counted
   shown_told fault (other_query lines rest line behind g number comes new room another counted) few =
       query_told lines rest line behind g number comes new room another counted
-  shown_told fault (more_parts lines rest line behind g number comes new many query counted) few = more_told lines rest line behind g number comes new many query counted
+  shown_told fault (more_parts lines rest line behind g number comes new many counted) few = more_told lines rest line behind g number comes new many counted
   shown_told fault (other_block lines rest line behind g number block why comes un counted is) few =
       subst (λ (f : StreamFault). IsTold count until input input' out out' f) (sym is) (block_told lines rest line behind g number block comes un counted)
   shown_told fault (other_line lines rest line behind g number comes begun listed cannot counted) few = line_told lines rest line behind g number comes begun listed cannot counted
@@ -947,7 +941,7 @@ module _ (kinds : QueriesAreOne) (count : ℕ) (until : Until) (whole bytes : Li
   full_told fault (no_tag lines rest line behind g number comes tab none counted) end many = absurd end
   full_told fault (too_long lines rest g number far counted) end many = absurd end
   full_told fault (other_query lines rest line behind g number comes new room another counted) end many = absurd end
-  full_told fault (more_parts lines rest line behind g number comes new room query counted) end many = absurd end
+  full_told fault (more_parts lines rest line behind g number comes new room counted) end many = absurd end
   full_told fault (unlisted lines rest line behind g number comes lacks cannot counted) end many = absurd end
   full_told fault (other_line lines rest line behind g number comes begun listed cannot counted) end many = absurd end
   full_told fault (other_block lines rest line behind g number block why comes un counted is) end many =

@@ -28,9 +28,9 @@ pub first_refused : (first : List ℕ) (why : InputFault) →
 first_refused first i.NoTab h = (refl, h [] none_asked 0 [])
 first_refused first i.NoTag h = (refl, h [] none_asked 0 [])
 first_refused first i.OtherPart h = let few = (h [] none_asked 1 []).1.0 in absurd (omega (arith, few))
-first_refused first (i.Line l.OtherQuery) h = absurd (opens first (h (behind_tag first) none_asked 0 []).1.1)
-first_refused first (i.Line l.Unlisted) h = absurd (opens first (h (behind_tag first) none_asked 0 []).1.1)
-first_refused first (i.Line l.OtherLine) h = absurd (opens first (h (behind_tag first) none_asked 0 []).1.2)
+first_refused first (i.Line l.OtherQuery) h = absurd (opens first (h (behind_tag first) none_asked 1 []).2.1)
+first_refused first (i.Line l.Unlisted) h = absurd (opens first (h (behind_tag first) none_asked 1 []).2.1)
+first_refused first (i.Line l.OtherLine) h = absurd (opens first (h (behind_tag first) none_asked 1 []).2.2)
 first_refused first (i.Line l.NoMemory) h = tt
 
 pub rows_refused : (line : List ℕ) (why : KindsFault) → IsRowsFault line why → IsShapeFault line why

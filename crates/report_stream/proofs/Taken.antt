@@ -14,6 +14,7 @@ use Rattle.report_text.specs.RowBlocks.{TakesRows}
 use Rattle.report_text.specs.declared.lines.ReportEnd.{ReportEnd}
 use Rattle.report_text.specs.declared.lines.ReportEnd.TheVariants.{Narrow, Reads, Rounds}
 use Rattle.report_parts.proofs.Courses.{tag_of_told, tag_stays}
+use Rattle.report_parts.proofs.Ordered.{absent_none}
 use Rattle.report_parts.proofs.Reached.{as_stops, never_combined}
 use Rattle.report_parts.proofs.Stays.{follows}
 use Rattle.report_parts.proofs.Telling.{telling_one, tells_split}
@@ -150,18 +151,18 @@ not_refused i.NoTab task parts line next some all h memory none =
     subst (λ (v : List ℕ). TakesAt own.place task.query task.shape own v h.taken.told) (no_tab line none) h.taken.taken in
     no_empty own.place task.query task.shape own h.taken.told some taken
 not_refused i.NoTag task parts line next some all h memory (tab, none) = none h.taken.is_tag
-not_refused i.OtherPart task parts line next some all h memory (tagged, (many, none)) =
+not_refused i.OtherPart task parts line next some all h memory (tagged, (many, absent)) =
     let own = told_of (tag_of line) parts in
     let told = h.taken.told in
     let tag : told.tag ≡ tag_of line = tag_stays task.query task.shape own (behind_tag line) told h.taken.taken ∙ tag_of_told (tag_of line) parts in
-    let mine : told_of told.tag parts ≡ nothing_told told.tag = subst (λ (t : List ℕ). told_of t parts ≡ nothing_told t) (sym tag) none in
+    let mine : told_of told.tag parts ≡ nothing_told told.tag = subst (λ (t : List ℕ). told_of t parts ≡ nothing_told t) (sym tag) (absent_none (tag_of line) parts absent) in
     let grown = new_part told parts all mine in
     let long : length next ≡ length (with_part told parts) = ap length h.taken.put in
     let few = h.few in
     omega (arith, grown, long, few, many)
-not_refused (i.Line l.OtherQuery) task parts line next some all h memory (tagged, (place, cannot)) = cannot h.taken.told h.taken.taken
-not_refused (i.Line l.Unlisted) task parts line next some all h memory (tagged, (lacks, cannot)) = cannot h.taken.told h.taken.taken
-not_refused (i.Line l.OtherLine) task parts line next some all h memory (tagged, (begun, other, cannot)) = cannot h.taken.told h.taken.taken
+not_refused (i.Line l.OtherQuery) task parts line next some all h memory (tagged, few, (place, cannot)) = cannot h.taken.told h.taken.taken
+not_refused (i.Line l.Unlisted) task parts line next some all h memory (tagged, few, (lacks, cannot)) = cannot h.taken.told h.taken.taken
+not_refused (i.Line l.OtherLine) task parts line next some all h memory (tagged, few, (begun, other, cannot)) = cannot h.taken.told h.taken.taken
 not_refused (i.Line l.NoMemory) task parts line next some all h memory any = memory refl
 
 -- ---- behind lines that tell something

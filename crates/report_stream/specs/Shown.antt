@@ -5,7 +5,7 @@ use Rattle.outer_world.specs.Device.{Rose, SinkState, SourceState}
 use Rattle.query_kinds.specs.Kinds.{IsNoQuery}
 use Rattle.report_parts.specs.Course.{Combines, Stops, Task, Tell}
 use Rattle.report_parts.specs.Ends.{first_open}
-use Rattle.report_parts.specs.Tags.{CannotTake, HasTab, IsTag, IsTagged, behind_tag, part_at, tag_of, told_of}
+use Rattle.report_parts.specs.Tags.{CannotTake, HasPart, HasTab, IsTag, IsTagged, behind_tag, part_at, tag_of, told_of}
 use Rattle.report_parts.specs.Told.{IsUnlisted, Told, nothing_told}
 use Rattle.report_parts.specs.declared.combination.Until.{Until}
 use Rattle.report_parts.specs.declared.fault.BlockFault.{BlockFault}
@@ -77,10 +77,10 @@ pub data ShowsFault (wanted : ℕ) (until : Until) (bytes : List ℕ) : StreamFa
       ComesNext rest line behind → told_of (tag_of line) g.combines.parts ≡ nothing_told (tag_of line) →
       length g.combines.parts < wanted → behind_tag line ≢ g.task.query → number ≡ length lines + 1 →
       ShowsFault wanted until bytes (Line number r.OtherQuery)
-  -- one part more tells the same query
+  -- it is of one part more, whatever it tells
   more_parts : (lines : List (List ℕ)) (rest line behind : List ℕ) (g : GoesRight wanted until bytes lines rest) (number : ℕ) →
-      ComesNext rest line behind → told_of (tag_of line) g.combines.parts ≡ nothing_told (tag_of line) →
-      wanted ≤ length g.combines.parts → behind_tag line ≡ g.task.query → number ≡ length lines + 1 →
+      ComesNext rest line behind → ¬ HasPart (tag_of line) g.combines.parts →
+      wanted ≤ length g.combines.parts → number ≡ length lines + 1 →
       ShowsFault wanted until bytes (Line number r.MoreParts)
   -- of the first rows before the line the possible ones are not listed
   unlisted : (lines : List (List ℕ)) (rest line behind : List ℕ) (g : GoesRight wanted until bytes lines rest) (number : ℕ) →
