@@ -162,7 +162,8 @@ pub record AreCertainBeside (item : ℕ) (beside : Beside) (kinds : List ItemKin
 abbrev pub HasRoomIn : ℕ → ℕ → Beside → List Told → Type 0
 HasRoomIn round item beside parts =
     IsTrue (can_double (meet_of_two
-    (average_from (bound_of (answer_over Sum (answers_in round beside.sum parts))) (bound_of (answer_over Count (answers_in round beside.count parts))))
+    (average_from (bound_of (answer_over Sum (answers_in round beside.sum parts)))
+    (bound_of (answer_over Count (answers_in round beside.count parts))))
     (average_of (answer_over Avg (answers_in round item parts)))).hi)
 
 -- so many values are counted in 64 bits

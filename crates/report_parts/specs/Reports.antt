@@ -46,8 +46,8 @@ item_lines number [] entries = []
 item_lines number (kind ∷ kinds) [] = []
 item_lines number (kind ∷ kinds) (entry ∷ entries) = entry_lines kind number entry ++ item_lines (number + 1) kinds entries
 
--- what is said over all parts in a round: of the items, or, where there are group columns, of groups, or, where these are asked for, of first
--- rows
+-- what is said over all parts in a round: of the items, or, where there are group columns, of groups, or, where these are asked for, of
+-- first rows
 abbrev pub block_by : ℕ → Option FirstRows → ℕ → List ItemKind → List Told → Block
 block_by zero None round kinds parts = Totals (entries_over round 0 kinds parts)
 block_by zero (Some asked) round kinds parts = Rows (told_by (combined asked (all_listed_in round parts)))

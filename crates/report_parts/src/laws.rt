@@ -110,9 +110,9 @@ pub fn combined_clips_are_certain()
     combinations_tell();
 }
 
-/// The same of averages beside which nothing stands: what is printed contains the average over the rows of all parts, lies
-/// within what the block before prints where those of the parts do, and is the sum and the number of all values where each part says its own.
-/// One fraction alone is again the sum over the number, so that what is printed may be a part again.
+/// The same of averages beside which nothing stands: what is printed contains the average over the rows of all parts, lies within what the
+/// block before prints where those of the parts do, and is the sum and the number of all values where each part says its own. One fraction
+/// alone is again the sum over the number, so that what is printed may be a part again.
 pub fn combined_averages_are_certain()
     ensures { CombinedAveragesAreCertain }
 {
@@ -121,8 +121,9 @@ pub fn combined_averages_are_certain()
     combinations_tell_averages();
 }
 
-/// So it is of an average beside which the sum and the number of its values are asked: what is printed contains it, lies within what
-/// the block before prints and within what the parts' averages give, and is the sum over the number of all values where each part says its own two.
+/// So it is of an average beside which the sum and the number of its values are asked: what is printed contains it, lies within what the
+/// block before prints and within what the parts' averages give, and is the sum over the number of all values where each part says its own
+/// two.
 pub fn combined_besides_are_certain()
     ensures { CombinedBesidesAreCertain }
 {
