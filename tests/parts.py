@@ -479,7 +479,7 @@ def look_at_query(line):
     calls = [bool(CALL.match(item)) for item in items[1].split(", ")]
     is_right = any(calls) if columns_of(line) else all(calls)
     if not is_right:
-        raise Refused("no query of totals or groups")
+        raise Refused("no query of totals, groups or first rows")
 
 
 ENDS = ("end narrow", "end rounds", "end reads")

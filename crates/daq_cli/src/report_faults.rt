@@ -63,7 +63,7 @@ fn written_line_refusal(parts: u32, why: LineRefusal) -> TextBuf
         LineRefusal::NoTag => plain(b"a tag of no byte or more than 255"),
         LineRefusal::MoreParts => with_number(b"more than ", u128::from(parts), b" parts"),
         LineRefusal::NoQuery => plain(b"no query"),
-        LineRefusal::NoItems => plain(b"no query of totals or groups"),
+        LineRefusal::NoItems => plain(b"no query of totals, groups or first rows"),
         LineRefusal::OtherQuery => plain(b"another query"),
         LineRefusal::Unlisted => plain(b"possible rows are not listed"),
         LineRefusal::OtherLine => plain(b"no line of a report at this place"),

@@ -16,14 +16,18 @@ fn line_sentence(why: &str) -> &'static str {
         "a tag has 1 to 255 bytes: give the parts shorter names"
     } else if why.starts_with("more than ") {
         "the tag is that of one part more than combine was told of: count the parts that were asked"
-    } else if why == "no query of totals or groups" {
-        "combine takes COUNT, SUM, AVG, MIN and MAX over all rows or by groups, without ORDER BY"
+    } else if why == "no query of totals, groups or first rows" {
+        "combine takes COUNT, SUM, AVG, MIN and MAX over all rows or by groups, and first rows by ORDER BY and LIMIT"
     } else if why == "no query" {
         "a report begins with the line of its query: hand over all that daq query, ask or demo prints"
     } else if why == "another query" {
         "ask all parts the same query, letter by letter"
     } else if why.starts_with("scales of ") {
         "the parts have other decimals there: load all of them with one schema"
+    } else if why == "possible rows are not listed" {
+        "for first rows ask all parts with --list"
+    } else if why.starts_with("the tag of part ") {
+        "where first rows are asked for, a tag has no space and no control character: give the part another name"
     } else if why.starts_with("item ") {
         "over all parts the sum may pass 128 bits: ask fewer parts together"
     } else if why.starts_with("longer than ") {

@@ -63,7 +63,7 @@ pub enum LineRefusal {
     NoQuery,
     /// It is the first, and the query asks for columns without groups, for groups without an aggregate, or for so many first rows that
     /// the number has decimals.
-    #[error("no query of totals or groups")]
+    #[error("no query of totals, groups or first rows")]
     NoItems,
     /// It is the first of its part, and is not the line of the query.
     #[error("another query")]
