@@ -8,9 +8,9 @@ from fractions import Fraction
 from typing import Optional, Sequence, Union
 
 from .report import Block
-from .result import Row, key_text, planes_text, printable, rows_of
+from .result import Row, key_text, planes_text, printable, ranking_text, rows_of
 from .table import Column
-from .values import Interval, Value, interval_text, is_number, percent_text, value_text
+from .values import Interval, Value, interval_text, is_number, percent_text
 
 Span = tuple[Value, Value]
 Exact = Union[int, Fraction]
@@ -134,10 +134,11 @@ def _scale_name(row: Row) -> str:
 
 
 def row_name(row: Row) -> str:
-    """What a row speaks of: the keys of its group, and its item."""
+    """What a row speaks of: the keys of its group and its item, or the number of a row, behind its part."""
+    keys = map(key_text, row.keys)
     if row.state in ("certain", "possible") and not row.item.endswith(")"):
-        return "row %s" % value_text(row.keys[0])
-    return " ".join([*map(key_text, row.keys), row.item])
+        return " ".join(["row", *keys])
+    return " ".join([*keys, row.item])
 
 
 def cells(text: str) -> int:
@@ -166,8 +167,7 @@ def row_text(row: Row) -> str:
 def head_text(block: Block) -> str:
     """What was read for a block, and how far its rows are known."""
     read = "" if block.column is None else ", the last of %s (%d of %d)" % (block.column, block.plane, block.planes)
-    ranking = block.ranking
-    found = "; %d of %d rows certain, %d possible" % (ranking.certain, ranking.limit, ranking.possible) if ranking else ""
+    found = "; " + ranking_text(block.ranking) if block.ranking else ""
     return "%s%s%s" % (read_text(block), read, found)
 
 

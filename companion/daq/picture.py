@@ -13,13 +13,13 @@ from typing import Iterable, Iterator, Optional, Sequence
 
 from .bars import mean_column
 from .errors import ReportError
-from .report import parse_query
+from .report import TAGS, parse_query, shown_tag
 from .table import Column
 from .values import INTERVAL, VALUE, value_text
 
 _ENDS = re.compile(r"(?:\[(%s), (%s)\]|(null)|(%s))( or null)?" % (VALUE, VALUE, VALUE))
 _ITEM = re.compile(r"(\d+(?: [a-z]+)?) (%s)" % INTERVAL)
-_ROW = re.compile(r"(row \d+) (certain|possible) (.*)", re.DOTALL)
+_ROW = re.compile(r"(row (?:%s )?\d+) (certain|possible) (%s)" % (TAGS, INTERVAL))
 _GROUP = re.compile(r"group (.*) (present|possible)", re.DOTALL)
 
 Ends = tuple[str, str]
@@ -78,7 +78,9 @@ class Picture:
             elif group:
                 name, sure = group[1].replace("\n", " "), group[2] == "present"
             elif row:
-                self._add("first rows", head, Bar.of(row[1], row[3], row[2] == "certain"))
+                self._add("first rows", head, Bar.of(shown_tag(row[1]), row[3], row[2] == "certain"))
+            elif line.startswith("row "):
+                raise ReportError("no row: %r" % line[:120])
             elif item:
                 self._add("item " + item[1], head, Bar.of(name, item[2], sure))
 

@@ -11,14 +11,16 @@ from .values import INTERVAL, VALUE, Interval, Value, parse_ends, parse_value
 
 LONGEST_LINE = 2**20
 COUNT = r"(?:0|[1-9][0-9]{0,18})"
+# The tags of a row's part, the outer ones first: they have no space and no control character.
+TAGS = r"[^\x00-\x20]+(?: [^\x00-\x20]+)*?"
 _ROUND = re.compile(r"round (%s)(?: (.+) (%s)/(%s))?" % (COUNT, COUNT, COUNT))
 _ITEM = re.compile(r"(%s) (%s)" % (COUNT, INTERVAL))
 _SHARPER = re.compile(r"(%s) (clip|exact) (%s)" % (COUNT, INTERVAL))
 _TAKES = re.compile(r"(%s) (low|high) takes (%s) of (%s)(?: at (most|least) (%s))?" % (COUNT, COUNT, COUNT, VALUE))
 _KEY = re.compile(r"(?:(null)|(%s)(?:\.\.(%s))?( or null)?)(, )?" % (VALUE, VALUE))
 _GROUP = re.compile(r"group (.*) (present|possible)", re.DOTALL)
-_TOP = re.compile(r"top (%s) certain (%s) possible (%s)" % (COUNT, COUNT, COUNT))
-_ROW = re.compile(r"row (%s) (certain|possible) (%s)" % (COUNT, INTERVAL))
+_TOP = re.compile(r"top (%s) certain (%s)(?: possible (%s))?" % (COUNT, COUNT, COUNT))
+_ROW = re.compile(r"row (?:(%s) )??(%s) (certain|possible) (%s)" % (TAGS, COUNT, INTERVAL))
 _AT = re.compile(r"at (%s) query (%s)" % (COUNT, COUNT))
 _END = re.compile(r"end (narrow|rounds|reads)")
 _TOKEN = re.compile(r"""'[^']*'|"[^"]*"|[A-Za-z0-9_.]+|<=|>=|<>|[^\sA-Za-z0-9_]""")
@@ -79,20 +81,28 @@ class Group:
 
 @dataclass(frozen=True)
 class RankedRow:
-    """A row of the table, counted from 1, that is certainly or possibly among the first, and where its sort key lies."""
+    """A row of the table, counted from 1, that is certainly or possibly among the first, and where its sort key lies.
+
+    In a table in parts it is counted in its own, whose tag is `part`, with a space between the tags of parts within parts. A byte of a tag
+    that is no UTF-8 stands as `\\xff`.
+    """
 
     row: int
     state: str
     interval: Interval
+    part: str = ""
 
 
 @dataclass(frozen=True)
 class Ranking:
-    """The first `limit` rows in an order: how many are certain, how many others possible, and those that the report lists."""
+    """The first `limit` rows in an order: how many are certain, how many others possible, and those that the report lists.
+
+    `possible` is None where no row is judged, since a part has too many that are possible: then none is certain, and none listed.
+    """
 
     limit: int
     certain: int
-    possible: int
+    possible: Optional[int]
     rows: tuple[RankedRow, ...]
 
 
@@ -117,12 +127,20 @@ class Block:
     bytes_read: int = 0
     parts: int = 0
 
+    @property
+    def key_names(self) -> tuple[str, ...]:
+        """What tells its lines apart: the columns of GROUP BY, or the number of a row, behind its part where there are parts."""
+        if self.query.order is None:
+            return self.query.groups
+        return ("part", "row") if self.parts else ("row",)
+
 
 class Report:
     """A report, read as it comes. It is iterated once, block by block; behind the last block `end` says why the rounds ended.
 
-    With `sharper` there may be lines of clip and exact_avg, and with `listed` possible rows; where there are none, a block is
-    handed over with its last line, else (and for groups) with the first line of the next one. A plane has `plane_bytes`.
+    With `sharper` there may be lines of clip and exact_avg, and with `listed` possible rows, which a combined report always lists. A block
+    is handed over with its last line where that is known, else (and for groups) with the first line of the next one. A plane has
+    `plane_bytes`.
     """
 
     def __init__(self, lines: Iterable[str], sharper: bool = True, listed: bool = True, plane_bytes: int = 0) -> None:
@@ -189,7 +207,7 @@ class Report:
         """Whether no line can follow in the block, by the number of lines that it has."""
         if query.order is not None:
             top = _TOP.fullmatch(body[0]) if body else None
-            return bool(top) and len(body) > int(top[2]) + (int(top[3]) if self._listed else 0)
+            return bool(top) and len(body) > int(top[2]) + (int(top[3] or 0) if self._listed or self.parts else 0)
         return not query.groups and not self._sharper and len(body) == len(query.items)
 
     def _made(self, line: str, number: int, planes_read: Optional[int], body: list[str]) -> Block:
@@ -202,7 +220,8 @@ class Report:
             raise ReportError("a round out of turn: %s" % _shown(line))
         plane, planes = self._plane(number, line, column, head[3], head[4])
         reader = _Body(query, body)
-        groups, ranking = ((), reader.ranking()) if query.order is not None else (reader.groups(self.parts > 0), None)
+        is_combined = self.parts > 0
+        groups, ranking = ((), reader.ranking(is_combined)) if query.order is not None else (reader.groups(is_combined), None)
         reader.finish()
         read = place if planes_read is None else planes_read
         block = Block(query, place, column, plane, planes, groups, ranking, read, number, read * self._plane_bytes, self.parts)
@@ -287,20 +306,36 @@ class _Body:
         if int(found[1]) != number:
             raise ReportError("item %d was to come: %s" % (number, _shown(found[0])))
 
-    def ranking(self) -> Ranking:
+    def ranking(self, is_combined: bool) -> Ranking:
         top = self.need(_TOP)
-        limit, certain, possible = int(top[1]), int(top[2]), int(top[3])
-        rows: list[RankedRow] = []
+        limit, certain, possible = int(top[1]), int(top[2]), None if top[3] is None else int(top[3])
+        if possible is None and not (is_combined and certain == 0):
+            raise _unknown(top[0])
+        rows = tuple(self.ranked_rows(is_combined))
+        known = sum(row.state == "certain" for row in rows)
+        others = len(rows) - known
+        is_listed = others == (possible or 0) or not (is_combined or others)
+        if known != certain or not is_listed or certain > limit:
+            raise ReportError("the rows are not those of their first line: %s" % top[0])
+        return Ranking(limit, certain, possible, rows)
+
+    def ranked_rows(self, is_combined: bool) -> Iterator[RankedRow]:
+        """The rows that the block lists, in the order of the bytes of their tags, and then of their numbers."""
+        before = b"", 0
         while self.place < len(self.lines):
             found = self.need(_ROW)
-            row = RankedRow(int(found[1]), found[2], _interval(found[3]))
-            if row.row <= (rows[-1].row if rows else 0):
+            tag, row = (found[1] or "").encode("utf-8", "surrogateescape"), int(found[2])
+            if bool(tag) != is_combined:
+                raise _unknown(found[0])
+            if row == 0 or (tag, row) <= before:
                 raise ReportError("a row out of turn: %s" % _shown(found[0]))
-            rows.append(row)
-        known = sum(row.state == "certain" for row in rows)
-        if known != certain or len(rows) - known not in (0, possible) or certain > limit:
-            raise ReportError("the rows are not those of their first line: %s" % top[0])
-        return Ranking(limit, certain, possible, tuple(rows))
+            before = tag, row
+            yield RankedRow(row, found[3], _interval(found[4]), shown_tag(found[1] or ""))
+
+
+def shown_tag(tag: str) -> str:
+    """A tag of a row as it is shown: a byte that is no UTF-8 as `\\xff`."""
+    return tag.encode("utf-8", "surrogateescape").decode("utf-8", "backslashreplace")
 
 
 def parse_keys(text: str, count: int) -> tuple[Key, ...]:
@@ -379,6 +414,12 @@ def parse_query(text: str) -> Query:
     return Query(text, items, groups, order)
 
 
+def asks_for_rows(text: str) -> bool:
+    """Whether a query, as people write it, is one for the first rows in an order."""
+    words = [word.upper() for word in _TOKEN.findall(text)]
+    return ("ORDER", "BY") in zip(words, words[1:])
+
+
 def _parted(words: list[str], first: int, end: int) -> Iterator[tuple[int, int]]:
     """The first and the last token of each part of a list whose commas stand outside of parentheses."""
     level = 0
@@ -408,17 +449,23 @@ def open_quote(text: str, signs: str, quote: str = "") -> str:
 
 
 def whole_lines(read_line: Callable[[], bytes]) -> Iterator[str]:
-    """The lines of a report, without their line feeds: one goes on behind a line feed that stands within a text."""
+    """The lines of a report, without their line feeds: one goes on behind a line feed that stands within a text.
+
+    A text of a combined report has no line feed, and a quote may stand in the tag of a row. A byte of a tag that is no UTF-8 becomes half a
+    sign, as in the names of files.
+    """
+    is_combined = False
     while True:
         first = read_line()
         if not first:
             return
-        yield _whole_line(first, read_line)
+        is_combined = is_combined or first.startswith(b"parts ")
+        yield _whole_line(first, read_line, is_combined)
 
 
-def _whole_line(first: bytes, read_line: Callable[[], bytes]) -> str:
+def _whole_line(first: bytes, read_line: Callable[[], bytes], is_combined: bool) -> str:
     """The line that begins with these bytes, up to the first line feed behind which no text is open."""
-    line, piece, signs = bytearray(), first, _quotes_of(first)
+    line, piece, signs = bytearray(), first, "" if is_combined else _quotes_of(first)
     quote = ""
     while True:
         line += piece
@@ -431,7 +478,7 @@ def _whole_line(first: bytes, read_line: Callable[[], bytes]) -> str:
             break
         piece = read_line()
     try:
-        return line[:-1].decode("utf-8")
+        return line[:-1].decode("utf-8", "surrogateescape" if is_combined and line.startswith(b"row ") else "strict")
     except UnicodeDecodeError as error:
         raise ReportError("a line of the report is no UTF-8: %s" % _shown(line.decode("utf-8", "replace"))) from error
 

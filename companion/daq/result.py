@@ -11,7 +11,7 @@ from decimal import Decimal
 from fractions import Fraction
 from typing import Any, Iterator, Optional, Sequence
 
-from .report import Block, Item, Key, KeyRange, Query
+from .report import Block, Item, Key, KeyRange, Query, RankedRow, Ranking
 from .values import Interval, Number, Value, interval_text, is_number, percent_text, rounded, shown_ends, value_text
 
 FIELDS = ("item", "low", "high", "mid", "relative_width", "maybe_null", "state")
@@ -22,7 +22,8 @@ ROWS_SHOWN = 60
 
 @dataclass(frozen=True)
 class Row:
-    """Where one item of one round lies: of a group its `keys`, of a query for the first rows the number of the row.
+    """Where one item of one round lies: of a group its `keys`, of a query for the first rows the number of the row, in a table in parts
+    behind the tag of its part.
 
     `item` is the expression, behind which `clip` or `exact` stands for the lines that these options add. `state` is present or
     possible for a group, certain or possible for a row, and else empty.
@@ -88,9 +89,13 @@ def rows_of(block: Block) -> list[Row]:
     front = (block.round, block.column, block.plane, block.planes, block.bytes_read)
     if block.ranking:
         title = block.query.order or ""
-        return [Row(*front, (row.row,), title, row.interval, row.state) for row in block.ranking.rows]
+        return [Row(*front, _row_keys(row), title, row.interval, row.state) for row in block.ranking.rows]
     return [Row(*front, group.keys, title, interval, group.state)
             for group in block.groups for item in group.items for title, interval in _lines(item)]
+
+
+def _row_keys(row: RankedRow) -> tuple[Key, ...]:
+    return (row.part, row.row) if row.part else (row.row,)
 
 
 def _lines(item: Item) -> Iterator[tuple[str, Interval]]:
@@ -113,10 +118,9 @@ def key_text(key: Key) -> str:
     return (ends or "-") + (" or null" if key.maybe_null else "")
 
 
-def titles(query: Query, history: bool = False) -> list[str]:
-    """The titles of the columns of a table of rows; a group column that has the name of another title is told apart."""
+def titles(keys: Sequence[str], history: bool = False) -> list[str]:
+    """The titles of the columns of a table of rows with these keys; a key that has the name of another title is told apart."""
     fixed = [*(ROUND_FIELDS if history else ()), *FIELDS]
-    keys = ["row"] if query.order is not None else list(query.groups)
     fronts = ROUND_FIELDS if history else ()
     return [*fronts, *(name + " (key)" if name in fixed else name for name in keys), *FIELDS]
 
@@ -151,11 +155,11 @@ class Result:
 
         rows = self.history() if history else self.rows
         cells = [[*(row.rounds() if history else ()), *(row.floats() if floats else row.values())] for row in rows]
-        return pandas.DataFrame(cells, columns=titles(self.query, history))
+        return pandas.DataFrame(cells, columns=titles(self.block.key_names, history))
 
     def to_csv(self, path: Optional[str] = None, history: bool = False) -> Optional[str]:
         """Writes the last block, or all rounds, as CSV to the path; without one it is the text."""
-        text = csv_text(self.query, self.history() if history else self.rows, history)
+        text = csv_text(self.block.key_names, self.history() if history else self.rows, history)
         if path is None:
             return text
         with open(path, "w", encoding="utf-8", newline="") as file:
@@ -169,10 +173,10 @@ class Result:
         return plot(self, axes)
 
     def __str__(self) -> str:
-        return "%s\n%s" % (table_text(self.query, self.rows), end_text(self))
+        return "%s\n%s" % (table_text(self.block.key_names, self.rows), end_text(self))
 
     def __repr__(self) -> str:
-        return "%s\n%s%s" % (table_text(self.query, self.rows[:ROWS_SHOWN]), more_text(self), end_text(self))
+        return "%s\n%s%s" % (table_text(self.block.key_names, self.rows[:ROWS_SHOWN]), more_text(self), end_text(self))
 
     def _repr_html_(self) -> str:
         return html_text(self)
@@ -207,8 +211,14 @@ def end_word(end: str) -> str:
 def end_text(result: Result) -> str:
     """One line that says how far the rounds went."""
     ranking = result.block.ranking
-    found = "%d of %d rows certain, %d possible; " % (ranking.certain, ranking.limit, ranking.possible) if ranking else ""
+    found = ranking_text(ranking) + "; " if ranking else ""
     return "%s%s, %s" % (found, planes_text(result.block), end_word(result.end))
+
+
+def ranking_text(ranking: Ranking) -> str:
+    """How far the first rows are known."""
+    others = "too many possible to judge any" if ranking.possible is None else "%d possible" % ranking.possible
+    return "%d of %d rows certain, %s" % (ranking.certain, ranking.limit, others)
 
 
 def planes_text(block: Block) -> str:
@@ -217,21 +227,20 @@ def planes_text(block: Block) -> str:
     return "at most %s of each of %d parts read" % (planes, block.parts) if block.parts and block.planes_read else planes + " read"
 
 
-def csv_text(query: Query, rows: Sequence[Row], history: bool = False, head: bool = True) -> str:
-    """Rows as CSV, with decimals rounded outward."""
+def csv_text(keys: Sequence[str], rows: Sequence[Row], history: bool = False, head: bool = True) -> str:
+    """Rows with these keys as CSV, with decimals rounded outward."""
     text = io.StringIO()
     writer = csv.writer(text, lineterminator="\n")
     if head:
-        writer.writerow(titles(query, history))
+        writer.writerow(titles(keys, history))
     for row in rows:
         cells = [*(row.rounds() if history else ()), *row.shown()]
         writer.writerow([str(cell).lower() if isinstance(cell, bool) else value_text(cell) for cell in cells])
     return text.getvalue()
 
 
-def json_lines(query: Query, rows: Sequence[Row], history: bool = False) -> str:
-    """Rows as JSON, one object in a line: numbers with all their digits, decimals rounded outward, dates as texts."""
-    keys = ["row"] if query.order is not None else list(query.groups)
+def json_lines(keys: Sequence[str], rows: Sequence[Row], history: bool = False) -> str:
+    """Rows with these keys as JSON, one object in a line: numbers with all their digits, decimals rounded outward, dates as texts."""
     lines = []
     for row in rows:
         shown = row.shown()
@@ -249,9 +258,8 @@ def _json(value: Any) -> str:
     return value_text(value) if isinstance(value, Decimal) else json.dumps(value_text(value), ensure_ascii=False)
 
 
-def table_cells(query: Query, rows: Sequence[Row]) -> list[list[str]]:
-    """Titles and rows as people read them."""
-    keys = ["row"] if query.order is not None else list(query.groups)
+def table_cells(keys: Sequence[str], rows: Sequence[Row]) -> list[list[str]]:
+    """Titles and rows with these keys as people read them."""
     lines = [[*keys, "item", "interval", "width", "state"]]
     for row in rows:
         lines.append([*map(key_text, row.keys), row.item, interval_text(row.interval), percent_text(row.relative_width), row.state])
@@ -259,9 +267,9 @@ def table_cells(query: Query, rows: Sequence[Row]) -> list[list[str]]:
     return lines if any(line[-1] for line in lines[1:]) else [line[:-1] for line in lines]
 
 
-def table_text(query: Query, rows: Sequence[Row]) -> str:
-    """Rows as a table of plain text."""
-    lines = [list(map(printable, line)) for line in table_cells(query, rows)]
+def table_text(keys: Sequence[str], rows: Sequence[Row]) -> str:
+    """Rows with these keys as a table of plain text."""
+    lines = [list(map(printable, line)) for line in table_cells(keys, rows)]
     widths = [max(map(len, column)) for column in zip(*lines)]
     return "\n".join("  ".join(map(str.ljust, line, widths)).rstrip() for line in lines)
 
@@ -273,7 +281,7 @@ def printable(text: str) -> str:
 
 def html_text(result: Result) -> str:
     """Rows as a table for a notebook."""
-    lines = [[html.escape(cell) for cell in line] for line in table_cells(result.query, result.rows[:ROWS_SHOWN])]
+    lines = [[html.escape(cell) for cell in line] for line in table_cells(result.block.key_names, result.rows[:ROWS_SHOWN])]
     head = "".join("<th>%s</th>" % cell for cell in lines[0])
     body = "".join("<tr>%s</tr>" % "".join("<td>%s</td>" % cell for cell in line) for line in lines[1:])
     caption = "<caption>%s<br>%s</caption>" % (html.escape(result.query.text), html.escape(more_text(result) + end_text(result)))

@@ -12,7 +12,8 @@ from typing import Optional, Union
 Number = Union[int, Decimal, Fraction]
 Value = Union[int, Decimal, Fraction, datetime.date, str]
 
-TEXT = r"'(?:[^']|'')*'"
+# No half of a sign, which bytes that are no UTF-8 are read as.
+TEXT = r"'(?:[^'\ud800-\udfff]|'')*'"
 NUMBER = r"-?(?:0|[1-9][0-9]{0,39})(?:\.[0-9]{1,18})?"
 DATE = r"[0-9]{4}-[0-9]{2}-[0-9]{2}"
 VALUE = r"(?:%s|%s|%s(?:/[1-9][0-9]{0,39})?|-)" % (TEXT, DATE, NUMBER)

@@ -138,17 +138,17 @@ def show_table(given: argparse.Namespace) -> None:
     for block in question:
         blocks = [block]
         if given.all:
-            print("round %d\n%s\n" % (block.round, table_text(block.query, rows_of(block))), flush=True)
+            print("round %d\n%s\n" % (block.round, table_text(block.key_names, rows_of(block))), flush=True)
     result = Result(blocks[0].query, blocks, question.end)
     print(end_text(result) if given.all else result)
 
 
 def show_csv(given: argparse.Namespace) -> None:
-    show(lambda block, first: csv_text(block.query, rows_of(block), given.all, first), given)
+    show(lambda block, first: csv_text(block.key_names, rows_of(block), given.all, first), given)
 
 
 def show_json(given: argparse.Namespace) -> None:
-    show(lambda block, first: json_lines(block.query, rows_of(block), given.all), given)
+    show(lambda block, first: json_lines(block.key_names, rows_of(block), given.all), given)
 
 
 def picture(given: argparse.Namespace) -> None:

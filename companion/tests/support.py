@@ -61,6 +61,20 @@ row 2 certain [7, 10]
 row 3 certain [11, 12]
 end narrow
 """
+TOP_OF_PARTS = """query SELECT * FROM t ORDER BY price DESC LIMIT 1
+parts 2
+round 0
+top 1 certain 0
+round 1
+top 1 certain 0 possible 3
+row a 2 possible [5, 9]
+row b 1 possible [3, 12]
+row b 2 possible [3, 12] or null
+round 2
+top 1 certain 1 possible 0
+row b 1 certain [11, 12]
+end narrow
+"""
 
 
 def read(text, **settings):

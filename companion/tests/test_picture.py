@@ -4,7 +4,7 @@ import subprocess
 import sys
 import unittest
 
-from support import GROUPS, SUM, TOP, TOP_ROWS, VIEW, FakeTest, daq
+from support import GROUPS, SUM, TOP, TOP_OF_PARTS, TOP_ROWS, VIEW, FakeTest, daq
 
 from daq.picture import Picture, svg_of, text_of
 from daq.report import whole_lines
@@ -17,7 +17,7 @@ except ImportError:
 
 
 def picture(text, columns=()):
-    return Picture(whole_lines(io.BytesIO(text.encode()).readline), columns)
+    return Picture(whole_lines(io.BytesIO(text.encode("utf-8", "surrogateescape")).readline), columns)
 
 
 class Pictures(unittest.TestCase):
@@ -30,6 +30,16 @@ class Pictures(unittest.TestCase):
         self.assertEqual(lines[4], "round 1 price 1/4 |%s| [20, 42]" % (" " * 8 + "#" * 23 + " " * 6))
         drawn = text_of(picture(TOP_ROWS))
         self.assertIn("round 1 price 1/4: top 2 certain 1 possible 3\n  row 3 |", drawn)
+
+    def test_first_rows_of_parts(self):
+        lines = text_of(picture(TOP_OF_PARTS), width=10).splitlines()
+        self.assertEqual(lines[3:], ["round 0: top 1 certain 0", "round 1: top 1 certain 0 possible 3", "  row a 2 |  :::::   | [5, 9]",
+                                     "  row b 1 |::::::::::| [3, 12]", "  row b 2 |::::::::::| [3, 12] or null",
+                                     "round 2: top 1 certain 1 possible 0", "  row b 1 |        ##| [11, 12]"])
+        shown = picture(TOP_OF_PARTS.replace("row a 2", "row it's certain 3 a\udcff 2"))
+        self.assertIn("row it's certain 3 a\\xff 2<", svg_of(shown))
+        with self.assertRaises(daq.ReportError):
+            picture(TOP_OF_PARTS.replace("row a 2 possible [5, 9]", "row a 2 possible [5 9]"))
 
     def test_groups_and_averages(self):
         whole = text_of(picture(GROUPS), width=20)
@@ -70,7 +80,8 @@ class Commands(FakeTest):
 class Plots(FakeTest):
     def test_rounds_groups_and_rows(self):
         for report, sql, counts in ((SUM, "SELECT SUM(price) FROM t", [1]), (GROUPS, "SELECT city, SUM(price), AVG(qty) FROM t GROUP BY city", [2, 2]),
-                                    (TOP_ROWS, "SELECT * FROM t ORDER BY price DESC LIMIT 2", [2])):
+                                    (TOP_ROWS, "SELECT * FROM t ORDER BY price DESC LIMIT 2", [2]),
+                                    (TOP_OF_PARTS, "SELECT * FROM t ORDER BY price DESC LIMIT 1", [1])):
             with self.subTest(sql):
                 self.play(report)
                 drawn = self.table().sql(sql).plot()

@@ -5,9 +5,9 @@ import unittest
 from decimal import Decimal
 from fractions import Fraction
 
-from support import GROUPS, SUM, TOP_ROWS, daq, kept_reports, read
+from support import GROUPS, SUM, TOP_OF_PARTS, TOP_ROWS, daq, kept_reports, read
 
-from daq.report import KeyRange, parse_query
+from daq.report import KeyRange, RankedRow, asks_for_rows, parse_query
 from daq.values import Interval
 
 SHARPER = """query SELECT SUM(price), AVG(qty) FROM t WHERE price < 7
@@ -86,9 +86,10 @@ def block_lines(report, block):
         yield "at %d query %d" % (block.planes_read, block.number)
     yield "round %d" % block.round + ("" if block.column is None else " %s %d/%d" % (block.column, block.plane, block.planes))
     if block.ranking:
-        yield "top %d certain %d possible %d" % (block.ranking.limit, block.ranking.certain, block.ranking.possible)
+        possible = "" if block.ranking.possible is None else " possible %d" % block.ranking.possible
+        yield "top %d certain %d%s" % (block.ranking.limit, block.ranking.certain, possible)
         for row in block.ranking.rows:
-            yield "row %d %s %s" % (row.row, row.state, interval_line(row.interval))
+            yield "row %s%d %s %s" % (row.part and row.part + " ", row.row, row.state, interval_line(row.interval))
     for group in block.groups:
         if group.keys:
             yield "group %s %s" % (", ".join(map(key_line, group.keys)), group.state)
@@ -174,23 +175,78 @@ class Reports(unittest.TestCase):
         self.assertEqual((query.items, query.groups), (("SUM((x + y) * 2)", 'MAX("it\'s")'), ("a,FROM", "b")))
         self.assertEqual(parse_query('SELECT * FROM t ORDER BY "un it" DESC LIMIT 2').order, "un it")
 
+    def test_who_asks_for_rows(self):
+        for text in ("SELECT * FROM t ORDER BY price LIMIT 2", "select a from t where c = 'it''s' order\tby a desc limit 2;"):
+            self.assertTrue(asks_for_rows(text), text)
+        for text in ("SELECT COUNT(*) FROM t", "SELECT COUNT(*) FROM t WHERE c = ' ORDER BY '",
+                     'SELECT SUM(by) FROM t WHERE "ORDER BY" = by', 'SELECT SUM(by) FROM t WHERE "order" = by'):
+            self.assertFalse(asks_for_rows(text), text)
+
     def test_blocks_come_with_their_last_line_where_that_is_known(self):
-        for text, count in ((SUM, 3), (TOP_ROWS, 3)):
-            lines = (line for line in text.split("\n")[:count])
-            report = daq.Report(lines, sharper=False, listed=False)
-            self.assertEqual(next(iter(report)).round, 0)
+        for text, counts in ((SUM, [3]), (TOP_ROWS, [3]), (TOP_OF_PARTS, [4, 9])):
+            for number, count in enumerate(counts):
+                blocks = iter(daq.Report(iter(text.split("\n")[:count]), sharper=False, listed=False))
+                self.assertEqual([next(blocks).round for _ in range(number + 1)], [*range(number + 1)])
+
+
+class FirstRowsOfParts(unittest.TestCase):
+    FRONT = "query SELECT * FROM t ORDER BY w LIMIT 99\nparts 9\nround 0\ntop 99 certain %d possible %d\n"
+
+    def rows(self, *lines):
+        """The rows of a block with these lines."""
+        certain = sum(line.endswith(" certain 5") for line in lines)
+        front = self.FRONT % (certain, len(lines) - certain)
+        return read(front + "".join(line + "\n" for line in lines) + "end rounds\n")[1][0].ranking.rows
+
+    def test_rows_and_a_block_that_judges_none(self):
+        report, blocks = read(TOP_OF_PARTS)
+        self.assertEqual((report.parts, report.end, [block.column for block in blocks]), (2, "narrow", [None] * 3))
+        self.assertEqual(blocks[0].ranking, daq.Ranking(1, 0, None, ()))
+        self.assertEqual(blocks[1].ranking.rows[2], RankedRow(2, "possible", Interval(3, 12, "maybe"), "b"))
+        self.assertEqual(blocks[2].ranking, daq.Ranking(1, 1, 0, (RankedRow(1, "certain", Interval(11, 12), "b"),)))
+        self.assertEqual([block.key_names for block in [*blocks, read(TOP_ROWS)[1][0]]], [("part", "row")] * 3 + [("row",)])
+
+    def test_tags_of_any_kind(self):
+        names = ["10 3", "2 1", "2 1 7", "2 certain 4", "certain 5 possible 6", "it's 2", "it's 'in 1", "row 1", "x\x7f 1",
+                 "\udc80 1", "\xa0 1", "\u3000\x85 1", "\U0001f600 1", "\udcff 2"]
+        rows = self.rows(*("row %s certain 5" % name for name in names))
+        shown = [name.replace("\udc80", "\\x80").replace("\udcff", "\\xff") for name in names]
+        self.assertEqual(["%s %d" % (row.part, row.row) for row in rows], shown)
+
+    def test_keys_that_look_like_rows(self):
+        keys = ["[' 1 possible ''', 'x 4 certain 5']", "'x 3 certain ''y'''", "[' 4 certain 5', ' 4 certain 5 '] or null"]
+        rows = self.rows(*("row a %d possible %s" % row for row in enumerate(keys, 1)))
+        self.assertEqual([(row.part, interval_line(row.interval)) for row in rows], [("a", key) for key in keys])
+
+    def test_other_rows_are_refused(self):
+        for lines in (["row 1 possible 5"], ["row a 0 possible 5"], ["row a 01 possible 5"], ["row  1 possible 5"], ["row a  1 possible 5"],
+                      ["row a\t1 possible 5"], ["row a 1 present 5"], ["row a 1 possible 'x"], ["row a 1 possible '\udcff'"],
+                      ["row a 2 possible 5", "row a 2 possible 5"], ["row a 2 possible 5", "row a 1 possible 5"],
+                      ["row b 1 possible 5", "row a 2 possible 5"], ["row a b 1 possible 5", "row a 2 possible 5"],
+                      ["row a! 1 possible 5", "row a b 1 possible 5"], ["row \ufffd 1 possible 5", "row \udc80 1 possible 5"]):
+            with self.subTest(lines), self.assertRaises(daq.ReportError):
+                self.rows(*lines)
+
+    def test_rows_have_to_be_as_many_as_told(self):
+        for old, new in (("parts 2\n", ""), ("certain 0\n", "certain 1\n"), ("certain 0\n", "certain 0 possible 1\n"),
+                         ("possible 3", "possible 4"), (" possible 3", ""), ("possible 0", "possible 1"),
+                         ("possible [5, 9]", "certain [5, 9]")):
+            with self.subTest(new), self.assertRaises(daq.ReportError):
+                read(TOP_OF_PARTS.replace(old, new, 1))
+        with self.assertRaises(daq.ReportError):
+            read(TOP_ROWS.replace("top 2 certain 0 possible 4", "top 2 certain 0"))
 
 
 class NoReports(unittest.TestCase):
     def test_each_cut_is_refused(self):
-        for text in (SUM, GROUPS, TOP_ROWS, SHARPER, SESSION):
+        for text in (SUM, GROUPS, TOP_ROWS, TOP_OF_PARTS, SHARPER, SESSION):
             data = text.encode()
             for size in range(len(data)):
                 with self.subTest(size=size), self.assertRaises(daq.ReportError):
                     read(data[:size].decode())
 
     def test_each_line_less_or_twice_is_refused(self):
-        for text in (SUM, GROUPS, SHARPER, SESSION):
+        for text in (SUM, GROUPS, TOP_OF_PARTS, SHARPER, SESSION):
             lines = text.splitlines(keepends=True)
             for number, line in enumerate(lines):
                 for changed in (lines[:number] + lines[number + 1 :], lines[: number + 1] + lines[number:]):

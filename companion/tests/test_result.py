@@ -8,8 +8,9 @@ import unittest
 from decimal import Decimal
 from fractions import Fraction
 
-from support import GROUPS, SUM, TOP_ROWS, daq, read
+from support import GROUPS, SUM, TOP_OF_PARTS, TOP_ROWS, daq, read
 
+from daq.goal import Goal
 from daq.report import KeyRange
 from daq.result import as_float, csv_text, json_lines, printable, rows_of, table_text
 
@@ -43,6 +44,8 @@ class Rows(unittest.TestCase):
                           (("Rome",), "SUM(price)", "present"), (("Rome",), "AVG(qty)", "present")])
         rows = result(TOP_ROWS).rows
         self.assertEqual([(row.keys, row.item, row.state) for row in rows], [((2,), "price", "certain"), ((3,), "price", "certain")])
+        rows = result(TOP_OF_PARTS).history()
+        self.assertEqual([(row.round, row.keys) for row in rows], [(1, ("a", 2)), (1, ("b", 1)), (1, ("b", 2)), (2, ("b", 1))])
 
     def test_the_widths_of_a_row(self):
         row = result(GROUPS).rows[3]
@@ -59,14 +62,34 @@ class Forms(unittest.TestCase):
                           ["1", "Bern..Oslo", "AVG(qty)", "0.33", "12.00", "true"]])
 
     def test_json(self):
-        report, blocks = read(GROUPS)
-        lines = [json.loads(line, parse_float=Decimal) for line in json_lines(report.queries[0], rows_of(blocks[1]), True).splitlines()]
+        _, blocks = read(GROUPS)
+        lines = [json.loads(line, parse_float=Decimal) for line in json_lines(blocks[1].key_names, rows_of(blocks[1]), True).splitlines()]
         self.assertEqual((lines[0]["keys"], lines[2]["keys"]), ({"city": "Bern..Oslo"}, {"city": "Rome"}))
         self.assertEqual([lines[1][name] for name in ("low", "high", "maybe_null", "column")], [Decimal("0.33"), 12, True, "city"])
 
     def test_a_table(self):
         self.assertEqual(str(result(SUM)), "item        interval  width\nSUM(price)  29        0 %\n4 planes read, finished")
         self.assertEqual(str(result(TOP_ROWS)).splitlines()[-1], "2 of 2 rows certain, 0 possible; 2 planes read, finished")
+
+    def test_first_rows_have_a_column_for_the_part_where_there_are_parts(self):
+        titles = "row,item,low,high,mid,relative_width,maybe_null,state\n"
+        self.assertEqual(result(TOP_ROWS).to_csv().splitlines(True)[0], titles)
+        answer = result(TOP_OF_PARTS)
+        self.assertEqual(answer.to_csv(), "part," + titles + "b,1,price,11,12,11.5,0.090910,false,certain\n")
+        self.assertEqual(answer.to_csv(history=True).splitlines()[1], "1,,0,0,0,a,2,price,5,9,7,0.800000,false,possible")
+        (line,) = json_lines(answer.block.key_names, answer.rows).splitlines()
+        self.assertEqual(json.loads(line)["keys"], {"part": "b", "row": 1})
+        self.assertEqual(str(answer).splitlines()[:2],
+                         ["part  row  item   interval  width  state", "b     1    price  11 .. 12  9.1 %  certain"])
+        self.assertIn("<th>part</th><th>row</th>", answer._repr_html_())
+
+    def test_a_block_that_judges_no_row(self):
+        report, blocks = read(TOP_OF_PARTS)
+        answer = daq.Result(report.queries[0], blocks[:1], "rounds")
+        self.assertEqual((answer.rows, answer.to_csv().count("\n")), ([], 1))
+        for text in (str(answer), answer._repr_html_()):
+            self.assertIn("0 of 1 rows certain, too many possible to judge any; 0 planes read, stopped after so many planes", text)
+        self.assertFalse(Goal.of(100).reached(answer.block))
 
     def test_a_prompt_shows_some_rows(self):
         group = "group %d present\n1 1\n"
@@ -76,15 +99,16 @@ class Forms(unittest.TestCase):
 
     def test_texts_stay_texts(self):
         answer = result(HOSTILE, "rounds")
-        self.assertNotIn("\x1b", table_text(answer.query, answer.rows))
-        self.assertNotIn("\u2028", table_text(answer.query, answer.rows))
+        keys = answer.block.key_names
+        self.assertNotIn("\x1b", table_text(keys, answer.rows))
+        self.assertNotIn("\u2028", table_text(keys, answer.rows))
         self.assertEqual(printable("a\x1b[2J\n"), "a\\x1b[2J\\n")
         self.assertIn("MIN(&quot;&lt;b&gt;&quot;)", answer._repr_html_())
         self.assertNotIn("<b>", answer._repr_html_())
         # A group column that is called as a title is told apart.
-        lines = list(csv.reader(io.StringIO(csv_text(answer.query, answer.rows))))
+        lines = list(csv.reader(io.StringIO(csv_text(keys, answer.rows))))
         self.assertEqual((lines[0][0], lines[0][-1], len(lines), lines[1][0]), ("state (key)", "state", 2, 'a,"b\nc..z\x1b[2J'))
-        self.assertEqual(json.loads(json_lines(answer.query, answer.rows))["low"], "=1+1")
+        self.assertEqual(json.loads(json_lines(keys, answer.rows))["low"], "=1+1")
 
     def test_floats_are_rounded_outward(self):
         for value in (Fraction(1, 3), Fraction(-1, 3), Decimal("0.1"), 2**53 + 1, -(2**63) - 1, 7):

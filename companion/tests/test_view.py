@@ -14,7 +14,7 @@ import unittest
 from decimal import Decimal
 from fractions import Fraction
 
-from support import GROUPS, SUM, TOP_ROWS, VIEW, FakeTest, daq, read
+from support import GROUPS, SUM, TOP_OF_PARTS, TOP_ROWS, VIEW, FakeTest, daq, read
 
 from daq.bars import Chart, bar, cells, cut, padded, place
 
@@ -64,6 +64,13 @@ class Bars(unittest.TestCase):
         chart = Chart([])
         ends = [[chart.ends(row) for row in chart.rows(block)] for block in read(text)[1]]
         self.assertEqual(ends, [[(0, 1)], [(1 / 3, 2 / 3), (0.5, 1)]])
+
+    def test_first_rows_of_parts(self):
+        chart = Chart([])
+        drawn = [chart.lines(block, 60) for block in read(TOP_OF_PARTS)[1]]
+        self.assertEqual(drawn[0], ["0 planes read; 0 of 1 rows certain, too many possible to judge any"])
+        self.assertEqual([line.split(" |")[0] for line in drawn[1][1:]], ["row a 2", "row b 1", "row b 2"])
+        self.assertEqual(drawn[2][0], "at most 2 planes of each of 2 parts read; 1 of 1 rows certain, 0 possible")
 
     def test_no_line_is_too_long_and_hidden_rows_are_counted(self):
         lines = Chart([]).lines(read(GROUPS)[1][1], 40, 4)
