@@ -11,18 +11,17 @@ from typing import Callable, Iterator, NamedTuple, Optional, Sequence, Union
 
 from .errors import CutError, DaqError, FileError, ReportError
 from .program import Failed, Run, find_program, query_error
+from .report import asks_for_rows
 from .table import Column, Table
 from .values import Value
 
-# What queries of totals have not.
-_OTHERS = ("--list",)
 _CHUNK = 65536
 
 Files = Union[str, os.PathLike, Sequence[Union[str, os.PathLike]]]
 
 
 class Parts(Table):
-    """The plane files of the parts of a table, asked as one table. Only queries of totals can be asked."""
+    """The plane files of the parts of a table, in the order of its rows, asked as one table."""
 
     def __init__(self, name: str, paths: Sequence[str], program: str) -> None:
         self.path, self.program = name, program
@@ -39,11 +38,13 @@ class Parts(Table):
         return "<daq.Parts %s: %d parts, %d rows, %d columns>" % (self.path, len(self.tables), self.rows, len(self.columns))
 
     def run(self, text: str, words: Sequence[str]) -> PartsRun:
-        taken = next((word for word in words if word in _OTHERS), None)
-        if taken:
-            raise ValueError("a table in parts is asked without %s" % taken[2:].replace("-", "_"))
+        has_order = asks_for_rows(text)
+        if "--list" in words and not has_order:
+            raise ValueError("a table in parts is asked without list, but for first rows")
+        # A row that is only possible in its part may be among the first of all.
+        listed = ["--list"] if has_order and "--list" not in words else []
         place = words.index("--rounds") if "--rounds" in words else len(words)
-        return PartsRun(self.program, [table.path for table in self.tables], [text, *words], words[place : place + 2])
+        return PartsRun(self.program, [table.path for table in self.tables], [text, *words, *listed], words[place : place + 2])
 
     def error(self, failed: Failed, text: str) -> DaqError:
         told = failed.behind("report refused: ")
@@ -70,9 +71,11 @@ class PartsRun:
         self._sources: list[Source] = []
         self._combined = Run(program, ["combine", str(len(paths)), "/dev/stdin", *limits], is_fed=True)
         self._feeder = threading.Thread(target=self._feed, daemon=True)
+        # Tags that are equally long stand in the order of the parts.
+        length = len(str(len(paths)))
         try:
             for number, path in enumerate(paths, 1):
-                self._sources.append(Source(b"%d\t" % number, Run(program, ["query", path, *words]), bytearray()))
+                self._sources.append(Source(b"%0*d\t" % (length, number), Run(program, ["query", path, *words]), bytearray()))
         except DaqError:
             self.kill()
             self._let_go()

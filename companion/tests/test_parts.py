@@ -38,6 +38,17 @@ round 4 price 4/4
 end narrow
 """
 SQL = "SELECT SUM(price) FROM t"
+FIRST_ROWS = """query SELECT * FROM t ORDER BY price LIMIT 1
+round 0
+top 1 certain 0 possible 2
+row 1 possible [%d, %d]
+row 2 possible [%d, %d]
+round 1 price 1/3
+top 1 certain 1 possible 0
+row 2 certain [%d, %d]
+end narrow
+"""
+ROWS_SQL = "SELECT * FROM t ORDER BY price LIMIT 1"
 
 
 class Parts(FakeTest):
@@ -123,6 +134,30 @@ class Parts(FakeTest):
         with self.assertRaisesRegex(daq.ReportError, "no line of a report"):
             table.sql(SQL)
         self.assert_all_ended()
+
+    def test_first_rows(self):
+        table = self.play_parts(first={"out": FIRST_ROWS % (5, 9, 5, 9, 5, 8)}, second={"out": FIRST_ROWS % (3, 12, 3, 12, 3, 4)})
+        for options in ({}, {"list": True}):
+            answer = table.sql(ROWS_SQL, within="1%", **options)
+            self.assertEqual([told["words"][3:] for told in self.processes()], [["--list"], ["--list"], []])
+            self.assertEqual([(row.round, row.keys, row.state) for row in answer.history()],
+                             [(0, ("1", 1), "possible"), (0, ("1", 2), "possible"), (0, ("2", 1), "possible"), (0, ("2", 2), "possible"),
+                              (1, ("2", 2), "certain")])
+            self.assertTrue(repr(answer).endswith("1 of 1 rows certain, 0 possible; at most 1 plane of each of 2 parts read, finished"))
+            self.assert_all_ended()
+
+    def test_of_equal_keys_the_row_of_the_earlier_part_comes_first(self):
+        shown = (FIRST_ROWS % (7, 7, 7, 7, 7, 7)).replace("[7, 7]", "7").replace("LIMIT 1", "LIMIT 11").replace("top 1", "top 11")
+        self.scene(info={"out": INFO % (3, 5, 9)}, query={"out": shown}, combine={"by": str(TOP / "tests")})
+        answer = daq.open(["%d.daq" % number for number in range(12)]).sql(ROWS_SQL + "1", rounds=1)
+        self.assertEqual([(row.keys, row.state) for row in answer.rows], [(("%02d" % part, 2), "certain") for part in range(1, 12)])
+
+    def test_parts_that_are_combined_reports(self):
+        inner = "parts 2\nround 0\ntop 1 certain 0\nround 1\ntop 1 certain 1 possible 0\nrow 2 9 certain 3\nend narrow\n"
+        told = "query %s\n%s" % (ROWS_SQL, inner), FIRST_ROWS % (5, 9, 5, 9, 5, 8)
+        answer = self.play_parts(*({"out": text} for text in told)).sql(ROWS_SQL)
+        self.assertEqual([block.ranking.possible for block in answer.blocks], [None, 0])
+        self.assertEqual([row.keys for row in answer.rows], [("1 2", 9)])
 
     def test_options(self):
         table = self.play_parts()

@@ -58,7 +58,8 @@ class WithTheProgram(unittest.TestCase):
         self.assertEqual((raised.exception.record, raised.exception.column), (2, 3))
         self.assertFalse(os.path.exists(os.path.join(self.folder, "bad.daq")))
 
-    def test_a_table_in_parts(self):
+    def parts(self):
+        """The zones in parts of 150 rows."""
         with open(TOP / "examples" / "zones.csv", encoding="utf-8") as file:
             head, *records = file.readlines()
         schema = "country:text,area:text,zone:text,latitude:dec4,longitude:dec4,part:text?"
@@ -67,7 +68,10 @@ class WithTheProgram(unittest.TestCase):
             with open(path + ".csv", "w", encoding="utf-8") as file:
                 file.writelines([head, *records[begin : begin + 150]])
             daq.load(path + ".csv", path + ".daq", schema)
-        parts = daq.open(os.path.join(self.folder, "part?.daq"))
+        return daq.open(os.path.join(self.folder, "part?.daq"))
+
+    def test_a_table_in_parts(self):
+        parts = self.parts()
         self.assertEqual((len(parts.tables), parts.rows), (3, 418))
         sql = "SELECT COUNT(*), SUM(latitude), AVG(longitude), MAX(latitude) FROM t WHERE area = 'America'"
         whole, answer = self.zones.sql(sql), parts.sql(sql, policy="balanced")
@@ -79,6 +83,16 @@ class WithTheProgram(unittest.TestCase):
         with self.assertRaises(daq.QueryError) as raised:
             parts.sql("SELECT SUM(pris) FROM t")
         self.assertEqual((raised.exception.place, raised.exception.cause), (11, "unknown column"))
+
+    def test_first_rows_of_parts(self):
+        parts = self.parts()
+        for order in ("latitude DESC", "zone", "part DESC"):
+            sql = "SELECT * FROM t WHERE area = 'America' ORDER BY %s LIMIT 5" % order
+            first = {row.keys[0] for row in self.zones.sql(sql).rows}
+            for block in parts.rounds(sql, policy="order"):
+                rows = {150 * (int(row.part) - 1) + row.row: row.state for row in block.ranking.rows}
+                self.assertLessEqual(first, set(rows))
+                self.assertLessEqual({row for row, state in rows.items() if state == "certain"}, first)
 
     def test_the_tour_of_the_readme(self):
         with tempfile.TemporaryDirectory() as folder:
