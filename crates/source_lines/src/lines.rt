@@ -20,18 +20,21 @@ pub const MOST_BYTES: usize = 1_073_741_824;
 pub struct SourceLines {
     held: Vec<u8>,
     passed: usize,
+    // Where the next line ends: at its line feed, or with what was read.
+    end: usize,
     total: usize,
 }
 
 impl Model for SourceLines {
-    ghost use Rattle.std.specs.Prelude.{◌≤◌, length, drop};
-    ghost use Rattle.source_lines.specs.Lines.{LinesState, most_bytes};
+    ghost use Rattle.std.specs.Prelude.{◌≡◌, ◌≤◌, ◌+◌, length, drop};
+    ghost use Rattle.source_lines.specs.Lines.{LinesState, line_length, most_bytes};
 
     ghost Value = { LinesState };
 
     ghost view = { λ s. record { pending = drop s.passed s.held.items; total = s.total } };
 
-    ghost invariant = { λ s. (s.passed ≤ length s.held.items) × (s.total ≤ most_bytes) };
+    ghost invariant = { λ s. (s.passed ≤ length s.held.items) × (s.total ≤ most_bytes)
+        × (s.end ≡ s.passed + line_length (drop s.passed s.held.items)) };
 }
 
 // The place of the first line feed.
@@ -39,6 +42,17 @@ fn feed_place(bytes: &[u8]) -> Option<usize>
     ensures { result ≡ position is_feed bytes.now }
 {
     bytes.iter().position(|byte| *byte == 10)
+}
+
+// How many bytes come before the first line feed, or are there.
+fn length_of_line(bytes: &[u8]) -> usize
+    ensures length { result ≡ line_length bytes.now }
+    ensures within { result ≤ length bytes.now }
+{
+    match feed_place(bytes) {
+        Some(place) => place,
+        None => bytes.len(),
+    }
 }
 
 impl SourceLines {
@@ -49,6 +63,7 @@ impl SourceLines {
         SourceLines {
             held: Vec::new(alloc),
             passed: 0,
+            end: 0,
             total: 0,
         }
     }
@@ -64,11 +79,7 @@ impl SourceLines {
     fn line_length(&self) -> usize
         ensures { result ≡ line_length self.now.pending }
     {
-        let pending = self.pending();
-        match feed_place(pending) {
-            Some(place) => place,
-            None => pending.len(),
-        }
+        self.end - self.passed
     }
 
     /// Whether a whole line stands there.
@@ -93,11 +104,13 @@ impl SourceLines {
         ensures within { self.new.total ≤ 1073741824 }
     {
         let length = self.line_length();
-        self.passed = if length < self.pending().len() {
+        let next = if length < self.pending().len() {
             self.passed + length + 1
         } else {
             self.held.len()
         };
+        self.end = next + length_of_line(&self.held[next..]);
+        self.passed = next;
     }
 
     // Puts bytes behind what was read.
@@ -109,6 +122,7 @@ impl SourceLines {
         let mut held = Vec::new(alloc);
         held.extend_from_slice(self.pending())?;
         held.extend_from_slice(bytes)?;
+        self.end = length_of_line(&held);
         self.held = held;
         self.passed = 0;
         self.total += bytes.len();
