@@ -1,6 +1,6 @@
 //! Bounds of cells, to which rows are added one by one.
 
-ghost use Rattle.std.specs.Prelude.{◌≡◌, ◌≢◌, ◌≤◌, ◌<◌, List, length, IfOk};
+ghost use Rattle.std.specs.Prelude.{◌≡◌, ◌≢◌, ◌≤◌, ◌<◌, List, length, slice_get, Some, IfOk};
 ghost use Rattle.query_model.specs.declared.query.ItemKind.TheVariants.{Avg};
 ghost use Rattle.query_model.specs.Bounds.{average_bound_of, bound_of, fractions_of, Pair};
 ghost use Rattle.aggregates.specs.BlockPairs.{pairs_in, AreAllAdded, MayAddAll};
@@ -64,6 +64,14 @@ impl Running {
             self.tallies[cell] = Tally::none();
         }
         self.cells = cells;
+    }
+
+    /// What is kept of a cell.
+    pub fn tally(&self, cell: u32) -> Tally
+        requires { cell < length self.now.cells }
+        ensures { slice_get self.now.cells cell ≡ Some result }
+    {
+        self.tallies[cell as usize]
     }
 
     /// Makes a cell stand for each list of which this tally is.
