@@ -14,11 +14,12 @@ use Rattle.aggregates.specs.Tallies.{tally_of}
 use Rattle.aggregates.proofs.Adding.{is_added, seen, set_at, set_elsewhere, taken_at, taken_same}
 use Rattle.aggregates.proofs.SumsOfCells.{sum_tally}
 use Rattle.digit_sums.specs.declared.ends.DigitEnds.{DigitEnds}
-use Rattle.digit_sums.specs.Digits.{AreDigits, RowDigits, pair_by, tally_by}
+use Rattle.digit_sums.specs.Digits.{AreDigits, IsKept, RowDigits, pair_by, tally_by}
 
 -- a cell without a row, whose rows are to count so
 pub record IsFirst (certain : Bool) (cell : RowDigits) : Type 0 where
   pub certain_is : cell.certain ≡ certain
+  pub sound : IsKept cell
   pub none : (ends : DigitEnds) → tally_by ends cell ≡ tally_of Sum []
 
 -- the first cells are

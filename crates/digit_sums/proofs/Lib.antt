@@ -1,2 +1,4 @@
 pub mod Digits
+pub mod Kept
 pub mod Cells
+pub mod ReadCells

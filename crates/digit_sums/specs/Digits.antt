@@ -1,13 +1,15 @@
 -- Rows of a column that is never null and never negative, by the digits that were read of their numbers.
-use Rattle.std.specs.Prelude.{◌≡◌, ℕ, ◌+◌, ◌-◌, ◌*◌, ◌/◌, ◌%◌, ◌^◌, ◌≤◌, min, ℤ, pos, ◌+ℤ◌, ◌*ℤ◌, Bool, false, cond, List}
-use Rattle.std.specs.declared.option.Option.TheVariants.{None}
+use Rattle.std.specs.Prelude.{◌≡◌, ℕ, ◌+◌, ◌-◌, ◌*◌, ◌/◌, ◌%◌, ◌^◌, ◌<◌, ◌≤◌, ◌==◌, min, max, ℤ, pos, ◌+ℤ◌, ◌*ℤ◌}
+use Rattle.std.specs.Prelude.{Bool, false, cond, List, length, map, take, slice_get}
+use Rattle.std.specs.declared.option.Option.TheVariants.{None, Some}
 use Rattle.daq_table.specs.Tables.{planes, spread}
 use Rattle.known_column.specs.Columns.{KnownColumn}
 use Rattle.query_model.specs.Bounds.{Pair}
 use Rattle.aggregates.specs.declared.tally.Tally.{Tally}
-use Rattle.aggregates.specs.Runnings.{Tallies}
+use Rattle.aggregates.specs.Runnings.{IsAdded, MayCount, Tallies}
 use Rattle.aggregates.specs.SumsOfCells.{end_if}
 use Rattle.digit_sums.specs.declared.ends.DigitEnds.{DigitEnds}
+use Rattle.digit_sums.specs.declared.ends.OuterDigits.{OuterDigits}
 
 -- ---- ends
 
@@ -82,8 +84,72 @@ tally_by ends cell = record {
   high_sum = lows_of ends cell +ℤ pos (spans_of ends cell);
 }
 
--- many cells, the ends by which their rows are seen, and of each whether its rows count for certain
+-- the cell where the digits of one of its rows are looked at
+abbrev pub noted : RowDigits → ℕ → ℕ → RowDigits
+noted cell top digits = record {
+  certain = cell.certain;
+  rows = cell.rows;
+  at_top = cell.at_top + cond (digits == top) 1 0;
+  least = min cell.least digits;
+  greatest = max cell.greatest digits;
+  sum = cell.sum;
+}
+
+-- the cell with a row more
+abbrev pub with_row : RowDigits → ℕ → ℕ → RowDigits
+with_row cell top digits = record {
+  certain = cell.certain;
+  rows = cell.rows + 1;
+  at_top = cell.at_top + cond (digits == top) 1 0;
+  least = min cell.least digits;
+  greatest = max cell.greatest digits;
+  sum = cell.sum + digits;
+}
+
+-- ---- cells whose ends are told by outer rows
+
+-- what is kept of a cell, and the cell: only at its rows with outer digits it was looked for the least and the greatest
+pub record IsKeptBy (outer : OuterDigits) (kept cell : RowDigits) : Type 0 where
+  pub sound : IsKept cell
+  pub certain : kept.certain ≡ cell.certain
+  pub rows : kept.rows ≡ cell.rows
+  pub at_top : kept.at_top ≡ cell.at_top
+  pub sum : kept.sum ≡ cell.sum
+  pub above : cell.least ≤ kept.least
+  pub below : kept.greatest ≤ cell.greatest
+  pub least : cell.least ≤ outer.low → kept.least ≡ cell.least
+  pub greatest : outer.high ≤ cell.greatest → kept.greatest ≡ cell.greatest
+
+-- many cells, the ends by which their rows are seen, and of each whether its rows count for certain; how many they are, what is kept of
+-- these and of cells that are no more, and which digits are outer
 pub record DigitTallies : Type 0 where
   pub tallies : Tallies
   pub ends : DigitEnds
   pub certain : List Bool
+  pub count : ℕ
+  pub kept : List RowDigits
+  pub outer : OuterDigits
+
+-- these tallies are those of cells of which that is kept
+pub record AreOf (sums : DigitTallies) (tallies : Tallies) : Type 0 where
+  pub cells : List RowDigits
+  pub room : length cells ≡ length sums.kept
+  pub each : (k : ℕ) (kept cell : RowDigits) → k < sums.count → slice_get sums.kept k ≡ Some kept → slice_get cells k ≡ Some cell
+      → IsKeptBy sums.outer kept cell
+  pub are : tallies ≡ record {
+    kind = sums.tallies.kind;
+    room = length cells;
+    cells = take sums.count (map (tally_by sums.ends) cells);
+  }
+
+-- the cells have tallies, one of which stands for a list that is not full
+pub record HaveRoom (sums : DigitTallies) (cell : ℕ) : Type 0 where
+  pub tallies : Tallies
+  pub are : AreOf sums tallies
+  pub may : MayCount tallies cell
+
+-- they have the tallies with a pair more in a cell
+pub record GrowBy (sums : DigitTallies) (old : Tallies) (cell : ℕ) (p : Pair) : Type 0 where
+  pub tallies : Tallies
+  pub are : AreOf sums tallies
+  pub added : IsAdded old tallies cell p

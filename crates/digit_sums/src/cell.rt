@@ -1,14 +1,13 @@
 //! What is kept of the rows of a cell by their digits.
 
-ghost use Rattle.std.specs.Prelude.{◌≡◌, ◌<◌, List, [], ◌∷◌, ◌++◌, cond, min, max, pos};
+ghost use Rattle.std.specs.Prelude.{◌≡◌, ◌<◌, ◌≤◌, [], cond, min, max, pos, IsTrue};
 ghost use Rattle.query_model.specs.declared.query.ItemKind.TheVariants.{Sum};
-ghost use Rattle.query_model.specs.Bounds.{Pair};
 ghost use Rattle.aggregates.specs.SumsOfCells.{end_if};
 ghost use Rattle.aggregates.specs.Tallies.{tally_of};
 ghost use Rattle.digit_sums.specs.declared.ends.DigitEnds.{DigitEnds};
-ghost use Rattle.digit_sums.specs.Digits.{AreDigits, certain_rows, pair_by, tally_by, top_digits};
+ghost use Rattle.digit_sums.specs.Digits.{IsKept, IsKeptBy, RowDigits, certain_rows, noted, tally_by, with_row};
 
-use crate::ends::DigitEnds;
+use crate::ends::{DigitEnds, OuterDigits};
 use aggregates::Tally;
 use std::marker::Model;
 
@@ -97,6 +96,7 @@ impl CellDigits {
     // That of no row.
     pub(crate) fn none(certain: bool) -> CellDigits
         ensures certain { result.certain ≡ certain }
+        ensures sound { IsKept result }
         ensures none { (ends : DigitEnds) → tally_by ends result ≡ tally_of Sum [] }
     {
         CellDigits {
@@ -109,19 +109,37 @@ impl CellDigits {
         }
     }
 
-    // Adds a row by its digits; those of the greatest number are handed in.
-    pub(crate) fn add(&mut self, digits: u32, top: u32)
-        requires few { self.old.rows < 16777216 }
-        ensures certain { self.new.certain ≡ self.old.certain }
-        ensures added { (ends : DigitEnds) (ps : List Pair) → top ≡ top_digits ends → AreDigits ends digits
-            → tally_by ends self.old ≡ tally_of Sum ps
-            → tally_by ends self.new ≡ tally_of Sum (ps ++ pair_by ends self.old.certain digits ∷ []) }
+    // Notes a row with outer digits; those of the greatest number are handed in.
+    fn note(&mut self, digits: u32, top: u32)
+        requires few { self.old.at_top < self.old.rows }
+        ensures { self.new ≡ noted self.old top digits }
     {
-        self.rows += 1;
         self.at_top += u32::from(digits == top);
         lower(&mut self.least, digits);
         raise(&mut self.greatest, digits);
+    }
+
+    // Adds a row by its digits.
+    pub(crate) fn add(&mut self, digits: u32, outer: OuterDigits, top: u32)
+        requires few { self.old.rows < 16777216 }
+        requires top { outer.high ≤ top }
+        ensures certain { self.new.certain ≡ self.old.certain }
+        ensures added { (cell : RowDigits) → IsKeptBy outer self.old cell
+            → IsKeptBy outer self.new (with_row cell top digits) }
+    {
+        self.rows += 1;
         self.sum += u64::from(digits);
+        if digits <= outer.low || digits >= outer.high {
+            self.note(digits, top);
+        }
+    }
+
+    // Whether its least and greatest digits are known, or not asked for.
+    pub(crate) fn is_settled(&self, outer: OuterDigits) -> bool
+        ensures { IsTrue result → (cell : RowDigits) (ends : DigitEnds) → IsKeptBy outer self.now cell
+            → tally_by ends self.now ≡ tally_by ends cell }
+    {
+        self.certain || self.rows == 0 || (self.least <= outer.low && self.greatest >= outer.high)
     }
 
     // How many rows count for certain.

@@ -1,4 +1,4 @@
-//! The ends of a column's numbers, and how many of their digits are unread.
+//! The ends of a column's numbers, how many of their digits are unread, and which digits are outer.
 
 ghost use Rattle.std.specs.Prelude.{◌<◌, ◌≤◌, ◌^◌, ◌≤ℤ◌, pos};
 
@@ -12,4 +12,11 @@ pub struct DigitEnds {
     pub ghost above: { pos 0 ≤ℤ base },
     pub ghost small: { spread < 2 ^ 32 },
     pub ghost few: { unread ≤ 32 },
+}
+
+/// The digits that are looked at for the least and the greatest of a cell: those up to a low number, and those from a high one on.
+#[derive(Clone, Copy)]
+pub struct OuterDigits {
+    pub(crate) low: u32,
+    pub(crate) high: u32,
 }

@@ -4,8 +4,10 @@
 mod cell;
 mod ends;
 mod numbers;
+mod ones;
 mod sums;
 
 pub use ends::DigitEnds;
 pub use numbers::digit_ends;
+pub use ones::CellOnes;
 pub use sums::DigitSums;

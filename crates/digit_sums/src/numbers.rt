@@ -80,6 +80,13 @@ impl DigitEnds {
         i128::from(self.base) + i128::from(last.min(u64::from(self.spread)))
     }
 
+    // What the last digits that were read weigh of so many rows that have a 1 there.
+    pub(crate) fn weight(self, ones: u32) -> u64
+        ensures { result ≡ ones * 2 ^ self.unread }
+    {
+        u64::from(ones) << self.unread
+    }
+
     // The low ends of so many rows, added up, whose digits are so much together.
     pub(crate) fn lows(self, rows: u32, sum: u64) -> i128
         requires rows { rows ≤ 16777216 }
