@@ -1,7 +1,7 @@
 -- The rows of a table by cells: a row's cell is the prefixes of its codes in the group columns, joined as one number.
 use Rattle.std.specs.Prelude.{◌≡◌, ◌↔◌, ℕ, ◌+◌, ◌*◌, ◌^◌, ◌<◌, ◌==◌}
 use Rattle.std.specs.Prelude.{nat_lt, Bool, true, false, cond, ◌&&◌, IsTrue, if◌then◌else◌}
-use Rattle.std.specs.Prelude.{List, [], ◌∷◌, length, map, replicate, sum, take, slice_index_or}
+use Rattle.std.specs.Prelude.{List, [], ◌∷◌, length, map, replicate, sum, take, get_or, slice_get, slice_index_or, Some}
 use Rattle.std.specs.List.{list_any}
 use Rattle.std.specs.Simd.Lanes.{zip2}
 use Rattle.daq_table.specs.declared.head.Ends.{Ends}
@@ -19,6 +19,11 @@ use Rattle.row_groups.specs.declared.prefix.PartRange.{PartRange}
 pub record RowCells : Type 0 where
   pub parts : List GroupPart
   pub cells : List ℕ
+
+-- the first numbers of a block are the cells of the rows from one on, as far as there are rows
+abbrev pub AreCellsFrom : ℕ → List ℕ → List ℕ → Type 0
+AreCellsFrom first cells block =
+    (row : ℕ) → row < 64 → first + row < length cells → slice_get cells (first + row) ≡ Some (get_or block row 0)
 
 -- the planes read of each group column
 abbrev pub counts_of_parts : List GroupPart → List ℕ

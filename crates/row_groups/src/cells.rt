@@ -1,10 +1,10 @@
 //! The cells of rows.
 
-ghost use Rattle.std.specs.Prelude.{◌≡◌, ◌≤◌, ◌<◌, ◌^◌, ◌==◌};
+ghost use Rattle.std.specs.Prelude.{◌≡◌, ◌≤◌, ◌<◌, ◌*◌, ◌^◌, ◌==◌};
 ghost use Rattle.std.specs.Prelude.{All, IsTrue, length, sum, map, slice_get};
 ghost use Rattle.std.specs.Prelude.{IfOk, IfSome, IsSome, Some, ◌↔◌};
 ghost use Rattle.daq_table.specs.Tables.{planes};
-ghost use Rattle.row_groups.specs.Partition.{digits_of, has_unread, is_legal_cell, planes_of_parts};
+ghost use Rattle.row_groups.specs.Partition.{AreCellsFrom, digits_of, has_unread, is_legal_cell, planes_of_parts};
 ghost use Rattle.row_groups.specs.Partition.{ranges_in, ranges_of_cell, refined, unread_cells, unread_part};
 
 use crate::bits::insert_written;
@@ -115,6 +115,31 @@ impl Cells {
             u32::from(self.cells[row])
         } else {
             cell_in(&self.masks, row)
+        }
+    }
+
+    // The cells of at most 64 rows from one on, where they are read one by one.
+    #[cold]
+    #[inline(never)]
+    fn read_rows(&self, first: usize, block: &mut [u16; 64])
+        requires { first < length self.now.cells }
+        ensures { AreCellsFrom first self.now.cells block.new }
+    {
+        for row in 0..64.min(self.rows - first) {
+            block[row] = self.cell_of(first + row) as u16;
+        }
+    }
+
+    /// Reads the cells of the rows of a block of 64, or of as many as are left. What stands behind the last row is of no meaning.
+    pub fn read_block(&self, number: usize, block: &mut [u16; 64])
+        requires { 64 * number < length self.now.cells }
+        ensures { AreCellsFrom (64 * number) self.now.cells block.new }
+    {
+        let left = self.rows - 64 * number;
+        if left < 64 || self.cells.is_empty() {
+            self.read_rows(64 * number, block);
+        } else {
+            block.copy_from_slice(&self.cells[64 * number..64 * number + 64]);
         }
     }
 
