@@ -143,7 +143,7 @@ module _ (frame : Frame) (known : Knowledge) (c : ℕ) (bits : List Bool) where
       let apart = not_later g gs h in
       ap (λ (w : ColumnKnowledge). w.read ∷ counts_of next gs) (known_still g apart.0) ∙ ap (λ l. (known_at known g).read ∷ l) (counts_still gs apart.1)
 
-  cell_still : (r : ℕ) (gs : List ℕ) → is_group gs c ≡ false → cell_of next gs r ≡ cell_of known gs r
+  pub cell_still : (r : ℕ) (gs : List ℕ) → is_group gs c ≡ false → cell_of next gs r ≡ cell_of known gs r
   cell_still r [] h = refl
   cell_still r (g ∷ gs) h =
       let apart = not_later g gs h in
@@ -151,7 +151,7 @@ module _ (frame : Frame) (known : Knowledge) (c : ℕ) (bits : List Bool) where
       ∙ ap (λ ks. prefix_at known g r * 2 ^ sum ks + cell_of next gs r) (counts_still gs apart.1)
       ∙ ap (λ n. prefix_at known g r * 2 ^ sum (counts_of known gs) + n) (cell_still r gs apart.1)
 
-  keys_still : (r : ℕ) (gs : List ℕ) → is_group gs c ≡ false → holds_one_key gs (ranges_of frame next r) ≡ holds_one_key gs (ranges_of frame known r)
+  pub keys_still : (r : ℕ) (gs : List ℕ) → is_group gs c ≡ false → holds_one_key gs (ranges_of frame next r) ≡ holds_one_key gs (ranges_of frame known r)
   keys_still r [] h = refl
   keys_still r (g ∷ gs) h =
       let apart = not_later g gs h in

@@ -6,6 +6,7 @@ use Rattle.std.proofs.lemmas.List.Folds.{list_all-append, list_all_at, list_all_
 use Rattle.std.proofs.lemmas.List.FromFn.{get_or-range_with_len, length-range_with_len}
 use Rattle.std.proofs.lemmas.Option.{get_or_from_slice_get, slice_get_within}
 use Rattle.aggregates.specs.Runnings.{StandsFor, Tallies}
+use Rattle.plane_schedule.specs.declared.policy.Nearness.{Nearness}
 use Rattle.query_model.specs.declared.query.ItemKind.TheVariants.{Avg}
 use Rattle.query_model.specs.declared.query.Shape.{Shape}
 use Rattle.query_model.specs.declared.query.Shape.TheVariants.{Plain, Grouped, Top}
@@ -57,14 +58,14 @@ fits_in_cell stage n width cell i running few kept at narrow within stand = reco
 abbrev pub narrow_in : ℕ → ℕ → Stage → Aggregate → Bool
 narrow_in width cell stage item = is_narrow_item width item.kind (pairs_in_cell stage.query item cell stage.frame stage.known)
 
-narrow_shape : (width : ℕ) (stage : Stage) (shape : Shape) → IsGrouped shape → is_narrow_form width stage shape ≡ list_all (is_narrow_cell width stage) (range_with_len 0 (cell_count stage.known (groups_of shape)))
-narrow_shape width stage Plain h = absurd h
-narrow_shape width stage (Grouped columns) h = refl
-narrow_shape width stage (Top key down limit) h = absurd h
+narrow_shape : (near : Nearness) (stage : Stage) (shape : Shape) → IsGrouped shape → is_narrow_form near stage shape ≡ list_all (is_narrow_cell near.width stage) (range_with_len 0 (cell_count stage.known (groups_of shape)))
+narrow_shape near stage Plain h = absurd h
+narrow_shape near stage (Grouped columns) h = refl
+narrow_shape near stage (Top key down limit) h = absurd h
 
 -- a stage with groups is narrow where each cell is
-pub narrow_cells : (width : ℕ) (stage : Stage) → IsGrouped stage.query.shape → is_narrow width stage ≡ list_all (is_narrow_cell width stage) (range_with_len 0 (cells_in stage))
-narrow_cells width stage h = narrow_shape width stage stage.query.shape h
+pub narrow_cells : (near : Nearness) (stage : Stage) → IsGrouped stage.query.shape → is_narrow near stage ≡ list_all (is_narrow_cell near.width stage) (range_with_len 0 (cells_in stage))
+narrow_cells near stage h = narrow_shape near stage stage.query.shape h
 
 -- ---- item by item
 

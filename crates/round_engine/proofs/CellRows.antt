@@ -13,7 +13,7 @@ use Rattle.query_model.specs.Answers.{groups_of}
 use Rattle.query_model.specs.Groups.{cell_count, cell_of, counts_of, holds_one_key, is_one_value, parts_of}
 use Rattle.query_model.specs.Knowledge.{IsKnowledge, Knowledge, known_at, prefix_at, ranges_of}
 use Rattle.query_model.proofs.Groups.{joined_below, row_legal}
-use Rattle.row_groups.specs.Partition.{CellsTellKeys, RowCells, are_legal, counts_of_parts, is_legal_cell, part_under, ranges_of_prefixes}
+use Rattle.row_groups.specs.Partition.{AreCellsFrom, CellsTellKeys, RowCells, are_legal, counts_of_parts, is_legal_cell, part_under, ranges_of_prefixes}
 use Rattle.round_engine.specs.CellAnswers.{IsParted, has_one_key, most_cells}
 use Rattle.round_engine.specs.Cells.{cells_in}
 use Rattle.round_engine.specs.Stages.{IsOpenQuery, IsOpenShape, IsOpenStage, Stage}
@@ -84,6 +84,13 @@ groups_within query frame kept = shape_within frame query query.shape kept.shape
 -- there is room for all cells
 pub cells_fit : (stage : Stage) → IsOpenStage stage → cells_in stage ≤ most_cells stage
 cells_fit stage kept = few_cells stage.frame stage.known (groups_of stage.query.shape) kept.knowledge (groups_within stage.query stage.frame kept.open_query)
+
+-- the cell of a row of a block, as it was read
+pub block_cell : (cells : List ℕ) (number row : ℕ) (block : List ℕ) (cell : ℕ) → AreCellsFrom (64 * number) cells block → row < length cells → 64 * number ≤ row → row < 64 * number + 64 → cell ≡ get_or block (row % 64) 0 →
+    slice_get cells row ≡ Some cell
+block_cell cells number row block cell read within from to is =
+    let place : 64 * number + row % 64 ≡ row = omega arith in
+    ap (slice_get cells) (sym place) ∙ read (row % 64) (omega arith) (omega (arith, place, within)) ∙ ap Some (sym is)
 
 -- ---- what is kept of the row's cell
 

@@ -19,7 +19,7 @@ use Rattle.digit_sums.specs.Digits.{AreDigits, AreEndsOf, high_by, low_by}
 use Rattle.round_engine.specs.DigitCells.{IsOverColumn}
 
 -- no row is null
-never_missing : (column : KnownColumn) (row : ℕ) → column.ends.nullable ≡ false → missing_at column row ≡ Never
+pub never_missing : (column : KnownColumn) (row : ℕ) → column.ends.nullable ≡ false → missing_at column row ≡ Never
 never_missing column row plain = ap (λ (b : Bool). if b && get_or column.known.prefixes row 0 == 0 then (if column.known.read == 0 then Possibly else Always) else Never) plain
 
 module _ (known : KnownColumn) (ends : DigitEnds) (are : AreEndsOf known ends) (sound : IsKnownColumn known) (row : ℕ) (below : row < rows_of_column known) where

@@ -15,6 +15,7 @@ pub mod Places
 pub mod PresenceCounts
 pub mod ToldSums
 pub mod Unmoved
+pub mod UnreadValues
 pub mod Covers
 pub mod Walks
 pub mod KeptCells
@@ -28,6 +29,7 @@ pub mod SumEnds
 pub mod SelectedPairs
 pub mod SelectedBounds
 pub mod RankedRows
+pub mod SortKeys
 pub mod Keys
 pub mod DeclaredKeys
 pub mod CellRows
@@ -38,3 +40,6 @@ pub mod FewCells
 pub mod CountedCells
 pub mod CellNarrow
 pub mod CompactCells
+pub mod SetBits
+pub mod ReadRows
+pub mod ReadBlocks

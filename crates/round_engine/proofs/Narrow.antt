@@ -1,6 +1,7 @@
 -- Whether the bound of an item is narrow, at the stage that an engine stands for.
 use Rattle.std.proofs.Common.{◌≡◌, ◌≢◌, ℕ, ◌<◌, ◌^◌, ◌&&◌, List, [], ◌∷◌, length, Some, slice_get, zero, suc, arith, refl, sym, ap, ◌∙◌, subst}
 use Rattle.std.specs.List.{list_all}
+use Rattle.plane_schedule.specs.declared.policy.Nearness.{Nearness}
 use Rattle.query_model.specs.Queries.{Aggregate}
 use Rattle.query_model.specs.declared.query.ItemKind.{ItemKind}
 use Rattle.query_model.specs.declared.query.Shape.{Shape}
@@ -61,9 +62,9 @@ narrow_each width pairs_for (i ∷ is) (b ∷ bs) count each =
     ap (λ c. c && list_all (is_narrow_of width) bs) (narrow_form width i.kind (pairs_for i) b (each zero i b refl refl))
     ∙ ap (λ c. is_narrow_item width i.kind (pairs_for i) && c) (narrow_each width pairs_for is bs (omega arith) (λ n. each (suc n)))
 
-narrow_in_form : (width : ℕ) (stage : Stage) (shape : Shape) → shape ≡ Plain → are_narrow width stage.query.items (λ i. pairs stage.query i [] stage.frame stage.known) ≡ is_narrow_form width stage shape
-narrow_in_form width stage shape plain = sym (ap (is_narrow_form width stage) plain)
+narrow_in_form : (near : Nearness) (stage : Stage) (shape : Shape) → shape ≡ Plain → are_narrow near.width stage.query.items (λ i. pairs stage.query i [] stage.frame stage.known) ≡ is_narrow_form near stage shape
+narrow_in_form near stage shape plain = sym (ap (is_narrow_form near stage) plain)
 
-pub narrow_all : (width : ℕ) (stage : Stage) (bounds : List ItemBound) → stage.query.shape ≡ Plain → AreTotals stage bounds → list_all (is_narrow_of width) bounds ≡ is_narrow width stage
-narrow_all width stage bounds plain are =
-    narrow_each width (λ i. pairs stage.query i [] stage.frame stage.known) stage.query.items bounds are.count are.each ∙ narrow_in_form width stage stage.query.shape plain
+pub narrow_all : (near : Nearness) (stage : Stage) (bounds : List ItemBound) → stage.query.shape ≡ Plain → AreTotals stage bounds → list_all (is_narrow_of near.width) bounds ≡ is_narrow near stage
+narrow_all near stage bounds plain are =
+    narrow_each near.width (λ i. pairs stage.query i [] stage.frame stage.known) stage.query.items bounds are.count are.each ∙ narrow_in_form near stage stage.query.shape plain

@@ -27,7 +27,6 @@ use Rattle.topk_bounds.specs.Searches.{AreSearching, HasJudged, SearchesGoOn}
 use Rattle.topk_bounds.specs.Standings as standings
 use Rattle.topk_bounds.specs.Standings.{IsJudged, Judged, StandingsStand, is_in, standing_by, standings_by}
 use Rattle.round_engine.specs.declared.ranking.Ranking.{Ranking}
-use Rattle.round_engine.specs.Narrowness.{is_narrow, is_narrow_form}
 use Rattle.round_engine.specs.Rankings.{IsRanking, WasRanking, column_in, rows_passing, standings_under}
 use Rattle.round_engine.specs.Stages.{IsOpenShape, Stage, stepped}
 use Rattle.round_engine.proofs.Unmoved.{pred_unmoved, range_unmoved}
@@ -232,12 +231,11 @@ none_possible f (r ∷ rows) =
     ]
 
 -- whether no row is possible
-pub narrow_ranking : (width : ℕ) (stage : Stage) (ranking : Ranking) (mask : List Bool) (count : ℕ) → IsRanking stage ranking → mask ≡ map standings.is_possible ranking.top.standings → count ≡ count_by (λ b. b) mask →
-    nat_eq count 0 ≡ is_narrow width stage
-narrow_ranking width stage ranking mask count is told counted =
+pub none_is_possible : (stage : Stage) (ranking : Ranking) (mask : List Bool) (count : ℕ) → IsRanking stage ranking → mask ≡ map standings.is_possible ranking.top.standings → count ≡ count_by (λ b. b) mask →
+    nat_eq count 0 ≡ list_all (λ r. not (standings.is_possible (standing_under stage.query stage.frame stage.known r))) (rows_of stage.frame)
+none_is_possible stage ranking mask count is told counted =
     ap (λ n. nat_eq n 0) (counted ∙ ap (count_by (λ b. b)) (rows_standing stage ranking standings.is_possible mask is told))
     ∙ none_possible (standing_under stage.query stage.frame stage.known) (rows_of stage.frame)
-    ∙ sym (ap (is_narrow_form width stage) is.holds.order)
 
 -- the standing of a row
 pub standing_at : (stage : Stage) (ranking : Ranking) (r : ℕ) (standing : Standing) → IsRanking stage ranking → r < stage.frame.rows → slice_get ranking.top.standings r ≡ Some standing →

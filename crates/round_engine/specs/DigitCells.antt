@@ -1,7 +1,8 @@
 -- Sums of many cells over a bare column, by the digits of its numbers.
 use Rattle.std.specs.Prelude.{◌≡◌, ℕ, ◌<◌, Bool, List, length, slice_get, take}
 use Rattle.std.specs.declared.option.Option.TheVariants.{Some}
-use Rattle.digit_sums.specs.Digits.{AreEndsOf, DigitTallies}
+use Rattle.aggregates.specs.Runnings.{Tallies}
+use Rattle.digit_sums.specs.Digits.{AreEndsOf, AreOf, DigitTallies}
 use Rattle.known_column.specs.Columns.{KnownColumn, rows_of_column}
 use Rattle.known_column.specs.KnownTables.{KnownTable, column_at}
 use Rattle.query_model.specs.declared.bounds.Nullity.TheVariants.{Never}
@@ -20,11 +21,13 @@ pub record IsOverColumn (item : Aggregate) (columns : KnownTable) (known : Known
   pub is : known ≡ column_at columns column
   pub rows : rows_of_column known ≡ columns.frame.rows
 
--- each cell stands for the item's pairs of its rows below a number, by the column's ends as far as they are known, and it is told of each
--- whether its rows count for certain
+-- what is kept is that of cells each of which stands for the item's pairs of its rows below a number, by the column's ends as far as they
+-- are known, and it is told of each whether its rows count for certain
 pub record AreDigitSums
     (stage : Stage) (item : Aggregate) (known : KnownColumn) (single : List Bool) (rows : ℕ) (sums : DigitTallies) : Type 0 where
-  pub stand : StandBelow stage item rows sums.tallies
+  pub tallies : Tallies
+  pub are : AreOf sums tallies
+  pub stand : StandBelow stage item rows tallies
   pub ends : AreEndsOf known sums.ends
   pub certain : sums.certain ≡ take (cells_in stage) single
 

@@ -19,3 +19,4 @@ pub mod CellAnswers
 pub mod Rankings
 pub mod Engines
 pub mod Followers
+pub mod ReadCells

@@ -1,10 +1,12 @@
--- When a round is narrow: whether each item has an answer is known, and where it has one, its ends are near enough.
-use Rattle.std.specs.Prelude.{ℕ, ◌*◌, pos, ◌-ℤ◌, ◌*ℤ◌, int_le, Bool, true, false, not, List, [], FitsSigned}
+-- When a round is narrow: whether each answer is there is known, and where it is, its ends are near enough.
+use Rattle.std.specs.Prelude.{ℕ, ◌*◌, pos, ◌-ℤ◌, ◌*ℤ◌, int_le, Bool, true, false, not, ◌||◌, List, [], FitsSigned}
 use Rattle.std.specs.Int.{w128}
 use Rattle.std.specs.List.{list_all, range_with_len}
 use Rattle.query_model.specs.declared.bounds.Bound.{Bound}
 use Rattle.query_model.specs.declared.bounds.Nullity.{Nullity}
 use Rattle.query_model.specs.declared.bounds.Nullity.TheVariants.{Never, Possibly, Always}
+use Rattle.query_model.specs.declared.bounds.Standing.{Standing}
+use Rattle.query_model.specs.declared.bounds.Standing.TheVariants.{Certain, Possible, Excluded}
 use Rattle.query_model.specs.declared.query.ItemKind.{ItemKind}
 use Rattle.query_model.specs.declared.query.ItemKind.TheVariants.{Count, Sum, Min, Max, Avg}
 use Rattle.query_model.specs.Bounds.{AverageBound, Pair, average_bound_of, bound_of, fractions_of, pairs}
@@ -13,8 +15,10 @@ use Rattle.query_model.specs.declared.query.Shape.TheVariants.{Plain, Grouped, T
 use Rattle.daq_table.specs.Tables.{rows_of}
 use Rattle.query_model.specs.Groups.{cell_count, pairs_in_cell, presence_in_cell}
 use Rattle.query_model.specs.Queries.{Aggregate}
+use Rattle.query_model.specs.Knowledge.{ranges_of}
 use Rattle.query_model.specs.Ranking.{standing_under}
-use Rattle.topk_bounds.specs.Standings.{is_possible}
+use Rattle.query_model.specs.Truths.{Range}
+use Rattle.plane_schedule.specs.declared.policy.Nearness.{Nearness}
 use Rattle.round_engine.specs.declared.item_bound.ItemBound.{ItemBound}
 use Rattle.round_engine.specs.declared.item_bound.ItemBound.TheVariants.{Numbers, Fractions}
 use Rattle.round_engine.specs.Stages.{Stage}
@@ -54,18 +58,29 @@ is_narrow_cell width stage cell =
     is_told (presence_in_cell stage.query cell stage.frame stage.known)
     (are_narrow width stage.query.items (λ item. pairs_in_cell stage.query item cell stage.frame stage.known))
 
--- it is known whether the row is among the first
-abbrev pub is_settled : Stage → ℕ → Bool
-is_settled stage r = not (is_possible (standing_under stage.query stage.frame stage.known r))
+-- whether a key is null is known, and where it is none, its ends are near
+abbrev pub is_near_key : ℕ → Range → Bool
+is_near_key width range = is_told range.null (int_le (range.numbers.high -ℤ range.numbers.low) (pos width))
+
+-- it is known whether a row is among the first, and where it is and keys are answers too, its key is near
+abbrev pub is_near_row : Nearness → Range → Standing → Bool
+is_near_row near key Certain = not near.keys || is_near_key near.width key
+is_near_row near key Possible = false
+is_near_row near key Excluded = true
+
+abbrev pub is_settled : Nearness → Stage → ℕ → ℕ → Bool
+is_settled near stage key r =
+    is_near_row near (ranges_of stage.frame stage.known r key) (standing_under stage.query stage.frame stage.known r)
 
 -- without groups and order each item is narrow, with groups each cell, and in an order each row is settled
-abbrev pub is_narrow_form : ℕ → Stage → Shape → Bool
-is_narrow_form width stage Plain = are_narrow width stage.query.items (λ item. pairs stage.query item [] stage.frame stage.known)
-is_narrow_form width stage (Grouped columns) = list_all (is_narrow_cell width stage) (range_with_len 0 (cell_count stage.known columns))
-is_narrow_form width stage (Top key down limit) = list_all (is_settled stage) (rows_of stage.frame)
+abbrev pub is_narrow_form : Nearness → Stage → Shape → Bool
+is_narrow_form near stage Plain = are_narrow near.width stage.query.items (λ item. pairs stage.query item [] stage.frame stage.known)
+is_narrow_form near stage (Grouped columns) =
+    list_all (is_narrow_cell near.width stage) (range_with_len 0 (cell_count stage.known columns))
+is_narrow_form near stage (Top key down limit) = list_all (is_settled near stage key) (rows_of stage.frame)
 
-abbrev pub is_narrow : ℕ → Stage → Bool
-is_narrow width stage = is_narrow_form width stage stage.query.shape
+abbrev pub is_narrow : Nearness → Stage → Bool
+is_narrow near stage = is_narrow_form near stage stage.query.shape
 
 -- the cross products by which the fractions of an average are compared are numbers of 128 bits
 pub record FitsNarrow (width : ℕ) (bound : AverageBound) : Type 0 where

@@ -6,7 +6,7 @@ ghost use Rattle.known_column.specs.KnownTables.{unread_table};
 ghost use Rattle.round_engine.specs.Engines.{stage_of, AreAnswers, AreSomeAnswers, HoldAnswers};
 ghost use Rattle.round_engine.specs.Engines.{IsGroupsForm, IsRankingForm, IsTotalsForm, StoodBefore};
 ghost use Rattle.round_engine.specs.Narrowness.{is_narrow};
-ghost use Rattle.round_engine.specs.Stages.{IsOpenStage, Stage};
+ghost use Rattle.round_engine.specs.Stages.{IsOpenStage};
 
 use crate::groups::Groups;
 use crate::kept_products::open_products;
@@ -16,6 +16,7 @@ use crate::totals::Totals;
 use kleene_filter::Filter;
 use known_column::{LentColumns, RowBlock};
 use plane_kernels::Plane;
+use plane_schedule::Nearness;
 use query_model::{Shape, TypedQuery};
 use std::alloc::{AllocError, Global};
 
@@ -107,15 +108,22 @@ impl Answers {
     }
 
     // Whether each is narrow.
-    pub(crate) fn is_narrow(&self, width: u64) -> bool
-        requires answers { AreSomeAnswers self.now }
-        requires width { width < 2 ^ 63 }
-        ensures { (stage : Stage) → AreAnswers stage self.now → result ≡ is_narrow width stage }
+    pub(crate) fn is_narrow(
+        &self,
+        near: Nearness,
+        query: &TypedQuery,
+        columns: &LentColumns<'_>,
+    ) -> bool
+        requires open_stage { IsOpenStage (stage_of query.now columns.now) }
+        requires some { AreSomeAnswers self.now }
+        requires answers { AreAnswers (stage_of query.now columns.now) self.now }
+        requires width { near.width < 2 ^ 63 }
+        ensures { result ≡ is_narrow near (stage_of query.now columns.now) }
     {
         match self {
-            Answers::Totals(totals) => totals.is_narrow(width),
-            Answers::Groups(groups) => groups.is_narrow(width),
-            Answers::Ranking(ranking) => ranking.is_narrow(width),
+            Answers::Totals(totals) => totals.is_narrow(near),
+            Answers::Groups(groups) => groups.is_narrow(near),
+            Answers::Ranking(ranking) => ranking.is_narrow(near, query, columns),
         }
     }
 

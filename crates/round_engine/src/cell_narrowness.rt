@@ -11,6 +11,7 @@ ghost use Rattle.round_engine.specs.Stages.{Stage};
 use crate::groups::Groups;
 use crate::narrowness::{is_narrow_average, is_narrow_bound};
 use aggregates::Running;
+use plane_schedule::Nearness;
 use query_model::{ItemKind, Nullity, pairs_are_few};
 
 // Whether the bound of an item is narrow in a cell.
@@ -57,13 +58,13 @@ impl Groups {
     }
 
     // Whether each cell is narrow. Its count tells that a cell has no row that may count.
-    pub(crate) fn is_narrow(&self, width: u64) -> bool
+    pub(crate) fn is_narrow(&self, near: Nearness) -> bool
         requires answers { AreSomeGroups self.now }
-        requires width { width < 2 ^ 63 }
-        ensures { (stage : Stage) → AreGroups stage self.now → result ≡ is_narrow width stage }
+        requires width { near.width < 2 ^ 63 }
+        ensures { (stage : Stage) → AreGroups stage self.now → result ≡ is_narrow near stage }
     {
         for cell in 0..self.count() {
-            if !self.is_narrow_cell(width, cell) {
+            if !self.is_narrow_cell(near.width, cell) {
                 return false;
             }
         }

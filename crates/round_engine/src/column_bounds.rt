@@ -1,11 +1,11 @@
 //! Bounds of a bare column's items, from the rows that give a value, by masks and planes.
 
-ghost use Rattle.std.specs.Prelude.{◌≡◌, ◌<◌, ◌⊎◌, length, count_by, IfSome, IsFalse, IsTrue};
+ghost use Rattle.std.specs.Prelude.{◌≡◌, ◌<◌, ◌⊎◌, count_by, IfSome, IsFalse, IsTrue};
 ghost use Rattle.aggregates.specs.declared.extreme_rows.Extreme.TheVariants.{Greatest, Least};
 ghost use Rattle.aggregates.specs.KeptExtremes.{HoldCandidates};
 ghost use Rattle.aggregates.specs.KeptSums.{CanFollow, HasFollowed, IsKept};
 ghost use Rattle.aggregates.specs.Widening.{CoverOthers};
-ghost use Rattle.known_column.specs.Columns.{KnownColumn, rows_of_column};
+ghost use Rattle.known_column.specs.Columns.{KnownColumn};
 ghost use Rattle.query_model.specs.declared.query.ItemKind.TheVariants.{Count, Max, Min, Sum};
 ghost use Rattle.query_model.specs.Bounds.{average_bound_of, bound_of, fractions_of, nullity_of};
 ghost use Rattle.round_engine.specs.KeptItems.{extreme_of};

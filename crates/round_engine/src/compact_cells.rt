@@ -43,8 +43,10 @@ fn count_block(
     pairs_are_few();
     let may = filter.may().word(number);
     let must = filter.must().word(number);
+    let mut block = [0; 64];
+    cells.read_block(number, &mut block);
     for row in 64 * number..(64 * number + 64).min(columns.rows()) {
-        let cell = cells.cell_of(row);
+        let cell = u32::from(block[row % 64]);
         let perhaps = has_bit(may, row % 64);
         let surely = has_bit(must, row % 64);
         let alone = single[cell as usize];

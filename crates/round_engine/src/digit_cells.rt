@@ -3,6 +3,8 @@
 ghost use Rattle.std.specs.Prelude.{◌≡◌, ◌<◌, ◌+◌, ◌*◌, length, min, IfSome, IsTrue};
 ghost use Rattle.kleene_filter.specs.Filters.{truths_under};
 ghost use Rattle.query_model.specs.Answers.{every_row, groups_of};
+ghost use Rattle.query_model.specs.Validity.{IsSumKind};
+ghost use Rattle.digit_sums.specs.Digits.{AreEndsOf};
 ghost use Rattle.row_groups.specs.Partition.{AreCells};
 ghost use Rattle.round_engine.specs.CellAnswers.{HasRoom, IsParted, StandForCells};
 ghost use Rattle.round_engine.specs.DigitCells.{AreDigitSums, AreSomeTold, AreToldByDigits, IsOverColumn, IsTold};
@@ -12,20 +14,24 @@ ghost use Rattle.round_engine.specs.Stages.{IsOpenItem, IsOpenStage};
 
 use crate::compact_cells::is_summed;
 use crate::one_cell::CellMasks;
+use crate::totals::is_column;
+use crate::unread_values::told_values;
 use aggregates::{Running, has_bit};
-use digit_sums::{DigitSums, digit_ends};
+use digit_sums::{DigitEnds, DigitSums, digit_ends};
 use kleene_filter::Filter;
 use known_column::{Known, LentColumns};
 use query_model::{Expr, Item, TypedQuery, pairs_are_few};
 use row_groups::{Cells, FEW_CELLS, cells_tell_keys};
 
-// What is known of a column and of a condition, the cells that the rows are in, and of each cell whether it holds one key.
+// What is known of a column, its ends, what is known of a condition, the cells that the rows are in, and of each cell whether it holds one
+// key.
 #[derive(Clone, Copy)]
-struct ColumnRows<'a> {
-    known: &'a Known,
-    filter: &'a Filter,
-    cells: &'a Cells,
-    single: &'a [bool],
+pub(crate) struct ColumnRows<'a> {
+    pub(crate) known: &'a Known,
+    pub(crate) ends: DigitEnds,
+    pub(crate) filter: &'a Filter,
+    pub(crate) cells: &'a Cells,
+    pub(crate) single: &'a [bool],
 }
 
 // Adds the rows of a block at which the condition holds to a sum over the column, each to the cell that it is in, if it is decided at each
@@ -56,9 +62,11 @@ fn sum_block(
     }
     let mut digits = [0; 64];
     rows.known.numbers(number, &mut digits);
+    let mut cells = [0; 64];
+    rows.cells.read_block(number, &mut cells);
     for row in 64 * number..(64 * number + 64).min(rows.known.rows()) {
         if has_bit(may, row % 64) {
-            let cell = rows.cells.cell_of(row);
+            let cell = u32::from(cells[row % 64]);
             sums.add(cell, digits[row % 64] as u32);
         }
     }
@@ -91,12 +99,39 @@ fn sum_rows(
     true
 }
 
-// The first item that is a sum or an average over a bare column. It affects speed alone which is taken.
-fn first_sum(query: &TypedQuery) -> Option<usize>
+// Adds all rows anew, and says whether that tells each cell. Where it does not, the next time it does.
+fn tell_once(
+    query: &TypedQuery,
+    item: &Item,
+    columns: &LentColumns<'_>,
+    rows: ColumnRows<'_>,
+    sums: &mut DigitSums,
+) -> bool
+    requires open_stage { IsOpenStage (stage_of query.now columns.now) }
+    requires kind { IsSumKind item.now.kind }
+    requires over { IsOverColumn item.now columns.now rows.known.now }
+    requires ends { AreEndsOf rows.known.now rows.ends }
+    requires judged { rows.filter.now.truths ≡ truths_under query.now.pred columns.now }
+    requires parted { IsParted (stage_of query.now columns.now) rows.cells.now rows.single.now }
+    ensures told { IsTrue result → AreToldByDigits (stage_of query.now columns.now) item.now sums.new }
+{
+    if sums.room() != rows.single.len() {
+        return false;
+    }
+    cells_tell_keys();
+    let cells = rows.cells.count();
+    sums.begin(item.kind, rows.ends, cells, rows.single, columns.rows());
+    sum_rows(query, item, columns, rows, sums) && sums.settle()
+}
+
+// The first item that is a sum or an average over a bare column, but for those that counts of rows tell. It affects speed alone which is
+// taken.
+fn first_sum(query: &TypedQuery, columns: &LentColumns<'_>) -> Option<usize>
+    requires { IsOpenStage (stage_of query.now columns.now) }
     ensures { IfSome result (λ item. item < length query.now.items) }
 {
     for (i, item) in query.items.as_slice().iter().enumerate() {
-        if is_summed(item.kind) && matches!(&item.arg, Expr::Column(_)) {
+        if is_summed(item.kind) && is_column(&item.arg) && told_values(item, columns).is_none() {
             return Some(i);
         }
     }
@@ -126,22 +161,22 @@ impl CellMasks {
         let Expr::Column(column) = &item.arg else {
             return false;
         };
-        if !is_summed(item.kind) || filter.unknown() > 0 || self.digits.room() != single.len() {
+        if !is_summed(item.kind) || filter.unknown() > 0 {
             return false;
         }
         let known = columns.column(*column as usize);
         let Some(ends) = digit_ends(known) else {
             return false;
         };
-        cells_tell_keys();
-        self.digits.begin(item.kind, ends, cells.count(), single);
         let rows = ColumnRows {
             known,
+            ends,
             filter,
             cells,
             single,
         };
-        sum_rows(query, item, columns, rows, &mut self.digits)
+        tell_once(query, item, columns, rows, &mut self.digits)
+            || tell_once(query, item, columns, rows, &mut self.digits)
     }
 
     // Makes each cell stand for its rows, where digits tell what the item keeps of them.
@@ -217,7 +252,7 @@ impl CellMasks {
         if cells.count() <= FEW_CELLS {
             return None;
         }
-        let told = first_sum(query)?;
+        let told = first_sum(query, columns)?;
         let item = &query.items.as_slice()[told];
         if !self.tell_digits(query, item, columns, filter, cells, single) {
             return None;

@@ -14,6 +14,7 @@ ghost use Rattle.round_engine.specs.Cells.{absence_in_cell, average_in_cell, bou
 ghost use Rattle.round_engine.specs.Engines.{stage_of};
 ghost use Rattle.round_engine.specs.KeptCells.{AreKeptParts, HaveKeptParts};
 ghost use Rattle.round_engine.specs.OneCell.{HoldMasks};
+ghost use Rattle.round_engine.specs.ReadCells.{WereCells, WereEach};
 ghost use Rattle.round_engine.specs.Stages.{IsGrouped, IsOpenItem, IsOpenStage, Stage};
 
 use crate::cell_filling::fill_cells;
@@ -24,6 +25,7 @@ use crate::moved::{moved_items, moves_rows};
 use crate::one_cell::CellMasks;
 use crate::one_key::tell_single;
 use crate::presence_counts::copy_each;
+use crate::read_cells::ReadRows;
 use crate::totals::is_by_masks;
 use aggregates::Running;
 use kleene_filter::Filter;
@@ -219,6 +221,91 @@ fn fill_each(
     }
 }
 
+// Follows a plane that moves no rows: by what its bits add to a sum where these tell each of many cells, else by adding all rows anew.
+fn read_item(
+    query: &TypedQuery,
+    item: &Item,
+    columns: &LentColumns<'_>,
+    rows: ReadRows<'_>,
+    block: &mut RowBlock,
+    masks: &mut CellMasks,
+    running: &mut Running,
+    kept: &mut KeptParts,
+)
+    requires open_stage { IsOpenStage (stage_of query.now columns.now) }
+    requires open_item { IsOpenItem columns.now.frame item.now }
+    requires judged { rows.filter.now.truths ≡ truths_under query.now.pred columns.now }
+    requires same { block.old.frame.columns ≡ columns.now.frame.columns }
+    requires parted { IsParted (stage_of query.now columns.now) rows.cells.now rows.single.now }
+    requires plane { length rows.plane.now ≡ columns.now.frame.rows }
+    requires masks { HoldMasks columns.now.frame.rows masks.old }
+    requires room { HasRoom (stage_of query.now columns.now) item.now running.old }
+    requires count { length running.old.cells ≡ cells_in (stage_of query.now columns.now) }
+    requires before { WereCells (stage_of query.now columns.now) item.now rows.column rows.plane.now running.old }
+    requires kept { AreKeptParts columns.now item.now kept.old }
+    ensures kept { AreKeptParts columns.now item.now kept.new }
+    ensures same { block.new.frame.columns ≡ columns.now.frame.columns }
+    ensures masks { HoldMasks columns.now.frame.rows masks.new }
+    ensures stand { StandForCells (stage_of query.now columns.now) item.now running.new }
+{
+    if !masks.read_sum(query, item, columns, rows, running) {
+        fill_item(
+            query,
+            item,
+            columns,
+            rows.filter,
+            block,
+            rows.cells,
+            rows.single,
+            masks,
+            running,
+            kept,
+        );
+    }
+}
+
+// Follows such a plane with each marked item.
+fn read_each(
+    query: &TypedQuery,
+    columns: &LentColumns<'_>,
+    rows: ReadRows<'_>,
+    block: &mut RowBlock,
+    marks: &[bool; 16],
+    masks: &mut CellMasks,
+    runnings: &mut [Running],
+    kept: &mut [KeptParts],
+)
+    requires open_stage { IsOpenStage (stage_of query.now columns.now) }
+    requires judged { rows.filter.now.truths ≡ truths_under query.now.pred columns.now }
+    requires same { block.old.frame.columns ≡ columns.now.frame.columns }
+    requires parted { IsParted (stage_of query.now columns.now) rows.cells.now rows.single.now }
+    requires plane { length rows.plane.now ≡ columns.now.frame.rows }
+    requires masks { HoldMasks columns.now.frame.rows masks.old }
+    requires others { StandForOthers (stage_of query.now columns.now) marks.now runnings.old }
+    requires before { WereEach (stage_of query.now columns.now) rows.column rows.plane.now runnings.old }
+    requires kept { HaveKeptParts columns.now query.now.items kept.old }
+    ensures kept { HaveKeptParts columns.now query.now.items kept.new }
+    ensures same { block.new.frame.columns ≡ columns.now.frame.columns }
+    ensures masks { HoldMasks columns.now.frame.rows masks.new }
+    ensures stand { StandForEach (stage_of query.now columns.now) runnings.new }
+{
+    for i in 0..runnings.len() {
+        if marks[i] {
+            let item = &query.items.as_slice()[i];
+            read_item(
+                query,
+                item,
+                columns,
+                rows,
+                block,
+                masks,
+                &mut runnings[i],
+                &mut kept[i],
+            );
+        }
+    }
+}
+
 // What was counted of the rows of each cell, and the item that digits told with it.
 #[derive(Clone, Copy)]
 struct Counted<'a> {
@@ -226,7 +313,8 @@ struct Counted<'a> {
     told: Option<usize>,
 }
 
-// Adds all rows of each item anew. COUNT(*) is told by the rows that were counted of each cell.
+// Adds all rows of each item anew. Counts of what is never null, and items over unread columns, are told by the rows that were counted of
+// each cell.
 fn fill_all(
     query: &TypedQuery,
     columns: &LentColumns<'_>,
@@ -357,7 +445,7 @@ impl Groups {
         }
     }
 
-    // Follows the columns after a plane of one of them: what it moves is added anew.
+    // Follows the columns after a plane of one of them: what it moves is added anew, or told by its bits.
     pub(crate) fn refresh(
         &mut self,
         query: &TypedQuery,
@@ -381,13 +469,18 @@ impl Groups {
         } else {
             others_leave_cells();
             let moved = moved_items(query, column);
-            fill_each(
+            let rows = ReadRows {
+                column,
+                plane,
+                filter,
+                cells: &self.cells,
+                single: &self.single,
+            };
+            read_each(
                 query,
                 columns,
-                filter,
+                rows,
                 block,
-                &self.cells,
-                &self.single,
                 &moved,
                 &mut self.masks,
                 &mut self.runnings,

@@ -36,14 +36,17 @@ mod presence_counts;
 mod progress;
 mod ranking;
 mod rankings;
+mod read_cells;
 mod readers;
 mod roles;
 mod row_masks;
 mod row_sums;
 mod selection;
+mod sort_keys;
 mod state;
 mod sum_ends;
 mod totals;
+mod unread_values;
 
 pub use engine::Engine;
 pub use engine_view::EngineView;

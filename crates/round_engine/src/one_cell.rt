@@ -16,7 +16,7 @@ ghost use Rattle.round_engine.specs.Stages.{IsOpenItem, IsOpenStage};
 use crate::kept_cells::KeptCells;
 use crate::selection::{Selected, Selection, select_all};
 use aggregates::{CellCounts, CellSums, Running, Tally};
-use digit_sums::DigitSums;
+use digit_sums::{CellOnes, DigitSums};
 use kleene_filter::Filter;
 use known_column::LentColumns;
 use plane_kernels::Mask;
@@ -33,6 +33,7 @@ pub(crate) struct CellMasks {
     pub(crate) counts: CellCounts,
     pub(crate) sums: CellSums,
     pub(crate) digits: DigitSums,
+    pub(crate) ones: CellOnes,
 }
 
 impl<'a> Selected<'a> {
@@ -88,6 +89,7 @@ impl CellMasks {
             counts: CellCounts::open(alloc, cells)?,
             sums: CellSums::open(alloc, cells)?,
             digits: DigitSums::open(alloc, cells)?,
+            ones: CellOnes::open(alloc, cells)?,
         })
     }
 

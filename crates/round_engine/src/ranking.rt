@@ -6,11 +6,12 @@ ghost use Rattle.query_model.specs.Meaning.{columns_of_pred};
 ghost use Rattle.round_engine.specs.Engines.{stage_of};
 ghost use Rattle.round_engine.specs.Narrowness.{is_narrow};
 ghost use Rattle.round_engine.specs.Rankings.{HoldsOrder, IsRanking, WasRanking};
-ghost use Rattle.round_engine.specs.Stages.{IsOpenStage, Stage};
+ghost use Rattle.round_engine.specs.Stages.{IsOpenStage};
 
 use kleene_filter::{Filter, pred_reads};
 use known_column::LentColumns;
 use plane_kernels::Plane;
+use plane_schedule::Nearness;
 use query_model::TypedQuery;
 use std::alloc::{AllocError, Global};
 use topk_bounds::{TopK, searches_go_on, standings_stand};
@@ -85,10 +86,20 @@ impl Ranking {
         }
     }
 
-    // Whether it is known of each row whether it is among the first.
-    pub(crate) fn is_narrow(&self, width: u64) -> bool
-        ensures { (stage : Stage) → IsRanking stage self.now → result ≡ is_narrow width stage }
+    // Whether it is known of each row whether it is among the first, and where keys are answers too, those of the first are near.
+    pub(crate) fn is_narrow(
+        &self,
+        near: Nearness,
+        query: &TypedQuery,
+        columns: &LentColumns<'_>,
+    ) -> bool
+        requires open_stage { IsOpenStage (stage_of query.now columns.now) }
+        requires ranking { IsRanking (stage_of query.now columns.now) self.now }
+        ensures { result ≡ is_narrow near (stage_of query.now columns.now) }
     {
-        self.top.possible().count() == 0
+        if self.top.possible().count() != 0 {
+            return false;
+        }
+        !near.keys || self.keys_are_near(near.width, columns)
     }
 }

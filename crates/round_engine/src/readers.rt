@@ -16,7 +16,7 @@ ghost use Rattle.round_engine.specs.Promises.{IsCertainAverage, IsCertainBound, 
 
 use crate::engine_view::EngineView;
 use interval_calc::Interval;
-use plane_schedule::Progress;
+use plane_schedule::{Nearness, Progress};
 use query_model::{
     AverageBound, Bound, Nullity, Truth, average_bounds_become_exact_on_tables,
     average_bounds_contain_on_tables, bounds_are_extremes_on_tables, bounds_become_exact_on_tables,
@@ -61,12 +61,15 @@ impl EngineView<'_> {
         self.follower.state.answers.totals().average(item)
     }
 
-    /// Whether each item's answer is known to be there or not, and where it is there, the ends of its bound are at most so far apart.
-    pub fn narrow(&self, width: u64) -> bool
-        requires { width < 2 ^ 63 }
-        ensures { result ≡ is_narrow width self.now }
+    /// Whether each answer is known to be there or not, and where it is there, the ends of its bound are at most so far apart.
+    pub fn narrow(&self, near: Nearness) -> bool
+        requires { near.width < 2 ^ 63 }
+        ensures { result ≡ is_narrow near self.now }
     {
-        self.follower.state.answers.is_narrow(width)
+        self.follower
+            .state
+            .answers
+            .is_narrow(near, &self.follower.query, &self.columns)
     }
 
     /// How far the query has come.

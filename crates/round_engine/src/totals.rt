@@ -27,6 +27,7 @@ use crate::row_masks::RowMasks;
 use aggregates::{Running, Tally};
 use kleene_filter::Filter;
 use known_column::{LentColumns, RowBlock};
+use plane_schedule::Nearness;
 use product_sums::KeptProduct;
 use query_model::{AverageBound, Bound, Expr, Item, ItemKind, Nullity, TypedQuery, pairs_are_few};
 use row_values::BlockValues;
@@ -429,14 +430,14 @@ impl Totals {
     }
 
     // Whether the bound of each item is narrow.
-    pub(crate) fn is_narrow(&self, width: u64) -> bool
+    pub(crate) fn is_narrow(&self, near: Nearness) -> bool
         requires totals { AreSomeTotals self.now.bounds.items }
-        requires width { width < 2 ^ 63 }
-        ensures { (stage : Stage) → stage.query.shape ≡ Plain → AreTotals stage self.now.bounds.items → result ≡ is_narrow width stage }
+        requires width { near.width < 2 ^ 63 }
+        ensures { (stage : Stage) → stage.query.shape ≡ Plain → AreTotals stage self.now.bounds.items → result ≡ is_narrow near stage }
     {
         pairs_are_few();
         for bound in &self.bounds {
-            if !bound.is_narrow(width) {
+            if !bound.is_narrow(near.width) {
                 return false;
             }
         }

@@ -1,6 +1,7 @@
-use Rattle.std.proofs.Common.{◌≡◌, ◌+◌, ◌*◌, ◌%◌, ◌<◌, get_or, slice_get, true, false, refl, ap, sym, subst, ◌∙◌, arith}
+use Rattle.std.proofs.Common.{◌≡◌, ℕ, ◌+◌, ◌*◌, ◌%◌, ◌<◌, length, length-take, map, get_or, slice_get, true, false, refl, ap, sym, subst, ◌∙◌, arith}
 use Rattle.aggregates.proofs.Adding.{taken_same}
-use Rattle.digit_sums.specs.Digits.{AreEndsOf, high_by, low_by, pair_by}
+use Rattle.aggregates.specs.Runnings.{Tallies}
+use Rattle.digit_sums.specs.Digits.{AreEndsOf, AreOf, DigitTallies, high_by, low_by, pair_by, tally_by}
 use Rattle.kleene_filter.specs.Filters.{is_certain, is_possible}
 use Rattle.known_column.specs.Columns.{count_in_block, number_of, rows_of_column}
 use Rattle.plane_kernels.specs.Rows.{digit_at}
@@ -13,12 +14,18 @@ use Rattle.round_engine.specs.Cells.{cells_in}
 use Rattle.round_engine.specs.Engines.{stage_of}
 use Rattle.round_engine.proofs.CellKept.{parted_rows}
 use Rattle.round_engine.proofs.CellPairs.{filter_words, stand_as_before, stand_more}
-use Rattle.round_engine.proofs.CellRows.{cell_counted, cell_is, cell_single}
+use Rattle.round_engine.proofs.CellRows.{block_cell, cell_counted, cell_is, cell_single}
 use Rattle.round_engine.proofs.CompactCells.{may_count, own_counted, pair_told}
 use Rattle.round_engine.proofs.DigitCells.{column_never, column_span, digits_fit, digits_small, digits_span}
 use Rattle.round_engine.proofs.RowPairs.{rows_of_mask}
 use Rattle.round_engine.proofs.digit_cells.sum_block.Goals as goal
 use Rattle.round_engine.proofs.digit_cells.sum_block.Goals.{then-has_bit, else-has_bit}
+
+-- a cell that is counted is one of those of which something is kept
+cell_within : (sums : DigitTallies) (tallies : Tallies) (count cell : ℕ) → AreOf sums tallies → length tallies.cells ≡ count → cell < count → cell < sums.count
+cell_within sums tallies count cell are long below =
+    let taken = length-take sums.count (map (tally_by sums.ends) are.cells) in
+    omega (arith, below, long, taken, ap (λ (t : Tallies). length t.cells) are.are)
 
 pub word-may-requires : goal.word-may-requires
 word-may-requires c = omega (arith, c.requires.number, rows_of_mask is_possible c.may.result.now c.args.rows.filter.now.truths c.args.query.now.pred c.args.columns.now c.may.ensures c.requires.judged)
@@ -26,10 +33,10 @@ word-may-requires c = omega (arith, c.requires.number, rows_of_mask is_possible 
 pub word-must-requires : goal.word-must-requires
 word-must-requires c = omega (arith, c.requires.number, rows_of_mask is_certain c.must.result.now c.args.rows.filter.now.truths c.args.query.now.pred c.args.columns.now c.must.ensures c.requires.judged)
 
-pub cell_of-cell-requires : goal.cell_of-cell-requires
-cell_of-cell-requires c =
+pub read_block-requires : goal.read_block-requires
+read_block-requires c =
     let rows = c.requires.over.rows in
-    omega (arith, rows, parted_rows (stage_of c.args.query.now c.args.columns.now) c.args.rows.cells.now c.args.rows.single.now c.requires.parted)
+    omega (arith, c.requires.number, parted_rows (stage_of c.args.query.now c.args.columns.now) c.args.rows.cells.now c.args.rows.single.now c.requires.parted)
 
 pub overflow_cast-digits : goal.overflow_cast-digits
 overflow_cast-digits c =
@@ -45,15 +52,34 @@ overflow_cast-digits c =
     let small = digits_small known c.loop-row.sums.ends c.loop-row.invariant.ends c.rows.ensures.known row within n is in
     record { fits = omega (arith, small) }
 
+pub add-requires-clause-cell : goal.add-requires-clause-cell
+add-requires-clause-cell c =
+    let stage = stage_of c.args.query.now c.args.columns.now in
+    let cells = c.args.rows.cells.now in
+    let rows = c.requires.over.rows in
+    let row = c.loop-row.row in
+    let within : row < c.args.columns.now.frame.rows = omega (arith, rows) in
+    let there = block_cell cells.cells c.args.number row c.read_block.new.block c.from-cell.result c.read_block.ensures (omega (arith, rows, parted_rows stage cells c.args.rows.single.now c.requires.parted)) (omega arith) (omega arith) c.from-cell.ensures in
+    let counted = cell_counted stage cells c.args.rows.single.now c.requires.parted c.requires.open_stage.knowledge row within c.from-cell.result there in
+    let inv = c.loop-row.invariant in
+    cell_within c.loop-row.sums inv.tallies (cells_in stage) c.from-cell.result inv.are inv.stand.cells counted
+
 pub add-requires-clause-room : goal.add-requires-clause-room
 add-requires-clause-room c =
     let stage = stage_of c.args.query.now c.args.columns.now in
+    let cells = c.args.rows.cells.now in
     let kept = c.requires.open_stage in
     let rows = c.requires.over.rows in
     let row = c.loop-row.row in
     let within : row < c.args.columns.now.frame.rows = omega (arith, rows) in
-    let counted = cell_counted stage c.args.rows.cells.now c.args.rows.single.now c.requires.parted kept.knowledge row within c.cell_of-cell.result c.cell_of-cell.ensures.cell in
-    may_count c.pairs_are_few.ensures stage c.args.item.now row c.cell_of-cell.result c.loop-row.sums.tallies within kept.open_query.few_rows counted c.loop-row.invariant.stand
+    let there = block_cell cells.cells c.args.number row c.read_block.new.block c.from-cell.result c.read_block.ensures (omega (arith, rows, parted_rows stage cells c.args.rows.single.now c.requires.parted)) (omega arith) (omega arith) c.from-cell.ensures in
+    let counted = cell_counted stage cells c.args.rows.single.now c.requires.parted kept.knowledge row within c.from-cell.result there in
+    let inv = c.loop-row.invariant in
+    record {
+      tallies = inv.tallies;
+      are = inv.are;
+      may = may_count c.pairs_are_few.ensures stage c.args.item.now row c.from-cell.result inv.tallies within kept.open_query.few_rows counted inv.stand;
+    }
 
 pub add-requires-clause-digits : goal.add-requires-clause-digits
 add-requires-clause-digits c =
@@ -100,22 +126,27 @@ loop-row-preserved c =
     let surely = c.has_bit.ensures ∙ ap (digit_at r) same ∙ words.must_bit r here ∙ ap (λ k. is_certain (truth_of query.pred (ranges_of columns.frame columns.known k))) place in
     elim c.if-has_bit.branch [
       | then-has_bit w ↦
-          (let cell = w.cell_of-cell.result in
-          let there = w.cell_of-cell.ensures.cell in
+          (let cell = w.from-cell.result in
+          let there = block_cell cells.cells number row c.read_block.new.block cell c.read_block.ensures (omega (arith, inside, parted_rows stage cells single c.requires.parted)) (omega arith) (omega arith) w.from-cell.ensures in
           let counted = cell_counted stage cells single c.requires.parted kept.knowledge row inside cell there in
           let sure : slice_get sums.certain cell ≡ _ = ap (λ l. slice_get l cell) inv.certain ∙ taken_same (cells_in stage) single cell counted ∙ cell_single stage cells single c.requires.parted kept.knowledge row inside c.cells_tell_keys.ensures cell there in
           let is = number_there known number c.numbers.new.numbers r c.numbers.ensures below ∙ ap (λ k. number_of known.ends known.known.read (get_or known.known.prefixes k 0)) place in
           let span : span_of item.arg ranges ≡ record { low = low_by sums.ends n; high = high_by sums.ends n } = column_span item columns known over row ∙ digits_span known sums.ends inv.ends c.rows.ensures.known row within n is in
           let own = ap (pair_told true alone) (sym span) ∙ own_counted query item columns row true true alone never (sym w.if-has_bit.true ∙ perhaps) (sym w.if-has_bit.true ∙ surely) refl in
+          let grown = w.add.ensures.added alone sure inv.tallies inv.are in
           rw w.sums-is (record {
-            stand = stand_more stage item row cell (cell_is stage cells single c.requires.parted kept.knowledge row inside cell there) sums.tallies w.add.new.self.tallies (pair_by sums.ends alone n) inv.stand (w.add.ensures.added alone sure) (sym own);
+            tallies = grown.tallies;
+            are = grown.are;
+            stand = stand_more stage item row cell (cell_is stage cells single c.requires.parted kept.knowledge row inside cell there) inv.tallies grown.tallies (pair_by sums.ends alone n) inv.stand grown.added (sym own);
             ends = subst (AreEndsOf known) (sym w.add.ensures.ends) inv.ends;
             certain = w.add.ensures.certain ∙ inv.certain;
           }))
       | else-has_bit w ↦
           (let none = own_counted query item columns row false false alone never (sym w.if-has_bit.false ∙ perhaps) (sym w.if-has_bit.false ∙ surely) refl in
           rw w.sums-is (record {
-            stand = stand_as_before stage item row sums.tallies inv.stand (sym none);
+            tallies = inv.tallies;
+            are = inv.are;
+            stand = stand_as_before stage item row inv.tallies inv.stand (sym none);
             ends = inv.ends;
             certain = inv.certain;
           }))

@@ -32,11 +32,13 @@ loop-number-preserved c =
           (let from : min (64 * number) rows ≡ 64 * number = omega (arith, within) in
           let end : 64 * number + count_in_block number rows ≡ min (64 * (number + 1)) rows = omega (arith, within) in
           rw w.sums-is (record {
+            tallies = before.tallies;
+            are = before.are;
             stand =
-                subst (λ n. StandBelow stage item n c.loop-number.sums.tallies) end
-                (stand_past stage item c.loop-number.sums.tallies (64 * number) (count_in_block number rows)
+                subst (λ n. StandBelow stage item n before.tallies) end
+                (stand_past stage item before.tallies (64 * number) (count_in_block number rows)
                 (λ r below. none_passes query item columns c.args.rows.filter.now.truths number r c.may.result.now c.word.result c.requires.judged c.may.ensures c.word.ensures w.if-word-ne0.false below)
-                (subst (λ n. StandBelow stage item n c.loop-number.sums.tallies) from before.stand));
+                (subst (λ n. StandBelow stage item n before.tallies) from before.stand));
             ends = before.ends;
             certain = before.certain;
           }))

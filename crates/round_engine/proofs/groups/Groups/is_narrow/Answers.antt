@@ -6,8 +6,8 @@ use Rattle.round_engine.proofs.groups.Groups.is_narrow.Goals as goal
 
 pub loop-cell-preserved : goal.loop-cell-preserved
 loop-cell-preserved c = λ stage are.
-    cells_more (is_narrow_cell c.args.width stage) c.loop-cell.cell (c.loop-cell.invariant stage are) (sym (c.is_narrow_cell.ensures stage are) ∙ c.if-not-is_narrow_cell.false)
+    cells_more (is_narrow_cell c.args.near.width stage) c.loop-cell.cell (c.loop-cell.invariant stage are) (sym (c.is_narrow_cell.ensures stage are) ∙ c.if-not-is_narrow_cell.false)
 
 pub returns-then-not-is_narrow_cell : goal.returns-then-not-is_narrow_cell
 returns-then-not-is_narrow_cell c = λ stage are.
-    sym (narrow_cells c.args.width stage are.grouped ∙ not_all_cells (is_narrow_cell c.args.width stage) c.loop-cell.cell (cells_in stage) (subst (λ n. c.loop-cell.cell < n) (c.count-cell-end.ensures stage are) c.loop-cell-test.true) (sym (c.is_narrow_cell.ensures stage are) ∙ c.if-not-is_narrow_cell.true))
+    sym (narrow_cells c.args.near stage are.grouped ∙ not_all_cells (is_narrow_cell c.args.near.width stage) c.loop-cell.cell (cells_in stage) (subst (λ n. c.loop-cell.cell < n) (c.count-cell-end.ensures stage are) c.loop-cell-test.true) (sym (c.is_narrow_cell.ensures stage are) ∙ c.if-not-is_narrow_cell.true))
