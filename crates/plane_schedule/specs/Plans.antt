@@ -7,6 +7,8 @@ use Rattle.daq_table.specs.Tables.{Frame, ends_at, planes}
 use Rattle.plane_schedule.specs.declared.policy.Ending.{Ending}
 use Rattle.plane_schedule.specs.declared.policy.Ending.TheVariants.{Narrow, Rounds, Reads}
 use Rattle.plane_schedule.specs.declared.policy.Extras.{Extras}
+use Rattle.plane_schedule.specs.declared.policy.Listing.TheVariants.{Certain}
+use Rattle.plane_schedule.specs.declared.policy.Nearness.{Nearness}
 use Rattle.plane_schedule.specs.declared.policy.Plan.{Plan}
 use Rattle.plane_schedule.specs.declared.policy.Policy.{Policy}
 use Rattle.plane_schedule.specs.declared.policies.FixedPolicy.TheVariants.{Widest}
@@ -47,6 +49,14 @@ ending_of plan narrow round = first_ending narrow (is_most plan.most round) (is_
 abbrev pub no_extras : Extras
 no_extras = record { clip = false; exact = false }
 
+-- each answer is one number, and no key is an answer
+abbrev pub exact_answers : Nearness
+exact_answers = record { width = 0; keys = false }
+
+-- so many rows at most are listed where few are
+abbrev pub few_rows : ℕ
+few_rows = 100000
+
 -- each time the widest column, until each answer is one number
 abbrev pub widest_plan : Plan
-widest_plan = record { policy = By Widest; width = 0; most = None; list = false; extras = no_extras }
+widest_plan = record { policy = By Widest; near = exact_answers; most = None; listing = Certain; extras = no_extras }

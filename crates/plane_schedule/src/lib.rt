@@ -10,5 +10,5 @@ mod progress;
 pub use chooser::Chooser;
 pub use laws::{choices_are_one, policies_choose};
 pub use policies::{FixedPolicy, balanced, choose, filter_first, in_order, listed, widest};
-pub use policy::{Ending, Extras, Plan, Policy};
+pub use policy::{Ending, Extras, FEW_ROWS, Listing, Nearness, Plan, Policy};
 pub use progress::{Progress, Role};

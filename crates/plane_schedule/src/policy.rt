@@ -1,7 +1,7 @@
 //! Plans of rounds: by which policy columns are read, and how far.
 
 ghost use Rattle.std.specs.Prelude.{◌≡◌};
-ghost use Rattle.plane_schedule.specs.Plans.{ending_of, is_list_end, is_most, no_extras, widest_plan};
+ghost use Rattle.plane_schedule.specs.Plans.{ending_of, exact_answers, is_list_end, is_most, no_extras, widest_plan};
 
 use crate::policies::FixedPolicy;
 use query_model::Columns;
@@ -22,14 +22,36 @@ pub struct Extras {
     pub exact: bool,
 }
 
-/// A policy, how far apart the ends of a narrow bound may be, and the number of the last round that is wanted, if any. Where rows
-/// are asked in an order, `list` says whether possible rows are listed too. `extras` says which lines a block has besides.
+/// When a round is narrow: how far apart the ends of its answers may be, and, where rows are asked in an order, whether the keys of
+/// the first rows are answers too.
+#[derive(Clone, Copy, Debug, PartialEq, Eq)]
+pub struct Nearness {
+    pub width: u64,
+    pub keys: bool,
+}
+
+/// So many rows at most are listed where few are.
+pub const FEW_ROWS: usize = 100_000;
+
+/// Which rows a block lists, where rows are asked in an order.
+#[derive(Clone, Copy, Debug, PartialEq, Eq)]
+pub enum Listing {
+    /// Those that are among the first for certain.
+    Certain,
+    /// Those that may be among the first, too.
+    All,
+    /// The same where these are at most `FEW_ROWS` in all, else none.
+    Few,
+}
+
+/// A policy, when a round is narrow, and the number of the last round that is wanted, if any. Where rows are asked in an order,
+/// `listing` says which of them a block lists. `extras` says which lines a block has besides.
 #[derive(Drop, Debug)]
 pub struct Plan {
     pub policy: Policy,
-    pub width: u64,
+    pub near: Nearness,
     pub most: Option<u32>,
-    pub list: bool,
+    pub listing: Listing,
     pub extras: Extras,
 }
 
@@ -53,6 +75,18 @@ impl Policy {
     }
 }
 
+impl Nearness {
+    /// Each answer is one number, and no key is an answer.
+    pub fn exact() -> Nearness
+        ensures { result ≡ exact_answers }
+    {
+        Nearness {
+            width: 0,
+            keys: false,
+        }
+    }
+}
+
 impl Extras {
     /// No line besides.
     pub fn none() -> Extras
@@ -66,15 +100,16 @@ impl Extras {
 }
 
 impl Plan {
-    /// Each time the widest column, until each answer is one number, and no line besides those of the items' bounds.
+    /// Each time the widest column, until each answer is one number. Certain rows alone are listed, and no line stands besides those of
+    /// the items' bounds.
     pub fn widest() -> Plan
         ensures { result ≡ widest_plan }
     {
         Plan {
             policy: Policy::By(FixedPolicy::Widest),
-            width: 0,
+            near: Nearness::exact(),
             most: None,
-            list: false,
+            listing: Listing::Certain,
             extras: Extras::none(),
         }
     }
