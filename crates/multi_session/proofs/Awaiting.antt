@@ -1,4 +1,5 @@
 -- Which column of a query a plane goes to, and what its refusal says of others.
+use Rattle.plane_schedule.specs.declared.policy.Nearness.{Nearness}
 use Rattle.std.proofs.Common.{◌≡◌, ◌≢◌, ℕ, ◌+◌, ◌<◌, ◌≤◌, ◌==◌, Bool, true, false, if◌then◌else◌, Option, Some, None, List, length, get_or, refl, sym, ◌∙◌, subst, arith, IsFalse, slice_index}
 use Rattle.std.proofs.lemmas.Bool.{eqb-true, eq-eqb}
 use Rattle.std.proofs.lemmas.Grind.{common_steps}
@@ -16,8 +17,8 @@ if_some : (b : Bool) (o : Option ℕ) (c : ℕ) → (if b then None else o) ≡ 
 if_some true o c e = cc
 if_some false o c e = (refl, e)
 
-pub awaited_own : (width place : ℕ) (stage : Stage) (c : ℕ) → awaited width place stage ≡ Some c → IsFalse (is_narrow width stage) × (own_column stage.query place ≡ Some c)
-awaited_own width place stage c e = if_some (is_narrow width stage) (own_column stage.query place) c e
+pub awaited_own : (near : Nearness) (place : ℕ) (stage : Stage) (c : ℕ) → awaited near place stage ≡ Some c → IsFalse (is_narrow near stage) × (own_column stage.query place ≡ Some c)
+awaited_own near place stage c e = if_some (is_narrow near stage) (own_column stage.query place) c e
 
 -- the query's number of a column is that of this column
 pub own_there : (columns : List ℕ) (place c : ℕ) → position (λ column. column == place) columns ≡ Some c → (c < length columns) × (slice_index columns c ≡ place)

@@ -1,4 +1,5 @@
 -- Each step is read by some query, so there are no more steps than reads of all queries.
+use Rattle.plane_schedule.specs.declared.policy.Nearness.{Nearness}
 use Rattle.std.proofs.Common.{◌≡◌, ℕ, zero, suc, ◌+◌, ◌^◌, ◌<◌, ◌≤◌, Bool, Option, Some, None, List, [], ◌∷◌, length, map, get_or, set, refl, sym, ap, ◌∙◌, subst, arith, sum, sum_by, slice_get}
 use Rattle.std.proofs.lemmas.List.{get_or-map, length-map, map-set}
 use Rattle.std.proofs.lemmas.List.Sums.{sum_by-cons, sum_by-le, sum_by-set}
@@ -55,9 +56,9 @@ abbrev pub reads_of : Stage → ℕ
 reads_of stage = planes_read stage.known
 
 -- so there are few steps
-pub few_steps : (width steps : ℕ) (places : List ℕ) (table : KnownTable) (members : List Member) → All (IsMember width steps places table) members → length members ≤ 16 →
+pub few_steps : (near : Nearness) (steps : ℕ) (places : List ℕ) (table : KnownTable) (members : List Member) → All (IsMember near steps places table) members → length members ≤ 16 →
     steps ≤ sum_by reads_of (stages_of table members) → steps + 1 < 2 ^ 32
-few_steps width steps places table members each sixteen counted =
+few_steps near steps places table members each sixteen counted =
     let all = sum_by-le reads_of 1040 (stages_of table members) few in
     let long = length-map members (stage_in table) in
     omega (arith, all, sixteen, counted, long)
@@ -65,7 +66,7 @@ few_steps width steps places table members each sixteen counted =
     few : (k : ℕ) (d : Stage) → k < length (stages_of table members) → reads_of (get_or (stages_of table members) k d) ≤ 1040
     few = by members each
       where
-        by : (ms : List Member) → All (IsMember width steps places table) ms → (k : ℕ) (d : Stage) → k < length (stages_of table ms) → reads_of (get_or (stages_of table ms) k d) ≤ 1040
+        by : (ms : List Member) → All (IsMember near steps places table) ms → (k : ℕ) (d : Stage) → k < length (stages_of table ms) → reads_of (get_or (stages_of table ms) k d) ≤ 1040
         by [] each k d h = absurd (omega arith)
         by (m ∷ ms) each zero d h = (let is = each 0 m (omega arith) in few_read (stage_in table m) is.open_stage is.few)
         by (m ∷ ms) each (suc k) d h = by ms (λ j e i. each (suc j) e (omega arith)) k d (omega arith)
@@ -75,42 +76,42 @@ few_steps width steps places table members each sixteen counted =
 columns_known : (stage : Stage) → IsOpenStage stage → (c : ℕ) → c < length stage.query.columns → c < length stage.known
 columns_known stage is c h = let a = is.open_query.columns in let b = is.knowledge.columns in omega (arith, a, b)
 
-module _ (width place : ℕ) (bits : List Bool) where
-  follows_none : (s : Stage) → awaited width place s ≡ None → reads_of (followed width place bits s) ≡ reads_of s
+module _ (near : Nearness) (place : ℕ) (bits : List Bool) where
+  follows_none : (s : Stage) → awaited near place s ≡ None → reads_of (followed near place bits s) ≡ reads_of s
   follows_none s e = ap (λ o. reads_of (option_map_or (λ c. stepped s c bits) o s)) e
 
-  follows_some : (s : Stage) → IsOpenStage s → (own : ℕ) → awaited width place s ≡ Some own → reads_of (followed width place bits s) ≡ reads_of s + 1
+  follows_some : (s : Stage) → IsOpenStage s → (own : ℕ) → awaited near place s ≡ Some own → reads_of (followed near place bits s) ≡ reads_of s + 1
   follows_some s is own e =
-      let (wide, here) = awaited_own width place s own e in
+      let (wide, here) = awaited_own near place s own e in
       let there = own_there s.query.columns place own here in
       ap (λ o. reads_of (option_map_or (λ c. stepped s c bits) o s)) e ∙ one_more_read s.known own bits (columns_known s is own there.0)
 
-  no_less : (s : Stage) → IsOpenStage s → reads_of s ≤ reads_of (followed width place bits s)
-  no_less s is = by (awaited width place s) refl
+  no_less : (s : Stage) → IsOpenStage s → reads_of s ≤ reads_of (followed near place bits s)
+  no_less s is = by (awaited near place s) refl
     where
-      by : (o : Option ℕ) → awaited width place s ≡ o → reads_of s ≤ reads_of (followed width place bits s)
+      by : (o : Option ℕ) → awaited near place s ≡ o → reads_of s ≤ reads_of (followed near place bits s)
       by None e = let same = follows_none s e in omega (arith, same)
       by (Some own) e = let more = follows_some s is own e in omega (arith, more)
 
-  all_read : (stages : List Stage) → All IsOpenStage stages → sum_by reads_of stages ≤ sum_by reads_of (map (followed width place bits) stages)
+  all_read : (stages : List Stage) → All IsOpenStage stages → sum_by reads_of stages ≤ sum_by reads_of (map (followed near place bits) stages)
   all_read [] each = omega arith
   all_read (s ∷ ss) each =
       let first = no_less s (each 0 s (omega arith)) in
       let rest = all_read ss (λ k d h. each (suc k) d (omega arith)) in
-      omega (arith, first, rest, sum_by-cons reads_of s ss, sum_by-cons reads_of (followed width place bits s) (map (followed width place bits) ss))
+      omega (arith, first, rest, sum_by-cons reads_of s ss, sum_by-cons reads_of (followed near place bits s) (map (followed near place bits) ss))
 
   -- a plane that some query awaits is one more read
-  pub one_more_step : (stages : List Stage) → All IsOpenStage stages → (k : ℕ) (stage : Stage) (own : ℕ) → slice_get stages k ≡ Some stage → awaited width place stage ≡ Some own →
-      sum_by reads_of stages + 1 ≤ sum_by reads_of (map (followed width place bits) stages)
+  pub one_more_step : (stages : List Stage) → All IsOpenStage stages → (k : ℕ) (stage : Stage) (own : ℕ) → slice_get stages k ≡ Some stage → awaited near place stage ≡ Some own →
+      sum_by reads_of stages + 1 ≤ sum_by reads_of (map (followed near place bits) stages)
   one_more_step [] each k stage own there waits = cc
   one_more_step (s ∷ ss) each zero stage own there waits =
-      let first = follows_some s (each 0 s (omega arith)) own (ap (awaited width place) (same_Some s stage there) ∙ waits) in
+      let first = follows_some s (each 0 s (omega arith)) own (ap (awaited near place) (same_Some s stage there) ∙ waits) in
       let rest = all_read ss (λ k d h. each (suc k) d (omega arith)) in
-      omega (arith, first, rest, sum_by-cons reads_of s ss, sum_by-cons reads_of (followed width place bits s) (map (followed width place bits) ss))
+      omega (arith, first, rest, sum_by-cons reads_of s ss, sum_by-cons reads_of (followed near place bits s) (map (followed near place bits) ss))
   one_more_step (s ∷ ss) each (suc k) stage own there waits =
       let first = no_less s (each 0 s (omega arith)) in
       let rest = one_more_step ss (λ j d h. each (suc j) d (omega arith)) k stage own there waits in
-      omega (arith, first, rest, sum_by-cons reads_of s ss, sum_by-cons reads_of (followed width place bits s) (map (followed width place bits) ss))
+      omega (arith, first, rest, sum_by-cons reads_of s ss, sum_by-cons reads_of (followed near place bits s) (map (followed near place bits) ss))
 
 -- ---- the reads of a query
 

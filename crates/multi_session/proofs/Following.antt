@@ -1,4 +1,5 @@
 -- A query of a session follows its columns: a plane that it awaits is one of a column of its own, and no other plane changes where it stands.
+use Rattle.plane_schedule.specs.declared.policy.Nearness.{Nearness}
 use Rattle.std.proofs.Common.{◌≡◌, ◌≢◌, ◌⊎◌, inl, inr, ℕ, ◌+◌, ◌<◌, ◌≤◌, ◌==◌, Bool, true, false, if◌then◌else◌, Option, Some, None, List, length, map, get_or, set, refl, sym, ap, ◌∙◌, subst, arith, IsFalse, IsTrue, slice_index, is_some}
 use Rattle.std.proofs.lemmas.Bool.{cases_eq}
 use Rattle.std.proofs.lemmas.List.{get_or-map, get_or-set_other, get_or-set_same, get_or_read, length-map, length-set}
@@ -66,8 +67,8 @@ some_own : (b : Bool) (o : Option ℕ) (own : ℕ) → (if b then None else o) �
 some_own true o own e = cc
 some_own false o own e = (refl, e)
 
-module _ (width steps column : ℕ) (places : List ℕ) (bits : List Bool) (before : KnownTable) (m : Member) (columns : AreColumns places before)
-    (legal : CanTake before.frame before.known column bits) (is : IsMember width steps places before m) where
+module _ (near : Nearness) (steps column : ℕ) (places : List ℕ) (bits : List Bool) (before : KnownTable) (m : Member) (columns : AreColumns places before)
+    (legal : CanTake before.frame before.known column bits) (is : IsMember near steps places before m) where
   inside : column < length places
   inside = let here = legal.column in let all = columns.count in omega (arith, here, all)
 
@@ -79,9 +80,9 @@ module _ (width steps column : ℕ) (places : List ℕ) (bits : List Bool) (befo
   same_stage = ap (stage_of m.follower.query) (table_still before column bits columns.known legal m.numbers.items m.counts.items is.counts is.taken)
 
   -- what it awaits
-  pub waits_for : awaited width (slice_index places column) (stage_in (read_column before column bits) m)
+  pub waits_for : awaited near (slice_index places column) (stage_in (read_column before column bits) m)
       ≡ (if m.finished then None else own_column m.follower.query (slice_index places column))
-  waits_for = ap (λ b. if b then None else own_column m.follower.query (slice_index places column)) (ap (is_narrow width) same_stage ∙ sym is.finished)
+  waits_for = ap (λ b. if b then None else own_column m.follower.query (slice_index places column)) (ap (is_narrow near) same_stage ∙ sym is.finished)
 
   further : (c : ℕ) → c < length m.numbers.items → slice_index m.counts.items c ≤ (known_at (read_column before column bits).known (slice_index m.numbers.items c)).read
   further c h = by (cases_eq (slice_index m.numbers.items c) column)
@@ -115,7 +116,7 @@ module _ (width steps column : ℕ) (places : List ℕ) (bits : List Bool) (befo
       }
 
   pub not_handed : (if m.finished then None else own_column m.follower.query (slice_index places column)) ≡ None →
-      WasHanded width (steps + 1) (slice_index places column) places bits (read_column before column bits) m m
+      WasHanded near (steps + 1) (slice_index places column) places bits (read_column before column bits) m m
   not_handed none =
       let waits = waits_for ∙ none in
       let stage = stage_in (read_column before column bits) m in
@@ -130,7 +131,7 @@ module _ (width steps column : ℕ) (places : List ℕ) (bits : List Bool) (befo
           taken = further;
           open_stage = subst IsOpenStage (sym same_stage) is.open_stage;
           few = is.few;
-          finished = is.finished ∙ sym (ap (is_narrow width) same_stage);
+          finished = is.finished ∙ sym (ap (is_narrow near) same_stage);
           past = (let past = is.past in omega (arith, past));
           abreast = still_abreast none;
         };
@@ -195,7 +196,7 @@ module _ (width steps column : ℕ) (places : List ℕ) (bits : List Bool) (befo
         follows = subst (λ v. Follows (lent_table (read_column before column bits) v.items) next.follower) (sym numbered) follows;
       }
 
-      next_stage : stage_in (read_column before column bits) next ≡ followed width (slice_index places column) bits (stage_in (read_column before column bits) m)
+      next_stage : stage_in (read_column before column bits) next ≡ followed near (slice_index places column) bits (stage_in (read_column before column bits) m)
       next_stage =
           stage_now (read_column before column bits) next now_abreast
           ∙ ap (λ v. stage_of next.follower.query (lent_table (read_column before column bits) v.items)) numbered
@@ -205,7 +206,7 @@ module _ (width steps column : ℕ) (places : List ℕ) (bits : List Bool) (befo
           ∙ sym (ap (λ o. option_map_or (λ c. stepped (stage_in (read_column before column bits) m) c bits) o (stage_in (read_column before column bits) m)) (waits_for ∙ awaits))
 
       pub was_handed : next.moved ≡ steps + 1 → IsOpenStage (stage_in (read_column before column bits) next) →
-          WasHanded width (steps + 1) (slice_index places column) places bits (read_column before column bits) m (judged width (read_column before column bits) next)
+          WasHanded near (steps + 1) (slice_index places column) places bits (read_column before column bits) m (judged near (read_column before column bits) next)
       was_handed moved is_open = record {
         stage = next_stage;
         moved = moved ∙ sym (ap (λ o. if is_some o then steps + 1 else m.moved) (waits_for ∙ awaits));
@@ -228,18 +229,18 @@ module _ (width steps column : ℕ) (places : List ℕ) (bits : List Bool) (befo
 
 -- ---- a member that was not handed the plane yet
 
-module _ (width step column : ℕ) (places : List ℕ) (bits : List Bool) (table : KnownTable) (m : Member) (behind : IsBehind width step column places bits table m)
+module _ (near : Nearness) (step column : ℕ) (places : List ℕ) (bits : List Bool) (table : KnownTable) (m : Member) (behind : IsBehind near step column places bits table m)
     (place : ℕ) (there : place ≡ slice_index places column) where
   at_place : (o : Option ℕ) → o ≡ (if m.finished then None else own_column m.follower.query place) → o ≡ (if m.finished then None else own_column m.follower.query (slice_index places column))
   at_place o e = e ∙ ap (λ p. if m.finished then None else own_column m.follower.query p) there
 
   -- it does not await it
   pub is_passed : (o : Option ℕ) → o ≡ (if m.finished then None else own_column m.follower.query place) → o ≡ None →
-      WasHanded width step (slice_index places column) places bits table m m
+      WasHanded near step (slice_index places column) places bits table m m
   is_passed o e none =
-      subst (λ t. WasHanded width step (slice_index places column) places bits t m m) (sym behind.read)
-      (subst (λ n. WasHanded width n (slice_index places column) places bits (read_column behind.before column bits) m m) (sym behind.next)
-      (not_handed width behind.steps column places bits behind.before m behind.columns behind.legal behind.kept (sym (at_place o e) ∙ none)))
+      subst (λ t. WasHanded near step (slice_index places column) places bits t m m) (sym behind.read)
+      (subst (λ n. WasHanded near n (slice_index places column) places bits (read_column behind.before column bits) m m) (sym behind.next)
+      (not_handed near behind.steps column places bits behind.before m behind.columns behind.legal behind.kept (sym (at_place o e) ∙ none)))
 
   -- it awaits it as one of a column of its own
   module _ (o : Option ℕ) (e : o ≡ (if m.finished then None else own_column m.follower.query place)) (own : ℕ) (some : o ≡ Some own) where
@@ -247,7 +248,7 @@ module _ (width step column : ℕ) (places : List ℕ) (bits : List Bool) (table
     awaits_it = sym (at_place o e) ∙ some
 
     own_here : (own < length m.numbers.items) × (slice_index m.numbers.items own ≡ column)
-    own_here = here width behind.steps column places bits behind.before m behind.columns behind.legal behind.kept own awaits_it
+    own_here = here near behind.steps column places bits behind.before m behind.columns behind.legal behind.kept own awaits_it
 
     lent_is : (given : KnownTable) → given ≡ lent_table table m.numbers.items → given ≡ lent_table (read_column behind.before column bits) m.numbers.items
     lent_is given is = is ∙ ap (λ t. lent_table t m.numbers.items) behind.read
@@ -255,7 +256,7 @@ module _ (width step column : ℕ) (places : List ℕ) (bits : List Bool) (table
     pub may_refresh : (given : KnownTable) → given ≡ lent_table table m.numbers.items → HasFollowed given own bits m.follower
     may_refresh given is =
         subst (λ t. HasFollowed t own bits m.follower) (sym (lent_is given is))
-        (has_followed width behind.steps column places bits behind.before m behind.columns behind.legal behind.kept own awaits_it)
+        (has_followed near behind.steps column places bits behind.before m behind.columns behind.legal behind.kept own awaits_it)
 
     counts_below : own < length m.counts.items
     counts_below = let below = own_here.0 in let all = behind.kept.counts in omega (arith, below, all)
@@ -264,7 +265,7 @@ module _ (width step column : ℕ) (places : List ℕ) (bits : List Bool) (table
     pub few_counted : (n : ℕ) → n ≡ get_or m.counts.items own n → n + 1 ≤ 65
     few_counted n is =
         let counts : n ≡ (known_at behind.before.known column).read =
-        get_or_read m.counts.items own n counts_below is 0 ∙ counted width behind.steps column places bits behind.before m behind.columns behind.legal behind.kept own awaits_it in
+        get_or_read m.counts.items own n counts_below is 0 ∙ counted near behind.steps column places bits behind.before m behind.columns behind.legal behind.kept own awaits_it in
         let unread = behind.legal.unread in
         let same : ends_at (lent_table behind.before m.numbers.items).frame own ≡ ends_at behind.before.frame column =
         ap (λ (k : KnownColumn). k.ends) (lent_column behind.before m.numbers.items own own_here.0) ∙ ap (ends_at behind.before.frame) own_here.1 in
@@ -284,11 +285,11 @@ module _ (width step column : ℕ) (places : List ℕ) (bits : List Bool) (table
       pub is_abreast : IsAbreast table next
       is_abreast =
           subst (λ t. IsAbreast t next) (sym behind.read)
-          (now_abreast width behind.steps column places bits behind.before m behind.columns behind.legal behind.kept own awaits_it next numbered counting_is queried follows_it)
+          (now_abreast near behind.steps column places bits behind.before m behind.columns behind.legal behind.kept own awaits_it next numbered counting_is queried follows_it)
 
-      pub is_handed : next.moved ≡ step → IsOpenStage (stage_in table next) → WasHanded width step (slice_index places column) places bits table m (judged width table next)
+      pub is_handed : next.moved ≡ step → IsOpenStage (stage_in table next) → WasHanded near step (slice_index places column) places bits table m (judged near table next)
       is_handed moved is_open =
-          subst (λ t. WasHanded width step (slice_index places column) places bits t m (judged width t next)) (sym behind.read)
-          (subst (λ k. WasHanded width k (slice_index places column) places bits (read_column behind.before column bits) m (judged width (read_column behind.before column bits) next)) (sym behind.next)
-          (was_handed width behind.steps column places bits behind.before m behind.columns behind.legal behind.kept own awaits_it next numbered counting_is queried follows_it
+          subst (λ t. WasHanded near step (slice_index places column) places bits t m (judged near t next)) (sym behind.read)
+          (subst (λ k. WasHanded near k (slice_index places column) places bits (read_column behind.before column bits) m (judged near (read_column behind.before column bits) next)) (sym behind.next)
+          (was_handed near behind.steps column places bits behind.before m behind.columns behind.legal behind.kept own awaits_it next numbered counting_is queried follows_it
           (moved ∙ behind.next) (subst (λ t. IsOpenStage (stage_in t next)) behind.read is_open)))

@@ -1,4 +1,5 @@
 -- The queries that await a plane, among the stages of a session: the first of them, and what each knows of the column.
+use Rattle.plane_schedule.specs.declared.policy.Nearness.{Nearness}
 use Rattle.std.proofs.Common.{◌≡◌, ◌⊎◌, inl, inr, ℕ, zero, suc, ◌+◌, ◌-◌, ◌<◌, ◌≤◌, Bool, true, if◌then◌else◌, is_some, Option, Some, None, option_map, List, [], ◌∷◌, length, get_or, refl, sym, ap, ◌∙◌, subst, arith, slice_get, slice_index}
 use Rattle.std.proofs.lemmas.Option.{same_Some, slice_get-get_or, slice_get-map, slice_get_cases}
 use Rattle.std.proofs.lemmas.List.{length-map}
@@ -18,52 +19,52 @@ use Rattle.multi_session.proofs.Following.{column_now, own_number}
 
 -- ---- the first query that awaits a plane
 
-pub record Found (width place : ℕ) (stages : List Stage) : Type 0 where
+pub record Found (near : Nearness) (place : ℕ) (stages : List Stage) : Type 0 where
   pub number : ℕ
   pub stage : Stage
   pub own : ℕ
   pub there : slice_get stages number ≡ Some stage
-  pub waits : awaited width place stage ≡ Some own
-  pub unread : unread_of stage own ≡ unread_in width place stages
+  pub waits : awaited near place stage ≡ Some own
+  pub unread : unread_of stage own ≡ unread_in near place stages
 
-found_first : (width place own : ℕ) (s : Stage) (ss : List Stage) → awaited width place s ≡ Some own → Found width place (s ∷ ss)
-found_first width place own s ss e = record {
+found_first : (near : Nearness) (place own : ℕ) (s : Stage) (ss : List Stage) → awaited near place s ≡ Some own → Found near place (s ∷ ss)
+found_first near place own s ss e = record {
   number = 0;
   stage = s;
   own = own;
   there = refl;
   waits = e;
-  unread = sym (ap (λ o. option_map_or (unread_of s) o (unread_in width place ss)) e);
+  unread = sym (ap (λ o. option_map_or (unread_of s) o (unread_in near place ss)) e);
 }
 
-found_later : (width place : ℕ) (s : Stage) (ss : List Stage) → awaited width place s ≡ None → Found width place ss → Found width place (s ∷ ss)
-found_later width place s ss e rest = record {
+found_later : (near : Nearness) (place : ℕ) (s : Stage) (ss : List Stage) → awaited near place s ≡ None → Found near place ss → Found near place (s ∷ ss)
+found_later near place s ss e rest = record {
   number = suc rest.number;
   stage = rest.stage;
   own = rest.own;
   there = rest.there;
   waits = rest.waits;
-  unread = rest.unread ∙ sym (ap (λ o. option_map_or (unread_of s) o (unread_in width place ss)) e);
+  unread = rest.unread ∙ sym (ap (λ o. option_map_or (unread_of s) o (unread_in near place ss)) e);
 }
 
 -- where a plane is unread
-pub found : (width place : ℕ) (stages : List Stage) → 0 < unread_in width place stages → Found width place stages
-found width place [] some = absurd (omega arith)
-found width place (s ∷ ss) some = by (awaited width place s) refl (found width place ss)
+pub found : (near : Nearness) (place : ℕ) (stages : List Stage) → 0 < unread_in near place stages → Found near place stages
+found near place [] some = absurd (omega arith)
+found near place (s ∷ ss) some = by (awaited near place s) refl (found near place ss)
   where
-    by : (o : Option ℕ) → awaited width place s ≡ o → (0 < unread_in width place ss → Found width place ss) → Found width place (s ∷ ss)
-    by None e later = found_later width place s ss e (later (subst (λ n. 0 < n) (ap (λ o. option_map_or (unread_of s) o (unread_in width place ss)) e) some))
-    by (Some own) e later = found_first width place own s ss e
+    by : (o : Option ℕ) → awaited near place s ≡ o → (0 < unread_in near place ss → Found near place ss) → Found near place (s ∷ ss)
+    by None e later = found_later near place s ss e (later (subst (λ n. 0 < n) (ap (λ o. option_map_or (unread_of s) o (unread_in near place ss)) e) some))
+    by (Some own) e later = found_first near place own s ss e
 
 -- where some query awaits one
-pub found_with : (width place : ℕ) (stages : List Stage) (k : ℕ) (stage : Stage) (own : ℕ) → slice_get stages k ≡ Some stage → awaited width place stage ≡ Some own → Found width place stages
-found_with width place [] k stage own there waits = cc
-found_with width place (s ∷ ss) zero stage own there waits = found_first width place own s ss (ap (awaited width place) (same_Some s stage there) ∙ waits)
-found_with width place (s ∷ ss) (suc k) stage own there waits = by (awaited width place s) refl (found_with width place ss k stage own there waits)
+pub found_with : (near : Nearness) (place : ℕ) (stages : List Stage) (k : ℕ) (stage : Stage) (own : ℕ) → slice_get stages k ≡ Some stage → awaited near place stage ≡ Some own → Found near place stages
+found_with near place [] k stage own there waits = cc
+found_with near place (s ∷ ss) zero stage own there waits = found_first near place own s ss (ap (awaited near place) (same_Some s stage there) ∙ waits)
+found_with near place (s ∷ ss) (suc k) stage own there waits = by (awaited near place s) refl (found_with near place ss k stage own there waits)
   where
-    by : (o : Option ℕ) → awaited width place s ≡ o → Found width place ss → Found width place (s ∷ ss)
-    by None e later = found_later width place s ss e later
-    by (Some first) e later = found_first width place first s ss e
+    by : (o : Option ℕ) → awaited near place s ≡ o → Found near place ss → Found near place (s ∷ ss)
+    by None e later = found_later near place s ss e later
+    by (Some first) e later = found_first near place first s ss e
 
 -- ---- the member behind a stage
 
@@ -108,10 +109,10 @@ pub record IsColumn (table : KnownTable) (column : ℕ) (stage : Stage) (own : �
   pub rows : stage.frame.rows ≡ table.frame.rows
 
 -- a query that awaits a plane of a column knows of it what the session does
-pub awaits_column : (width steps column : ℕ) (places : List ℕ) (table : KnownTable) (m : Member) → AreColumns places table → column < length places →
-    IsMember width steps places table m → (own : ℕ) → awaited width (slice_index places column) (stage_in table m) ≡ Some own → IsColumn table column (stage_in table m) own
-awaits_column width steps column places table m columns inside is own waits =
-    let (wide, here) = awaited_own width (slice_index places column) (stage_in table m) own waits in
+pub awaits_column : (near : Nearness) (steps column : ℕ) (places : List ℕ) (table : KnownTable) (m : Member) → AreColumns places table → column < length places →
+    IsMember near steps places table m → (own : ℕ) → awaited near (slice_index places column) (stage_in table m) ≡ Some own → IsColumn table column (stage_in table m) own
+awaits_column near steps column places table m columns inside is own waits =
+    let (wide, here) = awaited_own near (slice_index places column) (stage_in table m) own waits in
     let at : IsAbreast table m = is.abreast (inl (is.finished ∙ wide)) in
     let (below, number) = own_number places m.numbers.items m.follower.query.columns column is.named columns.once inside is.inside own here in
     record {
@@ -123,21 +124,21 @@ awaits_column width steps column places table m columns inside is own waits =
 abbrev pub left_of : KnownColumn → ℕ
 left_of k = planes k.ends - k.known.read
 
-module _ (width steps column : ℕ) (places : List ℕ) (table : KnownTable) (members : List Member) (columns : AreColumns places table) (inside : column < length places)
-    (each : All (IsMember width steps places table) members) where
+module _ (near : Nearness) (steps column : ℕ) (places : List ℕ) (table : KnownTable) (members : List Member) (columns : AreColumns places table) (inside : column < length places)
+    (each : All (IsMember near steps places table) members) where
   -- all that await it
-  pub all_columns : (k : ℕ) (stage : Stage) → slice_get (stages_of table members) k ≡ Some stage → (own : ℕ) → awaited width (slice_index places column) stage ≡ Some own → IsColumn table column stage own
-  all_columns = of_each table members (λ stage. (own : ℕ) → awaited width (slice_index places column) stage ≡ Some own → IsColumn table column stage own)
-      (λ k d h. awaits_column width steps column places table (get_or members k d) columns inside (each k d h))
+  pub all_columns : (k : ℕ) (stage : Stage) → slice_get (stages_of table members) k ≡ Some stage → (own : ℕ) → awaited near (slice_index places column) stage ≡ Some own → IsColumn table column stage own
+  all_columns = of_each table members (λ stage. (own : ℕ) → awaited near (slice_index places column) stage ≡ Some own → IsColumn table column stage own)
+      (λ k d h. awaits_column near steps column places table (get_or members k d) columns inside (each k d h))
 
   -- have as many planes of it unread
-  pub first_unread : Found width (slice_index places column) (stages_of table members) → unread_in width (slice_index places column) (stages_of table members) ≡ left_of (column_at table column)
+  pub first_unread : Found near (slice_index places column) (stages_of table members) → unread_in near (slice_index places column) (stages_of table members) ≡ left_of (column_at table column)
   first_unread f = sym f.unread ∙ ap left_of (all_columns f.number f.stage f.there f.own f.waits).same
 
-  pub unread_alike : (k : ℕ) (stage : Stage) → slice_get (stages_of table members) k ≡ Some stage → (own : ℕ) → awaited width (slice_index places column) stage ≡ Some own →
-      unread_in width (slice_index places column) (stages_of table members) ≡ unread_of stage own
+  pub unread_alike : (k : ℕ) (stage : Stage) → slice_get (stages_of table members) k ≡ Some stage → (own : ℕ) → awaited near (slice_index places column) stage ≡ Some own →
+      unread_in near (slice_index places column) (stages_of table members) ≡ unread_of stage own
   unread_alike k stage there own waits =
-      first_unread (found_with width (slice_index places column) (stages_of table members) k stage own there waits)
+      first_unread (found_with near (slice_index places column) (stages_of table members) k stage own there waits)
       ∙ sym (ap left_of (all_columns k stage there own waits).same)
 
 -- a plane that the session's column takes is one that the query's column takes
@@ -161,41 +162,41 @@ first_over table column stage own row bits is rows over = record {
 
 -- ---- what a member is asked
 
-module _ (width steps : ℕ) (places : List ℕ) (table : KnownTable) (m : Member) (is : IsMember width steps places table m) (place : ℕ) where
+module _ (near : Nearness) (steps : ℕ) (places : List ℕ) (table : KnownTable) (m : Member) (is : IsMember near steps places table m) (place : ℕ) where
   -- what it awaits is what its stage awaits
-  pub awaits_is : (o : Option ℕ) → o ≡ (if m.finished then None else own_column m.follower.query place) → awaited width place (stage_in table m) ≡ o
+  pub awaits_is : (o : Option ℕ) → o ≡ (if m.finished then None else own_column m.follower.query place) → awaited near place (stage_in table m) ≡ o
   awaits_is o e = sym (e ∙ ap (λ b. if b then None else own_column m.follower.query place) is.finished)
 
 some_of : (o : Option ℕ) → is_some o ≡ true → (own : ℕ) × (o ≡ Some own)
 some_of None e = cc
 some_of (Some own) e = (own, refl)
 
-module _ (width steps column : ℕ) (places : List ℕ) (table : KnownTable) (members : List Member) (columns : AreColumns places table) (inside : column < length places)
-    (each : All (IsMember width steps places table) members) (k : ℕ) (m : Member) (below : k < length members) (is : m ≡ get_or members k m)
+module _ (near : Nearness) (steps column : ℕ) (places : List ℕ) (table : KnownTable) (members : List Member) (columns : AreColumns places table) (inside : column < length places)
+    (each : All (IsMember near steps places table) members) (k : ℕ) (m : Member) (below : k < length members) (is : m ≡ get_or members k m)
     (place : ℕ) (there : place ≡ slice_index places column) (o : Option ℕ) (asked : o ≡ (if m.finished then None else own_column m.follower.query place)) (some : is_some o ≡ true) where
-  member : IsMember width steps places table m
-  member = subst (IsMember width steps places table) (sym is) (each k m below)
+  member : IsMember near steps places table m
+  member = subst (IsMember near steps places table) (sym is) (each k m below)
 
   own : (own : ℕ) × (o ≡ Some own)
   own = some_of o some
 
-  waits : awaited width (slice_index places column) (stage_in table m) ≡ Some own.0
-  waits = sym (ap (λ p. awaited width p (stage_in table m)) there) ∙ awaits_is width steps places table m member place o asked ∙ own.1
+  waits : awaited near (slice_index places column) (stage_in table m) ≡ Some own.0
+  waits = sym (ap (λ p. awaited near p (stage_in table m)) there) ∙ awaits_is near steps places table m member place o asked ∙ own.1
 
   stands : slice_get (stages_of table members) k ≡ Some (stage_in table m)
   stands = slice_get-map (stage_in table) members k ∙ ap (option_map (stage_in table)) (slice_get-get_or members k m below ∙ ap Some (sym is))
 
   -- the unread planes of the column, where a member awaits one
   pub unread_here : (unread : ℕ) → unread + (known_at table.known column).read ≡ planes (ends_at table.frame column) →
-      unread ≡ unread_in width (slice_index places column) (stages_of table members)
+      unread ≡ unread_in near (slice_index places column) (stages_of table members)
   unread_here unread e =
-      let first = first_unread width steps column places table members columns inside each (found_with width (slice_index places column) (stages_of table members) k (stage_in table m) own.0 stands waits) in
+      let first = first_unread near steps column places table members columns inside each (found_with near (slice_index places column) (stages_of table members) k (stage_in table m) own.0 stands waits) in
       omega (arith, e, first)
 
   -- are few
   pub few_here : (unread : ℕ) → unread + (known_at table.known column).read ≡ planes (ends_at table.frame column) → unread ≤ 65
   few_here unread e =
-      let here = awaits_column width steps column places table m columns inside member own.0 waits in
+      let here = awaits_column near steps column places table m columns inside member own.0 waits in
       let few = member.few own.0 here.inside in
       let same : planes (ends_at (stage_in table m).frame own.0) ≡ planes (ends_at table.frame column) = ap (λ (k : KnownColumn). planes k.ends) here.same in
       omega (arith, e, few, same)

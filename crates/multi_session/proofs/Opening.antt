@@ -1,4 +1,5 @@
 -- A query of which nothing is read is a member of the session.
+use Rattle.plane_schedule.specs.declared.policy.Nearness.{Nearness}
 use Rattle.std.proofs.Common.{◌≡◌, ℕ, zero, suc, ◌^◌, ◌<◌, ◌≤◌, ◌==◌, true, List, [], ◌∷◌, ◌++◌, length, map, replicate, get_or, refl, sym, ap, ◌∙◌, subst, arith, slice_index, IsTrue}
 use Rattle.std.proofs.lemmas.Bool.{eq-eqb}
 use Rattle.std.proofs.lemmas.List.{get_or-map, get_or-replicate, get_or_default, length-map, length-replicate, map-append}
@@ -102,10 +103,10 @@ module _ (head : Head) (places : List ℕ) where
       let none = ap (λ (k : ColumnKnowledge). k.read) (unread_there (projected_frame query (frame_of head)) c h) in
       omega (arith, all, few, none)
 
-  pub opened_is : (width : ℕ) (table : KnownTable) (query : Query) (p : Progress) (m : Member) → IsValid head query → AreUnread head places table → IsAbreast table m →
+  pub opened_is : (near : Nearness) (table : KnownTable) (query : Query) (p : Progress) (m : Member) → IsValid head query → AreUnread head places table → IsAbreast table m →
       All (λ n. n < length places) m.numbers.items → query.columns ≡ map (slice_index places) m.numbers.items → m.follower.query ≡ query → m.moved ≡ 0 →
-      IsProgress (stage_in table m) p → IsOpenStage (stage_in table m) → IsOpened query head width places table (judged width table m)
-  opened_is width table query p m valid none abreast inside named is unmoved progress is_open = record {
+      IsProgress (stage_in table m) p → IsOpenStage (stage_in table m) → IsOpened query head near places table (judged near table m)
+  opened_is near table query p m valid none abreast inside named is unmoved progress is_open = record {
     stage = stage;
     unmoved = unmoved;
     kept = record {
@@ -128,17 +129,17 @@ module _ (head : Head) (places : List ℕ) where
 -- ---- all queries
 
 -- one query more is opened
-opened_more : (queries : List Query) (query : Query) (head : Head) (width : ℕ) (places : List ℕ) (table : KnownTable) (members new : List Member) (m : Member) →
-    AreOpened queries head width places table members → new ≡ members ++ m ∷ [] → IsOpened query head width places table m →
-    AreOpened (queries ++ query ∷ []) head width places table new
-opened_more queries query head width places table members new m are pushed is = record {
+opened_more : (queries : List Query) (query : Query) (head : Head) (near : Nearness) (places : List ℕ) (table : KnownTable) (members new : List Member) (m : Member) →
+    AreOpened queries head near places table members → new ≡ members ++ m ∷ [] → IsOpened query head near places table m →
+    AreOpened (queries ++ query ∷ []) head near places table new
+opened_more queries query head near places table members new m are pushed is = record {
   stages = ap (stages_of table) pushed
       ∙ map-append (stage_in table) members (m ∷ [])
       ∙ ap (λ ss. ss ++ stage_in table m ∷ []) are.stages
       ∙ ap (λ s. map (λ q. opened q head) queries ++ s ∷ []) is.stage
       ∙ sym (map-append (λ (q : Query). opened q head) queries (query ∷ []));
   unmoved = subst (All (λ (n : Member). n.moved ≡ 0)) (sym pushed) (All-push (λ (n : Member). n.moved ≡ 0) members m are.unmoved is.unmoved);
-  each = subst (All (IsMember width 0 places table)) (sym pushed) (All-push (IsMember width 0 places table) members m are.each is.kept);
+  each = subst (All (IsMember near 0 places table)) (sym pushed) (All-push (IsMember near 0 places table) members m are.each is.kept);
 }
 
 -- ---- the next query
@@ -153,33 +154,33 @@ all_parts P (y ∷ ys) x all =
     let (rest, last) = all_parts P ys x (λ k d h. all (suc k) d (omega arith)) in
     (cons P y ys (all 0 y (omega arith)) rest, last)
 
-pub open_more : (queries : List Query) (query : Query) (width : ℕ) (places : List ℕ) (table : KnownTable) (members new : List Member) (m : Member) →
-    ((head : Head) → All (IsValid head) queries → AreUnread head places table → AreOpened queries head width places table members) →
-    new ≡ members ++ m ∷ [] → ((head : Head) → IsValid head query → AreUnread head places table → IsOpened query head width places table m) →
-    (head : Head) → All (IsValid head) (queries ++ query ∷ []) → AreUnread head places table → AreOpened (queries ++ query ∷ []) head width places table new
-open_more queries query width places table members new m before pushed opens head valid none =
+pub open_more : (queries : List Query) (query : Query) (near : Nearness) (places : List ℕ) (table : KnownTable) (members new : List Member) (m : Member) →
+    ((head : Head) → All (IsValid head) queries → AreUnread head places table → AreOpened queries head near places table members) →
+    new ≡ members ++ m ∷ [] → ((head : Head) → IsValid head query → AreUnread head places table → IsOpened query head near places table m) →
+    (head : Head) → All (IsValid head) (queries ++ query ∷ []) → AreUnread head places table → AreOpened (queries ++ query ∷ []) head near places table new
+open_more queries query near places table members new m before pushed opens head valid none =
     let (rest, last) = all_parts (IsValid head) queries query valid in
-    opened_more queries query head width places table members new m (before head rest none) pushed (opens head last none)
+    opened_more queries query head near places table members new m (before head rest none) pushed (opens head last none)
 
 all_zero : (members : List Member) → All (λ (m : Member). m.moved ≡ 0) members → map (λ (m : Member). m.moved == 0) members ≡ replicate (length members) true
 all_zero [] zeros = refl
 all_zero (m ∷ ms) zeros = rw (eq-eqb m.moved 0 (zeros 0 m (omega arith)), all_zero ms (λ k d h. zeros (suc k) d (omega arith))) refl
 
-module _ (queries : List Query) (head : Head) (width : ℕ) (places : List ℕ) (table : KnownTable) (members : List Member) (are : AreOpened queries head width places table members) where
+module _ (queries : List Query) (head : Head) (near : Nearness) (places : List ℕ) (table : KnownTable) (members : List Member) (are : AreOpened queries head near places table members) where
   count_of : length members ≡ length queries
   count_of = sym (length-map members (stage_in table)) ∙ ap length are.stages ∙ length-map queries (λ (q : Query). opened q head)
 
   -- so a session is opened
-  pub session_is : places ≡ columns_named queries → AreUnread head places table → session_of width places table members 0 ≡ session_opened queries head width
+  pub session_is : places ≡ columns_named queries → AreUnread head places table → session_of near places table members 0 ≡ session_opened queries head near
   session_is named none =
       let moved : map (λ (m : Member). m.moved == 0) members ≡ replicate (length queries) true = all_zero members are.unmoved ∙ ap (λ n. replicate n true) count_of in
-      ap (λ cs. session_of width cs table members 0) named
-      ∙ ap (λ (r : ℕ). record { width = width; rows = r; columns = columns_named queries; stages = stages_of table members; moved = map (λ (m : Member). m.moved == 0) members; steps = 0 }) (ap (λ t. t.frame.rows) none)
-      ∙ ap (λ ss. record { width = width; rows = head.rows; columns = columns_named queries; stages = ss; moved = map (λ (m : Member). m.moved == 0) members; steps = 0 }) are.stages
-      ∙ ap (λ ms. record { width = width; rows = head.rows; columns = columns_named queries; stages = map (λ q. opened q head) queries; moved = ms; steps = 0 }) moved
+      ap (λ cs. session_of near cs table members 0) named
+      ∙ ap (λ (r : ℕ). record { near = near; rows = r; columns = columns_named queries; stages = stages_of table members; moved = map (λ (m : Member). m.moved == 0) members; steps = 0 }) (ap (λ t. t.frame.rows) none)
+      ∙ ap (λ ss. record { near = near; rows = head.rows; columns = columns_named queries; stages = ss; moved = map (λ (m : Member). m.moved == 0) members; steps = 0 }) are.stages
+      ∙ ap (λ ms. record { near = near; rows = head.rows; columns = columns_named queries; stages = map (λ q. opened q head) queries; moved = ms; steps = 0 }) moved
 
   -- and keeps what a session does
-  pub session_opens : width < 2 ^ 63 → AreColumns places table → length places ≤ 16 → length queries ≤ 16 → IsSession width places table members 0
+  pub session_opens : near.width < 2 ^ 63 → AreColumns places table → length places ≤ 16 → length queries ≤ 16 → IsSession near places table members 0
   session_opens small columns few_columns few_queries = record {
     narrow = small;
     columns = columns;
@@ -190,8 +191,8 @@ module _ (queries : List Query) (head : Head) (width : ℕ) (places : List ℕ) 
   }
 
 -- nothing is read, so each query stands where it would alone
-pub stands_at_first : (queries : List Query) (head : Head) (width : ℕ) → StandsFor queries head [] (session_opened queries head width)
-stands_at_first queries head width = record { stages = refl; count = refl }
+pub stands_at_first : (queries : List Query) (head : Head) (near : Nearness) → StandsFor queries head [] (session_opened queries head near)
+stands_at_first queries head near = record { stages = refl; count = refl }
 
 -- ---- the columns of the session
 

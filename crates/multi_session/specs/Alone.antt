@@ -1,5 +1,6 @@
 -- A query of a session alone: where it stands depends on the planes of its own reads, whatever other queries there are.
-use Rattle.std.specs.Prelude.{◌≡◌, ℕ, List, [], ◌∷◌, length, map, if◌then◌else◌}
+use Rattle.plane_schedule.specs.declared.policy.Nearness.{Nearness}
+use Rattle.std.specs.Prelude.{◌≡◌, List, [], ◌∷◌, length, map, if◌then◌else◌}
 use Rattle.std.specs.List.{filter_map}
 use Rattle.std.specs.Prelude.{option_map}
 use Rattle.std.specs.declared.option.Option.{Option}
@@ -19,25 +20,25 @@ abbrev pub own_steps : Query → List Step → List Step
 own_steps query steps = filter_map (own_step query) steps
 
 -- those up to the first narrow round
-abbrev pub until_narrow : ℕ → Stage → List Step → List Step
-until_narrow width stage [] = []
-until_narrow width stage (step ∷ steps) =
-    if is_narrow width stage then [] else step ∷ until_narrow width (stepped stage step.column step.bits) steps
+abbrev pub until_narrow : Nearness → Stage → List Step → List Step
+until_narrow near stage [] = []
+until_narrow near stage (step ∷ steps) =
+    if is_narrow near stage then [] else step ∷ until_narrow near (stepped stage step.column step.bits) steps
 
 -- the query's own reads among those of the session: those of its columns up to its first narrow round. It would read these if it were
 -- asked alone, so what is known of it is said without the other queries
-abbrev pub own_reads : ℕ → Head → List Step → Query → List Step
-own_reads width head steps query = until_narrow width (opened query head) (own_steps query steps)
+abbrev pub own_reads : Nearness → Head → List Step → Query → List Step
+own_reads near head steps query = until_narrow near (opened query head) (own_steps query steps)
 
 -- a stage after some planes, in order
 abbrev pub stage_after : Stage → List Step → Stage
 stage_after stage steps = record { query = stage.query; frame = stage.frame; known = known_after stage.known steps }
 
 -- the query alone, after the planes of its own reads
-abbrev pub alone : ℕ → Head → List Step → Query → Stage
-alone width head steps query = stage_after (opened query head) (own_reads width head steps query)
+abbrev pub alone : Nearness → Head → List Step → Query → Stage
+alone near head steps query = stage_after (opened query head) (own_reads near head steps query)
 
 -- the session stands for these steps over a table with that head: each of its queries stands where it would alone
 pub record StandsFor (queries : List Query) (head : Head) (steps : List Step) (s : Session) : Type 0 where
-  pub stages : s.stages ≡ map (alone s.width head steps) queries
+  pub stages : s.stages ≡ map (alone s.near head steps) queries
   pub count : s.steps ≡ length steps

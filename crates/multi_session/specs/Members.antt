@@ -1,4 +1,5 @@
 -- What a session keeps: what is known of its columns, once for all queries, and of each query how far it has followed them.
+use Rattle.plane_schedule.specs.declared.policy.Nearness.{Nearness}
 use Rattle.std.specs.Prelude.{◌≡◌, ◌⊎◌, ℕ, ◌+◌, ◌-◌, ◌/◌, ◌^◌, ◌<◌, ◌≤◌, ◌==◌, Bool}
 use Rattle.std.specs.Prelude.{List, length, map, slice_index, slice_index_or, sum_by, is_some, IsTrue, IsFalse, if◌then◌else◌}
 use Rattle.std.specs.List.{All}
@@ -82,7 +83,7 @@ abbrev pub HasFewPlanes : Stage → Type 0
 HasFewPlanes stage = (c : ℕ) → c < length stage.frame.columns → planes (ends_at stage.frame c) ≤ 65
 
 -- a query after so many steps of a session of the columns at these places
-pub record IsMember (width steps : ℕ) (places : List ℕ) (table : KnownTable) (member : Member) : Type 0 where
+pub record IsMember (near : Nearness) (steps : ℕ) (places : List ℕ) (table : KnownTable) (member : Member) : Type 0 where
   pub inside : All (λ number. number < length places) member.numbers.items
   pub named : member.follower.query.columns ≡ map (slice_index places) member.numbers.items
   pub distinct : IsTrue (no_repeats member.follower.query.columns)
@@ -91,23 +92,23 @@ pub record IsMember (width steps : ℕ) (places : List ℕ) (table : KnownTable)
       slice_index member.counts.items c ≤ (known_at table.known (slice_index member.numbers.items c)).read
   pub open_stage : IsOpenStage (stage_in table member)
   pub few : HasFewPlanes (stage_in table member)
-  pub finished : member.finished ≡ is_narrow width (stage_in table member)
+  pub finished : member.finished ≡ is_narrow near (stage_in table member)
   pub past : member.moved ≤ steps
   pub abreast : IsCurrent steps member → IsAbreast table member
 
 -- the same, where it was found whether it is finished
-abbrev pub judged : ℕ → KnownTable → Member → Member
-judged width table member = record {
+abbrev pub judged : Nearness → KnownTable → Member → Member
+judged near table member = record {
   follower = member.follower;
   numbers = member.numbers;
   counts = member.counts;
-  finished = is_narrow width (stage_in table member);
+  finished = is_narrow near (stage_in table member);
   moved = member.moved;
 }
 
 -- the queries of a session, after some steps
-abbrev pub AreSomeMembers : ℕ → List ℕ → KnownTable → List Member → Type 0
-AreSomeMembers width places table members = AreColumns places table × ((steps : ℕ) × All (IsMember width steps places table) members)
+abbrev pub AreSomeMembers : Nearness → List ℕ → KnownTable → List Member → Type 0
+AreSomeMembers near places table members = AreColumns places table × ((steps : ℕ) × All (IsMember near steps places table) members)
 
 -- a query that can be opened: its columns are some of these, of which nothing is read in tables for which it is valid
 pub record IsReady (places : List ℕ) (table : KnownTable) (query : Query) : Type 0 where
@@ -117,49 +118,51 @@ pub record IsReady (places : List ℕ) (table : KnownTable) (query : Query) : Ty
   pub unread : AreUnread head places table
 
 -- nothing is read, and no step was done
-pub record IsOpened (query : Query) (head : Head) (width : ℕ) (places : List ℕ) (table : KnownTable) (member : Member) : Type 0 where
+pub record IsOpened (query : Query) (head : Head) (near : Nearness) (places : List ℕ) (table : KnownTable) (member : Member) : Type 0 where
   pub stage : stage_in table member ≡ opened query head
   pub unmoved : member.moved ≡ 0
-  pub kept : IsMember width 0 places table member
+  pub kept : IsMember near 0 places table member
 
-pub record AreOpened (queries : List Query) (head : Head) (width : ℕ) (places : List ℕ) (table : KnownTable)
+pub record AreOpened (queries : List Query) (head : Head) (near : Nearness) (places : List ℕ) (table : KnownTable)
     (members : List Member) : Type 0 where
   pub stages : stages_of table members ≡ map (λ query. opened query head) queries
   pub unmoved : All (λ member. member.moved ≡ 0) members
-  pub each : All (IsMember width 0 places table) members
+  pub each : All (IsMember near 0 places table) members
 
 -- ---- a step
 
 -- this step read the next plane of a column, with these bits, and the member was not handed it yet
-pub record IsBehind (width step column : ℕ) (places : List ℕ) (bits : List Bool) (table : KnownTable) (member : Member) : Type 0 where
+pub record IsBehind (near : Nearness) (step column : ℕ) (places : List ℕ) (bits : List Bool) (table : KnownTable)
+    (member : Member) : Type 0 where
   pub steps : ℕ
   pub next : step ≡ steps + 1
   pub before : KnownTable
   pub columns : AreColumns places before
   pub legal : CanTake before.frame before.known column bits
   pub read : table ≡ read_column before column bits
-  pub kept : IsMember width steps places before member
+  pub kept : IsMember near steps places before member
 
 -- a member before and after it was handed a plane of the column at this place in this step: it took the plane where it awaits it
-pub record WasHanded (width step place : ℕ) (places : List ℕ) (bits : List Bool) (table : KnownTable) (old new : Member) : Type 0 where
-  pub stage : stage_in table new ≡ followed width place bits (stage_in table old)
-  pub moved : new.moved ≡ (if is_some (awaited width place (stage_in table old)) then step else old.moved)
-  pub kept : IsMember width step places table new
+pub record WasHanded (near : Nearness) (step place : ℕ) (places : List ℕ) (bits : List Bool) (table : KnownTable)
+    (old new : Member) : Type 0 where
+  pub stage : stage_in table new ≡ followed near place bits (stage_in table old)
+  pub moved : new.moved ≡ (if is_some (awaited near place (stage_in table old)) then step else old.moved)
+  pub kept : IsMember near step places table new
 
 -- each member below this number was handed the plane
-pub record HandedBelow (width step place : ℕ) (places : List ℕ) (bits : List Bool) (table : KnownTable) (old new : List Member)
+pub record HandedBelow (near : Nearness) (step place : ℕ) (places : List ℕ) (bits : List Bool) (table : KnownTable) (old new : List Member)
     (end : ℕ) : Type 0 where
   pub wide : length new ≡ length old
   pub handed : (k : ℕ) (d : Member) → k < end →
-      WasHanded width step place places bits table (slice_index_or old k d) (slice_index_or new k d)
+      WasHanded near step place places bits table (slice_index_or old k d) (slice_index_or new k d)
   pub rest : (k : ℕ) (d : Member) → end ≤ k → slice_index_or new k d ≡ slice_index_or old k d
 
 -- ---- a session
 
 -- what its members tell of a session
-abbrev pub session_of : ℕ → List ℕ → KnownTable → List Member → ℕ → Session
-session_of width places table members steps = record {
-  width = width;
+abbrev pub session_of : Nearness → List ℕ → KnownTable → List Member → ℕ → Session
+session_of near places table members steps = record {
+  near = near;
   rows = table.frame.rows;
   columns = places;
   stages = stages_of table members;
@@ -167,11 +170,11 @@ session_of width places table members steps = record {
   steps = steps;
 }
 
-pub record IsSession (width : ℕ) (places : List ℕ) (table : KnownTable) (members : List Member) (steps : ℕ) : Type 0 where
-  pub narrow : width < 2 ^ 63
+pub record IsSession (near : Nearness) (places : List ℕ) (table : KnownTable) (members : List Member) (steps : ℕ) : Type 0 where
+  pub narrow : near.width < 2 ^ 63
   pub columns : AreColumns places table
   pub few_columns : length places ≤ 16
   pub few_members : length members ≤ 16
-  pub each : All (IsMember width steps places table) members
+  pub each : All (IsMember near steps places table) members
   -- each step went to a query
   pub counted : steps ≤ sum_by (λ stage. planes_read stage.known) (stages_of table members)

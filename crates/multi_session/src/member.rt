@@ -10,6 +10,7 @@ ghost use Rattle.multi_session.specs.Members.{AreColumns, AreUnread, IsAbreast, 
 
 use crate::columns::Columns;
 use plane_kernels::Plane;
+use plane_schedule::Nearness;
 use query_model::TypedQuery;
 use round_engine::{EngineView, Follower};
 use std::alloc::{AllocError, Global};
@@ -39,14 +40,14 @@ impl Member {
         alloc: Global,
         query: TypedQuery,
         columns: &Columns,
-        width: u64,
+        near: Nearness,
         masks: usize,
     ) -> Result<Member, AllocError>
-        requires width { width < 2 ^ 63 }
+        requires near { near.width < 2 ^ 63 }
         requires known { AreColumns columns.now.places.items columns.now.known }
         requires ready { IsReady columns.now.places.items columns.now.known query }
         ensures { IfOk result (λ member. (head : Head) → IsValid head query → AreUnread head columns.now.places.items columns.now.known
-            → IsOpened query head width columns.now.places.items columns.now.known member) }
+            → IsOpened query head near columns.now.places.items columns.now.known member) }
     {
         let numbers = columns.numbers(alloc, query.columns.as_slice())?;
         let counts = no_counts(alloc, numbers.len())?;
@@ -60,7 +61,7 @@ impl Member {
         };
         // Its clauses say that its columns have few planes.
         let _progress = member.view(columns).progress();
-        member.judge(columns, width);
+        member.judge(columns, near);
         Ok(member)
     }
 
@@ -73,16 +74,16 @@ impl Member {
     }
 
     // Finds whether the query is finished.
-    fn judge(&mut self, columns: &Columns, width: u64)
-        requires width { width < 2 ^ 63 }
+    fn judge(&mut self, columns: &Columns, near: Nearness)
+        requires near { near.width < 2 ^ 63 }
         requires abreast { IsAbreast columns.now.known self.old }
-        ensures judged { self.new ≡ judged width columns.now.known self.old }
+        ensures judged { self.new ≡ judged near columns.now.known self.old }
         ensures open_stage { IsOpenStage (stage_in columns.now.known self.old) }
     {
         let view = self.view(columns);
         // Its clauses say that the stage is open.
         let _query = view.query();
-        self.finished = view.narrow(width);
+        self.finished = view.narrow(near);
     }
 
     // The query's number of a column of the table, if it reads it.
@@ -123,12 +124,12 @@ impl Member {
         column: usize,
         plane: &Plane,
         step: u32,
-        width: u64,
+        near: Nearness,
     )
-        requires width { width < 2 ^ 63 }
+        requires near { near.width < 2 ^ 63 }
         requires column { column < length columns.now.places.items }
-        requires behind { IsBehind width step column columns.now.places.items plane.now columns.now.known self.old }
-        ensures { WasHanded width step (slice_index columns.now.places.items column) columns.now.places.items plane.now
+        requires behind { IsBehind near step column columns.now.places.items plane.now columns.now.known self.old }
+        ensures { WasHanded near step (slice_index columns.now.places.items column) columns.now.places.items plane.now
             columns.now.known self.old self.new }
     {
         let Some(own) = self.awaited(columns.places[column]) else {
@@ -138,6 +139,6 @@ impl Member {
             .refresh(&columns.known.lend_some(&self.numbers), own, plane);
         self.counts[own] += 1;
         self.moved = step;
-        self.judge(columns, width);
+        self.judge(columns, near);
     }
 }

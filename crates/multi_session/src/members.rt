@@ -9,6 +9,7 @@ ghost use Rattle.multi_session.specs.Members.{AreColumns, AreOpened, AreUnread, 
 use crate::columns::Columns;
 use crate::member::Member;
 use plane_kernels::Plane;
+use plane_schedule::Nearness;
 use query_model::TypedQuery;
 use std::alloc::{AllocError, Global};
 
@@ -20,19 +21,19 @@ pub(crate) fn open_each(
     alloc: Global,
     queries: Vec<TypedQuery>,
     columns: &Columns,
-    width: u64,
+    near: Nearness,
 ) -> Result<Vec<Member>, AllocError>
-    requires width { width < 2 ^ 63 }
+    requires near { near.width < 2 ^ 63 }
     requires known { AreColumns columns.now.places.items columns.now.known }
     requires ready { All (IsReady columns.now.places.items columns.now.known) queries.items }
     ensures { IfOk result (λ members. (head : Head) → All (IsValid head) queries.items
         → AreUnread head columns.now.places.items columns.now.known
-        → AreOpened queries.items head width columns.now.places.items columns.now.known members.items) }
+        → AreOpened queries.items head near columns.now.places.items columns.now.known members.items) }
 {
     let masks = MASKS / queries.len().max(1);
     let mut members = Vec::with_capacity(alloc, queries.len())?;
     for query in queries {
-        members.push(Member::open(alloc, query, columns, width, masks)?)?;
+        members.push(Member::open(alloc, query, columns, near, masks)?)?;
     }
     Ok(members)
 }
@@ -44,15 +45,15 @@ pub(crate) fn hand(
     column: usize,
     plane: &Plane,
     step: u32,
-    width: u64,
+    near: Nearness,
 )
-    requires width { width < 2 ^ 63 }
+    requires near { near.width < 2 ^ 63 }
     requires column { column < length columns.now.places.items }
-    requires behind { All (IsBehind width step column columns.now.places.items plane.now columns.now.known) members.old }
-    ensures { HandedBelow width step (slice_index columns.now.places.items column) columns.now.places.items plane.now columns.now.known
+    requires behind { All (IsBehind near step column columns.now.places.items plane.now columns.now.known) members.old }
+    ensures { HandedBelow near step (slice_index columns.now.places.items column) columns.now.places.items plane.now columns.now.known
         members.old members.new (length members.old) }
 {
     for number in 0..members.len() {
-        members[number].follow(columns, column, plane, step, width);
+        members[number].follow(columns, column, plane, step, near);
     }
 }

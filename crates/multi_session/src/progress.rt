@@ -11,7 +11,7 @@ ghost use Rattle.multi_session.specs.Sessions.{gives_in, possible_in, role_in, s
 use crate::columns::Columns;
 use crate::member::Member;
 use crate::session::Session;
-use plane_schedule::{Progress, Role};
+use plane_schedule::{Nearness, Progress, Role};
 
 // Of two roles the one that goes first: the condition, then the groups, then values.
 fn first_role(a: Role, b: Role) -> Role
@@ -25,10 +25,10 @@ fn first_role(a: Role, b: Role) -> Role
 }
 
 // The unread planes of a column of the session, where some query awaits them.
-fn unread_in(members: &[Member], columns: &Columns, column: usize, width: u64) -> u8
-    requires kept { AreSomeMembers width columns.now.places.items columns.now.known members.now }
+fn unread_in(members: &[Member], columns: &Columns, column: usize, near: Nearness) -> u8
+    requires kept { AreSomeMembers near columns.now.places.items columns.now.known members.now }
     requires column { column < length columns.now.places.items }
-    ensures unread { result ≡ unread_in width (slice_index columns.now.places.items column) (stages_of columns.now.known members.now) }
+    ensures unread { result ≡ unread_in near (slice_index columns.now.places.items column) (stages_of columns.now.known members.now) }
     ensures few { result ≤ 65 }
 {
     for member in members {
@@ -48,12 +48,12 @@ struct ColumnUse {
     gives_values: bool,
 }
 
-fn use_in(members: &[Member], columns: &Columns, place: usize, width: u64) -> ColumnUse
-    requires { AreSomeMembers width columns.now.places.items columns.now.known members.now }
-    ensures role { result.role ≡ role_in width place (stages_of columns.now.known members.now) }
-    ensures read { result.read ≡ taken_in width place (stages_of columns.now.known members.now) }
+fn use_in(members: &[Member], columns: &Columns, place: usize, near: Nearness) -> ColumnUse
+    requires { AreSomeMembers near columns.now.places.items columns.now.known members.now }
+    ensures role { result.role ≡ role_in near place (stages_of columns.now.known members.now) }
+    ensures read { result.read ≡ taken_in near place (stages_of columns.now.known members.now) }
     ensures few { result.read ≤ 65 }
-    ensures gives { result.gives_values ≡ gives_in width place (stages_of columns.now.known members.now) }
+    ensures gives { result.gives_values ≡ gives_in near place (stages_of columns.now.known members.now) }
 {
     let mut role = Role::Value;
     let mut read = 0u8;
@@ -79,11 +79,11 @@ struct RowCounts {
     possible: u64,
 }
 
-fn rows_in(members: &[Member], columns: &Columns, width: u64) -> RowCounts
-    requires kept { AreSomeMembers width columns.now.places.items columns.now.known members.now }
+fn rows_in(members: &[Member], columns: &Columns, near: Nearness) -> RowCounts
+    requires kept { AreSomeMembers near columns.now.places.items columns.now.known members.now }
     requires few { length members.now ≤ 16 }
-    ensures unknown { result.unknown ≡ unknown_in width (stages_of columns.now.known members.now) }
-    ensures possible { result.possible ≡ possible_in width (stages_of columns.now.known members.now) }
+    ensures unknown { result.unknown ≡ unknown_in near (stages_of columns.now.known members.now) }
+    ensures possible { result.possible ≡ possible_in near (stages_of columns.now.known members.now) }
 {
     let mut unknown = 0;
     let mut possible = 0;
@@ -105,10 +105,10 @@ struct ColumnUses {
     gives_values: [bool; 16],
 }
 
-fn told_of(members: &[Member], columns: &Columns, width: u64) -> ColumnUses
-    requires kept { AreSomeMembers width columns.now.places.items columns.now.known members.now }
+fn told_of(members: &[Member], columns: &Columns, near: Nearness) -> ColumnUses
+    requires kept { AreSomeMembers near columns.now.places.items columns.now.known members.now }
     requires few { length columns.now.places.items ≤ 16 }
-    ensures { TellsColumns width columns.now.places.items (stages_of columns.now.known members.now)
+    ensures { TellsColumns near columns.now.places.items (stages_of columns.now.known members.now)
         (length columns.now.places.items) result.unread result.read result.role result.gives_values }
 {
     let mut unread = [0u8; 16];
@@ -116,8 +116,8 @@ fn told_of(members: &[Member], columns: &Columns, width: u64) -> ColumnUses
     let mut role = [Role::Value; 16];
     let mut gives_values = [false; 16];
     for (column, place) in columns.places.iter().enumerate() {
-        unread[column] = unread_in(members, columns, column, width);
-        let column_use = use_in(members, columns, *place, width);
+        unread[column] = unread_in(members, columns, column, near);
+        let column_use = use_in(members, columns, *place, near);
         read[column] = column_use.read;
         role[column] = column_use.role;
         gives_values[column] = column_use.gives_values;
@@ -146,8 +146,8 @@ impl Session {
             read,
             role,
             gives_values,
-        } = told_of(&self.members, &self.columns, self.width);
-        let RowCounts { unknown, possible } = rows_in(&self.members, &self.columns, self.width);
+        } = told_of(&self.members, &self.columns, self.near);
+        let RowCounts { unknown, possible } = rows_in(&self.members, &self.columns, self.near);
         Progress {
             columns: self.columns.places.len() as u8,
             unread,

@@ -23,6 +23,7 @@ use crate::members::{hand, open_each};
 use daq_table::Head;
 use known_column::OverTop;
 use plane_kernels::Plane;
+use plane_schedule::Nearness;
 use query_model::{TypedQuery, taken_is_knowledge};
 use round_engine::EngineView;
 use std::alloc::Global;
@@ -33,7 +34,7 @@ use std::marker::Model;
 /// Its columns are numbered in the order in which the queries name them first; what is known of them is kept once, for all queries.
 #[derive(Drop)]
 pub struct Session {
-    pub(crate) width: u64,
+    pub(crate) near: Nearness,
     pub(crate) columns: Columns,
     pub(crate) members: Vec<Member>,
     pub(crate) steps: u32,
@@ -49,33 +50,33 @@ impl Model for Session {
 
     ghost coded = { Prim.hlevel (codes, query_code) };
 
-    ghost view = { λ s. session_of s.width s.columns.places.items s.columns.known s.members.items s.steps };
+    ghost view = { λ s. session_of s.near s.columns.places.items s.columns.known s.members.items s.steps };
 
-    ghost invariant = { λ s. IsSession s.width s.columns.places.items s.columns.known s.members.items s.steps };
+    ghost invariant = { λ s. IsSession s.near s.columns.places.items s.columns.known s.members.items s.steps };
 }
 
 impl Session {
-    /// The queries over tables with that head, of which nothing is read. A round is narrow where the ends of its bounds are at most
-    /// `width` apart. All room is taken here.
+    /// The queries over tables with that head, of which nothing is read. A query is finished once its answers are as near as that.
+    /// All room is taken here.
     pub fn open(
         alloc: Global,
         queries: Vec<TypedQuery>,
         head: &Head,
-        width: u64,
+        near: Nearness,
     ) -> Result<Session, SessionFault>
         requires some { queries.items ≢ [] }
         requires valid { AllByRecursion (IsValid head.now) queries.items }
-        requires width { width < 2 ^ 63 }
-        ensures opened { IfOk result (λ session. session ≡ session_opened queries.items head.now width) }
+        requires near { near.width < 2 ^ 63 }
+        ensures opened { IfOk result (λ session. session ≡ session_opened queries.items head.now near) }
         ensures stands { IfOk result (StandsFor queries.items head.now []) }
         ensures within { OnOk result (limit_passed head.now.rows queries.items ≡ None) }
         ensures refused { IfErr result (RefusesSession head.now.rows queries.items) }
     {
         let places = columns_within(alloc, head.rows, &queries)?;
         let columns = Columns::open(alloc, places, head)?;
-        let members = open_each(alloc, queries, &columns, width)?;
+        let members = open_each(alloc, queries, &columns, near)?;
         Ok(Session {
-            width,
+            near,
             columns,
             members,
             steps: 0,
@@ -105,7 +106,7 @@ impl Session {
             column,
             plane,
             step,
-            self.width,
+            self.near,
         );
         self.steps = step;
         Ok(())
@@ -129,7 +130,7 @@ impl Session {
     /// Whether a round of a query was narrow.
     pub fn finished(&self, query: usize) -> bool
         requires { query < length self.now.stages }
-        ensures { IfSome (slice_get self.now.stages query) (λ stage. result ≡ is_narrow self.now.width stage) }
+        ensures { IfSome (slice_get self.now.stages query) (λ stage. result ≡ is_narrow self.now.near stage) }
     {
         self.members[query].finished
     }
@@ -165,10 +166,10 @@ impl Session {
     pub fn view(&self, query: usize) -> EngineView<'_>
         requires query { query < length self.now.stages }
         requires current { (slice_get self.now.moved query ≡ Some true)
-            ⊎ IfSome (slice_get self.now.stages query) (λ stage. IsFalse (is_narrow self.now.width stage)) }
+            ⊎ IfSome (slice_get self.now.stages query) (λ stage. IsFalse (is_narrow self.now.near stage)) }
         ensures stage { slice_get self.now.stages query ≡ Some result }
         ensures alone { (queries : List Query) (head : Head) (steps : List Step) → StandsFor queries head steps self.now
-            → IfSome (slice_get queries query) (λ q. result ≡ alone self.now.width head steps q) }
+            → IfSome (slice_get queries query) (λ q. result ≡ alone self.now.near head steps q) }
     {
         self.members[query].view(&self.columns)
     }

@@ -21,14 +21,14 @@ use table_rounds::rounds_have_planes;
 
 /// Why the rounds of the plan end here; none where they go on, and then a plane is unread.
 pub fn ending(engine: &EngineView<'_>, plan: &Plan) -> Option<Ending>
-    requires { plan.now.width < 2 ^ 63 }
+    requires { plan.now.near.width < 2 ^ 63 }
     ensures ending { result ≡ ending_at plan.now engine.now }
     ensures unread { IfNone result (HasUnread (outlook_at engine.now)) }
 {
     rounds_have_planes();
     // The query's clause says that what is known is a knowledge.
     let _query = engine.query();
-    plan.ending(engine.narrow(plan.width), engine.progress().done)
+    plan.ending(engine.narrow(plan.near), engine.progress().done)
 }
 
 // The table's column that a column of the query is, and the number of its next plane.
@@ -54,7 +54,7 @@ impl Running for Engine {
     ghost fits = { λ e head. FitsHead e.query e.frame head };
 
     // The plan's width is one that can be asked for, and its policy is no list that cannot be read to its end.
-    ghost can_follow = { λ e plan. (plan.width < 2 ^ 63) × IsReadable plan.policy e.frame };
+    ghost can_follow = { λ e plan. (plan.near.width < 2 ^ 63) × IsReadable plan.policy e.frame };
 
     ghost rows = { λ e. e.frame.rows };
 

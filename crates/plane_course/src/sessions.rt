@@ -21,7 +21,7 @@ use table_rounds::rounds_have_planes;
 
 // A query that is not finished.
 fn any_wide(session: &Session) -> Option<usize>
-    ensures none { IfNone result (IsTrue (list_all (is_narrow session.now.width) session.now.stages)) }
+    ensures none { IfNone result (IsTrue (list_all (is_narrow session.now.near) session.now.stages)) }
     ensures some { IfSome result (IsWide session.now) }
 {
     for query in 0..session.queries() {

@@ -66,10 +66,10 @@ same_queries (q ∷ qs) stage is = rw (is q, same_queries qs stage is) refl
 module _ (have : RoundsHavePlanes) (choose : PoliciesChoose) (taken_is : TakenIsKnowledge) (plan : Plan) (queries : List Query) (head : Head) (bits : Planes)
     (valid : AreValid head queries) (long : HaveRows (frame_of head) bits) where
   abbrev at : List ℕ → Session
-  at reads = session_after plan.width queries head bits reads (length reads)
+  at reads = session_after plan.near queries head bits reads (length reads)
 
   abbrev stage : List ℕ → Query → Stage
-  stage reads query = stage_in plan.width (frame_of head) bits (places_read queries reads) query (length reads)
+  stage reads query = stage_in plan.near (frame_of head) bits (places_read queries reads) query (length reads)
 
   query_there : (reads : List ℕ) (k : ℕ) (s : Stage) → slice_get (at reads).stages k ≡ Some s → IsValid head s.query
   query_there reads k s there =
@@ -80,15 +80,15 @@ module _ (have : RoundsHavePlanes) (choose : PoliciesChoose) (taken_is : TakenIs
   known_there reads steps k s there = all_there (λ (s : Stage). IsKnowledge s.frame s.known) (at reads).stages k s (steps.legal (length reads) (omega arith)) there
 
   same_known : (reads : List ℕ) → AreSteps plan queries head bits reads → (column : ℕ) (s : Stage) (own : ℕ) → column < length (columns_named queries) → Awaits (at reads) column s own →
-      column_of s own ≡ told plan.width queries head bits reads (length reads) column
+      column_of s own ≡ told plan.near queries head bits reads (length reads) column
   same_known reads steps column s own inside awaits =
-      told_of plan.width queries head bits reads (length reads) column s own (omega arith) (are_columns plan queries head bits reads steps) inside awaits
+      told_of plan.near queries head bits reads (length reads) column s own (omega arith) (are_columns plan queries head bits reads steps) inside awaits
 
   -- ---- where the session goes on a query awaits a plane
 
   alike : (reads : List ℕ) → AreSteps plan queries head bits reads → AreAlike (at reads)
   alike reads steps = λ column s own inside awaits.
-      let f = found_with plan.width (place_of queries column) (at reads).stages awaits.query s own awaits.there awaits.reads in
+      let f = found_with plan.near (place_of queries column) (at reads).stages awaits.query s own awaits.there awaits.reads in
       let there = same_known reads steps column f.stage f.own inside (first_awaits (at reads) column f) in
       let here = same_known reads steps column s own inside awaits in
       f.unread ∙ ap (λ (k : KnownColumn). planes k.ends - k.known.read) (there ∙ sym here)
@@ -96,11 +96,11 @@ module _ (have : RoundsHavePlanes) (choose : PoliciesChoose) (taken_is : TakenIs
   goes_unread : (reads : List ℕ) → AreSteps plan queries head bits reads → IsNone (ending_in plan (at reads)) → HasUnread (session_outlook (at reads))
   goes_unread reads steps going =
       let s = at reads in
-      let wide = not_narrow (list_all (is_narrow s.width) s.stages) (is_most plan.most s.steps) (is_list_end plan.policy s.steps) going in
-      let (k, query, there, is) = one_fails (is_narrow s.width) s.stages wide in
+      let wide = not_narrow (list_all (is_narrow s.near) s.stages) (is_most plan.most s.steps) (is_list_end plan.policy s.steps) going in
+      let (k, query, there, is) = one_fails (is_narrow s.near) s.stages wide in
       let named = ap columns_named (sym (same_queries queries (stage reads) (λ query. refl))) in
       awaits_some have s k query (alike reads steps) named there is (known_there reads steps k query there) (query_there reads k query there).distinct
-      (shape_of plan.width queries head bits reads (length reads) k query there).1
+      (shape_of plan.near queries head bits reads (length reads) k query there).1
 
   -- ---- the next plane is refused, or there is one step more
 
@@ -117,32 +117,32 @@ module _ (have : RoundsHavePlanes) (choose : PoliciesChoose) (taken_is : TakenIs
     has : IsUnread (session_outlook (at reads)) next
     has = next_unread plan queries head bits reads next followed
 
-    abbrev first : Found plan.width place (at reads).stages
-    first = found plan.width place (at reads).stages has.unread
+    abbrev first : Found plan.near place (at reads).stages
+    first = found plan.near place (at reads).stages has.unread
 
-    first_is : column_of first.stage first.own ≡ told plan.width queries head bits reads (length reads) next
+    first_is : column_of first.stage first.own ≡ told plan.near queries head bits reads (length reads) next
     first_is = same_known reads followed.rounds next first.stage first.own has.column (first_awaits (at reads) next first)
 
     first_shape : (first.stage.frame.rows ≡ (frame_of head).rows) × (length first.stage.frame.columns ≡ length first.stage.query.columns)
-    first_shape = shape_of plan.width queries head bits reads (length reads) first.query first.stage first.there
+    first_shape = shape_of plan.near queries head bits reads (length reads) first.query first.stage first.there
 
     same_column : (s : Stage) (own : ℕ) → Awaits (at reads) next s own → column_of first.stage first.own ≡ column_of s own
     same_column s own awaits = first_is ∙ sym (same_known reads followed.rounds next s own has.column awaits)
 
     same_rows : (s : Stage) (own : ℕ) → Awaits (at reads) next s own → first.stage.frame.rows ≡ s.frame.rows
-    same_rows s own awaits = first_shape.0 ∙ sym (shape_of plan.width queries head bits reads (length reads) awaits.query s awaits.there).0
+    same_rows s own awaits = first_shape.0 ∙ sym (shape_of plan.near queries head bits reads (length reads) awaits.query s awaits.there).0
 
     own_inside : (s : Stage) (own : ℕ) → Awaits (at reads) next s own → own < length s.frame.columns
     own_inside s own awaits =
-        subst (λ n. own < n) (sym (shape_of plan.width queries head bits reads (length reads) awaits.query s awaits.there).1)
-        (own_there s.query.columns place own (awaited_own plan.width place s own awaits.reads).1).0
+        subst (λ n. own < n) (sym (shape_of plan.near queries head bits reads (length reads) awaits.query s awaits.there).1)
+        (own_there s.query.columns place own (awaited_own plan.near place s own awaits.reads).1).0
 
     some_left : (known_at first.stage.known first.own).read < planes (ends_at first.stage.frame first.own)
     some_left = let left = first.unread in let some = has.unread in omega (arith, left, some)
 
     plane_rows : length next_plane ≡ first.stage.frame.rows
     plane_rows =
-        let (inside, there) = own_there first.stage.query.columns place first.own (awaited_own plan.width place first.stage first.own first.waits).1 in
+        let (inside, there) = own_there first.stage.query.columns place first.own (awaited_own plan.near place first.stage first.own first.waits).1 in
         let in_head = all_at (λ i. i < length head.columns) first.stage.query.columns first.own (query_there reads first.query first.stage first.there).in_range inside in
         let in_frame : place < length (frame_of head).columns = subst (λ n. place < n) (sym (length-map head.columns ends_of)) (subst (λ p. p < length head.columns) there in_head) in
         let few : number < planes (ends_at (frame_of head) place) = subst (λ (k : KnownColumn). k.known.read < planes k.ends) first_is some_left in

@@ -1,4 +1,5 @@
 -- A session over tables with a head: its columns' planes, and which of them is next.
+use Rattle.plane_schedule.specs.declared.policy.Nearness.{Nearness}
 use Rattle.std.proofs.Common.{◌≡◌, ℕ, ◌-◌, ◌<◌, ◌≤◌, Bool, Option, Some, None, List, [], ◌∷◌, length, get_or, map, refl, sym, ap, ◌∙◌, subst, arith, slice_get, slice_index}
 use Rattle.std.proofs.lemmas.List.{get_or-map}
 use Rattle.std.specs.Option.{option_map_or}
@@ -50,15 +51,15 @@ pub record IsPlace (s : Session) (head : Head) (column place count unread : ℕ)
   pub there : count - unread < planes (ends_at (frame_of head) place)
 
 module _ (s : Session) (head : Head) (column place unread : ℕ) (fits : FitsSession s head) (has : IsUnread (session_outlook s) column)
-    (is : unread ≡ unread_in s.width (slice_index s.columns column) s.stages) (there : place ≡ slice_index s.columns column) where
-  first : Found s.width (slice_index s.columns column) s.stages
-  first = found s.width (slice_index s.columns column) s.stages has.unread
+    (is : unread ≡ unread_in s.near (slice_index s.columns column) s.stages) (there : place ≡ slice_index s.columns column) where
+  first : Found s.near (slice_index s.columns column) s.stages
+  first = found s.near (slice_index s.columns column) s.stages has.unread
 
   its : FitsHead first.stage.query first.stage.frame head
   its = fits_query s head first.query first.stage fits first.there
 
   own : (first.own < length first.stage.query.columns) × (get_or first.stage.query.columns first.own 0 ≡ slice_index s.columns column)
-  own = own_there first.stage.query.columns (slice_index s.columns column) first.own (awaited_own s.width (slice_index s.columns column) first.stage first.own first.waits).1
+  own = own_there first.stage.query.columns (slice_index s.columns column) first.own (awaited_own s.near (slice_index s.columns column) first.stage first.own first.waits).1
 
   pub place_inside : place < length head.columns
   place_inside = subst (λ p. p < length head.columns) (own.1 ∙ sym there) (all_at (λ i. i < length head.columns) first.stage.query.columns first.own its.valid.in_range own.0)
@@ -81,20 +82,20 @@ module _ (s : Session) (head : Head) (column place unread : ℕ) (fits : FitsSes
 
 -- ---- a step leaves the queries and what is declared
 
-fits_followed : (width place : ℕ) (bits : List Bool) (head : Head) (stage : Stage) → FitsHead stage.query stage.frame head →
-    FitsHead (followed width place bits stage).query (followed width place bits stage).frame head
-fits_followed width place bits head stage fits = by (awaited width place stage)
+fits_followed : (near : Nearness) (place : ℕ) (bits : List Bool) (head : Head) (stage : Stage) → FitsHead stage.query stage.frame head →
+    FitsHead (followed near place bits stage).query (followed near place bits stage).frame head
+fits_followed near place bits head stage fits = by (awaited near place stage)
   where
     by : (o : Option ℕ) → FitsHead (option_map_or (λ c. stepped stage c bits) o stage).query (option_map_or (λ c. stepped stage c bits) o stage).frame head
     by None = fits
     by (Some c) = fits
 
-same_queries : (width place : ℕ) (bits : List Bool) (stages : List Stage) → map (λ (stage : Stage). stage.query) stages ≡ map (λ (stage : Stage). stage.query) (map (followed width place bits) stages)
-same_queries width place bits [] = refl
-same_queries width place bits (stage ∷ stages) = rw (same_queries width place bits stages) (by (awaited width place stage))
+same_queries : (near : Nearness) (place : ℕ) (bits : List Bool) (stages : List Stage) → map (λ (stage : Stage). stage.query) stages ≡ map (λ (stage : Stage). stage.query) (map (followed near place bits) stages)
+same_queries near place bits [] = refl
+same_queries near place bits (stage ∷ stages) = rw (same_queries near place bits stages) (by (awaited near place stage))
   where
-    by : (o : Option ℕ) → stage.query ∷ map (λ (stage : Stage). stage.query) (map (followed width place bits) stages)
-        ≡ (option_map_or (λ c. stepped stage c bits) o stage).query ∷ map (λ (stage : Stage). stage.query) (map (followed width place bits) stages)
+    by : (o : Option ℕ) → stage.query ∷ map (λ (stage : Stage). stage.query) (map (followed near place bits) stages)
+        ≡ (option_map_or (λ c. stepped stage c bits) o stage).query ∷ map (λ (stage : Stage). stage.query) (map (followed near place bits) stages)
     by None = refl
     by (Some c) = refl
 
@@ -103,10 +104,10 @@ fits_stepped s new head column bits fits step =
     let place = slice_index s.columns column in
     subst (λ t. FitsSession t head) (sym step) (record {
       rows = fits.rows;
-      columns = fits.columns ∙ ap columns_named (same_queries s.width place bits s.stages);
-      stages = all_of (λ (stage : Stage). FitsHead stage.query stage.frame head) (map (followed s.width place bits) s.stages) (λ k stage there.
-          let (old, at, is) = from_map (followed s.width place bits) s.stages k stage there in
-          subst (λ (stage : Stage). FitsHead stage.query stage.frame head) is (fits_followed s.width place bits head old (fits_query s head k old fits at)));
+      columns = fits.columns ∙ ap columns_named (same_queries s.near place bits s.stages);
+      stages = all_of (λ (stage : Stage). FitsHead stage.query stage.frame head) (map (followed s.near place bits) s.stages) (λ k stage there.
+          let (old, at, is) = from_map (followed s.near place bits) s.stages k stage there in
+          subst (λ (stage : Stage). FitsHead stage.query stage.frame head) is (fits_followed s.near place bits head old (fits_query s head k old fits at)));
     })
 
 -- ---- a session of which nothing is read
@@ -115,8 +116,8 @@ queries_of : (queries : List Query) (head : Head) → queries ≡ map (λ (stage
 queries_of [] head = refl
 queries_of (query ∷ queries) head = ap (λ qs. query ∷ qs) (queries_of queries head)
 
-pub fits_opened : (queries : List Query) (head : Head) (width : ℕ) → AllByRecursion (IsValid head) queries → FitsSession (session_opened queries head width) head
-fits_opened queries head width valid = record {
+pub fits_opened : (queries : List Query) (head : Head) (near : Nearness) → AllByRecursion (IsValid head) queries → FitsSession (session_opened queries head near) head
+fits_opened queries head near valid = record {
   rows = refl;
   columns = ap columns_named (queries_of queries head);
   stages = all_of (λ (stage : Stage). FitsHead stage.query stage.frame head) (map (λ query. opened query head) queries) (λ k stage there.

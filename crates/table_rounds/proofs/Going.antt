@@ -217,7 +217,7 @@ module _ (plan : Plan) (query : TypedQuery) (frame : Frame) (bits : Planes) wher
       by (Listed list) e able =
           let stage = stage_after query frame bits reads (length reads) in
           let round = planes_read stage.known in
-          let end : IsFalse (is_list_end plan.policy round) = not_most (is_narrow plan.width stage) (is_most plan.most round) (is_list_end plan.policy round) going in
+          let end : IsFalse (is_list_end plan.policy round) = not_most (is_narrow plan.near stage) (is_most plan.most round) (is_list_end plan.policy round) going in
           next_listed list reads e rounds able (subst (λ p. IsFalse (is_list_end p round)) e end)
 
   -- so the next plane is refused, or there is one round more

@@ -1,14 +1,20 @@
--- With nothing unread a round is narrow, for every width.
-use Rattle.std.proofs.Common.{◌≡◌, ◌≢◌, ℕ, zero, suc, ◌+◌, ◌<◌, ◌≤◌, ◌*◌, ℤ, pos, ◌-ℤ◌, ◌*ℤ◌, int_le, Bool, not, List, [], ◌∷◌, refl, sym, ◌∙◌, subst, arith, IsTrue}
+-- With nothing unread a round is narrow, however near its answers are to be.
+use Rattle.std.proofs.Common.{◌≡◌, ◌≢◌, ℕ, zero, suc, ◌+◌, ◌<◌, ◌≤◌, ◌*◌, ℤ, pos, ◌-ℤ◌, ◌*ℤ◌, int_eq, int_le, Bool, true, not, ◌||◌, if◌then◌else◌, List, [], ◌∷◌, refl, sym, ap, ◌∙◌, subst, arith, IsTrue}
+use Rattle.std.proofs.Math.Bool.{and-true, or-true}
+use Rattle.std.proofs.lemmas.Bool.{false≢true}
+use Rattle.std.proofs.lemmas.Bool.Decides.{Decides-int_eq}
 use Rattle.std.proofs.lemmas.Int.{ints}
+use Rattle.plane_schedule.specs.declared.policy.Nearness.{Nearness}
 use Rattle.std.specs.List.{list_all, range_with_len}
 use Rattle.interval_calc.specs.Intervals.{Fraction}
 use Rattle.query_model.specs.Answers.{every_row}
 use Rattle.query_model.specs.Bounds.{AverageBound, Pair, average_bound_of, bound_of, nullity_of, pairs}
-use Rattle.query_model.specs.Groups.{cell_count, pairs_in_cell, presence_in_cell}
-use Rattle.query_model.specs.Laws.{AverageEndsMeet, AverageEndsOfCellsMeet, EndsMeet, EndsOfCellsMeet, StandingsBecomeExact, WordsBecomeExact, WordsOfCellsBecomeExact}
+use Rattle.query_model.specs.Groups.{cell_count, is_one_value, pairs_in_cell, presence_in_cell}
+use Rattle.query_model.specs.Laws.{AverageEndsMeet, AverageEndsOfCellsMeet, EndsMeet, EndsOfCellsMeet, KeysBecomeExact, StandingsBecomeExact, WordsBecomeExact, WordsOfCellsBecomeExact}
 use Rattle.query_model.specs.Queries.{Aggregate, Query}
+use Rattle.query_model.specs.Knowledge.{ranges_of}
 use Rattle.query_model.specs.Ranking.{order_of, standing_under}
+use Rattle.query_model.specs.Truths.{Range, may_be_null, may_be_number}
 use Rattle.query_model.specs.declared.bounds.Bound.{Bound}
 use Rattle.query_model.specs.declared.bounds.Nullity.{Nullity}
 use Rattle.query_model.specs.declared.bounds.Nullity.TheVariants.{Always, Never, Possibly}
@@ -18,8 +24,7 @@ use Rattle.query_model.specs.declared.query.ItemKind.{ItemKind}
 use Rattle.query_model.specs.declared.query.ItemKind.TheVariants.{Count, Sum, Min, Max, Avg}
 use Rattle.query_model.specs.declared.query.Shape.{Shape}
 use Rattle.query_model.specs.declared.query.Shape.TheVariants.{Plain, Grouped, Top}
-use Rattle.round_engine.specs.Narrowness.{are_narrow, is_narrow_average, is_narrow_bound, is_narrow_cell, is_narrow_form, is_narrow_item, is_settled, is_told}
-use Rattle.topk_bounds.specs.Standings.{is_possible}
+use Rattle.round_engine.specs.Narrowness.{are_narrow, is_narrow_average, is_narrow_bound, is_narrow_cell, is_narrow_form, is_narrow_item, is_near_key, is_near_row, is_settled, is_told}
 use Rattle.table_rounds.specs.Headline.{FullStagesAreNarrow}
 
 all_hold : {A : Type 0} (test : A → Bool) (xs : List A) → ((x : A) → IsTrue (test x)) → IsTrue (list_all test xs)
@@ -92,10 +97,19 @@ told_near Never near known h = h
 told_near Possibly near known h = absurd (known refl)
 told_near Always near known h = refl
 
-settled : (standing : Standing) → standing ≢ Possible → IsTrue (not (is_possible standing))
-settled Certain known = refl
-settled Possible known = absurd (known refl)
-settled Excluded known = refl
+-- a range of one value is near
+one_is_near : (width : ℕ) (range : Range) → IsTrue (is_one_value range) → IsTrue (is_near_key width range)
+one_is_near width range one = by range.null range.numbers.low range.numbers.high one
+  where
+    by : (word : Nullity) (lo hi : ℤ) → IsTrue (if may_be_null word then not (may_be_number word) else int_eq lo hi) → IsTrue (is_told word (int_le (hi -ℤ lo) (pos width)))
+    by Never lo hi one = let same : lo ≡ hi = (Decides-int_eq lo hi).0 one in grind (arith, ints)
+    by Possibly lo hi one = absurd (false≢true one)
+    by Always lo hi one = refl
+
+settled : (near : Nearness) (key : Range) (standing : Standing) → standing ≢ Possible → IsTrue (is_near_key near.width key) → IsTrue (is_near_row near key standing)
+settled near key Certain known one = ap (λ b. not near.keys || b) one ∙ or-true (not near.keys)
+settled near key Possible known one = absurd (known refl)
+settled near key Excluded known one = refl
 
 -- the laws of what is read to its end
 pub record ExactLaws : Type 0 where
@@ -106,30 +120,35 @@ pub record ExactLaws : Type 0 where
   pub ends_of_cells : EndsOfCellsMeet
   pub averages_of_cells : AverageEndsOfCellsMeet
   pub standings : StandingsBecomeExact
+  pub keys : KeysBecomeExact
 
 pub full_stages_are_narrow : ExactLaws → FullStagesAreNarrow
-full_stages_are_narrow law width stage known read = by stage.query.shape
+full_stages_are_narrow law near stage known read = by stage.query.shape
   where
     query : Query
     query = stage.query
 
-    all_items : IsTrue (are_narrow width query.items (λ item. pairs query item [] stage.frame stage.known))
-    all_items = items_are_narrow width query.items (λ item. pairs query item [] stage.frame stage.known) (record {
+    all_items : IsTrue (are_narrow near.width query.items (λ item. pairs query item [] stage.frame stage.known))
+    all_items = items_are_narrow near.width query.items (λ item. pairs query item [] stage.frame stage.known) (record {
       words = λ item. law.words query item [] stage.frame stage.known known read;
       ends = λ item plain. law.ends query item [] stage.frame stage.known plain known read;
       averages = λ item. law.averages query item [] stage.frame stage.known known read;
     })
 
-    in_cell : (cell : ℕ) → IsTrue (is_narrow_cell width stage cell)
+    in_cell : (cell : ℕ) → IsTrue (is_narrow_cell near.width stage cell)
     in_cell cell = told_near (presence_in_cell query cell stage.frame stage.known) _ (law.words_of_cells query every_row stage.frame stage.known cell known read)
-        (items_are_narrow width query.items (λ item. pairs_in_cell query item cell stage.frame stage.known) (record {
+        (items_are_narrow near.width query.items (λ item. pairs_in_cell query item cell stage.frame stage.known) (record {
           words = λ item. law.words_of_cells query item stage.frame stage.known cell known read;
           ends = λ item plain. law.ends_of_cells query item stage.frame stage.known cell plain known read;
           averages = λ item. law.averages_of_cells query item stage.frame stage.known cell known read;
         }))
 
-    by : (shape : Shape) → IsTrue (is_narrow_form width stage shape)
+    by : (shape : Shape) → IsTrue (is_narrow_form near stage shape)
     by Plain = all_items
-    by (Grouped columns) = all_hold (is_narrow_cell width stage) (range_with_len 0 (cell_count stage.known columns)) in_cell
-    by (Top key down limit) = all_below (is_settled stage) 0 stage.frame.rows
-        (λ r low r_in. settled (standing_under query stage.frame stage.known r) (law.standings query.pred (order_of query.shape) stage.frame stage.known r known read (omega arith)))
+    by (Grouped columns) = all_hold (is_narrow_cell near.width stage) (range_with_len 0 (cell_count stage.known columns)) in_cell
+    by (Top key down limit) = all_below (is_settled near stage key) 0 stage.frame.rows
+        (λ r low r_in.
+        let ranges = ranges_of stage.frame stage.known r in
+        let one : IsTrue (is_one_value (ranges key)) = sym (and-true (is_one_value (ranges key))) ∙ law.keys stage.frame stage.known (key ∷ []) r known read (omega arith) in
+        settled near (ranges key) (standing_under query stage.frame stage.known r)
+        (law.standings query.pred (order_of query.shape) stage.frame stage.known r known read (omega arith)) (one_is_near near.width (ranges key) one))

@@ -48,9 +48,9 @@ not_most false false false none = refl
 pub rounds_have_planes : FullStagesAreNarrow → RoundsHavePlanes
 rounds_have_planes full plan stage known none = by (widest_below (unread_of stage) (length stage.frame.columns))
   where
-    wider : IsFalse (is_narrow plan.width stage)
-    wider = not_narrow (is_narrow plan.width stage) _ _ none
+    wider : IsFalse (is_narrow plan.near stage)
+    wider = not_narrow (is_narrow plan.near stage) _ _ none
 
     by : NoneBelow (unread_of stage) (length stage.frame.columns) ⊎ ((c : ℕ) × WidestBelow (unread_of stage) (length stage.frame.columns) c) → HasUnread (outlook_at stage)
-    by (inl nothing) = absurd (false≢true (sym wider ∙ full plan.width stage known (λ c h. let here = nothing c h in let few = known.read c h in omega (arith, here, few))))
+    by (inl nothing) = absurd (false≢true (sym wider ∙ full plan.near stage known (λ c h. let here = nothing c h in let few = known.read c h in omega (arith, here, few))))
     by (inr (c, w)) = (c, record { column = w.below; unread = w.some })

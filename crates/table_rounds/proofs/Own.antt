@@ -1,4 +1,5 @@
 -- A query of a session: its own reads, and where it stands after each step.
+use Rattle.plane_schedule.specs.declared.policy.Nearness.{Nearness}
 use Rattle.std.proofs.Common.{◌≡◌, ◌≢◌, ◌⊎◌, inl, inr, ℕ, zero, suc, ◌+◌, ◌<◌, ◌≤◌, ◌==◌, Bool, true, false, if◌then◌else◌, cond, Option, Some, None, List, [], ◌∷◌, ◌++◌, length, get_or, take, refl, sym, ap, ◌∙◌, subst, arith, IsFalse, append-nil, length-append, count_by}
 use Rattle.std.proofs.lemmas.Bool.{cases_eq, eq-eqb, ne_eqb}
 use Rattle.std.proofs.lemmas.List.Sums.{count_by_more_no, count_by_more_yes, sum_by_push}
@@ -60,34 +61,34 @@ module _ (query : Query) (frame : Frame) (bits : Planes) where
 
 -- ---- steps
 
-module _ (width : ℕ) (query : Query) (frame : Frame) (bits : Planes) where
+module _ (near : Nearness) (query : Query) (frame : Frame) (bits : Planes) where
   abbrev own : List ℕ → ℕ → List ℕ
-  own places n = own_reads width frame bits places query n
+  own places n = own_reads near frame bits places query n
 
   abbrev stage : List ℕ → ℕ → Stage
-  stage places n = stage_in width frame bits places query n
+  stage places n = stage_in near frame bits places query n
 
   -- it goes by the places that were read so far alone
   pub same_own : (a b : List ℕ) (n : ℕ) → ((k : ℕ) → k < n → get_or a k 0 ≡ get_or b k 0) → own a n ≡ own b n
   same_own a b zero same = refl
   same_own a b (suc n) same =
-      ap (λ reads. reads ++ own_read width (get_or a n 0) (after query frame bits reads)) (same_own a b n (λ k h. same k (omega arith)))
-      ∙ ap (λ place. own b n ++ own_read width place (stage b n)) (same n (omega arith))
+      ap (λ reads. reads ++ own_read near (get_or a n 0) (after query frame bits reads)) (same_own a b n (λ k h. same k (omega arith)))
+      ∙ ap (λ place. own b n ++ own_read near place (stage b n)) (same n (omega arith))
 
-  pub own_none : (places : List ℕ) (n : ℕ) → awaited width (get_or places n 0) (stage places n) ≡ None → own places (suc n) ≡ own places n
+  pub own_none : (places : List ℕ) (n : ℕ) → awaited near (get_or places n 0) (stage places n) ≡ None → own places (suc n) ≡ own places n
   own_none places n e = ap (λ o. own places n ++ option_map_or (λ c. c ∷ []) o []) e ∙ append-nil (own places n)
 
-  pub own_some : (places : List ℕ) (n c : ℕ) → awaited width (get_or places n 0) (stage places n) ≡ Some c → own places (suc n) ≡ own places n ++ c ∷ []
+  pub own_some : (places : List ℕ) (n c : ℕ) → awaited near (get_or places n 0) (stage places n) ≡ Some c → own places (suc n) ≡ own places n ++ c ∷ []
   own_some places n c e = ap (λ o. own places n ++ option_map_or (λ d. d ∷ []) o []) e
 
-  pub stage_none : (places : List ℕ) (n : ℕ) → awaited width (get_or places n 0) (stage places n) ≡ None → stage places (suc n) ≡ stage places n
+  pub stage_none : (places : List ℕ) (n : ℕ) → awaited near (get_or places n 0) (stage places n) ≡ None → stage places (suc n) ≡ stage places n
   stage_none places n e = ap (after query frame bits) (own_none places n e)
 
   -- the column that is awaited is the query's, at that place
-  pub column_awaited : (place : ℕ) (s : Stage) (c : ℕ) → s.query ≡ query → awaited width place s ≡ Some c → (c < length query.columns) × (get_or query.columns c 0 ≡ place)
-  column_awaited place s c is e = subst (λ (q : Query). (c < length q.columns) × (get_or q.columns c 0 ≡ place)) is (own_there s.query.columns place c (awaited_own width place s c e).1)
+  pub column_awaited : (place : ℕ) (s : Stage) (c : ℕ) → s.query ≡ query → awaited near place s ≡ Some c → (c < length query.columns) × (get_or query.columns c 0 ≡ place)
+  column_awaited place s c is e = subst (λ (q : Query). (c < length q.columns) × (get_or q.columns c 0 ≡ place)) is (own_there s.query.columns place c (awaited_own near place s c e).1)
 
-  pub stage_some : (places : List ℕ) (n c : ℕ) → awaited width (get_or places n 0) (stage places n) ≡ Some c →
+  pub stage_some : (places : List ℕ) (n c : ℕ) → awaited near (get_or places n 0) (stage places n) ≡ Some c →
       stage places (suc n) ≡ stepped (stage places n) c (bits (get_or places n 0) (times c (own places n)))
   stage_some places n c e =
       let (inside, there) = column_awaited (get_or places n 0) (stage places n) c refl e in
@@ -95,10 +96,10 @@ module _ (width : ℕ) (query : Query) (frame : Frame) (bits : Planes) where
       ∙ ap (λ place. stepped (stage places n) c (bits place (times c (own places n)))) there
 
   -- a query that is not finished has read every plane of its columns that was read
-  pub counted : (places : List ℕ) (n : ℕ) → n ≤ length places → (place c : ℕ) → own_column query place ≡ Some c → IsFalse (is_narrow width (stage places n)) →
+  pub counted : (places : List ℕ) (n : ℕ) → n ≤ length places → (place c : ℕ) → own_column query place ≡ Some c → IsFalse (is_narrow near (stage places n)) →
       times c (own places n) ≡ times place (take n places)
   counted places zero h place c is wide = refl
-  counted places (suc n) h place c is wide = by (awaited width here (stage places n)) refl (counted places n (omega arith) place c is)
+  counted places (suc n) h place c is wide = by (awaited near here (stage places n)) refl (counted places n (omega arith) place c is)
     where
       here : ℕ
       here = get_or places n 0
@@ -112,17 +113,17 @@ module _ (width : ℕ) (query : Query) (frame : Frame) (bits : Planes) where
       is_here : here ≡ place → times place (take (suc n) places) ≡ times place (take n places) + 1
       is_here same = subst (λ m. times place (take m places) ≡ times place (take n places) + 1) one (count_by_more_yes (λ d. d == place) places n 0 (omega arith) (eq-eqb here place same))
 
-      by : (o : Option ℕ) → awaited width here (stage places n) ≡ o → (IsFalse (is_narrow width (stage places n)) → times c (own places n) ≡ times place (take n places)) →
+      by : (o : Option ℕ) → awaited near here (stage places n) ≡ o → (IsFalse (is_narrow near (stage places n)) → times c (own places n) ≡ times place (take n places)) →
           times c (own places (suc n)) ≡ times place (take (suc n) places)
       by None e before =
-          let wide_before = subst (λ s. IsFalse (is_narrow width s)) (stage_none places n e) wide in
-          let none : own_column query here ≡ None = wide_own (is_narrow width (stage places n)) (own_column query here) wide_before e in
+          let wide_before = subst (λ s. IsFalse (is_narrow near s)) (stage_none places n e) wide in
+          let none : own_column query here ≡ None = wide_own (is_narrow near (stage places n)) (own_column query here) wide_before e in
           let other : here ≢ place = λ same. (let never : Some c ≡ None = sym is ∙ ap (own_column query) (sym same) ∙ none in cc) in
           ap (times c) (own_none places n e) ∙ before wide_before ∙ sym (not_here other)
       by (Some d) e before = to (cases_eq here place)
         where
-          own_d : IsFalse (is_narrow width (stage places n)) × (own_column query here ≡ Some d)
-          own_d = awaited_own width here (stage places n) d e
+          own_d : IsFalse (is_narrow near (stage places n)) × (own_column query here ≡ Some d)
+          own_d = awaited_own near here (stage places n) d e
 
           to : (here ≡ place) ⊎ (here ≢ place) → times c (own places (suc n)) ≡ times place (take (suc n) places)
           to (inl same) =
@@ -135,8 +136,8 @@ module _ (width : ℕ) (query : Query) (frame : Frame) (bits : Planes) where
               ap (times c) (own_some places n d e) ∙ times_other (own places n) d c c_other ∙ before own_d.0 ∙ sym (not_here other)
 
   -- so of a column that it awaits it has read as many planes as were read of it
-  pub read_awaited : (places : List ℕ) (n place c : ℕ) → n ≤ length places → awaited width place (stage places n) ≡ Some c →
+  pub read_awaited : (places : List ℕ) (n place c : ℕ) → n ≤ length places → awaited near place (stage places n) ≡ Some c →
       (known_at (stage places n).known c).read ≡ times place (take n places)
   read_awaited places n place c h e =
-      let (wide, is) = awaited_own width place (stage places n) c e in
+      let (wide, is) = awaited_own near place (stage places n) c e in
       read_times query frame bits (own places n) c (own_there query.columns place c is).0 ∙ counted places n h place c is wide

@@ -32,7 +32,7 @@ module _ (first now : Session) (plan : Plan) (head : Head) (bits : Planes) (read
   queries = queries_of first
 
   abbrev there : Session
-  there = session_after plan.width queries head bits reads (length reads)
+  there = session_after plan.near queries head bits reads (length reads)
 
   abbrev IsNow : Type 0
   IsNow = IsAfter plan queries head bits reads now
@@ -49,7 +49,7 @@ module _ (first now : Session) (plan : Plan) (head : Head) (bits : Planes) (read
   pub number_is : (c : ℕ) → IsNow → IsUnread (session_outlook now) c → next_number now c ≡ number_after reads (length reads) c
   number_is c after unread =
       ap (λ s. next_number s c) after.is
-      ∙ next_of plan.width queries head bits reads (length reads) c (omega arith) (are_columns plan queries head bits reads after.rounds) (subst (λ s. IsUnread (session_outlook s) c) after.is unread)
+      ∙ next_of plan.near queries head bits reads (length reads) c (omega arith) (are_columns plan queries head bits reads after.rounds) (subst (λ s. IsUnread (session_outlook s) c) after.is unread)
 
   -- the next plane is taken, or refused
   module _ (c : ℕ) (plane : List Bool) (after : IsNow) (unread : IsUnread (session_outlook now) c) (is : plane ≡ bits (get_or now.columns c 0) (next_number now c)) where
@@ -64,7 +64,7 @@ module _ (first now : Session) (plan : Plan) (head : Head) (bits : Planes) (read
         record {
           rounds = one_step_more plan queries head bits reads c followed (legal_stepped taken_is there c place (after.rounds.legal (length reads) (omega arith)) take);
           is = step ∙ ap (session_stepped now c) plane_is ∙ ap (λ s. session_stepped s c place) after.is ∙ next_at plan queries head bits reads c followed
-              ∙ ap (session_after plan.width queries head bits (reads ++ c ∷ [])) (sym (length-append reads (c ∷ [])));
+              ∙ ap (session_after plan.near queries head bits (reads ++ c ∷ [])) (sym (length-append reads (c ∷ [])));
         }
 
     pub over_there : (row : ℕ) → ((stage : Stage) (own : ℕ) → Awaits now c stage own → IsFirstOver stage own plane row) → (steps_of plan queries head bits).over reads c row
@@ -72,7 +72,7 @@ module _ (first now : Session) (plan : Plan) (head : Head) (bits : Planes) (read
 
 module _ (first now : Session) (plan : Plan) (head : Head) (a b : Planes) (reads : List ℕ) (after : IsAfter plan (queries_of first) head a reads now)
     (same : HaveSameRead (steps_of plan (queries_of first) head a) reads a b) where
-  same_sessions : (step : ℕ) → step < length reads + 1 → session_after plan.width (queries_of first) head a reads step ≡ session_after plan.width (queries_of first) head b reads step
+  same_sessions : (step : ℕ) → step < length reads + 1 → session_after plan.near (queries_of first) head a reads step ≡ session_after plan.near (queries_of first) head b reads step
   same_sessions step h = planes_tell_sessions plan (queries_of first) head a b reads (are_columns plan (queries_of first) head a reads after.rounds) same step (omega (arith, h))
 
   pub agrees : IsAfter plan (queries_of first) head b reads now

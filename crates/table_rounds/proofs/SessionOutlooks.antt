@@ -1,4 +1,5 @@
 -- What a policy sees of a session, and where a plane is unread.
+use Rattle.plane_schedule.specs.declared.policy.Nearness.{Nearness}
 use Rattle.std.proofs.Common.{◌≡◌, ℕ, ◌<◌, ◌==◌, Bool, true, false, if◌then◌else◌, Option, Some, None, option_map, List, length, get_or, map, refl, sym, ap, ◌∙◌, subst, arith, IsFalse, IsNone, IsTrue, slice_get, slice_index}
 use Rattle.std.proofs.lemmas.Option.{slice_get-map}
 use Rattle.std.specs.List.{position}
@@ -10,6 +11,7 @@ use Rattle.plane_schedule.proofs.Same.{AreSame}
 use Rattle.plane_schedule.specs.Choices.{HasChoice, HasUnread, outlook_of}
 use Rattle.plane_schedule.specs.Laws.{PoliciesChoose}
 use Rattle.plane_schedule.specs.Plans.{first_ending, no_extras}
+use Rattle.plane_schedule.specs.declared.policy.Listing.TheVariants.{Certain}
 use Rattle.plane_schedule.specs.declared.policy.Plan.{Plan}
 use Rattle.plane_schedule.specs.declared.policy.Policy.{Policy}
 use Rattle.plane_schedule.specs.declared.policies.FixedPolicy.TheVariants.{Widest}
@@ -57,9 +59,9 @@ own_is columns c once h = by (position (λ column. column == get_or columns c 0)
         let (inside, there) = own_there columns (get_or columns c 0) d e in
         e ∙ ap Some (stands_once columns once d c inside h there)
 
-awaits_own : (width c : ℕ) (stage : Stage) → IsFalse (is_narrow width stage) → IsTrue (no_repeats stage.query.columns) → c < length stage.query.columns →
-    awaited width (get_or stage.query.columns c 0) stage ≡ Some c
-awaits_own width c stage wide once h = ap (λ b. if b then None else own_column stage.query (get_or stage.query.columns c 0)) wide ∙ own_is stage.query.columns c once h
+awaits_own : (near : Nearness) (c : ℕ) (stage : Stage) → IsFalse (is_narrow near stage) → IsTrue (no_repeats stage.query.columns) → c < length stage.query.columns →
+    awaited near (get_or stage.query.columns c 0) stage ≡ Some c
+awaits_own near c stage wide once h = ap (λ b. if b then None else own_column stage.query (get_or stage.query.columns c 0)) wide ∙ own_is stage.query.columns c once h
 
 none_yet : (narrow : Bool) → IsFalse narrow → IsNone (first_ending narrow false false)
 none_yet true wide = cc
@@ -68,20 +70,20 @@ none_yet false wide = refl
 -- all that await a plane of a column have the same number of them unread
 abbrev pub AreAlike : Session → Type 0
 AreAlike s = (column : ℕ) (stage : Stage) (own : ℕ) → column < length s.columns → Awaits s column stage own →
-    unread_in s.width (slice_index s.columns column) s.stages ≡ unread_of stage own
+    unread_in s.near (slice_index s.columns column) s.stages ≡ unread_of stage own
 
 pub awaits_some : RoundsHavePlanes → (s : Session) (k : ℕ) (stage : Stage) → AreAlike s → s.columns ≡ columns_named (map (λ stage. stage.query) s.stages) →
-    slice_get s.stages k ≡ Some stage → IsFalse (is_narrow s.width stage) → IsKnowledge stage.frame stage.known → IsTrue (no_repeats stage.query.columns) →
+    slice_get s.stages k ≡ Some stage → IsFalse (is_narrow s.near stage) → IsKnowledge stage.frame stage.known → IsTrue (no_repeats stage.query.columns) →
     length stage.frame.columns ≡ length stage.query.columns → HasUnread (session_outlook s)
 awaits_some have s k stage alike named there wide known once long =
-    let plan : Plan = record { policy = By Widest; width = s.width; most = None; list = false; extras = no_extras } in
-    let (c, unread) = have plan stage known (none_yet (is_narrow s.width stage) wide) in
+    let plan : Plan = record { policy = By Widest; near = s.near; most = None; listing = Certain; extras = no_extras } in
+    let (c, unread) = have plan stage known (none_yet (is_narrow s.near stage) wide) in
     let inside : c < length stage.query.columns = subst (λ n. c < n) long unread.column in
     let place = get_or stage.query.columns c 0 in
     let (column, below, is) = columns_stand (map (λ (stage : Stage). stage.query) s.stages) k stage.query place
     (slice_get-map (λ (stage : Stage). stage.query) s.stages k ∙ ap (option_map (λ (stage : Stage). stage.query)) there) (c, inside, refl) in
     let in_session : column < length s.columns = subst (λ cs. column < length cs) (sym named) below in
     let place_is : slice_index s.columns column ≡ place = ap (λ cs. slice_index cs column) named ∙ is in
-    let waits : awaited s.width (slice_index s.columns column) stage ≡ Some c = ap (λ p. awaited s.width p stage) place_is ∙ awaits_own s.width c stage wide once inside in
+    let waits : awaited s.near (slice_index s.columns column) stage ≡ Some c = ap (λ p. awaited s.near p stage) place_is ∙ awaits_own s.near c stage wide once inside in
     let all = alike column stage c in_session (record { query = k; there = there; reads = waits }) in
     (column, record { column = in_session; unread = (let some = unread.unread in omega (arith, all, some)) })

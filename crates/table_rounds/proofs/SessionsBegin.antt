@@ -20,9 +20,9 @@ all_moved (q ∷ qs) = ap (λ l. true ∷ l) (all_moved qs)
 
 module _ (begin : RoundsBegin) (plan : Plan) (queries : List Query) (head : Head) (bits : Planes) where
   abbrev start : Query → Stage
-  start query = stage_in plan.width (frame_of head) bits [] query 0
+  start query = stage_in plan.near (frame_of head) bits [] query 0
 
-  legal : IsLegalSession (session_after plan.width queries head bits [] 0)
+  legal : IsLegalSession (session_after plan.near queries head bits [] 0)
   legal = all_of (λ (s : Stage). IsKnowledge s.frame s.known) (map start queries) (λ k s there.
       let (query, at, is) = from_map start queries k s there in
       subst (λ (s : Stage). IsKnowledge s.frame s.known) is ((begin plan query head bits).rounds.legal 0 (omega arith)))
@@ -33,9 +33,9 @@ sessions_begin begin plan queries head bits = record {
     going = λ step h. absurd (omega (arith, h));
     chosen = λ step h. absurd (omega (arith, h));
     legal = λ step h. (let e : 0 ≡ step = omega (arith, h) in
-        subst (λ n. IsLegalSession (session_after plan.width queries head bits [] n)) e (legal begin plan queries head bits));
+        subst (λ n. IsLegalSession (session_after plan.near queries head bits [] n)) e (legal begin plan queries head bits));
   };
   is = (let stages = same_maps (λ query. opened query head) (start begin plan queries head bits) queries (λ k query there. (begin plan query head bits).known) in
-      ap (λ ss. record { width = plan.width; rows = head.rows; columns = columns_named queries; stages = ss; moved = replicate (length queries) true; steps = 0 }) stages
-      ∙ ap (λ ms. record { width = plan.width; rows = head.rows; columns = columns_named queries; stages = map (start begin plan queries head bits) queries; moved = ms; steps = 0 }) (all_moved queries));
+      ap (λ ss. record { near = plan.near; rows = head.rows; columns = columns_named queries; stages = ss; moved = replicate (length queries) true; steps = 0 }) stages
+      ∙ ap (λ ms. record { near = plan.near; rows = head.rows; columns = columns_named queries; stages = map (start begin plan queries head bits) queries; moved = ms; steps = 0 }) (all_moved queries));
 }

@@ -40,11 +40,11 @@ module _ (plan : Plan) (queries : List Query) (head : Head) (bits : Planes) (rea
   -- a step reads an unread plane
   unread_there : (n : ℕ) → n < length reads → get_or (counts n) (column n) 0 < planes (ends_at part (column n))
   unread_there n h =
-      let s = session_after plan.width queries head bits reads n in
+      let s = session_after plan.near queries head bits reads n in
       let c = column n in
       let has = chosen_unread plan queries head bits reads steps n h in
-      let f = found s.width (place_of queries c) s.stages has.unread in
-      let told = told_of plan.width queries head bits reads n c f.stage f.own (omega (arith, h)) (are_columns plan queries head bits reads steps) (inside n h) (first_awaits s c f) in
+      let f = found s.near (place_of queries c) s.stages has.unread in
+      let told = told_of plan.near queries head bits reads n c f.stage f.own (omega (arith, h)) (are_columns plan queries head bits reads steps) (inside n h) (first_awaits s c f) in
       let read = ap (λ (k : KnownColumn). k.known.read) told in
       let all = ap (λ (k : KnownColumn). planes k.ends) told in
       let ends = ap planes (ends_there (joint queries) frame c (inside n h)) in

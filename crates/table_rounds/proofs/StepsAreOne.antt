@@ -23,13 +23,13 @@ use Rattle.table_rounds.specs.Rounds.{Planes}
 
 module _ (plan : Plan) (queries : List Query) (head : Head) (bits : Planes) where
   abbrev at : List ℕ → ℕ → Session
-  at reads n = session_after plan.width queries head bits reads n
+  at reads n = session_after plan.near queries head bits reads n
 
   -- the session after the next plane
   pub next_at : (reads : List ℕ) (next : ℕ) → IsFollowed (steps_of plan queries head bits) reads next →
       session_stepped (at reads (length reads)) next (bits (place_of queries next) (number_after reads (length reads) next)) ≡ at (reads ++ next ∷ []) (length reads + 1)
   next_at reads next follows =
-      session_more plan.width queries head bits reads next (are_columns plan queries head bits reads follows.rounds) (next_unread plan queries head bits reads next follows).column
+      session_more plan.near queries head bits reads next (are_columns plan queries head bits reads follows.rounds) (next_unread plan queries head bits reads next follows).column
       ∙ ap (at (reads ++ next ∷ [])) (length-append reads (next ∷ []))
 
   -- ---- the query that first awaits the next plane
@@ -38,17 +38,17 @@ module _ (plan : Plan) (queries : List Query) (head : Head) (bits : Planes) wher
     abbrev s : Session
     s = at reads (length reads)
 
-    first : Found s.width (place_of queries next) s.stages
-    first = found s.width (place_of queries next) s.stages (next_unread plan queries head bits reads next follows).unread
+    first : Found s.near (place_of queries next) s.stages
+    first = found s.near (place_of queries next) s.stages (next_unread plan queries head bits reads next follows).unread
 
     first_known : IsKnowledge first.stage.frame first.stage.known
     first_known = all_there (λ (s : Stage). IsKnowledge s.frame s.known) s.stages first.query first.stage (follows.rounds.legal (length reads) (omega arith)) first.there
 
     first_inside : first.own < length first.stage.frame.columns
     first_inside =
-        let stage : Query → Stage = λ query. stage_in plan.width (frame_of head) bits (places_read queries reads) query (length reads) in
+        let stage : Query → Stage = λ query. stage_in plan.near (frame_of head) bits (places_read queries reads) query (length reads) in
         let (query, here, is) = from_map stage queries first.query first.stage first.there in
-        let inside = (own_there first.stage.query.columns (place_of queries next) first.own (awaited_own s.width (place_of queries next) first.stage first.own first.waits).1).0 in
+        let inside = (own_there first.stage.query.columns (place_of queries next) first.own (awaited_own s.near (place_of queries next) first.stage first.own first.waits).1).0 in
         subst (λ (t : Stage). first.own < length t.query.columns → first.own < length t.frame.columns) is
         (λ below. subst (λ n. first.own < n) (sym (columns_of_part query (frame_of head))) below) inside
 
@@ -59,11 +59,11 @@ module _ (plan : Plan) (queries : List Query) (head : Head) (bits : Planes) wher
     not_over row over legal =
         let f = first in
         let place = place_of queries next in
-        let there : slice_get (map (followed s.width place plane) s.stages) f.query ≡ Some (followed s.width place plane f.stage) =
-        slice_get-map (followed s.width place plane) s.stages f.query ∙ ap (option_map (followed s.width place plane)) f.there in
-        let new = all_there (λ (s : Stage). IsKnowledge s.frame s.known) (map (followed s.width place plane) s.stages) f.query (followed s.width place plane f.stage)
+        let there : slice_get (map (followed s.near place plane) s.stages) f.query ≡ Some (followed s.near place plane f.stage) =
+        slice_get-map (followed s.near place plane) s.stages f.query ∙ ap (option_map (followed s.near place plane)) f.there in
+        let new = all_there (λ (s : Stage). IsKnowledge s.frame s.known) (map (followed s.near place plane) s.stages) f.query (followed s.near place plane f.stage)
         (subst IsLegalSession (sym (next_at reads next follows)) legal) there in
-        let stepped_known : IsKnowledge f.stage.frame (taken f.stage.known f.own plane) = subst (λ (s : Stage). IsKnowledge s.frame s.known) (followed_some s.width place f.own plane f.stage f.waits) new in
+        let stepped_known : IsKnowledge f.stage.frame (taken f.stage.known f.own plane) = subst (λ (s : Stage). IsKnowledge s.frame s.known) (followed_some s.near place f.own plane f.stage f.waits) new in
         taken_over f.stage f.own plane row first_known stepped_known first_inside (over f.stage f.own (first_awaits s next f))
 
     one_over : (a b : ℕ) → (steps_of plan queries head bits).over reads next a → (steps_of plan queries head bits).over reads next b → a ≡ b
@@ -71,9 +71,9 @@ module _ (plan : Plan) (queries : List Query) (head : Head) (bits : Planes) wher
 
   pub steps_lawful : IsLawful (steps_of plan queries head bits)
   steps_lawful = record {
-    ending = λ a b n alike. ap (ending_in plan) (same_session plan.width queries head bits a b n alike.in_a alike.in_b alike.same);
-    outlook = λ a b n alike. ap session_outlook (same_session plan.width queries head bits a b n alike.in_a alike.in_b alike.same);
-    legal = λ a b n alike. subst IsLegalSession (same_session plan.width queries head bits a b n alike.in_a alike.in_b alike.same);
+    ending = λ a b n alike. ap (ending_in plan) (same_session plan.near queries head bits a b n alike.in_a alike.in_b alike.same);
+    outlook = λ a b n alike. ap session_outlook (same_session plan.near queries head bits a b n alike.in_a alike.in_b alike.same);
+    legal = λ a b n alike. subst IsLegalSession (same_session plan.near queries head bits a b n alike.in_a alike.in_b alike.same);
     illegal = λ reads c row follows over legal. not_over reads c follows row over legal;
     one_row = λ reads c a b follows p r. one_over reads c follows a b p r;
   }

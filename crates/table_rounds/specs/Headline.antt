@@ -1,4 +1,5 @@
 -- What each round says of the answers on the table: its values, the bounds of its items, its keys and its first rows.
+use Rattle.plane_schedule.specs.declared.policy.Nearness.{Nearness}
 use Rattle.std.specs.Prelude.{◌≡◌, ◌⊎◌, ℕ, ◌+◌, ◌<◌, ◌≤◌, List}
 use Rattle.std.specs.Prelude.{[], ◌++◌, length, map, take, slice_get, IsTrue, IsNone}
 use Rattle.std.specs.declared.option.Option.TheVariants.{Some}
@@ -156,10 +157,11 @@ LegalPlanesHaveTables =
 
 -- ---- laws of rounds
 
--- with nothing unread a round is narrow, for every width
+-- with nothing unread a round is narrow, however near its answers are to be
 abbrev pub FullStagesAreNarrow : Type 0
 FullStagesAreNarrow =
-    (width : ℕ) (stage : Stage) → IsKnowledge stage.frame stage.known → IsAllRead stage.frame stage.known → IsTrue (is_narrow width stage)
+    (near : Nearness) (stage : Stage) → IsKnowledge stage.frame stage.known → IsAllRead stage.frame stage.known →
+    IsTrue (is_narrow near stage)
 
 -- so a plane is unread wherever the rounds go on
 abbrev pub RoundsHavePlanes : Type 0

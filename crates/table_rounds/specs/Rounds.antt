@@ -91,7 +91,7 @@ outlook_at stage = record {
 
 -- why the rounds end here, if they do. The number of a round is that of the planes read
 abbrev pub ending_at : Plan → Stage → Option Ending
-ending_at plan stage = ending_of plan (is_narrow plan.width stage) (planes_read stage.known)
+ending_at plan stage = ending_of plan (is_narrow plan.near stage) (planes_read stage.known)
 
 -- the course of the rounds
 abbrev pub rounds_of : Plan → TypedQuery → Frame → Planes → Course

@@ -21,7 +21,7 @@ AreValid head queries = AllByRecursion (IsValid head) queries
 abbrev pub SessionsBegin : Type 0
 SessionsBegin =
     (plan : Plan) (queries : List Query) (head : Head) (bits : Planes) →
-    IsAfter plan queries head bits [] (session_opened queries head plan.width)
+    IsAfter plan queries head bits [] (session_opened queries head plan.near)
 
 -- a query's own reads, step by step: asked alone with all of them as the list, it has just these rounds; after each step its reads are the
 -- first of them, and it stands where it does alone after as many rounds
@@ -35,14 +35,14 @@ abbrev pub QueriesStandAlone : Type 0
 QueriesStandAlone =
     (plan : Plan) (queries : List Query) (head : Head) (bits : Planes) (reads : List ℕ) (q : ℕ) (query : Query) →
     AreSteps plan queries head bits reads → slice_get queries q ≡ Some query →
-    AreAlone plan query (frame_of head) bits (own_reads plan.width (frame_of head) bits (places_read queries reads) query) (length reads)
+    AreAlone plan query (frame_of head) bits (own_reads plan.near (frame_of head) bits (places_read queries reads) query) (length reads)
 
 -- so its bounds are certain, of each table that has the planes that it read
 abbrev pub SessionsAreCertain : Type 0
 SessionsAreCertain =
     (plan : Plan) (queries : List Query) (head : Head) (bits : Planes) (reads : List ℕ) (q : ℕ) (query : Query) (cells : Cells) →
     AreValid head queries → AreOfLongs (frame_of head) → AreSteps plan queries head bits reads → slice_get queries q ≡ Some query →
-    let own = own_reads plan.width (frame_of head) bits (places_read queries reads) query (length reads) in
+    let own = own_reads plan.near (frame_of head) bits (places_read queries reads) query (length reads) in
     HasPlanes query (frame_of head) bits (counts_after query own (length own)) cells → AreCertain query (frame_of head) cells own
 
 -- a session has no more steps than its columns have planes

@@ -12,10 +12,10 @@ use query_model::{
     average_ends_meet, average_ends_of_cells_meet, bounds_are_extremes_on_tables,
     bounds_become_exact_on_tables, bounds_contain_on_tables, bounds_nest,
     completions_are_selections, ends_meet, ends_of_cells_meet, illegal_cells_are_empty,
-    keys_have_cells, keys_have_ranges, legal_cells_have_keys, pairs_go_by_cells, planes_are_taken,
-    ranges_nest, results_are_told_on_tables, standings_are_right_on_tables, standings_become_exact,
-    standings_nest, start_is_knowledge, tables_agree, tables_exist, tables_have_parts,
-    taken_is_knowledge, words_become_exact, words_of_cells_become_exact,
+    keys_become_exact, keys_have_cells, keys_have_ranges, legal_cells_have_keys, pairs_go_by_cells,
+    planes_are_taken, ranges_nest, results_are_told_on_tables, standings_are_right_on_tables,
+    standings_become_exact, standings_nest, start_is_knowledge, tables_agree, tables_exist,
+    tables_have_parts, taken_is_knowledge, words_become_exact, words_of_cells_become_exact,
 };
 use row_groups::cells_tell_keys;
 
@@ -39,7 +39,7 @@ pub fn legal_planes_have_tables()
     tables_exist();
 }
 
-/// With nothing unread a round is narrow, for every width.
+/// With nothing unread a round is narrow, however near its answers are to be.
 pub fn full_stages_are_narrow()
     ensures { FullStagesAreNarrow }
 {
@@ -50,6 +50,7 @@ pub fn full_stages_are_narrow()
     average_ends_of_cells_meet();
     words_of_cells_become_exact();
     standings_become_exact();
+    keys_become_exact();
 }
 
 /// So a plane is unread wherever the rounds go on.

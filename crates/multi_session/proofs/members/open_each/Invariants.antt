@@ -6,4 +6,4 @@ use Rattle.multi_session.proofs.members.open_each.Given as goal
 
 abbrev pub invariant-loop-query : goal.invariant-loop-query
 invariant-loop-query l = (head : Head) → All (IsValid head) l.yielded → AreUnread head l.columns.places.items l.columns.known →
-    AreOpened l.yielded head l.width l.columns.places.items l.columns.known l.members.items
+    AreOpened l.yielded head l.near l.columns.places.items l.columns.known l.members.items

@@ -11,8 +11,8 @@ overflow_add-unknown c =
     let table = c.args.columns.now.known in
     let m = c.member-item.result in
     let kept = c.requires.kept.1 in
-    let is : IsMember c.args.width kept.0 places table m =
-    subst (IsMember c.args.width kept.0 places table) (sym c.member-item.is) (kept.1 c.loop-member.member-index m c.loop-member-test.true) in
+    let is : IsMember c.args.near kept.0 places table m =
+    subst (IsMember c.args.near kept.0 places table) (sym c.member-item.is) (kept.1 c.loop-member.member-index m c.loop-member-test.true) in
     let few = few_unknown (stage_in table m) is.open_stage in
     let told : c.progress-progress.result.unknown ≡ unknown_rows (stage_in table m) = c.progress-progress.ensures.unknown ∙ ap unknown_rows c.view.ensures in
     omega (arith, few, told, c.loop-member.invariant.few_unknown, c.loop-member-test.true, c.requires.few)
@@ -23,15 +23,15 @@ overflow_add-possible c =
     let table = c.args.columns.now.known in
     let m = c.member-item.result in
     let kept = c.requires.kept.1 in
-    let is : IsMember c.args.width kept.0 places table m =
-    subst (IsMember c.args.width kept.0 places table) (sym c.member-item.is) (kept.1 c.loop-member.member-index m c.loop-member-test.true) in
+    let is : IsMember c.args.near kept.0 places table m =
+    subst (IsMember c.args.near kept.0 places table) (sym c.member-item.is) (kept.1 c.loop-member.member-index m c.loop-member-test.true) in
     let few = few_possible (stage_in table m) is.open_stage in
     let told : c.progress-progress.result.possible ≡ possible_rows (stage_in table m) = c.progress-progress.ensures.possible ∙ ap possible_rows c.view.ensures in
     omega (arith, few, told, c.loop-member.invariant.few_possible, c.loop-member-test.true, c.requires.few)
 
 pub loop-member-preserved : goal.loop-member-preserved
 loop-member-preserved c =
-    let w = c.args.width in
+    let w = c.args.near in
     let places = c.args.columns.now.places.items in
     let table = c.args.columns.now.known in
     let members = c.args.members.now in

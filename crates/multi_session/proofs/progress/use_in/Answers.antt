@@ -12,7 +12,7 @@ use Rattle.multi_session.proofs.progress.use_in.Goals.{in-Some, in_default}
 
 pub loop-member-preserved : goal.loop-member-preserved
 loop-member-preserved c =
-    let w = c.args.width in
+    let w = c.args.near in
     let p = c.args.place in
     let places = c.args.columns.now.places.items in
     let table = c.args.columns.now.known in

@@ -26,5 +26,5 @@ pub loop-query-preserved : goal.loop-query-preserved
 loop-query-preserved c =
     let s = c.args.session.now in
     let inside : c.loop-query.query < length s.stages = (let test = c.loop-query-test.true in let all = c.queries-query-end.ensures in omega (arith, test, all)) in
-    narrow_more (is_narrow s.width) s.stages c.loop-query.query inside c.loop-query.invariant
-    (subst (λ b. IfSome (slice_get s.stages c.loop-query.query) (λ stage. b ≡ is_narrow s.width stage)) c.if-not-finished.false c.finished.ensures)
+    narrow_more (is_narrow s.near) s.stages c.loop-query.query inside c.loop-query.invariant
+    (subst (λ b. IfSome (slice_get s.stages c.loop-query.query) (λ stage. b ≡ is_narrow s.near stage)) c.if-not-finished.false c.finished.ensures)

@@ -4,4 +4,4 @@ use Rattle.round_engine.specs.Narrowness.{is_narrow}
 use Rattle.plane_course.proofs.sessions.any_wide.Given as goal
 
 abbrev pub invariant-loop-query : goal.invariant-loop-query
-invariant-loop-query l = IsTrue (list_all (is_narrow l.session.width) (take l.query l.session.stages))
+invariant-loop-query l = IsTrue (list_all (is_narrow l.session.near) (take l.query l.session.stages))

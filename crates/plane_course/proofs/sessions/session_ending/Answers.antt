@@ -15,14 +15,14 @@ use Rattle.table_rounds.specs.Steps.{IsWide}
 use Rattle.table_rounds.proofs.Outlooks.{not_narrow}
 use Rattle.plane_course.proofs.sessions.session_ending.Goals as goal
 
-narrow_is : (s : Session) (o : Option ℕ) (b : Bool) → IfNone o (IsTrue (list_all (is_narrow s.width) s.stages)) → IfSome o (IsWide s) → is_some o ≡ not b →
-    b ≡ list_all (is_narrow s.width) s.stages
+narrow_is : (s : Session) (o : Option ℕ) (b : Bool) → IfNone o (IsTrue (list_all (is_narrow s.near) s.stages)) → IfSome o (IsWide s) → is_some o ≡ not b →
+    b ≡ list_all (is_narrow s.near) s.stages
 narrow_is s None true none some e = sym none
 narrow_is s None false none some e = cc
 narrow_is s (Some k) true none some e = cc
 narrow_is s (Some k) false none some e =
-    sym (list_all_at (is_narrow s.width) s.stages k some.stage (slice_get_within s.stages k some.stage some.there)
-    (ap (is_narrow s.width) (get_or_from_slice_get s.stages k some.stage some.stage some.there) ∙ some.wide))
+    sym (list_all_at (is_narrow s.near) s.stages k some.stage (slice_get_within s.stages k some.stage some.there)
+    (ap (is_narrow s.near) (get_or_from_slice_get s.stages k some.stage some.stage some.there) ∙ some.wide))
 
 wide_query : (s : Session) (o : Option ℕ) (b : Bool) → IfSome o (IsWide s) → is_some o ≡ not b → IsFalse b → (k : ℕ) × IsWide s k
 wide_query s None true some e wide = cc
@@ -39,7 +39,7 @@ returns-clause-ending c =
     let plan = c.args.plan.now in
     c.ending.ensures
     ∙ ap (λ narrow. ending_of plan narrow c.progress.result.done) (narrow_is s c.any_wide.result c.is_none.result c.any_wide.ensures.none c.any_wide.ensures.some c.is_none.ensures)
-    ∙ ap (ending_of plan (list_all (is_narrow s.width) s.stages)) c.progress.ensures.progress.done
+    ∙ ap (ending_of plan (list_all (is_narrow s.near) s.stages)) c.progress.ensures.progress.done
 
 pub returns-clause-unread : goal.returns-clause-unread
 returns-clause-unread c = λ head fits.

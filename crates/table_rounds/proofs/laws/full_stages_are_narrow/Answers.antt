@@ -11,4 +11,5 @@ returns c = full_stages_are_narrow
       ends_of_cells = c.ends_of_cells_meet.ensures;
       averages_of_cells = c.average_ends_of_cells_meet.ensures;
       standings = c.standings_become_exact.ensures;
+      keys = c.keys_become_exact.ensures;
     })

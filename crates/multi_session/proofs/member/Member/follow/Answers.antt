@@ -12,7 +12,7 @@ pub returns-in_default : goal.returns-in_default
 returns-in_default c =
     let places = c.args.columns.now.places.items in
     let there = get_or_read places c.args.column c.index.result.now c.requires.column c.index.ensures 0 in
-    is_passed c.args.width c.args.step c.args.column places c.args.plane.now c.args.columns.now.known c.args.self.now c.requires.behind c.index.result.now there
+    is_passed c.args.near c.args.step c.args.column places c.args.plane.now c.args.columns.now.known c.args.self.now c.requires.behind c.index.result.now there
     c.awaited.result c.awaited.ensures c.in_default.is
 
 pub refresh-requires : goal.refresh-requires
@@ -21,7 +21,7 @@ refresh-requires c =
     let table = c.args.columns.now.known in
     let there = get_or_read places c.args.column c.index.result.now c.requires.column c.index.ensures 0 in
     record {
-      before = may_refresh c.args.width c.args.step c.args.column places c.args.plane.now table c.args.self.now c.requires.behind c.index.result.now there
+      before = may_refresh c.args.near c.args.step c.args.column places c.args.plane.now table c.args.self.now c.requires.behind c.index.result.now there
           c.awaited.result c.awaited.ensures c.in-Some.own c.in-Some.is c.lend_some.result (c.lend_some.ensures ∙ ap (lent_table table) c.deref.ensures.value);
     }
 
@@ -29,7 +29,7 @@ pub overflow_add-index_mut : goal.overflow_add-index_mut
 overflow_add-index_mut c =
     let places = c.args.columns.now.places.items in
     let there = get_or_read places c.args.column c.index.result.now c.requires.column c.index.ensures 0 in
-    let few = few_counted c.args.width c.args.step c.args.column places c.args.plane.now c.args.columns.now.known c.args.self.now c.requires.behind c.index.result.now there
+    let few = few_counted c.args.near c.args.step c.args.column places c.args.plane.now c.args.columns.now.known c.args.self.now c.requires.behind c.index.result.now there
     c.awaited.result c.awaited.ensures c.in-Some.own c.in-Some.is c.index_mut.result.now c.index_mut.ensures.value in
     omega (arith, few)
 
@@ -45,7 +45,7 @@ judge-requires-clause-abreast c =
       finished = c.args.self.now.finished;
       moved = c.args.step;
     } in
-    is_abreast c.args.width c.args.step c.args.column places c.args.plane.now table c.args.self.now c.requires.behind c.index.result.now there
+    is_abreast c.args.near c.args.step c.args.column places c.args.plane.now table c.args.self.now c.requires.behind c.index.result.now there
     c.awaited.result c.awaited.ensures c.in-Some.own c.in-Some.is next c.index_mut.result.now refl c.index_mut.ensures.value refl c.refresh.ensures.query
     c.lend_some.result (c.lend_some.ensures ∙ ap (lent_table table) c.deref.ensures.value) c.refresh.ensures.follows
 
@@ -61,7 +61,7 @@ returns c =
       finished = c.args.self.now.finished;
       moved = c.args.step;
     } in
-    subst (WasHanded c.args.width c.args.step (slice_index places c.args.column) places c.args.plane.now table c.args.self.now) (sym c.judge.ensures.judged)
-    (is_handed c.args.width c.args.step c.args.column places c.args.plane.now table c.args.self.now c.requires.behind c.index.result.now there
+    subst (WasHanded c.args.near c.args.step (slice_index places c.args.column) places c.args.plane.now table c.args.self.now) (sym c.judge.ensures.judged)
+    (is_handed c.args.near c.args.step c.args.column places c.args.plane.now table c.args.self.now c.requires.behind c.index.result.now there
     c.awaited.result c.awaited.ensures c.in-Some.own c.in-Some.is next c.index_mut.result.now refl c.index_mut.ensures.value refl c.refresh.ensures.query
     c.lend_some.result (c.lend_some.ensures ∙ ap (lent_table table) c.deref.ensures.value) c.refresh.ensures.follows refl c.judge.ensures.open_stage)

@@ -66,7 +66,7 @@ returns c = λ head valid none.
     let m : Member = record { follower = c.in_ok-follower.follower; numbers = c.in_ok-numbers.numbers; counts = c.in_ok-counts.counts; finished = false; moved = 0 } in
     let abreast = opened_abreast head places table m none c.requires.known c.in_ok-numbers.ensures.inside counts
     (subst (λ t. Follows t c.in_ok-follower.follower) lent c.in_ok-follower.ensures.follows) in
-    subst (IsOpened c.args.query head c.args.width places table) (sym c.judge.ensures.judged)
-    (opened_is head places c.args.width table c.args.query c.progress-progress.result m valid none abreast c.in_ok-numbers.ensures.inside
+    subst (IsOpened c.args.query head c.args.near places table) (sym c.judge.ensures.judged)
+    (opened_is head places c.args.near table c.args.query c.progress-progress.result m valid none abreast c.in_ok-numbers.ensures.inside
     (sym columns ∙ c.in_ok-numbers.ensures.named) c.in_ok-follower.ensures.query refl
     (subst (λ s. IsProgress s c.progress-progress.result) c.view.ensures c.progress-progress.ensures) c.judge.ensures.open_stage)

@@ -43,8 +43,8 @@ invariant_of-result c =
     let within : limit_passed head.rows queries ≡ None = subst (λ qs. limit_passed head.rows qs ≡ None) c.deref.ensures.value c.in_ok-places.ensures.within in
     let named : columns.places.items ≡ columns_named queries = c.in_ok-columns.ensures.places ∙ c.in_ok-places.ensures.columns ∙ ap columns_named c.deref.ensures.value in
     let unread = subst (λ places. AreUnread head places columns.known) (sym c.in_ok-columns.ensures.places) c.in_ok-columns.ensures.unread in
-    session_opens queries head c.args.width columns.places.items columns.known c.in_ok-members.members.items
-    (c.in_ok-members.ensures head (each_of (IsValid head) queries c.requires.valid) unread) c.requires.width
+    session_opens queries head c.args.near columns.places.items columns.known c.in_ok-members.members.items
+    (c.in_ok-members.ensures head (each_of (IsValid head) queries c.requires.valid) unread) c.requires.near
     (columns_are queries head columns.places.items columns.known named unread c.in_ok-columns.ensures.known)
     (subst (λ places. length places ≤ 16) (sym named) (few_named head.rows queries within)) (few_queries head.rows queries within)
 
@@ -55,9 +55,9 @@ returns-clause-opened c =
     let columns = c.in_ok-columns.columns in
     let named : columns.places.items ≡ columns_named queries = c.in_ok-columns.ensures.places ∙ c.in_ok-places.ensures.columns ∙ ap columns_named c.deref.ensures.value in
     let unread = subst (λ places. AreUnread head places columns.known) (sym c.in_ok-columns.ensures.places) c.in_ok-columns.ensures.unread in
-    session_is queries head c.args.width columns.places.items columns.known c.in_ok-members.members.items
+    session_is queries head c.args.near columns.places.items columns.known c.in_ok-members.members.items
     (c.in_ok-members.ensures head (each_of (IsValid head) queries c.requires.valid) unread) named unread
 
 pub returns-clause-stands : goal.returns-clause-stands
 returns-clause-stands c =
-    subst (StandsFor c.args.queries.items c.args.head.now []) (sym (returns-clause-opened c)) (stands_at_first c.args.queries.items c.args.head.now c.args.width)
+    subst (StandsFor c.args.queries.items c.args.head.now []) (sym (returns-clause-opened c)) (stands_at_first c.args.queries.items c.args.head.now c.args.near)

@@ -18,8 +18,8 @@ returns c =
     let m = c.index.result.now in
     let inside : c.args.query < length members =
     subst (λ n. c.args.query < n) (ap (λ (s : Session). length s.stages) (sym c.self.view_is) ∙ length-map members (stage_in table)) c.requires in
-    let is = member_is s.width s.steps places table members c.self.invariant c.args.query m inside c.index.ensures in
-    let there = stands s.width s.steps places table members c.self.invariant c.args.query m inside c.index.ensures in
+    let is = member_is s.near s.steps places table members c.self.invariant c.args.query m inside c.index.ensures in
+    let there = stands s.near s.steps places table members c.self.invariant c.args.query m inside c.index.ensures in
     let reads = c.reads.ensures ∙ sym (counts_read table m.numbers.items m.counts.items is.counts) in
     subst (λ (t : Session). IfSome (slice_get t.stages c.args.query) (λ (stage : Stage). c.reads.result ≡ planes_read stage.known)) c.self.view_is
     (subst (λ o. IfSome o (λ (stage : Stage). c.reads.result ≡ planes_read stage.known)) (sym there) reads)

@@ -14,7 +14,7 @@ view-requires c =
     let members = s.members.items in
     let inside : c.args.query < length members =
     subst (λ n. c.args.query < n) (ap (λ (s : Session). length s.stages) (sym c.self.view_is) ∙ length-map members (stage_in table)) c.requires.query in
-    is_abreast_now s.width s.steps s.columns.places.items table members c.self.invariant c.args.query c.index.result.now inside c.index.ensures c.args.self.now c.self.view_is c.requires.current
+    is_abreast_now s.near s.steps s.columns.places.items table members c.self.invariant c.args.query c.index.result.now inside c.index.ensures c.args.self.now c.self.view_is c.requires.current
 
 pub returns-clause-stage : goal.returns-clause-stage
 returns-clause-stage c =
@@ -24,7 +24,7 @@ returns-clause-stage c =
     let inside : c.args.query < length members =
     subst (λ n. c.args.query < n) (ap (λ (s : Session). length s.stages) (sym c.self.view_is) ∙ length-map members (stage_in table)) c.requires.query in
     ap (λ (t : Session). slice_get t.stages c.args.query) (sym c.self.view_is)
-    ∙ stands s.width s.steps s.columns.places.items table members c.self.invariant c.args.query c.index.result.now inside c.index.ensures
+    ∙ stands s.near s.steps s.columns.places.items table members c.self.invariant c.args.query c.index.result.now inside c.index.ensures
     ∙ ap Some (sym c.view.ensures)
 
 pub returns-clause-alone : goal.returns-clause-alone

@@ -31,7 +31,7 @@ returns-clause-columns c =
 pub returns-clause-follow : goal.returns-clause-follow
 returns-clause-follow c = λ plan can.
     let stage = c.args.self.now in
-    stays (λ (s : Stage). (plan.width < 2 ^ 63) × IsReadable plan.policy s.frame) c.step.result stage c.step.new.self (stepped stage c.args.column c.args.plane.now) c.step.ensures.taken
+    stays (λ (s : Stage). (plan.near.width < 2 ^ 63) × IsReadable plan.policy s.frame) c.step.result stage c.step.new.self (stepped stage c.args.column c.args.plane.now) c.step.ensures.taken
     c.step.ensures.unchanged can can
 
 pub returns-clause-fewer : goal.returns-clause-fewer
