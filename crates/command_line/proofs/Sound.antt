@@ -5,7 +5,7 @@ use Rattle.std.proofs.Common.{◌≡◌, ◌≢◌, ℕ, zero, suc, ◌+◌, ◌
 use Rattle.std.specs.Option.{option_map_or}
 use Rattle.std.specs.Str.{bytes_eq}
 use Rattle.std.proofs.lemmas.Slice.Eq.{bytes_eq-Decides}
-use Rattle.command_line.specs.Commands.{ReadOrder, fixed, reads, IsPolicy, IsNumber, Given, Gives, no_more, more_width, more_rounds, more_policy, more_reads, more_list, more_clip, more_exact, Options, Command, ask, query, session, load, info, upgrade, demo, combine, help, version, IsCommand, IsPartsNumber, Limits, Limit, no_limit, limit_width, limit_rounds, IsHelp, IsVersion, AreOptions, nothing_given, options_given, most_seed, most_rows, most_width, most_rounds}
+use Rattle.command_line.specs.Commands.{ReadOrder, fixed, reads, IsPolicy, IsNumber, Given, Gives, no_more, more_width, more_rounds, more_policy, more_reads, more_list, more_part, more_clip, more_exact, more_keys, Options, Command, ask, query, session, load, info, upgrade, demo, combine, help, version, IsCommand, IsPartsNumber, Limits, Limit, no_limit, limit_width, limit_rounds, limit_keys, IsHelp, IsVersion, AreOptions, nothing_given, options_given, most_seed, most_rows, most_width, most_rounds}
 use Rattle.command_line.specs.Reading.{Next, name, word, number, policy, option, parts, limiting, done, after, after_ask, after_query, after_session, after_load, after_info, after_upgrade, after_demo, after_combine, after_name, after_flag, after_limit, behind, is_free, flag_of, flag_text, at_end, answer, lone_command, number_of, parts_of}
 use Rattle.plane_schedule.specs.Choices.{policy_named}
 use Rattle.plane_schedule.specs.declared.policies.FixedPolicy.{FixedPolicy}
@@ -141,8 +141,10 @@ flag_is w =
     (if_cases P (bytes_eq w (codes "--policy")) _ _ (λ t. same_bytes w _ t)
     (if_cases P (bytes_eq w (codes "--reads")) _ _ (λ t. same_bytes w _ t)
     (if_cases P (bytes_eq w (codes "--list")) _ _ (λ t. same_bytes w _ t)
+    (if_cases P (bytes_eq w (codes "--part")) _ _ (λ t. same_bytes w _ t)
     (if_cases P (bytes_eq w (codes "--clip")) _ _ (λ t. same_bytes w _ t)
-    (if_cases P (bytes_eq w (codes "--exact-avg")) _ _ (λ t. same_bytes w _ t) tt))))))
+    (if_cases P (bytes_eq w (codes "--exact-avg")) _ _ (λ t. same_bytes w _ t)
+    (if_cases P (bytes_eq w (codes "--keys")) _ _ (λ t. same_bytes w _ t) tt))))))))
 
 free_some : (b : Bool) (x : Next) (at : ℕ) (ws : List (List ℕ)) (c : Command) →
     option_map_or (λ next. answer next (at + 1) ws) (if b then Some x else None) (Err (at + 1)) ≡ Ok c →
@@ -216,13 +218,19 @@ read_flag by_name n k ih g at w ws c f.Reads h same free e =
     }
 read_flag by_name n k ih g at w ws c f.List h same free e =
     let b = ih _ (at + 1) ws c (omega arith) e in
-    record { end = b.end; gives = subst (λ v. Gives g (v ∷ ws) b.end) (sym same) (more_list (not_set g.list free) b.gives); allowed = b.allowed; same = b.same }
+    record { end = b.end; gives = subst (λ v. Gives g (v ∷ ws) b.end) (sym same) (more_list (unset g.listing free) b.gives); allowed = b.allowed; same = b.same }
+read_flag by_name n k ih g at w ws c f.Part h same free e =
+    let b = ih _ (at + 1) ws c (omega arith) e in
+    record { end = b.end; gives = subst (λ v. Gives g (v ∷ ws) b.end) (sym same) (more_part (unset g.listing free) b.gives); allowed = b.allowed; same = b.same }
 read_flag by_name n k ih g at w ws c f.Clip h same free e =
     let b = ih _ (at + 1) ws c (omega arith) e in
     record { end = b.end; gives = subst (λ v. Gives g (v ∷ ws) b.end) (sym same) (more_clip (not_set g.clip free) b.gives); allowed = b.allowed; same = b.same }
 read_flag by_name n k ih g at w ws c f.Exact h same free e =
     let b = ih _ (at + 1) ws c (omega arith) e in
     record { end = b.end; gives = subst (λ v. Gives g (v ∷ ws) b.end) (sym same) (more_exact (not_set g.exact free) b.gives); allowed = b.allowed; same = b.same }
+read_flag by_name n k ih g at w ws c f.Keys h same free e =
+    let b = ih _ (at + 1) ws c (omega arith) e in
+    record { end = b.end; gives = subst (λ v. Gives g (v ∷ ws) b.end) (sym same) (more_keys (not_set g.keys free) b.gives); allowed = b.allowed; same = b.same }
 
 read_option : (by_name : Bool) (n : ℕ) (k : Options → Command) → ReadBelow by_name n k →
     (g : Given) (at : ℕ) (w : List ℕ) (ws : List (List ℕ)) (c : Command) (o : Option Flag) → length (w ∷ ws) ≤ suc n →
@@ -275,8 +283,13 @@ read_limit n k ih g at w ws c (Some f.Rounds) h same e =
 read_limit n k ih g at w ws c (Some f.Policy) h same e = cc
 read_limit n k ih g at w ws c (Some f.Reads) h same e = cc
 read_limit n k ih g at w ws c (Some f.List) h same e = cc
+read_limit n k ih g at w ws c (Some f.Part) h same e = cc
 read_limit n k ih g at w ws c (Some f.Clip) h same e = cc
 read_limit n k ih g at w ws c (Some f.Exact) h same e = cc
+read_limit n k ih g at w ws c (Some f.Keys) h same e =
+    let (free, whole) = free_some (not g.keys) _ at ws c e in
+    let b = ih _ (at + 1) ws c (omega arith) whole in
+    record { end = b.end; gives = subst (λ v. Limit g (v ∷ ws) b.end) (sym same) (limit_keys (not_set g.keys free) b.gives); same = b.same }
 read_limit n k ih g at w ws c None h same e = cc
 
 read_limits : (k : Limits → Command) (n : ℕ) → LimitBelow n k
@@ -452,6 +465,7 @@ combine_is ws c e =
       reports = reports.said;
       width = unwrap_or l.end.width 0;
       rounds = l.end.rounds;
+      keys = l.end.keys;
     })) =
     record {
       parts = count.first;
@@ -462,6 +476,7 @@ combine_is ws c e =
       limits = l.gives;
       width = refl;
       rounds = refl;
+      keys = refl;
     } in
     subst (IsCommand (codes "combine" ∷ ws)) (sym l.same) is
 

@@ -56,8 +56,10 @@ text_of_flag f.Rounds = refl
 text_of_flag f.Policy = refl
 text_of_flag f.Reads = refl
 text_of_flag f.List = refl
+text_of_flag f.Part = refl
 text_of_flag f.Clip = refl
 text_of_flag f.Exact = refl
+text_of_flag f.Keys = refl
 
 -- the name of an option that may be given and was not yet
 pub after_free : (by_name : Bool) (g : Given) (k : Options → Command) (flag : Flag) → is_free by_name flag g ≡ true →

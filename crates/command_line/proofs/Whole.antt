@@ -1,7 +1,7 @@
 -- Each command of the grammar is read whole.
 use Rattle.command_line.specs.declared.reader.Flag.TheVariants as f
 use Rattle.std.proofs.Common.{◌≡◌, ◌≢◌, ℕ, ◌+◌, Bool, true, false, ◌&&◌, Option, None, Some, Ok, List, [], ◌∷◌, option_map, unwrap_or, refl, sym, ap, inl, inr, ◌∙◌, codes}
-use Rattle.command_line.specs.Commands.{ReadOrder, fixed, reads, IsPolicy, Given, Gives, no_more, more_width, more_rounds, more_policy, more_reads, more_list, more_clip, more_exact, Options, Command, ask, query, session, load, info, upgrade, demo, combine, help, version, IsCommand, Limits, Limit, no_limit, limit_width, limit_rounds, options_given, most_seed, most_rows, most_width, most_rounds}
+use Rattle.command_line.specs.Commands.{ReadOrder, fixed, reads, IsPolicy, Given, Gives, no_more, more_width, more_rounds, more_policy, more_reads, more_list, more_part, more_clip, more_exact, more_keys, Options, Command, ask, query, session, load, info, upgrade, demo, combine, help, version, IsCommand, Limits, Limit, no_limit, limit_width, limit_rounds, limit_keys, options_given, most_seed, most_rows, most_width, most_rounds}
 use Rattle.command_line.specs.Reading.{name, option, limiting, done, after_ask, after_query, after_session, after_load, after_info, after_upgrade, after_demo, after_combine, after_name, answer, lone_command}
 use Rattle.plane_schedule.specs.Choices.{policy_named}
 use Rattle.plane_schedule.specs.declared.policies.FixedPolicy.{FixedPolicy}
@@ -24,8 +24,10 @@ order_stays (more_rounds unset is more) order e = order_stays more order e
 order_stays (more_policy {g} unset is more) order e = taken g.order order unset e
 order_stays (more_reads {g} unset more) order e = taken g.order order unset e
 order_stays (more_list unset more) order e = order_stays more order e
+order_stays (more_part unset more) order e = order_stays more order e
 order_stays (more_clip unset more) order e = order_stays more order e
 order_stays (more_exact unset more) order e = order_stays more order e
+order_stays (more_keys unset more) order e = order_stays more order e
 
 both : (a b : Bool) → a ≡ true → b ≡ true → a && b ≡ true
 both a b left right = rw (left, right) refl
@@ -51,11 +53,15 @@ options_whole (more_reads {g} {h} {names} {words} unset more) by_name may k at =
     ∙ answer-step _ _ (at + 1) names words refl
     ∙ options_whole more by_name may k (at + 1 + 1)
 options_whole (more_list {g} {h} {words} unset more) by_name may k at =
-    answer-step _ _ at _ _ (after_free by_name g k f.List (not_at g.list unset)) ∙ options_whole more by_name may k (at + 1)
+    answer-step _ _ at _ _ (after_free by_name g k f.List (is_none_at g.listing unset)) ∙ options_whole more by_name may k (at + 1)
+options_whole (more_part {g} {h} {words} unset more) by_name may k at =
+    answer-step _ _ at _ _ (after_free by_name g k f.Part (is_none_at g.listing unset)) ∙ options_whole more by_name may k (at + 1)
 options_whole (more_clip {g} {h} {words} unset more) by_name may k at =
     answer-step _ _ at _ _ (after_free by_name g k f.Clip (not_at g.clip unset)) ∙ options_whole more by_name may k (at + 1)
 options_whole (more_exact {g} {h} {words} unset more) by_name may k at =
     answer-step _ _ at _ _ (after_free by_name g k f.Exact (not_at g.exact unset)) ∙ options_whole more by_name may k (at + 1)
+options_whole (more_keys {g} {h} {words} unset more) by_name may k at =
+    answer-step _ _ at _ _ (after_free by_name g k f.Keys (not_at g.keys unset)) ∙ options_whole more by_name may k (at + 1)
 
 limits_whole : {g h : Limits} {ws : List (List ℕ)} → Limit g ws h → (k : Limits → Command) (at : ℕ) → answer (limiting g k) at ws ≡ Ok (k h)
 limits_whole (no_limit {g}) k at = answer-none (limiting g k) at
@@ -67,6 +73,8 @@ limits_whole (limit_rounds {g} {h} {word = w} {words} {number = n} unset is more
     answer-step _ _ at _ _ (after_limit_name g k f.Rounds (is_none_at g.rounds unset))
     ∙ answer-step _ _ (at + 1) w words (ap (option_map _) (number_some most_rounds w n is))
     ∙ limits_whole more k (at + 1 + 1)
+limits_whole (limit_keys {g} {h} {words} unset more) k at =
+    answer-step _ _ at _ _ (after_limit_name g k f.Keys (not_at g.keys unset)) ∙ limits_whole more k (at + 1)
 
 pub after_name_ask : after_name (codes "ask") ≡ Some after_ask
 unfolding after_name
@@ -182,9 +190,10 @@ command_whole words (combine c) is =
     ∙ answer-step name after_combine 0 _ _ after_name_combine
     ∙ answer-step after_combine _ 1 _ _ (ap (option_map _) (parts_some is.parts c.parts is.is_parts))
     ∙ answer-step _ _ 2 _ _ refl
-    ∙ limits_whole is.limits (λ l. combine (record { parts = c.parts; reports = c.reports; width = unwrap_or l.width 0; rounds = l.rounds })) 3
-    ∙ ap (λ w. Ok (combine (record { parts = c.parts; reports = c.reports; width = w; rounds = is.given.rounds }))) (sym is.width)
-    ∙ ap (λ r. Ok (combine (record { parts = c.parts; reports = c.reports; width = c.width; rounds = r }))) (sym is.rounds)
+    ∙ limits_whole is.limits (λ l. combine (record { parts = c.parts; reports = c.reports; width = unwrap_or l.width 0; rounds = l.rounds; keys = l.keys })) 3
+    ∙ ap (λ w. Ok (combine (record { parts = c.parts; reports = c.reports; width = w; rounds = is.given.rounds; keys = is.given.keys }))) (sym is.width)
+    ∙ ap (λ r. Ok (combine (record { parts = c.parts; reports = c.reports; width = c.width; rounds = r; keys = is.given.keys }))) (sym is.rounds)
+    ∙ ap (λ b. Ok (combine (record { parts = c.parts; reports = c.reports; width = c.width; rounds = c.rounds; keys = b }))) (sym is.keys)
 command_whole words help (inl is) = lone_whole words _ help is after_name_help
 command_whole words help (inr (inl is)) = lone_whole words _ help is after_name_long_help
 command_whole words help (inr (inr is)) = lone_whole words _ help is after_name_short_help

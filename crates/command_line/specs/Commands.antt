@@ -5,6 +5,8 @@ use Rattle.std.specs.Str.Parse.{IsNumeral, digits_value}
 use Rattle.plane_schedule.specs.Choices.{policy_word}
 use Rattle.plane_schedule.specs.declared.policies.FixedPolicy.{FixedPolicy}
 use Rattle.plane_schedule.specs.declared.policies.FixedPolicy.TheVariants.{Widest}
+use Rattle.plane_schedule.specs.declared.policy.Listing.{Listing}
+use Rattle.plane_schedule.specs.declared.policy.Listing.TheVariants.{Certain, All, Few}
 
 -- ---- what a command says
 
@@ -17,9 +19,10 @@ pub record Options : Type 0 where
   pub width : ℕ
   pub rounds : Option ℕ
   pub order : ReadOrder
-  pub list : Bool
+  pub listing : Listing
   pub clip : Bool
   pub exact : Bool
+  pub keys : Bool
 
 -- what follows the word `ask`
 pub record Ask : Type 0 where
@@ -68,6 +71,7 @@ pub record Combine : Type 0 where
   pub reports : List ℕ
   pub width : ℕ
   pub rounds : Option ℕ
+  pub keys : Bool
 
 pub data Command : Type 0 where
   ask : Ask → Command
@@ -115,11 +119,13 @@ pub record Given : Type 0 where
   pub width : Option ℕ
   pub rounds : Option ℕ
   pub order : Option ReadOrder
-  pub list : Bool
+  pub listing : Option Listing
   pub clip : Bool
   pub exact : Bool
+  pub keys : Bool
 
--- {option}, each option giving what was not given before; --policy and --reads both give the order
+-- {option}, each option giving what was not given before; --policy and --reads both give the order, --list and --part which rows
+-- in an order are listed
 pub data Gives : Given → List (List ℕ) → Given → Type 0 where
   no_more : {g : Given} → Gives g [] g
   more_width : {g h : Given} {word : List ℕ} {words : List (List ℕ)} {number : ℕ} → g.width ≡ None → IsNumber most_width word number →
@@ -130,25 +136,31 @@ pub data Gives : Given → List (List ℕ) → Given → Type 0 where
       Gives (record g { order = Some (fixed policy) }) words h → Gives g (codes "--policy" ∷ word ∷ words) h
   more_reads : {g h : Given} {names : List ℕ} {words : List (List ℕ)} → g.order ≡ None →
       Gives (record g { order = Some (reads names) }) words h → Gives g (codes "--reads" ∷ names ∷ words) h
-  more_list : {g h : Given} {words : List (List ℕ)} → g.list ≡ false →
-      Gives (record g { list = true }) words h → Gives g (codes "--list" ∷ words) h
+  more_list : {g h : Given} {words : List (List ℕ)} → g.listing ≡ None →
+      Gives (record g { listing = Some All }) words h → Gives g (codes "--list" ∷ words) h
+  more_part : {g h : Given} {words : List (List ℕ)} → g.listing ≡ None →
+      Gives (record g { listing = Some Few }) words h → Gives g (codes "--part" ∷ words) h
   more_clip : {g h : Given} {words : List (List ℕ)} → g.clip ≡ false →
       Gives (record g { clip = true }) words h → Gives g (codes "--clip" ∷ words) h
   more_exact : {g h : Given} {words : List (List ℕ)} → g.exact ≡ false →
       Gives (record g { exact = true }) words h → Gives g (codes "--exact-avg" ∷ words) h
+  more_keys : {g h : Given} {words : List (List ℕ)} → g.keys ≡ false →
+      Gives (record g { keys = true }) words h → Gives g (codes "--keys" ∷ words) h
 
 abbrev pub nothing_given : Given
-nothing_given = record { width = None; rounds = None; order = None; list = false; clip = false; exact = false }
+nothing_given = record { width = None; rounds = None; order = None; listing = None; clip = false; exact = false; keys = false }
 
--- what is not given is width 0, no number of rounds, the widest column first, no list, no clipped bounds and no exact averages
+-- what is not given is width 0, no number of rounds, the widest column first, the certain rows alone, no clipped bounds,
+-- no exact averages and no keys
 abbrev pub options_given : Given → Options
 options_given g = record {
   width = unwrap_or g.width 0;
   rounds = g.rounds;
   order = unwrap_or g.order (fixed Widest);
-  list = g.list;
+  listing = unwrap_or g.listing Certain;
   clip = g.clip;
   exact = g.exact;
+  keys = g.keys;
 }
 
 -- the words are options, and say this
@@ -163,6 +175,7 @@ pub record AreOptions (words : List (List ℕ)) (options : Options) : Type 0 whe
 pub record Limits : Type 0 where
   pub width : Option ℕ
   pub rounds : Option ℕ
+  pub keys : Bool
 
 -- {limit}, each limit giving what was not given before
 pub data Limit : Limits → List (List ℕ) → Limits → Type 0 where
@@ -171,9 +184,11 @@ pub data Limit : Limits → List (List ℕ) → Limits → Type 0 where
       Limit (record g { width = Some number }) words h → Limit g (codes "--width" ∷ word ∷ words) h
   limit_rounds : {g h : Limits} {word : List ℕ} {words : List (List ℕ)} {number : ℕ} → g.rounds ≡ None → IsNumber most_rounds word number →
       Limit (record g { rounds = Some number }) words h → Limit g (codes "--rounds" ∷ word ∷ words) h
+  limit_keys : {g h : Limits} {words : List (List ℕ)} → g.keys ≡ false →
+      Limit (record g { keys = true }) words h → Limit g (codes "--keys" ∷ words) h
 
 abbrev pub no_limits : Limits
-no_limits = record { width = None; rounds = None }
+no_limits = record { width = None; rounds = None; keys = false }
 
 -- ---- commands
 
@@ -233,6 +248,7 @@ pub record IsCombine (words : List (List ℕ)) (c : Combine) : Type 0 where
   pub limits : Limit no_limits tail given
   pub width : c.width ≡ unwrap_or given.width 0
   pub rounds : c.rounds ≡ given.rounds
+  pub keys : c.keys ≡ given.keys
 
 -- "help" | "--help" | "-h"
 abbrev pub IsHelp : List (List ℕ) → Type 0

@@ -8,6 +8,7 @@ use Rattle.std.specs.Str.{bytes_eq}
 use Rattle.std.specs.Str.Parse.{digits_value}
 use Rattle.plane_schedule.specs.Choices.{policy_named}
 use Rattle.plane_schedule.specs.declared.policies.FixedPolicy.{FixedPolicy}
+use Rattle.plane_schedule.specs.declared.policy.Listing.TheVariants.{All, Few}
 use Rattle.command_line.specs.declared.reader.Flag.{Flag}
 use Rattle.command_line.specs.declared.reader.Flag.TheVariants as f
 use Rattle.command_line.specs.Commands.{fixed, reads, Given, Options}
@@ -65,7 +66,7 @@ after_demo =
 abbrev pub after_combine : Next
 after_combine =
     parts (λ n. word (λ reports. limiting no_limits (λ limits.
-    combine (record { parts = n; reports = reports; width = unwrap_or limits.width 0; rounds = limits.rounds }))))
+    combine (record { parts = n; reports = reports; width = unwrap_or limits.width 0; rounds = limits.rounds; keys = limits.keys }))))
 
 -- a command of one word
 unfoldable pub lone_command : List ℕ → Option Command
@@ -95,8 +96,10 @@ flag_text f.Rounds = codes "--rounds"
 flag_text f.Policy = codes "--policy"
 flag_text f.Reads = codes "--reads"
 flag_text f.List = codes "--list"
+flag_text f.Part = codes "--part"
 flag_text f.Clip = codes "--clip"
 flag_text f.Exact = codes "--exact-avg"
+flag_text f.Keys = codes "--keys"
 
 unfoldable pub flag_of : List ℕ → Option Flag
 flag_of w =
@@ -105,8 +108,10 @@ flag_of w =
     else (if bytes_eq w (codes "--policy") then Some f.Policy
     else (if bytes_eq w (codes "--reads") then Some f.Reads
     else (if bytes_eq w (codes "--list") then Some f.List
+    else (if bytes_eq w (codes "--part") then Some f.Part
     else (if bytes_eq w (codes "--clip") then Some f.Clip
-    else (if bytes_eq w (codes "--exact-avg") then Some f.Exact else None))))))
+    else (if bytes_eq w (codes "--exact-avg") then Some f.Exact
+    else (if bytes_eq w (codes "--keys") then Some f.Keys else None))))))))
 
 -- it may be given, and what it gives was not given yet
 abbrev pub is_free : Bool → Flag → Given → Bool
@@ -114,9 +119,11 @@ is_free by_name f.Width g = is_none g.width
 is_free by_name f.Rounds g = is_none g.rounds
 is_free by_name f.Policy g = is_none g.order
 is_free by_name f.Reads g = by_name && is_none g.order
-is_free by_name f.List g = not g.list
+is_free by_name f.List g = is_none g.listing
+is_free by_name f.Part g = is_none g.listing
 is_free by_name f.Clip g = not g.clip
 is_free by_name f.Exact g = not g.exact
+is_free by_name f.Keys g = not g.keys
 
 -- what comes behind it
 abbrev pub behind : Bool → Flag → Given → (Options → Command) → Next
@@ -124,9 +131,11 @@ behind by_name f.Width g k = number most_width (λ n. option by_name (record g {
 behind by_name f.Rounds g k = number most_rounds (λ n. option by_name (record g { rounds = Some n }) k)
 behind by_name f.Policy g k = policy (λ p. option by_name (record g { order = Some (fixed p) }) k)
 behind by_name f.Reads g k = word (λ names. option by_name (record g { order = Some (reads names) }) k)
-behind by_name f.List g k = option by_name (record g { list = true }) k
+behind by_name f.List g k = option by_name (record g { listing = Some All }) k
+behind by_name f.Part g k = option by_name (record g { listing = Some Few }) k
 behind by_name f.Clip g k = option by_name (record g { clip = true }) k
 behind by_name f.Exact g k = option by_name (record g { exact = true }) k
+behind by_name f.Keys g k = option by_name (record g { keys = true }) k
 
 abbrev pub after_flag : Bool → Given → (Options → Command) → Option Flag → Option Next
 after_flag by_name g k None = None
@@ -136,12 +145,14 @@ after_flag by_name g k (Some flag) = if is_free by_name flag g then Some (behind
 abbrev pub may_limit : Flag → Limits → Bool
 may_limit f.Width g = is_none g.width
 may_limit f.Rounds g = is_none g.rounds
+may_limit f.Keys g = not g.keys
 may_limit other g = false
 
 -- what comes behind it; behind what is no limit nothing does
 abbrev pub behind_limit : Flag → Limits → (Limits → Command) → Next
 behind_limit f.Width g k = number most_width (λ n. limiting (record g { width = Some n }) k)
 behind_limit f.Rounds g k = number most_rounds (λ n. limiting (record g { rounds = Some n }) k)
+behind_limit f.Keys g k = limiting (record g { keys = true }) k
 behind_limit other g k = done (k g)
 
 abbrev pub after_limit : Limits → (Limits → Command) → Option Flag → Option Next

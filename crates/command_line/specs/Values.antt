@@ -23,7 +23,15 @@ order_of (Reads names) = spec.reads names.now
 
 abbrev pub options_of : Options → spec.Options
 options_of o =
-    record { width = o.width; rounds = o.rounds; order = order_of o.order; list = o.list; clip = o.clip; exact = o.exact }
+    record {
+      width = o.width;
+      rounds = o.rounds;
+      order = order_of o.order;
+      listing = o.listing;
+      clip = o.clip;
+      exact = o.exact;
+      keys = o.keys;
+    }
 
 abbrev pub ask_of : Ask → spec.Ask
 ask_of a = record { csv = a.csv.now; schema = a.schema.now; sql = a.sql.now; options = options_of a.options }
@@ -47,7 +55,7 @@ abbrev pub demo_of : Demo → spec.Demo
 demo_of d = record { seed = d.seed; rows = d.rows; sql = d.sql.now; options = options_of d.options }
 
 abbrev pub combine_of : Combine → spec.Combine
-combine_of c = record { parts = c.parts; reports = c.reports.now; width = c.width; rounds = c.rounds }
+combine_of c = record { parts = c.parts; reports = c.reports.now; width = c.width; rounds = c.rounds; keys = c.keys }
 
 abbrev pub command_of : Command → spec.Command
 command_of (c.Ask a) = spec.ask (ask_of a)
@@ -62,8 +70,15 @@ command_of c.Help = spec.help
 command_of c.Version = spec.version
 
 abbrev pub given_of : Given → spec.Given
-given_of g =
-    record { width = g.width; rounds = g.rounds; order = option_map order_of g.order; list = g.list; clip = g.clip; exact = g.exact }
+given_of g = record {
+  width = g.width;
+  rounds = g.rounds;
+  order = option_map order_of g.order;
+  listing = g.listing;
+  clip = g.clip;
+  exact = g.exact;
+  keys = g.keys;
+}
 
 abbrev pub limits_of : Limits → spec.Limits
-limits_of l = record { width = l.width; rounds = l.rounds }
+limits_of l = record { width = l.width; rounds = l.rounds; keys = l.keys }

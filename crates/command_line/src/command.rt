@@ -7,7 +7,7 @@ ghost use Rattle.command_line.specs.Values.{command_of};
 
 use crate::reader::{Reader, lone_command};
 use crate::words::Words;
-use plane_schedule::FixedPolicy;
+use plane_schedule::{FixedPolicy, Listing};
 
 /// How the columns of a query are read: by a policy, or as a list of names says.
 #[derive(Clone, Copy, Debug, PartialEq, Eq)]
@@ -27,12 +27,14 @@ pub struct Options<'a> {
     pub rounds: Option<u32>,
     /// Which column is read next: the widest where it is not given.
     pub order: ReadOrder<'a>,
-    /// Whether each row of a ranking is listed.
-    pub list: bool,
+    /// Which rows in an order are listed: the certain ones alone where it is not given.
+    pub listing: Listing,
     /// Whether the bounds of aggregates over clipped columns are shown.
     pub clip: bool,
     /// Whether the exact extremes of averages are shown.
     pub exact: bool,
+    /// Whether rows in an order are narrow only where the keys of the first are too.
+    pub keys: bool,
 }
 
 /// `ask`: a query over a CSV.
@@ -121,6 +123,8 @@ pub struct Combine<'a> {
     pub width: u64,
     /// The most rounds, if they are limited.
     pub rounds: Option<u32>,
+    /// Whether rows in an order are narrow only where the keys of the first are too.
+    pub keys: bool,
 }
 
 /// What words ask for. Its texts are those of the words.

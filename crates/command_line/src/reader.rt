@@ -20,7 +20,7 @@ use crate::command::{
     Ask, Combine, Command, Demo, Info, Load, Options, Query, ReadOrder, Session, Upgrade, Usage,
 };
 use crate::words::Words;
-use plane_schedule::FixedPolicy;
+use plane_schedule::{FixedPolicy, Listing};
 use std::marker::Model;
 
 // The greatest width.
@@ -37,8 +37,10 @@ pub(crate) enum Flag {
     Policy,
     Reads,
     List,
+    Part,
     Clip,
     Exact,
+    Keys,
 }
 
 // What the options so far give.
@@ -47,9 +49,10 @@ pub(crate) struct Given<'a> {
     width: Option<u64>,
     rounds: Option<u32>,
     order: Option<ReadOrder<'a>>,
-    list: bool,
+    listing: Option<Listing>,
     clip: bool,
     exact: bool,
+    keys: bool,
 }
 
 // What the limits so far give.
@@ -57,6 +60,7 @@ pub(crate) struct Given<'a> {
 pub(crate) struct Limits {
     width: Option<u64>,
     rounds: Option<u32>,
+    keys: bool,
 }
 
 // The words from a place on.
@@ -122,8 +126,10 @@ fn flag_of(word: &str) -> Option<Flag>
         "--policy" => Some(Flag::Policy),
         "--reads" => Some(Flag::Reads),
         "--list" => Some(Flag::List),
+        "--part" => Some(Flag::Part),
         "--clip" => Some(Flag::Clip),
         "--exact-avg" => Some(Flag::Exact),
+        "--keys" => Some(Flag::Keys),
         _ => None,
     }
 }
@@ -148,9 +154,10 @@ impl<'a> Given<'a> {
             width: None,
             rounds: None,
             order: None,
-            list: false,
+            listing: None,
             clip: false,
             exact: false,
+            keys: false,
         }
     }
 
@@ -163,9 +170,10 @@ impl<'a> Given<'a> {
             Flag::Rounds => self.rounds.is_none(),
             Flag::Policy => self.order.is_none(),
             Flag::Reads => by_name && self.order.is_none(),
-            Flag::List => !self.list,
+            Flag::List | Flag::Part => self.listing.is_none(),
             Flag::Clip => !self.clip,
             Flag::Exact => !self.exact,
+            Flag::Keys => !self.keys,
         }
     }
 
@@ -177,9 +185,10 @@ impl<'a> Given<'a> {
             width: self.width.unwrap_or(0),
             rounds: self.rounds,
             order: self.order.unwrap_or(ReadOrder::By(FixedPolicy::Widest)),
-            list: self.list,
+            listing: self.listing.unwrap_or(Listing::Certain),
             clip: self.clip,
             exact: self.exact,
+            keys: self.keys,
         }
     }
 }
@@ -192,7 +201,9 @@ impl Limits {
         match flag {
             Flag::Width => self.width.is_none(),
             Flag::Rounds => self.rounds.is_none(),
-            Flag::Policy | Flag::Reads | Flag::List | Flag::Clip | Flag::Exact => false,
+            Flag::Keys => !self.keys,
+            Flag::Policy | Flag::Reads | Flag::List | Flag::Part | Flag::Clip | Flag::Exact =>
+                false,
         }
     }
 }
@@ -309,9 +320,11 @@ impl<'a> Reader<'a> {
             Flag::Rounds => given.rounds = Some(self.number(u32::MAX as u64)? as u32),
             Flag::Policy => given.order = Some(ReadOrder::By(self.policy()?)),
             Flag::Reads => given.order = Some(ReadOrder::Reads(self.word()?)),
-            Flag::List => given.list = true,
+            Flag::List => given.listing = Some(Listing::All),
+            Flag::Part => given.listing = Some(Listing::Few),
             Flag::Clip => given.clip = true,
             Flag::Exact => given.exact = true,
+            Flag::Keys => given.keys = true,
         }
         Ok(())
     }
@@ -439,7 +452,8 @@ impl<'a> Reader<'a> {
         match self.limit_name(limits)? {
             Flag::Width => limits.width = Some(self.number(MOST_WIDTH)?),
             Flag::Rounds => limits.rounds = Some(self.number(u32::MAX as u64)? as u32),
-            Flag::Policy | Flag::Reads | Flag::List | Flag::Clip | Flag::Exact => (),
+            Flag::Keys => limits.keys = true,
+            Flag::Policy | Flag::Reads | Flag::List | Flag::Part | Flag::Clip | Flag::Exact => (),
         }
         Ok(())
     }
@@ -452,6 +466,7 @@ impl<'a> Reader<'a> {
         let mut limits = Limits {
             width: None,
             rounds: None,
+            keys: false,
         };
         while !self.is_done() {
             self.limit(&mut limits)?;
@@ -472,6 +487,7 @@ impl<'a> Reader<'a> {
             reports,
             width: limits.width.unwrap_or(0),
             rounds: limits.rounds,
+            keys: limits.keys,
         })
     }
 }

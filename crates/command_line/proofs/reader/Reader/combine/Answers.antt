@@ -28,4 +28,5 @@ returns-clause-ok c =
       reports = c.in_ok-reports.reports.now;
       width = w;
       rounds = c.in_ok-limits.limits.rounds;
+      keys = c.in_ok-limits.limits.keys;
     }))) (sym c.unwrap_or.ensures)
