@@ -1,10 +1,11 @@
 -- The text of a block: the line of the round, and the lines of the query's form.
-use Rattle.std.specs.Prelude.{ℕ, Bool, List, ◌++◌, codes, decimal}
+use Rattle.std.specs.Prelude.{ℕ, List, ◌++◌, codes, decimal}
 use Rattle.std.specs.declared.option.Option.{Option}
 use Rattle.std.specs.declared.option.Option.TheVariants.{Some, None}
 use Rattle.daq_table.specs.Tables.{ends_at, planes}
 use Rattle.daq_table.specs.declared.table_head.Head.{Head}
 use Rattle.plane_schedule.specs.declared.policy.Extras.{Extras}
+use Rattle.plane_schedule.specs.declared.policy.Listing.{Listing}
 use Rattle.query_model.specs.Knowledge.{known_at}
 use Rattle.query_model.specs.declared.query.Shape.{Shape}
 use Rattle.query_model.specs.declared.query.Shape.TheVariants.{Plain, Grouped, Top}
@@ -27,12 +28,12 @@ round_line head stage round None = codes "round " ++ (decimal round ++ codes "\n
 round_line head stage round (Some c) = codes "round " ++ (decimal round ++ (planes_text head stage c ++ codes "\n"))
 
 -- the lines of the query's form: the items over all rows, the groups, or the first rows in an order
-abbrev pub form_text : Head → Bool → Extras → Stage → Shape → List ℕ
-form_text head list extras stage Plain = items_text head stage (AllRows extras)
-form_text head list extras stage (Grouped columns) = groups_text head stage columns
-form_text head list extras stage (Top key down limit) = ranking_text head stage key limit list
+abbrev pub form_text : Head → Listing → Extras → Stage → Shape → List ℕ
+form_text head listing extras stage Plain = items_text head stage (AllRows extras)
+form_text head listing extras stage (Grouped columns) = groups_text head stage columns
+form_text head listing extras stage (Top key down limit) = ranking_text head stage key limit listing
 
--- with a list, rows of which it is not known yet whether they are among the first are shown too; with extras, the items over all
--- rows have more lines
-abbrev pub block_text : Head → Bool → Extras → Stage → ℕ → Option ℕ → List ℕ
-block_text head list extras stage round last = round_line head stage round last ++ form_text head list extras stage stage.query.shape
+-- the listing says which rows in an order are shown; with extras, the items over all rows have more lines
+abbrev pub block_text : Head → Listing → Extras → Stage → ℕ → Option ℕ → List ℕ
+block_text head listing extras stage round last =
+    round_line head stage round last ++ form_text head listing extras stage stage.query.shape

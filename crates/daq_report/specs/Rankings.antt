@@ -1,9 +1,12 @@
 -- The lines of a ranking: how many rows are among the first for certain and how many perhaps, and these rows.
-use Rattle.std.specs.Prelude.{◌≡◌, ℕ, ◌+◌, ◌≤◌, ◌<◌, Bool, true, false}
+use Rattle.std.specs.Prelude.{◌≡◌, ℕ, ◌+◌, ◌≤◌, ◌<◌, nat_lt, Bool, true, false}
 use Rattle.std.specs.Prelude.{List, [], ◌++◌, codes, count_by, decimal, if◌then◌else◌}
 use Rattle.std.specs.List.{flat_map, range_with_len}
 use Rattle.daq_table.specs.Tables.{rows_of}
 use Rattle.daq_table.specs.declared.table_head.Head.{Head}
+use Rattle.plane_schedule.specs.Plans.{few_rows}
+use Rattle.plane_schedule.specs.declared.policy.Listing.{Listing}
+use Rattle.plane_schedule.specs.declared.policy.Listing.TheVariants as l
 use Rattle.query_model.specs.Knowledge.{ranges_of}
 use Rattle.query_model.specs.Ranking.{standing_under}
 use Rattle.query_model.specs.Truths.{Range}
@@ -19,12 +22,23 @@ use Rattle.daq_report.specs.Intervals.{bound_text}
 abbrev pub standing_at : Stage → ℕ → Standing
 standing_at stage r = standing_under stage.query stage.frame stage.known r
 
--- how many rows are asked for, and how many are among them for certain, and how many perhaps
+-- how many rows are among the first for certain, and how many perhaps
+abbrev pub certain_count : Stage → ℕ
+certain_count stage = count_by (λ r. is_certain (standing_at stage r)) (rows_of stage.frame)
+
+abbrev pub possible_count : Stage → ℕ
+possible_count stage = count_by (λ r. is_possible (standing_at stage r)) (rows_of stage.frame)
+
+-- how many rows are asked for, and these numbers
 abbrev pub top_line : Stage → ℕ → List ℕ
 top_line stage limit =
     codes "top " ++ (decimal limit
-    ++ (codes " certain " ++ (decimal (count_by (λ r. is_certain (standing_at stage r)) (rows_of stage.frame))
-    ++ (codes " possible " ++ (decimal (count_by (λ r. is_possible (standing_at stage r)) (rows_of stage.frame)) ++ codes "\n")))))
+    ++ (codes " certain " ++ (decimal (certain_count stage)
+    ++ (codes " possible " ++ (decimal (possible_count stage) ++ codes "\n")))))
+
+-- how many are asked for alone
+abbrev pub untold_line : ℕ → List ℕ
+untold_line limit = codes "top " ++ (decimal limit ++ codes " certain 0\n")
 
 -- where a value lies, if it is not null, as a bound
 abbrev pub bound_of_range : Range → Bound
@@ -51,8 +65,26 @@ abbrev pub rows_text : Head → Stage → ℕ → Bool → ℕ → ℕ → List 
 rows_text head stage key list first count =
     flat_map (λ r. row_text head stage key list r (standing_at stage r)) (range_with_len first count)
 
-abbrev pub ranking_text : Head → Stage → ℕ → ℕ → Bool → List ℕ
-ranking_text head stage key limit list = top_line stage limit ++ rows_text head stage key list 0 stage.frame.rows
+-- the numbers of rows, and the rows
+abbrev pub told_text : Head → Stage → ℕ → ℕ → Bool → List ℕ
+told_text head stage key limit list = top_line stage limit ++ rows_text head stage key list 0 stage.frame.rows
+
+-- possible rows are listed too
+abbrev pub lists_possible : Listing → Bool
+lists_possible l.Certain = false
+lists_possible l.All = true
+lists_possible l.Few = true
+
+-- of so many rows nothing is told, where few are listed
+abbrev pub is_untold : Listing → ℕ → Bool
+is_untold l.Certain count = false
+is_untold l.All count = false
+is_untold l.Few count = nat_lt few_rows count
+
+abbrev pub ranking_text : Head → Stage → ℕ → ℕ → Listing → List ℕ
+ranking_text head stage key limit listing =
+    if is_untold listing (certain_count stage + possible_count stage) then untold_line limit
+    else told_text head stage key limit (lists_possible listing)
 
 -- ---- what need not be looked at
 

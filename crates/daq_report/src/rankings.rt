@@ -7,14 +7,16 @@ ghost use Rattle.query_model.specs.Knowledge.{ranges_of};
 ghost use Rattle.query_model.specs.Validity.{FitsHead, IsTop};
 ghost use Rattle.query_model.specs.declared.query.Face.TheVariants.{OfColumn};
 ghost use Rattle.round_engine.specs.Promises.{IsShownWithin};
-ghost use Rattle.daq_report.specs.Rankings.{AreHidden, bound_of_range, ranking_text, row_line, row_start, row_text, rows_text};
-ghost use Rattle.daq_report.specs.Rankings.{standing_at, top_line};
+ghost use Rattle.daq_report.specs.Rankings.{AreHidden, bound_of_range, certain_count, is_untold, lists_possible, possible_count};
+ghost use Rattle.daq_report.specs.Rankings.{ranking_text, row_line, row_start, row_text, rows_text, standing_at, told_text};
+ghost use Rattle.daq_report.specs.Rankings.{top_line, untold_line};
 
 use crate::gathered::Gathered;
 use crate::intervals::append_bound;
 use crate::texts::written_count;
 use daq_table::{Head, TextBuf};
 use outer_world::{Failed, Sink, write_whole};
+use plane_schedule::{FEW_ROWS, Listing};
 use query_model::{Bound, Face, Standing};
 use round_engine::EngineView;
 
@@ -32,6 +34,42 @@ fn written_top(engine: &EngineView<'_>, limit: u32) -> TextBuf
     text.append(written_count(engine.possible_rows().count()).bytes());
     text.append(b"\n");
     text
+}
+
+// The line in place of the rows and their numbers.
+fn written_untold(limit: u32) -> TextBuf
+    ensures { result ≡ untold_line limit }
+{
+    let mut text = TextBuf::new();
+    text.append(b"top ");
+    text.append(written_count(u64::from(limit)).bytes());
+    text.append(b" certain 0\n");
+    text
+}
+
+// Whether possible rows are listed too.
+fn lists_possible(listing: Listing) -> bool
+    ensures { result ≡ lists_possible listing }
+{
+    match listing {
+        Listing::Certain => false,
+        Listing::All | Listing::Few => true,
+    }
+}
+
+// Whether so many rows may be among the first that none is told.
+fn is_untold(engine: &EngineView<'_>, listing: Listing) -> bool
+    requires { IsTop engine.now.query.shape }
+    ensures { result ≡ is_untold listing (certain_count engine.now + possible_count engine.now) }
+{
+    match listing {
+        Listing::Certain | Listing::All => false,
+        Listing::Few => {
+            let certain = engine.certain_rows().count();
+            let possible = engine.possible_rows().count();
+            certain.saturating_add(possible) > FEW_ROWS as u64
+        }
+    }
 }
 
 // The front of the line of a row: rows are counted from 1.
@@ -173,7 +211,7 @@ fn write_rows<K: Sink>(
 }
 
 // Writes how many rows are among the first, and these rows.
-pub(crate) fn write_ranking<K: Sink>(
+fn write_told<K: Sink>(
     engine: &EngineView<'_>,
     head: &Head,
     key: u8,
@@ -185,8 +223,30 @@ pub(crate) fn write_ranking<K: Sink>(
     requires texts { HeadHasTexts head.now }
     requires ranked { IsTop engine.now.query.shape }
     requires key { key < length engine.now.query.columns }
-    ensures { Writes result (K.state out.old) (K.state out.new) (ranking_text head.now engine.now key limit list) }
+    ensures { Writes result (K.state out.old) (K.state out.new) (told_text head.now engine.now key limit list) }
 {
     write_whole(out, written_top(engine, limit).bytes())?;
     write_rows(engine, head, key, list, out)
+}
+
+// Writes them, or that they are not told.
+pub(crate) fn write_ranking<K: Sink>(
+    engine: &EngineView<'_>,
+    head: &Head,
+    key: u8,
+    limit: u32,
+    listing: Listing,
+    out: &mut K,
+) -> Result<(), Failed>
+    requires fits { FitsHead engine.now.query engine.now.frame head.now }
+    requires texts { HeadHasTexts head.now }
+    requires ranked { IsTop engine.now.query.shape }
+    requires key { key < length engine.now.query.columns }
+    ensures { Writes result (K.state out.old) (K.state out.new) (ranking_text head.now engine.now key limit listing) }
+{
+    if is_untold(engine, listing) {
+        write_whole(out, written_untold(limit).bytes())
+    } else {
+        write_told(engine, head, key, limit, lists_possible(listing), out)
+    }
 }

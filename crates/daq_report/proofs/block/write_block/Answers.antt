@@ -9,6 +9,6 @@ pub returns : goal.returns
 returns g c =
     let old = g.K.Sink.state c.args.out.now in
     let new = g.K.Sink.state c.write_form.new.out in
-    let rest = form_text c.args.head.now c.args.plan.now.list c.args.plan.now.extras c.args.engine.now c.args.engine.now.query.shape in
+    let rest = form_text c.args.head.now c.args.plan.now.listing c.args.plan.now.extras c.args.engine.now c.args.engine.now.query.shape in
     subst (λ (line : List ℕ). Writes c.write_form.result old new (line ++ rest)) (c.bytes.ensures.text ∙ c.written_round.ensures)
     (writes_both _ _ _ _ _ _ rest c.in_ok-write_whole.ensures c.write_form.ensures)

@@ -3,7 +3,7 @@ use Rattle.std.proofs.Common.{List, ℕ, ◌++◌, ◌∙◌, subst}
 use Rattle.outer_world.proofs.Writes.{writes_both, writes_cut}
 use Rattle.outer_world.specs.Whole.{Writes}
 use Rattle.daq_report.specs.Rankings.{rows_text}
-use Rattle.daq_report.proofs.rankings.write_ranking.Goals as goal
+use Rattle.daq_report.proofs.rankings.write_told.Goals as goal
 
 pub returns-in_err-write_whole : goal.returns-in_err-write_whole
 returns-in_err-write_whole g c =
