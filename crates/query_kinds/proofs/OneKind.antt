@@ -7,7 +7,6 @@ use Rattle.sql_text.specs.declared.fault.SqlFault.{SqlFault}
 use Rattle.sql_text.specs.declared.fault.SqlFault.TheVariants as f
 use Rattle.sql_text.specs.Tree.{Call, CountAll, Grouped, Item, Items, Name, Nothing, Ordered, Plain, Query, Star}
 use Rattle.sql_text.specs.declared.tree.Num.{Num}
-use Rattle.query_kinds.specs.Beside.{IsBesideFault}
 use Rattle.query_kinds.specs.Kinds.{IsByGroups, IsKindsFault, IsNoQuery, IsNoShape, IsOfItems, IsOfShape, IsQueryLine, IsTotals}
 use Rattle.query_kinds.specs.Kinds.{KindsAreOne, columns_named, fault_of, is_aggregate, kind_of}
 use Rattle.query_kinds.specs.Rows.{IsRowsFault}
@@ -78,14 +77,6 @@ line_fault line text (f.Syntax at) spelled only = none_line line text spelled on
 line_fault line text (f.TooDeep at) spelled only = none_line line text spelled only
 line_fault line text (f.LiteralTooLarge at) spelled only = none_line line text spelled only
 line_fault line text f.NoMemory spelled only = tt
-
-pub beside_fault : (line text : List ℕ) (fault : SqlFault) → line ≡ codes "query " ++ text →
-    ((q : Query) → IsText text q → Answers q (Err fault)) → IsBesideFault line (fault_of fault)
-beside_fault line text f.TooLong spelled only = none_line line text spelled only
-beside_fault line text (f.Syntax at) spelled only = none_line line text spelled only
-beside_fault line text (f.TooDeep at) spelled only = none_line line text spelled only
-beside_fault line text (f.LiteralTooLarge at) spelled only = none_line line text spelled only
-beside_fault line text f.NoMemory spelled only = tt
 
 pub rows_fault : (line text : List ℕ) (fault : SqlFault) → line ≡ codes "query " ++ text →
     ((q : Query) → IsText text q → Answers q (Err fault)) → IsRowsFault line (fault_of fault)

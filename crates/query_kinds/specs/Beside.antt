@@ -1,5 +1,5 @@
--- The sums and the numbers of values that a query of totals asks for beside its averages.
-use Rattle.std.specs.Prelude.{◌≡◌, ◌⊎◌, ℕ, ◌==◌, Bool, false, ◌&&◌, List, [], length, map}
+-- The sums and the numbers of values that a query of totals or groups asks for beside its averages.
+use Rattle.std.specs.Prelude.{◌≡◌, ℕ, ◌==◌, Bool, false, ◌&&◌, List, length, map}
 use Rattle.std.specs.declared.option.Option.{Option}
 use Rattle.std.specs.declared.option.Option.TheVariants.{Some, None}
 use Rattle.std.specs.List.{position}
@@ -8,10 +8,8 @@ use Rattle.std.specs.Str.{bytes_eq}
 use Rattle.query_model.specs.declared.query.ItemKind.{ItemKind}
 use Rattle.sql_text.specs.declared.tree.CallKind.TheVariants as calls
 use Rattle.sql_text.specs.Tree.{Item, Call, Expr, Column, Number, Add, Sub, Mul, Query}
-use Rattle.query_kinds.specs.Kinds.{Asks, IsNoQuery, IsQueryLine, IsTotals}
+use Rattle.query_kinds.specs.Kinds.{Asks, IsOfItems, IsQueryLine}
 use Rattle.query_kinds.specs.declared.beside.Beside.{Beside}
-use Rattle.query_kinds.specs.declared.fault.KindsFault.{KindsFault}
-use Rattle.query_kinds.specs.declared.fault.KindsFault.TheVariants as faults
 
 -- two expressions say the same, wherever they stand in the text
 abbrev pub says_same : Expr → Expr → Bool
@@ -46,36 +44,18 @@ abbrev pub beside_in : List Item → Item → Option Beside
 beside_in items (Call calls.Avg argument) = beside_average items argument
 beside_in items item = None
 
--- the line is that of a query of totals, and this stands beside each of its items
+-- the line is that of a query of totals or groups, and this stands beside each of its aggregates
 pub record AsksBeside (line : List ℕ) (besides : List (Option Beside)) : Type 0 where
   pub query : Query
   pub is_line : IsQueryLine line query
+  pub columns : ℕ
   pub items : List Item
-  pub totals : IsTotals query items
+  pub of_items : IsOfItems query columns items
   pub each : besides ≡ map (beside_in items) items
-
-abbrev pub IsNoTotals : Query → Type 0
-IsNoTotals query = (items : List Item) → IsTotals query items → ⊥
-
--- the line is that of a query which asks for groups or for rows
-pub record AsksNoTotals (line : List ℕ) : Type 0 where
-  pub query : Query
-  pub is_line : IsQueryLine line query
-  pub no_totals : IsNoTotals query
-
--- why nothing is said of what stands beside
-abbrev pub IsBesideFault : List ℕ → KindsFault → Type 0
-IsBesideFault line faults.NoQuery = IsNoQuery line
-IsBesideFault line faults.NoTotals = AsksNoTotals line
-IsBesideFault line faults.NoMemory = Unit {0}
-
--- what stands beside the items of the query whose line this is; of one that asks for groups or for rows nothing is told
-abbrev pub TellsBeside : List ℕ → List (Option Beside) → Type 0
-TellsBeside line besides = AsksBeside line besides ⊎ (AsksNoTotals line × (besides ≡ []))
 
 -- ---- laws
 
 pub record BesidesAreOne : Type 0 where
-  pub same : (line : List ℕ) (one other : List (Option Beside)) → TellsBeside line one → TellsBeside line other → one ≡ other
+  pub same : (line : List ℕ) (one other : List (Option Beside)) → AsksBeside line one → AsksBeside line other → one ≡ other
   pub as_many : (line : List ℕ) (kinds : List ItemKind) (columns : ℕ) (besides : List (Option Beside)) → Asks line kinds columns →
       AsksBeside line besides → length besides ≡ length kinds

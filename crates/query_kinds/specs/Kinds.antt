@@ -1,4 +1,5 @@
 -- Which line is that of a query of totals or of groups, and of which kinds its aggregates are.
+use Rattle.std.specs.Borrow.{Bor}
 use Rattle.std.specs.Prelude.{◌≡◌, ◌⊎◌, ℕ, Bool, true, false, List, ◌++◌, filter, map, codes}
 use Rattle.std.specs.List.{list_all, list_any}
 use Rattle.std.specs.Set.{distinct_count}
@@ -7,10 +8,11 @@ use Rattle.query_model.specs.declared.query.ItemKind.{ItemKind}
 use Rattle.query_model.specs.declared.query.ItemKind.TheVariants as kinds
 use Rattle.sql_text.specs.declared.tree.CallKind.{CallKind}
 use Rattle.sql_text.specs.declared.tree.CallKind.TheVariants as calls
+use Rattle.sql_text.specs.declared.tree.ItemTree.{ItemTree}
 use Rattle.sql_text.specs.Answer.{IsText}
 use Rattle.sql_text.specs.declared.fault.SqlFault.{SqlFault}
 use Rattle.sql_text.specs.declared.fault.SqlFault.TheVariants as text
-use Rattle.sql_text.specs.Tree.{Name, Item, Plain, CountAll, Call, Query, Items, Nothing, Grouped}
+use Rattle.sql_text.specs.Tree.{Name, Item, Plain, CountAll, Call, Query, Items, Nothing, Grouped, item_of}
 use Rattle.query_kinds.specs.declared.fault.KindsFault.{KindsFault}
 use Rattle.query_kinds.specs.declared.fault.KindsFault.TheVariants as faults
 
@@ -25,6 +27,10 @@ abbrev pub is_aggregate : Item → Bool
 is_aggregate (Plain name) = false
 is_aggregate CountAll = true
 is_aggregate (Call kind argument) = true
+
+-- the items that these trees say
+abbrev pub items_in : List (Bor ItemTree) → List Item
+items_in trees = map (λ tree. item_of tree.now) trees
 
 -- the kind of an aggregate; a column by itself has none, and is counted as a number of rows
 abbrev pub kind_of : Item → ItemKind

@@ -1,18 +1,15 @@
-//! The sums and the numbers of values that the line of a query asks for beside its averages.
+//! The sums and the numbers of values that a query asks for beside its averages.
 
-ghost use Rattle.std.specs.Prelude.{◌≡◌, map, IfOk, IfErr, MatchOption};
+ghost use Rattle.std.specs.Prelude.{◌≡◌, map, IfOk};
 ghost use Rattle.std.specs.List.{position};
-ghost use Rattle.sql_text.specs.Tree.{expr_of, item_of, query_of};
-ghost use Rattle.query_kinds.specs.Beside.{AsksBeside, IsBesideFault, IsNoTotals};
+ghost use Rattle.sql_text.specs.Tree.{expr_of, item_of};
 ghost use Rattle.query_kinds.specs.Beside.{beside_at, beside_average, beside_in, is_count_of, is_sum_of, says_same};
-ghost use Rattle.query_kinds.specs.Kinds.{IsTotals};
+ghost use Rattle.query_kinds.specs.Kinds.{items_in};
 
-use crate::fault::KindsFault;
-use crate::kinds::{are_aggregates, read_line};
-use sql_text::{CallKind, Ending, ExprTree, ItemTree, Select, Tree};
+use sql_text::{CallKind, ExprTree, ItemTree};
 use std::alloc::{AllocError, Global};
 
-/// The places of the sum and of the number of the values of an average among the items of its query, counted from 0.
+/// The places of the sum and of the number of the values of an average among the aggregates of its query, counted from 0.
 #[derive(Clone, Copy, Debug, PartialEq, Eq)]
 pub struct Beside {
     pub sum: usize,
@@ -77,22 +74,22 @@ fn beside_at(sum: Option<usize>, count: Option<usize>) -> Option<Beside>
 }
 
 // The first sum of the expression.
-fn place_of_sum(argument: &ExprTree, items: &[ItemTree]) -> Option<usize>
-    ensures { result ≡ position (λ item. is_sum_of (expr_of argument.now) (item_of item)) items.now }
+fn place_of_sum(argument: &ExprTree, items: &[&ItemTree]) -> Option<usize>
+    ensures { result ≡ position (λ item. is_sum_of (expr_of argument.now) (item_of item.now)) items.now }
 {
     items.iter().position(|item| is_sum_of(argument, item))
 }
 
 // The first number of its values.
-fn place_of_count(argument: &ExprTree, items: &[ItemTree]) -> Option<usize>
-    ensures { result ≡ position (λ item. is_count_of (expr_of argument.now) (item_of item)) items.now }
+fn place_of_count(argument: &ExprTree, items: &[&ItemTree]) -> Option<usize>
+    ensures { result ≡ position (λ item. is_count_of (expr_of argument.now) (item_of item.now)) items.now }
 {
     items.iter().position(|item| is_count_of(argument, item))
 }
 
 // What stands beside an average of the expression.
-fn beside_average(items: &[ItemTree], argument: &ExprTree) -> Option<Beside>
-    ensures { result ≡ beside_average (map item_of items.now) (expr_of argument.now) }
+fn beside_average(items: &[&ItemTree], argument: &ExprTree) -> Option<Beside>
+    ensures { result ≡ beside_average (items_in items.now) (expr_of argument.now) }
 {
     beside_at(
         place_of_sum(argument, items),
@@ -101,8 +98,8 @@ fn beside_average(items: &[ItemTree], argument: &ExprTree) -> Option<Beside>
 }
 
 // What stands beside an item.
-fn beside_in(items: &[ItemTree], item: &ItemTree) -> Option<Beside>
-    ensures { result ≡ beside_in (map item_of items.now) (item_of item.now) }
+fn beside_in(items: &[&ItemTree], item: &ItemTree) -> Option<Beside>
+    ensures { result ≡ beside_in (items_in items.now) (item_of item.now) }
 {
     match item {
         ItemTree::Column(_) | ItemTree::Count => None,
@@ -114,45 +111,12 @@ fn beside_in(items: &[ItemTree], item: &ItemTree) -> Option<Beside>
 }
 
 // What stands beside each of the items.
-fn besides(alloc: Global, items: &[ItemTree]) -> Result<Vec<Option<Beside>>, AllocError>
-    ensures { IfOk result (λ besides. besides.items ≡ map (beside_in (map item_of items.now)) (map item_of items.now)) }
+pub(crate) fn besides(alloc: Global, items: &[&ItemTree]) -> Result<Vec<Option<Beside>>, AllocError>
+    ensures { IfOk result (λ besides. besides.items ≡ map (beside_in (items_in items.now)) (items_in items.now)) }
 {
     let mut besides = Vec::with_capacity(alloc, items.len())?;
     for item in items {
         besides.push(beside_in(items, item))?;
     }
     Ok(besides)
-}
-
-// The aggregates of a query of totals.
-#[tactic(auto, using(crate::proofs::Besides::not_alone, crate::proofs::Besides::not_items, crate::proofs::Besides::not_all))]
-fn totals_of(tree: &Tree) -> Option<&[ItemTree]>
-    ensures { MatchOption result (IsNoTotals (query_of tree.now)) (λ items. IsTotals (query_of tree.now) (map item_of items.now)) }
-{
-    match &tree.ending {
-        Ending::Group(_) | Ending::Order { .. } => None,
-        Ending::Nothing => match &tree.head {
-            Select::Star => None,
-            Select::Items(items) => {
-                if are_aggregates(items) {
-                    Some(items)
-                } else {
-                    None
-                }
-            }
-        },
-    }
-}
-
-/// For each aggregate of the query of totals whose line this is: where it is an average, the places of SUM and COUNT of the same expression
-/// in the query, if it asks for both. Else whether the line is none of a query, or that query asks for groups or for rows.
-pub fn averages_beside(alloc: Global, line: &[u8]) -> Result<Vec<Option<Beside>>, KindsFault>
-    ensures besides { IfOk result (λ besides. AsksBeside line.now besides.items) }
-    ensures fault { IfErr result (IsBesideFault line.now) }
-{
-    let tree = read_line(alloc, line)?;
-    match totals_of(&tree) {
-        Some(items) => Ok(besides(alloc, items)?),
-        None => Err(KindsFault::NoTotals),
-    }
 }

@@ -12,8 +12,7 @@ pub enum KindsFault {
     /// The line is none of a query.
     #[error("no query")]
     NoQuery,
-    /// The query asks for rows, for columns without groups, or for groups without an aggregate. Of what stands beside averages: it asks
-    /// for groups or for rows.
+    /// The query asks for rows, for columns without groups, or for groups without an aggregate.
     #[error("no query of totals or groups")]
     NoTotals,
     /// Memory ran out.

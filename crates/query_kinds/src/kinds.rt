@@ -4,11 +4,12 @@ ghost use Rattle.std.specs.Prelude.{◌≡◌, ◌++◌, ℕ, List, codes, filte
 ghost use Rattle.std.specs.List.{list_all, list_any};
 ghost use Rattle.std.specs.Str.{IsUtf8, bytes_eq};
 ghost use Rattle.sql_text.specs.Tree.{item_of, name_of, query_of};
-ghost use Rattle.query_kinds.specs.Beside.{IsBesideFault};
+ghost use Rattle.query_kinds.specs.Beside.{AsksBeside, beside_in};
 ghost use Rattle.query_kinds.specs.Kinds.{Asks, IsKindsFault, IsNoShape, IsOfItems, IsQueryLine};
-ghost use Rattle.query_kinds.specs.Kinds.{columns_named, fault_of, is_aggregate, kind_of, kind_of_call};
+ghost use Rattle.query_kinds.specs.Kinds.{columns_named, fault_of, is_aggregate, items_in, kind_of, kind_of_call};
 ghost use Rattle.query_kinds.specs.Rows.{IsRowsFault};
 
+use crate::beside::{Beside, besides};
 use crate::fault::KindsFault;
 use query_model::ItemKind;
 use sql_text::{CallKind, Ending, ItemTree, Named, Select, SqlFault, Tree, parse};
@@ -47,7 +48,7 @@ fn kind_of(item: &ItemTree) -> ItemKind
     }
 }
 
-pub(crate) fn are_aggregates(items: &[ItemTree]) -> bool
+fn are_aggregates(items: &[ItemTree]) -> bool
     ensures { result ≡ list_all is_aggregate (map item_of items.now) }
 {
     for item in items {
@@ -69,15 +70,26 @@ fn has_aggregate(items: &[ItemTree]) -> bool
     false
 }
 
-// The kinds of the aggregates among the items.
-fn kinds_of(alloc: Global, items: &[ItemTree]) -> Result<Vec<ItemKind>, AllocError>
-    ensures { IfOk result (λ kinds. kinds.items ≡ map kind_of (filter is_aggregate (map item_of items.now))) }
+// The aggregates among the items.
+fn aggregates_of(alloc: Global, items: &[ItemTree]) -> Result<Vec<&ItemTree>, AllocError>
+    ensures { IfOk result (λ found. items_in found.items ≡ filter is_aggregate (map item_of items.now)) }
 {
-    let mut kinds = Vec::new(alloc);
+    let mut found = Vec::new(alloc);
     for item in items {
         if is_aggregate(item) {
-            kinds.push(kind_of(item))?;
+            found.push(item)?;
         }
+    }
+    Ok(found)
+}
+
+// The kinds of aggregates.
+fn kinds_of(alloc: Global, items: &[&ItemTree]) -> Result<Vec<ItemKind>, AllocError>
+    ensures { IfOk result (λ kinds. kinds.items ≡ map kind_of (items_in items.now)) }
+{
+    let mut kinds = Vec::with_capacity(alloc, items.len())?;
+    for item in items {
+        kinds.push(kind_of(item))?;
     }
     Ok(kinds)
 }
@@ -177,7 +189,6 @@ fn fault_of(fault: SqlFault) -> KindsFault
 pub(crate) fn read_line(alloc: Global, line: &[u8]) -> Result<Tree, KindsFault>
     ensures query { IfOk result (λ tree. IsQueryLine line.now (query_of tree)) }
     ensures fault { IfErr result (IsKindsFault line.now) }
-    ensures beside { IfErr result (IsBesideFault line.now) }
     ensures rows { IfErr result (IsRowsFault line.now) }
 {
     match text_behind(line) {
@@ -189,25 +200,41 @@ pub(crate) fn read_line(alloc: Global, line: &[u8]) -> Result<Tree, KindsFault>
     }
 }
 
-/// What the line of a query tells of its report: the kinds of its aggregates, and how many group columns it has; totals have none.
+/// What the line of a query tells of its report: the kinds of its aggregates, what it asks for beside each of them, and how many group
+/// columns it has; totals have none.
 #[derive(Drop)]
 pub struct QueryShape {
     pub kinds: Vec<ItemKind>,
+    pub besides: Vec<Option<Beside>>,
     pub columns: usize,
 }
 
-/// The shape of the query of totals or of groups whose line this is, as it stands in front of a report; else whether the line is none of a
-/// query, or that query asks for rows, for columns without groups, or for groups without an aggregate.
+// The shape of a query with these items, and so many group columns.
+fn shape_of(alloc: Global, items: &[ItemTree], columns: usize) -> Result<QueryShape, AllocError>
+    ensures kinds { IfOk result (λ shape. shape.kinds.items ≡ map kind_of (filter is_aggregate (map item_of items.now))) }
+    ensures besides { IfOk result (λ shape. shape.besides.items
+        ≡ map (beside_in (filter is_aggregate (map item_of items.now))) (filter is_aggregate (map item_of items.now))) }
+    ensures columns { IfOk result (λ shape. shape.columns ≡ columns) }
+{
+    let aggregates = aggregates_of(alloc, items)?;
+    Ok(QueryShape {
+        kinds: kinds_of(alloc, &aggregates)?,
+        besides: besides(alloc, &aggregates)?,
+        columns,
+    })
+}
+
+/// The shape of the query of totals or of groups whose line this is, as it stands in front of a report: beside an average stand the places
+/// of SUM and COUNT of the same expression, if the query asks for both. Else whether the line is none of a query, or that query asks for
+/// rows, for columns without groups, or for groups without an aggregate.
 pub fn query_shape(alloc: Global, line: &[u8]) -> Result<QueryShape, KindsFault>
     ensures shape { IfOk result (λ shape. Asks line.now shape.kinds.items shape.columns) }
+    ensures besides { IfOk result (λ shape. AsksBeside line.now shape.besides.items) }
     ensures fault { IfErr result (IsKindsFault line.now) }
 {
     let tree = read_line(alloc, line)?;
     match items_of(&tree) {
-        Some(asked) => Ok(QueryShape {
-            kinds: kinds_of(alloc, asked.items)?,
-            columns: asked.columns,
-        }),
+        Some(asked) => Ok(shape_of(alloc, asked.items, asked.columns)?),
         None => Err(KindsFault::NoTotals),
     }
 }

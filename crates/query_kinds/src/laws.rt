@@ -13,7 +13,7 @@ pub fn kinds_are_one()
     one_answer();
 }
 
-/// What is told to stand beside its items is one list, with a place for each item of totals.
+/// What stands beside the aggregates of a query is one list, with a place for each of them.
 pub fn besides_are_one()
     ensures { BesidesAreOne }
 {
