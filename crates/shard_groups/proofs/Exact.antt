@@ -151,7 +151,7 @@ line_of_one cells lines line are one ones =
     (distinct_ones cells ones)
 
 -- within a line of one key all cells of one key are the same
-same_cell : (line cell : List Span) → OneKeyOf line → IsTrue (is_one_key cell) → IsTrue (is_within cell line) → IsTrue (is_within line cell)
+pub same_cell : (line cell : List Span) → OneKeyOf line → IsTrue (is_one_key cell) → IsTrue (is_within cell line) → IsTrue (is_within line cell)
 same_cell line cell one own w =
     within_chain line one.0 cell one.2 (one_back cell one.0 own one.1 (within_chain cell line one.0 w one.2))
 

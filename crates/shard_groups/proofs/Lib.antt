@@ -3,19 +3,19 @@ mod AverageLines
 mod Contains
 mod Cutting
 mod Done
-mod Exact
+pub mod Exact
 mod ExactAverages
 pub mod Firsts
 mod Found
-mod Later
-mod LineSets
+pub mod Later
+pub mod LineSets
 mod Narrow
 mod NestedAverages
 mod Nests
 mod One
 mod OneOrder
 mod Pairs
-mod Places
+pub mod Places
 mod Present
 mod Reorders
 mod SameAverages

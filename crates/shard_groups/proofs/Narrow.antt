@@ -1,11 +1,11 @@
 -- Lines that are no wider than they have to be, one after another.
-use Rattle.std.proofs.Common.{◌≡◌, ℕ, ◌+◌, ◌-◌, ◌≤◌, ◌<◌, true, List, [], ◌∷◌, ◌++◌, take, drop, length, get_or, refl, arith, sym, ap, ◌∙◌, subst, inl, inr, IsTrue}
+use Rattle.std.proofs.Common.{◌≡◌, ℕ, zero, suc, ◌+◌, ◌-◌, Bool, ◌≤◌, ◌<◌, true, List, [], ◌∷◌, ◌++◌, take, drop, length, get_or, refl, arith, sym, ap, ◌∙◌, subst, inl, inr, IsTrue}
 use Rattle.std.proofs.lemmas.List.{append_assoc, append-nil, drop_more, length-drop, map-append, take_all, take_more}
 use Rattle.shard_groups.specs.declared.cells.Cell.{Cell}
 use Rattle.shard_groups.specs.declared.keys.Span.{Span}
 use Rattle.shard_groups.specs.Groups.{all_keys, keys_in}
-use Rattle.shard_groups.specs.Keys.{hull, meets}
-use Rattle.shard_groups.specs.Lines.{AreLines, IsCovered}
+use Rattle.shard_groups.specs.Keys.{hull, is_within, meets}
+use Rattle.shard_groups.specs.Lines.{AreCovered, AreLines, IsCovered}
 use Rattle.shard_groups.specs.Steps.{AreNarrow, in_steps}
 use Rattle.shard_groups.proofs.LineSets.{all_chain, all_more, covered_append, covered_back, covered_front, covers_itself, hull_covered, joined_covers, used_append, used_back, used_chain, used_front, used_itself, used_joined, all_used}
 use Rattle.shard_groups.proofs.Spans.{within_itself}
@@ -108,6 +108,31 @@ pub narrow_done : (cells : List Cell) (lines m : List (List Span)) (done at : �
 narrow_done cells lines m done at h k n =
     subst (λ (ls : List (List Span)). AreNarrow (keys_in cells ++ ls) m) (take_all at lines k)
     (subst (λ (cs : List Cell). AreNarrow (keys_in cs ++ take at lines) m) (take_all done cells h) n)
+
+-- ---- cells that lie within lines
+
+-- as the code has it: a line has all keys of the cell
+pub covered_at : (cell : List Span) (lines : List (List Span)) (at : ℕ) (line : List Span) (r : Bool) → at < length lines → line ≡ get_or lines at line →
+    r ≡ is_within cell line → r ≡ true → IsCovered cell lines
+covered_at cell [] at line r h e is true_is = absurd (omega (arith, h))
+covered_at cell (first ∷ lines) zero line r h e is true_is = inl (subst (λ (l : List Span). IsTrue (is_within cell l)) e (sym is ∙ true_is))
+covered_at cell (first ∷ lines) (suc at) line r h e is true_is = inr (covered_at cell lines at line r (omega (arith, h)) e is true_is)
+
+-- a cell more lies within a line
+pub covered_more : (cells : List Cell) (done : ℕ) (cell : Cell) (keys : List Span) (lines : List (List Span)) → done < length cells →
+    cell ≡ get_or cells done cell → keys ≡ cell.keys → IsCovered keys lines → AreCovered (keys_in (take done cells)) lines →
+    AreCovered (keys_in (take (done + 1) cells)) lines
+covered_more cells done cell keys lines h e own here before =
+    subst (λ (ls : List (List Span)). AreCovered ls lines) (sym (keys_more cells done cell h e))
+    (covered_append (keys_in (take done cells)) (cell.keys ∷ []) lines before (subst (λ (c : List Span). IsCovered c lines) own here, tt))
+
+-- where each cell lies within a line the lines stay
+pub narrow_kept : (keys lines : List (List Span)) → AreCovered keys lines → AreNarrow (keys ++ lines) lines
+narrow_kept keys lines all = record {
+  covered = covered_append keys lines lines all (covers_itself lines);
+  used = used_back lines keys lines (used_itself lines);
+  narrowest = λ others apart h. covered_back keys lines others h;
+}
 
 -- ---- all shards
 

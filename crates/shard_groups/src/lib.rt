@@ -22,3 +22,4 @@ pub use laws::{
     lines_nest_averages, lines_report_averages, lines_tell, lines_tell_averages, lines_tell_keys,
     one_shard_is_all, order_is_free,
 };
+pub use shares::is_within;

@@ -1,8 +1,9 @@
 //! Lines of cells that stand in order, found by one pass over the cells of each shard.
 
-ghost use Rattle.std.specs.Prelude.{◌≡◌, IfNone, IfOk, IfSome, IsTrue, OnOk, [], ◌∷◌, ◌++◌};
+ghost use Rattle.std.specs.Prelude.{◌≡◌, IfNone, IfOk, IfSome, IsTrue, OnOk, [], ◌∷◌, ◌++◌, true};
 ghost use Rattle.shard_groups.specs.Groups.{all_keys, keys_in};
 ghost use Rattle.shard_groups.specs.Keys.{meets};
+ghost use Rattle.shard_groups.specs.Lines.{AreCovered, IsCovered};
 ghost use Rattle.shard_groups.specs.Steps.{AreNarrow, in_steps};
 
 use crate::cells::{Cell, Cells};
@@ -56,6 +57,43 @@ fn merged(alloc: Global, lines: &[Keys], cells: &[Cell]) -> Result<Vec<Keys>, Al
     Ok(merged)
 }
 
+// The place of the first line from there on that has all keys of a cell.
+fn covering(lines: &[Keys], from: usize, cell: &[Span]) -> Option<usize>
+    ensures { IfSome result (λ at. IsCovered cell.now lines.now) }
+{
+    for at in from..lines.len() {
+        if related(Relation::Within, cell, lines[at].as_slice()) {
+            return Some(at);
+        }
+    }
+    None
+}
+
+// Whether each cell lies within a line, as it is seen where both stand in order.
+fn are_covered(lines: &[Keys], cells: &[Cell]) -> bool
+    ensures { result ≡ true → AreCovered (keys_in cells.now) lines.now }
+{
+    let mut from = 0;
+    for cell in cells {
+        match covering(lines, from, cell.keys.as_slice()) {
+            Some(at) => from = at,
+            None => return false,
+        }
+    }
+    true
+}
+
+// The lines of some lines and of the cells of a shard. They stay where they have all keys of the cells.
+#[tactic(auto, using(crate::proofs::Narrow::narrow_kept))]
+fn with_cells(alloc: Global, lines: Vec<Keys>, cells: &[Cell]) -> Result<Vec<Keys>, AllocError>
+    ensures { IfOk result (λ next. AreNarrow (keys_in cells.now ++ lines.items) next.items) }
+{
+    if are_covered(&lines, cells) {
+        return Ok(lines);
+    }
+    merged(alloc, &lines, cells)
+}
+
 // The lines of the cells of all shards, if cells and lines stand in order; else some of them may meet.
 pub(crate) fn lines_in_order(alloc: Global, shards: &[Cells]) -> Result<Vec<Keys>, AllocError>
     ensures { IfOk result (λ lines. AreNarrow (all_keys shards.now) lines.items) }
@@ -64,7 +102,7 @@ pub(crate) fn lines_in_order(alloc: Global, shards: &[Cells]) -> Result<Vec<Keys
     let mut i = shards.len();
     while 0 < i {
         i -= 1;
-        lines = merged(alloc, &lines, shards[i].as_slice())?;
+        lines = with_cells(alloc, lines, shards[i].as_slice())?;
     }
     Ok(lines)
 }

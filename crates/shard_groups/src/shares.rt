@@ -32,7 +32,8 @@ fn bound_at(item: usize, cell: &Cell) -> Bound
     }
 }
 
-pub(crate) fn is_within(a: &[Span], b: &[Span]) -> bool
+/// Whether the one set of keys has no key that the other has not.
+pub fn is_within(a: &[Span], b: &[Span]) -> bool
     ensures { result ≡ is_within a.now b.now }
 {
     related(Relation::Within, a, b)

@@ -50,7 +50,7 @@ joined_assoc Greatest a b c =
     same_with Greatest _ _ _ _ _ _ (or_assoc a.certain b.certain c.certain) (first_assoc Greatest a.high b.high c.high)
     (far_assoc Greatest a.certain b.certain c.certain a.low b.low c.low)
 
-joined_comm : (e : Extreme) (a b : TextBound) → joined e a b ≡ joined e b a
+pub joined_comm : (e : Extreme) (a b : TextBound) → joined e a b ≡ joined e b a
 joined_comm Least a b =
     same_with Least _ _ _ _ _ _ (or_comm a.certain b.certain) (first_comm Least a.low b.low) (far_comm Least a.certain b.certain a.high b.high)
 joined_comm Greatest a b =
@@ -58,17 +58,17 @@ joined_comm Greatest a b =
 
 -- ---- what may be none
 
-abbrev IsAssociative : {A : Type 0} → (A → A → A) → Type 0
+abbrev pub IsAssociative : {A : Type 0} → (A → A → A) → Type 0
 IsAssociative {A} join = (a b c : A) → join a (join b c) ≡ join (join a b) c
 
-both_assoc : {A : Type 0} (join : A → A → A) → IsAssociative join → (a b c : Option A) →
+pub both_assoc : {A : Type 0} (join : A → A → A) → IsAssociative join → (a b c : Option A) →
     of_both join a (of_both join b c) ≡ of_both join (of_both join a b) c
 both_assoc {A} join law None b c = refl
 both_assoc {A} join law (Some a) None c = refl
 both_assoc {A} join law (Some a) (Some b) None = refl
 both_assoc {A} join law (Some a) (Some b) (Some c) = ap (λ (x : A). Some x) (law a b c)
 
-both_comm : {A : Type 0} (join : A → A → A) → ((a b : A) → join a b ≡ join b a) → (a b : Option A) → of_both join a b ≡ of_both join b a
+pub both_comm : {A : Type 0} (join : A → A → A) → ((a b : A) → join a b ≡ join b a) → (a b : Option A) → of_both join a b ≡ of_both join b a
 both_comm {A} join law None None = refl
 both_comm {A} join law None (Some b) = refl
 both_comm {A} join law (Some a) None = refl

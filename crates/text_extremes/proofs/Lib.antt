@@ -2,6 +2,7 @@ pub mod TextOrder
 pub mod Joining
 pub mod TwoParts
 pub mod ManyParts
+pub mod Sets
 pub mod Naming
 pub mod Dictionaries
 pub mod Worlds

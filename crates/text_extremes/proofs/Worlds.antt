@@ -14,7 +14,6 @@ use Rattle.query_model.proofs.Nesting.{taken_is_knowledge}
 use Rattle.query_model.proofs.Queries.{completions_exist, pairs_ordered}
 use Rattle.shard_bounds.specs.Combined.{IsBoundOf}
 use Rattle.shard_bounds.specs.Laws as numbers_laws
-use Rattle.shard_bounds.specs.Laws.{flattened}
 use Rattle.shard_bounds.specs.Shards as shards
 use Rattle.shard_bounds.specs.Shards.{AreAllRead, AreCompletions, AreKnown, IsReadOn, ReadOnce, Shard, pairs_at, reported, values_at}
 use Rattle.shard_bounds.proofs.Shards as known

@@ -6,8 +6,8 @@ ghost use Rattle.text_extremes.specs.Answers.{answer_by, bound_of, bound_told, s
 ghost use Rattle.text_extremes.specs.Bounds.{bound_with, far_by, far_end, joined, near_end};
 ghost use Rattle.text_extremes.specs.Texts.{comes_first, first_of, last_of, of_both};
 
+use crate::copies::copied;
 use crate::extreme::Extreme;
-use daq_table::Text;
 use report_text::{TextAnswer, TextEnds};
 use std::alloc::{AllocError, Global};
 
@@ -128,12 +128,6 @@ fn told(answer: &Option<TextAnswer>) -> Option<Loan<'_>>
         low: ends.low.as_slice(),
         high: ends.high.as_slice(),
     })
-}
-
-fn copied(alloc: Global, text: &[u8]) -> Result<Text, AllocError>
-    ensures { IfOk result (λ copy. copy ≡ text.now) }
-{
-    Ok(Text::new(Vec::from_slice(alloc, text)?))
 }
 
 // The answer that says a bound.

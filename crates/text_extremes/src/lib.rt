@@ -2,10 +2,12 @@
 #![tactic(auto)]
 
 mod combined;
+mod copies;
 mod extreme;
 mod laws;
 
 pub use combined::combine;
+pub use copies::{copied, copied_answer};
 pub use extreme::Extreme;
 pub use laws::{
     answers_are_shown, combinations_contain, combinations_nest, combinations_tell, groups_combine,
