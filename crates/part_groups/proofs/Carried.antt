@@ -7,6 +7,7 @@ use Rattle.query_model.specs.Bounds.{Admits}
 use Rattle.query_model.specs.declared.bounds.Bound.{Bound}
 use Rattle.query_model.specs.declared.query.ItemKind.{ItemKind}
 use Rattle.query_model.specs.declared.query.ItemKind.TheVariants.{Count, Sum, Min, Max, Avg}
+use Rattle.report_text.specs.declared.text_answers.TextAnswer.{TextAnswer}
 use Rattle.shard_groups.specs.declared.cells.Cell.{Cell}
 use Rattle.shard_groups.specs.declared.cells.ItemBound.{ItemBound}
 use Rattle.shard_groups.specs.declared.cells.ItemBound.TheVariants as code
@@ -64,17 +65,17 @@ shown_same forms line key w =
 
 -- ---- which line a group shows
 
-pub record Shows (columns items : List (Option EndsForm)) (lines : List Cell) (group : Group) : Type 0 where
+pub record Shows (columns items : List (Option EndsForm)) (texts : List Span → List (Option TextAnswer)) (lines : List Cell) (group : Group) : Type 0 where
   pub line : Cell
   pub is : IsCellOf line lines
-  pub shown : group ≡ group_in columns items (told line)
+  pub shown : group ≡ group_in columns items texts (told line)
 
-pub line_of : (columns items : List (Option EndsForm)) (lines : List Cell) (group : Group) →
-    IsGroupOf group (map (λ line. group_in columns items (told line)) lines) → Shows columns items lines group
-line_of columns items [] group is = absurd is
-line_of columns items (line ∷ lines) group (inl e) = record { line = line; is = inl refl; shown = e }
-line_of columns items (line ∷ lines) group (inr is) =
-    let there = line_of columns items lines group is in record { line = there.line; is = inr there.is; shown = there.shown }
+pub line_of : (columns items : List (Option EndsForm)) (texts : List Span → List (Option TextAnswer)) (lines : List Cell) (group : Group) →
+    IsGroupOf group (map (λ line. group_in columns items texts (told line)) lines) → Shows columns items texts lines group
+line_of columns items texts [] group is = absurd is
+line_of columns items texts (line ∷ lines) group (inl e) = record { line = line; is = inl refl; shown = e }
+line_of columns items texts (line ∷ lines) group (inr is) =
+    let there = line_of columns items texts lines group is in record { line = there.line; is = inr there.is; shown = there.shown }
 
 pub one_of : (lines : List Cell) (line : Cell) → IsCellOf line lines → IsOneOf line.keys (keys_in lines)
 one_of [] line is = absurd is
@@ -98,11 +99,11 @@ line_with (line ∷ lines) keys key (inl e) h = record { line = line; is = inl r
 line_with (line ∷ lines) keys key (inr is) h =
     let there = line_with lines keys key is h in record { line = there.line; is = inr there.is; has = there.has }
 
-pub group_of : (columns items : List (Option EndsForm)) (lines : List Cell) (line : Cell) → IsCellOf line lines →
-    IsGroupOf (group_in columns items (told line)) (map (λ line. group_in columns items (told line)) lines)
-group_of columns items [] line is = absurd is
-group_of columns items (other ∷ lines) line (inl e) = inl (ap (λ (c : Cell). group_in columns items (told c)) e)
-group_of columns items (other ∷ lines) line (inr is) = inr (group_of columns items lines line is)
+pub group_of : (columns items : List (Option EndsForm)) (texts : List Span → List (Option TextAnswer)) (lines : List Cell) (line : Cell) → IsCellOf line lines →
+    IsGroupOf (group_in columns items texts (told line)) (map (λ line. group_in columns items texts (told line)) lines)
+group_of columns items texts [] line is = absurd is
+group_of columns items texts (other ∷ lines) line (inl e) = inl (ap (λ (c : Cell). group_in columns items texts (told c)) e)
+group_of columns items texts (other ∷ lines) line (inr is) = inr (group_of columns items texts lines line is)
 
 -- ---- what it says of an item
 
@@ -137,10 +138,10 @@ over_of kinds shards (other ∷ lines) line (inl e) over =
     subst (λ (c : Cell). map said_of c.items ≡ said_from 0 kinds c.keys shards) (sym e) over.0.items
 over_of kinds shards (other ∷ lines) line (inr is) over = over_of kinds shards lines line is over.1
 
-pub shown_bound : (columns items : List (Option EndsForm)) (kinds : List ItemKind) (shards : List (List Cell)) (lines : List Cell) (line : Cell) (kind : ItemKind)
+pub shown_bound : (columns items : List (Option EndsForm)) (texts : List Span → List (Option TextAnswer)) (kinds : List ItemKind) (shards : List (List Cell)) (lines : List Cell) (line : Cell) (kind : ItemKind)
     (item : ℕ) → IsCellOf line lines → AreLinesOver kinds shards lines → slice_get kinds item ≡ Some kind → kind ≢ Avg →
-    bound_in item (group_in columns items (told line)) ≡ bound_over kind item line.keys shards
-shown_bound columns items kinds shards lines line kind item is over at no_average =
+    bound_in item (group_in columns items texts (told line)) ≡ bound_over kind item line.keys shards
+shown_bound columns items texts kinds shards lines line kind item is over at no_average =
     let said = ap (λ (s : List Said). slice_get s item) (over_of kinds shards lines line is over)
     ∙ said_at 0 item item kinds kind line.keys shards (omega arith) at ∙ ap Some (value_over kind item line.keys shards no_average) in
     ap bound_by (by_answers 0 item items (map said_of line.items) (bound_over kind item line.keys shards) said)
@@ -331,10 +332,10 @@ average_by_answers from zero forms (code.Value bound ∷ items) = refl
 average_by_answers from zero forms (code.Average bound ∷ items) = ap (λ (s : Said). average_by (Some s)) (average_kept (form_at from forms) bound)
 average_by_answers from (suc n) forms (item ∷ items) = average_by_answers (from + 1) n forms items
 
-pub shown_average : (columns items : List (Option EndsForm)) (kinds : List ItemKind) (shards : List (List Cell)) (lines : List Cell) (line : Cell) (item : ℕ) →
+pub shown_average : (columns items : List (Option EndsForm)) (texts : List Span → List (Option TextAnswer)) (kinds : List ItemKind) (shards : List (List Cell)) (lines : List Cell) (line : Cell) (item : ℕ) →
     IsCellOf line lines → AreLinesOver kinds shards lines → slice_get kinds item ≡ Some Avg →
-    average_in item (group_in columns items (told line)) ≡ average_over item line.keys shards
-shown_average columns items kinds shards lines line item is over at =
+    average_in item (group_in columns items texts (told line)) ≡ average_over item line.keys shards
+shown_average columns items texts kinds shards lines line item is over at =
     let said = ap (λ (s : List Said). slice_get s item) (over_of kinds shards lines line is over)
     ∙ said_at 0 item item kinds Avg line.keys shards (omega arith) at in
     average_by_answers 0 item items line.items ∙ ap average_by said

@@ -5,6 +5,8 @@ pub mod Overall
 mod PartKeys
 mod Report
 mod Shared
+mod TextLaws
+mod TextNests
 mod Textless
 mod Whole
 mod WholeFaults

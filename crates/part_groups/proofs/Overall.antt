@@ -24,7 +24,9 @@ use Rattle.shard_groups.specs.declared.keys.Span.{Span}
 use Rattle.part_groups.specs.Cells.{Told, keys_of, said_by, told, told_by}
 use Rattle.part_groups.specs.Faults.{IsFirstOther}
 use Rattle.part_groups.specs.Forms.{AreAlike, AreSharedForms, AreWrittenAlike, are_alike, form_at, shared_form, told_over}
+use Rattle.report_text.specs.declared.text_answers.TextAnswer.{TextAnswer}
 use Rattle.part_groups.specs.Shown.{group_in}
+use Rattle.part_groups.specs.Texts.{texts_over}
 use Rattle.part_groups.specs.Whole.{IsFaultOver, WholeIsCombined, cell_by, cells_by, forms_over, item_by, told_line}
 use Rattle.part_groups.specs.declared.fault.CombineFault.TheVariants.{OtherColumn, OtherItem}
 use Rattle.part_groups.specs.declared.forms.EndsForm.{EndsForm}
@@ -165,15 +167,15 @@ forms_shared places count parts alike =
       each = λ number h. form_from form 0 number count h ∙ ap form (let e : 0 + number ≡ number = omega arith in e);
     }
 
-shown : (columns items : List (Option EndsForm)) (kinds : List ItemKind) (shards : List (List Cell)) (lines : List (List Span)) →
-    map (λ line. group_in columns items (told_line line)) (map (line_over kinds shards) lines)
-    ≡ map (λ line. group_in columns items (told line)) (map (cell_over kinds shards) lines)
-shown columns items kinds shards [] = refl
-shown columns items kinds shards (line ∷ lines) =
-    let same = ap (λ (saids : List Said). group_in columns items (record { keys = line; present = is_present line shards; items = saids }))
+shown : (columns items : List (Option EndsForm)) (texts : List Span → List (Option TextAnswer)) (kinds : List ItemKind) (shards : List (List Cell)) (lines : List (List Span)) →
+    map (λ line. group_in columns items texts (told_line line)) (map (line_over kinds shards) lines)
+    ≡ map (λ line. group_in columns items texts (told line)) (map (cell_over kinds shards) lines)
+shown columns items texts kinds shards [] = refl
+shown columns items texts kinds shards (line ∷ lines) =
+    let same = ap (λ (saids : List Said). group_in columns items texts (record { keys = line; present = is_present line shards; items = saids }))
     (sym (same_items 0 kinds line shards)) in
-    ap (λ (g : Group). g ∷ map (λ l. group_in columns items (told_line l)) (map (line_over kinds shards) lines)) same
-    ∙ ap (λ (gs : List Group). group_in columns items (told (cell_over kinds shards line)) ∷ gs) (shown columns items kinds shards lines)
+    ap (λ (g : Group). g ∷ map (λ l. group_in columns items texts (told_line l)) (map (line_over kinds shards) lines)) same
+    ∙ ap (λ (gs : List Group). group_in columns items texts (told (cell_over kinds shards line)) ∷ gs) (shown columns items texts kinds shards lines)
 
 pub whole_is_combined : LinesAreFound → WholeIsCombined
 whole_is_combined are_found count kinds parts alike =
@@ -187,7 +189,7 @@ whole_is_combined are_found count kinds parts alike =
       forms = record { columns_shared = forms_shared Columns count parts alike.columns; items_shared = forms_shared Items (length kinds) parts alike.items };
       lines = map (cell_over kinds shards) lines;
       are_lines = record { cells = shards; tell = told_parts parts; combined = combined are_found kinds shards };
-      shown = shown columns items kinds shards lines;
+      shown = shown columns items (texts_over kinds parts) kinds shards lines;
     }
 
 -- ---- other forms

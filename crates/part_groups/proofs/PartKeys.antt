@@ -131,9 +131,14 @@ all_group_keys (groups ∷ parts) =
     ap (λ (ks : List (List Span)). ks ++ flat_map (map (λ t. t.keys)) (map (map told_by) parts)) (group_keys groups)
     ∙ ap (λ (ks : List (List Span)). map keys_by groups ++ ks) (all_group_keys parts)
 
+-- the keys of cells are those of the groups
+pub keys_of_parts : (parts : List (List Group)) (cells : List (List Cell)) → map (map told) cells ≡ map (map told_by) parts →
+    all_keys cells ≡ flat_map (map keys_by) parts
+keys_of_parts parts cells e = all_cell_keys cells ∙ ap (flat_map (map (λ t. t.keys))) e ∙ all_group_keys parts
+
 -- the cells' keys are written in the forms that the parts share
 pub cells_in : (forms : List (Option EndsForm)) (count : ℕ) (parts : List (List Group)) (cells : List (List Cell)) →
     map (map told) cells ≡ map (map told_by) parts → AreAllOf count parts → AreSharedForms Columns count parts forms → AreIn forms (all_keys cells)
 cells_in forms count parts cells e are shared =
-    subst (AreIn forms) (sym (all_cell_keys cells ∙ ap (flat_map (map (λ t. t.keys))) e ∙ all_group_keys parts))
+    subst (AreIn forms) (sym (keys_of_parts parts cells e))
     (parts_in_forms forms count parts shared.all are (shared_in forms count parts shared))

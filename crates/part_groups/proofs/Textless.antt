@@ -1,6 +1,6 @@
 -- Answers that have no text.
 use Rattle.std.proofs.Common.{◌≡◌, ◌∙◌, ◌<◌, length, ℕ, ◌+◌, List, [], ◌∷◌, ◌++◌, All, map, take, drop, sym, ap, subst, refl, Option, get_or}
-use Rattle.std.proofs.lemmas.List.{drop_more}
+use Rattle.std.proofs.lemmas.List.{drop_more, map-append, take_more}
 use Rattle.std.proofs.lemmas.List.Elements.{All-cons, All-head, All-nil, All-tail}
 use Rattle.report_text.specs.Answers.{CanBeWritten}
 use Rattle.report_text.specs.declared.answers.Answer.{Answer}
@@ -8,7 +8,9 @@ use Rattle.shard_groups.proofs.Firsts.{first_behind, first_in_at}
 use Rattle.shard_groups.specs.Firsts.{IsFirstNot, IsFirstNotIn}
 use Rattle.shard_groups.specs.declared.cells.ItemBound.{ItemBound}
 use Rattle.shard_groups.specs.Groups.{said_of}
+use Rattle.report_text.specs.declared.text_answers.TextAnswer.{TextAnswer}
 use Rattle.shard_groups.specs.declared.cells.Cell.{Cell}
+use Rattle.shard_groups.specs.declared.keys.Span.{Span}
 use Rattle.part_groups.specs.Cells.{told}
 use Rattle.part_groups.specs.Combined.{IsShown, answers_in}
 use Rattle.part_groups.specs.Faults.{IsTextless, IsTextlessIn}
@@ -43,9 +45,17 @@ written_in (group ∷ groups) h =
     All-cons (All CanBeWritten) group.answers (answers_in groups) (All-head IsShown group groups h).answers
     (written_in groups (All-tail IsShown group groups h))
 
-module _ (columns items : List (Option EndsForm)) where
+-- one line more
+pub one_line_more : (f : Cell → Group) (lines : List Cell) (i : ℕ) (line : Cell) (groups next : List Group) (group : Group) → i < length lines →
+    line ≡ get_or lines i line → groups ≡ map f (take i lines) → group ≡ f line → next ≡ groups ++ group ∷ [] → next ≡ map f (take (i + 1) lines)
+one_line_more f lines i line groups next group below is before own more =
+    more ∙ ap (λ (gs : List Group). gs ++ group ∷ []) before ∙ ap (λ (g : Group). map f (take i lines) ++ g ∷ []) own
+    ∙ ap (λ (l : Cell). map f (take i lines) ++ f l ∷ []) is
+    ∙ sym (ap (map f) (take_more lines i line below) ∙ map-append f (take i lines) (get_or lines i line ∷ []))
+
+module _ (columns items : List (Option EndsForm)) (texts : List Span → List (Option TextAnswer)) where
   abbrev group_for : Cell → Group
-  group_for line = group_in columns items (told line)
+  group_for line = group_in columns items texts (told line)
 
   abbrev answers_for : Cell → List Answer
   answers_for line = (group_for line).answers

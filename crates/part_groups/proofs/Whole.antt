@@ -28,6 +28,7 @@ use Rattle.shard_groups.specs.declared.keys.Span.{Span}
 use Rattle.part_groups.specs.Cells.{Told, keys_of, said_by, span_of, told, told_by, values_in}
 use Rattle.part_groups.specs.Forms.{AreSharedForms, form_at, shared_form, told_over}
 use Rattle.part_groups.specs.Shown.{group_in}
+use Rattle.part_groups.specs.Texts.{texts_over}
 use Rattle.part_groups.specs.Whole.{AreKeyed, CombinedIsWhole, IsKeyed, cell_by, cells_by, code_average, forms_over, has_key, has_value, item_by, told_line}
 use Rattle.part_groups.specs.declared.forms.EndsForm.{EndsForm}
 use Rattle.part_groups.specs.declared.forms.Places.{Places}
@@ -196,7 +197,7 @@ combined_is_whole is_found count kinds parts groups keyed is =
     let combined : IsCombined kinds (cells_by parts) is.lines = subst (λ (ss : List (List Cell)). IsCombined kinds ss is.lines) shards is.are_lines.combined in
     let found : map line_of is.lines ≡ combined_lines kinds (cells_by parts) = is_found count kinds (cells_by parts) is.lines keys combined in
     is.shown
-    ∙ map_through (group_in is.columns is.items) is.lines
-    ∙ ap (λ (ls : List Line). map (λ line. group_in is.columns is.items (told_line line)) ls) found
-    ∙ ap (λ (cs : List (Option EndsForm)). map (λ line. group_in cs is.items (told_line line)) (combined_lines kinds (cells_by parts))) columns
-    ∙ ap (λ (os : List (Option EndsForm)). map (λ line. group_in (forms_over Columns count parts) os (told_line line)) (combined_lines kinds (cells_by parts))) items
+    ∙ map_through (group_in is.columns is.items (texts_over kinds parts)) is.lines
+    ∙ ap (λ (ls : List Line). map (λ line. group_in is.columns is.items (texts_over kinds parts) (told_line line)) ls) found
+    ∙ ap (λ (cs : List (Option EndsForm)). map (λ line. group_in cs is.items (texts_over kinds parts) (told_line line)) (combined_lines kinds (cells_by parts))) columns
+    ∙ ap (λ (os : List (Option EndsForm)). map (λ line. group_in (forms_over Columns count parts) os (texts_over kinds parts) (told_line line)) (combined_lines kinds (cells_by parts))) items

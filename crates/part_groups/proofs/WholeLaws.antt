@@ -16,6 +16,7 @@ use Rattle.part_groups.specs.Cells.{told}
 use Rattle.part_groups.specs.Combined.{IsCombinedReport}
 use Rattle.part_groups.specs.Laws.{AreAllOf, GroupsContain, GroupsReportAverages, GroupsHaveColumns, GroupsNest, GroupsNestAverages, GroupsTell, GroupsTellAverages, GroupsTellKeys, IsGroupOf, average_in, bound_in, keys_by}
 use Rattle.part_groups.specs.Shown.{group_in, shown_from}
+use Rattle.part_groups.specs.Texts.{texts_over}
 use Rattle.shard_groups.specs.declared.keys.Span.{Span}
 use Rattle.part_groups.specs.declared.forms.EndsForm.{EndsForm}
 use Rattle.part_groups.specs.declared.group.Group.{Group}
@@ -34,17 +35,17 @@ are_within count kinds parts groups are report =
     (cells_in report.columns count parts report.are_lines.cells report.are_lines.tell are report.forms.columns_shared)
 
 -- a line of the combined report, which the group shows
-record IsOfLine (count : ℕ) (kinds : List ItemKind) (parts : List (List Group)) (groups : List Group) (report : IsCombinedReport count kinds parts groups)
+pub record IsOfLine (count : ℕ) (kinds : List ItemKind) (parts : List (List Group)) (groups : List Group) (report : IsCombinedReport count kinds parts groups)
     (group : Group) : Type 0 where
-  line : Cell
-  is : IsCellOf line report.lines
-  shown : group ≡ group_in report.columns report.items (told line)
-  keys : (key : Key) → holds (keys_by group) key ≡ holds line.keys key
+  pub line : Cell
+  pub is : IsCellOf line report.lines
+  pub shown : group ≡ group_in report.columns report.items (texts_over kinds parts) (told line)
+  pub keys : (key : Key) → holds (keys_by group) key ≡ holds line.keys key
 
-of_line : (count : ℕ) (kinds : List ItemKind) (parts : List (List Group)) (groups : List Group) → AreAllOf count parts →
+pub of_line : (count : ℕ) (kinds : List ItemKind) (parts : List (List Group)) (groups : List Group) → AreAllOf count parts →
     (report : IsCombinedReport count kinds parts groups) → (group : Group) → IsGroupOf group groups → IsOfLine count kinds parts groups report group
 of_line count kinds parts groups are report group is =
-    let there = line_of report.columns report.items report.lines group (subst (IsGroupOf group) report.shown is) in
+    let there = line_of report.columns report.items (texts_over kinds parts) report.lines group (subst (IsGroupOf group) report.shown is) in
     let within = within_of report.columns report.lines there.line there.is (are_within count kinds parts groups are report) in
     record {
       line = there.line;
@@ -84,7 +85,7 @@ groups_contain law count kinds parts groups kind item key tables group are repor
     let admits = law kind item key cells tables (keys_in report.lines) there.line.keys no_average combined.lines (one_of report.lines there.line there.is)
     (sym (there.keys key) ∙ has) (certain kind item key cells parts tables report.are_lines.tell sure) in
     let same = ap (bound_in item) there.shown
-    ∙ shown_bound report.columns report.items kinds cells report.lines there.line kind item there.is combined.each at no_average in
+    ∙ shown_bound report.columns report.items (texts_over kinds parts) kinds cells report.lines there.line kind item there.is combined.each at no_average in
     subst (λ (b : Bound). Admits b (answer_over kind tables)) (sym same) admits
 
 pub groups_tell_keys : LinesTellKeys → GroupsTellKeys
@@ -96,11 +97,11 @@ groups_tell_keys law count kinds parts groups key counts are report sure =
       found = λ some.
           let found = tells.found some in
           let there = line_with report.lines found.0 key found.1 found.2 in
-          let group = group_in report.columns report.items (told there.line) in
+          let group = group_in report.columns report.items (texts_over kinds parts) (told there.line) in
           let within = within_of report.columns report.lines there.line there.is (are_within count kinds parts groups are report) in
           record {
             group = group;
-            is = subst (IsGroupOf group) (sym report.shown) (group_of report.columns report.items report.lines there.line there.is);
+            is = subst (IsGroupOf group) (sym report.shown) (group_of report.columns report.items (texts_over kinds parts) report.lines there.line there.is);
             has = shown_same report.columns there.line.keys key within ∙ there.has;
           };
       alone = λ group other is is_other has has_other.
@@ -109,7 +110,7 @@ groups_tell_keys law count kinds parts groups key counts are report sure =
           let same = tells.alone one.line.keys two.line.keys (one_of report.lines one.line one.is) (one_of report.lines two.line two.is)
           (sym (one.keys key) ∙ has) (sym (two.keys key) ∙ has_other) in
           one.shown
-          ∙ ap (group_in report.columns report.items) (same_told kinds cells report.lines one.line two.line one.is two.is combined.each same)
+          ∙ ap (group_in report.columns report.items (texts_over kinds parts)) (same_told kinds cells report.lines one.line two.line one.is two.is combined.each same)
           ∙ sym two.shown;
       present = λ group is has present.
           let there = of_line count kinds parts groups are report group is in
@@ -125,7 +126,7 @@ groups_tell law count kinds parts groups kind item key tables group are report a
     let tells = law kind item key cells tables (keys_in report.lines) there.line.keys no_average combined.lines (one_of report.lines there.line there.is)
     (sym (there.keys key) ∙ has) (all_told kind item key cells parts tables report.are_lines.tell sure) in
     let same = ap (bound_in item) there.shown
-    ∙ shown_bound report.columns report.items kinds cells report.lines there.line kind item there.is combined.each at no_average in
+    ∙ shown_bound report.columns report.items (texts_over kinds parts) kinds cells report.lines there.line kind item there.is combined.each at no_average in
     subst (λ (b : Bound). Tells b (answer_over kind tables)) (sym same) tells
 
 pub groups_nest : LinesNest → GroupsNest
@@ -139,9 +140,9 @@ groups_nest law count kinds before parts olds groups kind item key old group are
     (subst (AreLater kind item (cells_by before)) (sym (same_shards news parts now.are_lines.tell)) later))
     (one_of report.lines first.line first.is) (one_of now.lines there.line there.is) (sym (first.keys key) ∙ has_old) (sym (there.keys key) ∙ has) in
     let old_same = ap (bound_in item) first.shown
-    ∙ shown_bound report.columns report.items kinds cells report.lines first.line kind item first.is report.are_lines.combined.each at no_average in
+    ∙ shown_bound report.columns report.items (texts_over kinds before) kinds cells report.lines first.line kind item first.is report.are_lines.combined.each at no_average in
     let same = ap (bound_in item) there.shown
-    ∙ shown_bound now.columns now.items kinds news now.lines there.line kind item there.is now.are_lines.combined.each at no_average in
+    ∙ shown_bound now.columns now.items (texts_over kinds parts) kinds news now.lines there.line kind item there.is now.are_lines.combined.each at no_average in
     record {
       keys = λ k h. first.keys k ∙ holds_more there.line.keys first.line.keys k nested.keys (sym (there.keys k) ∙ h);
       bound = subst (λ (b : Bound). IsNested b (bound_in item group)) (sym old_same)
@@ -160,9 +161,9 @@ groups_nest_averages law count kinds before parts olds groups item key old group
     (subst (AreLaterAverages item (cells_by before)) (sym (same_shards news parts now.are_lines.tell)) later))
     (one_of report.lines first.line first.is) (one_of now.lines there.line there.is) (sym (first.keys key) ∙ has_old) (sym (there.keys key) ∙ has) in
     let old_same = ap (average_in item) first.shown
-    ∙ shown_average report.columns report.items kinds cells report.lines first.line item first.is report.are_lines.combined.each at in
+    ∙ shown_average report.columns report.items (texts_over kinds before) kinds cells report.lines first.line item first.is report.are_lines.combined.each at in
     let same = ap (average_in item) there.shown
-    ∙ shown_average now.columns now.items kinds news now.lines there.line item there.is now.are_lines.combined.each at in
+    ∙ shown_average now.columns now.items (texts_over kinds parts) kinds news now.lines there.line item there.is now.are_lines.combined.each at in
     record {
       keys = λ k h. first.keys k ∙ holds_more there.line.keys first.line.keys k nested.keys (sym (there.keys k) ∙ h);
       average = subst (λ (b : AverageBound). IsNestedAverage b (average_in item group)) (sym old_same)
@@ -177,7 +178,7 @@ groups_report_averages law count kinds parts groups item key tables group are re
     let reports = law item key cells tables (keys_in report.lines) there.line.keys combined.lines (one_of report.lines there.line there.is)
     (sym (there.keys key) ∙ has) (averages_certain item key cells parts tables report.are_lines.tell sure) in
     let same = ap (average_in item) there.shown
-    ∙ shown_average report.columns report.items kinds cells report.lines there.line item there.is combined.each at in
+    ∙ shown_average report.columns report.items (texts_over kinds parts) kinds cells report.lines there.line item there.is combined.each at in
     subst (λ (b : AverageBound). ReportsAverage b (answers.average_over tables)) (sym same) reports
 
 shown_length : (column : ℕ) (forms : List (Option EndsForm)) (spans : List Span) → length (shown_from column forms spans) ≡ length forms
@@ -186,7 +187,7 @@ shown_length column (form ∷ forms) spans = ap suc (shown_length (column + 1) f
 
 pub groups_have_columns : GroupsHaveColumns
 groups_have_columns count kinds parts groups group report is =
-    let there = line_of report.columns report.items report.lines group (subst (IsGroupOf group) report.shown is) in
+    let there = line_of report.columns report.items (texts_over kinds parts) report.lines group (subst (IsGroupOf group) report.shown is) in
     ap (λ (g : Group). length g.line.keys) there.shown ∙ shown_length 0 report.columns there.line.keys ∙ report.forms.columns_shared.all
 
 pub groups_tell_averages : LinesTellAverages → GroupsTellAverages
@@ -197,5 +198,5 @@ groups_tell_averages law count kinds parts groups item key tables group are repo
     let tells = law item key cells tables (keys_in report.lines) there.line.keys combined.lines (one_of report.lines there.line there.is)
     (sym (there.keys key) ∙ has) (averages_told item key cells parts tables report.are_lines.tell sure) in
     let same = ap (average_in item) there.shown
-    ∙ shown_average report.columns report.items kinds cells report.lines there.line item there.is combined.each at in
+    ∙ shown_average report.columns report.items (texts_over kinds parts) kinds cells report.lines there.line item there.is combined.each at in
     subst (λ (b : AverageBound). TellsAverage b (answers.average_over tables)) (sym same) tells

@@ -13,6 +13,7 @@ use Rattle.part_groups.specs.Cells.{told, told_by}
 use Rattle.part_groups.specs.Faults.{IsFirstOther}
 use Rattle.part_groups.specs.Forms.{AreAllAlike, AreSharedForms, AreWrittenAlike}
 use Rattle.part_groups.specs.Shown.{group_in}
+use Rattle.part_groups.specs.Texts.{texts_over}
 use Rattle.part_groups.specs.declared.fault.CombineFault.{CombineFault}
 use Rattle.part_groups.specs.declared.fault.CombineFault.TheVariants.{NoMemory, OtherColumn, OtherItem, TooWide}
 use Rattle.part_groups.specs.declared.forms.EndsForm.{EndsForm}
@@ -35,14 +36,14 @@ pub record AreForms (count : ℕ) (kinds : List ItemKind) (parts : List (List Gr
   pub columns_shared : AreSharedForms Columns count parts columns
   pub items_shared : AreSharedForms Items (length kinds) parts items
 
--- the groups of the combined report: those of the lines over all parts, in the forms of the parts
+-- the groups of the combined report: those of the lines over all parts, in the forms of the parts, with the texts of their keys
 pub record IsCombinedReport (count : ℕ) (kinds : List ItemKind) (parts : List (List Group)) (groups : List Group) : Type 0 where
   pub columns : List (Option EndsForm)
   pub items : List (Option EndsForm)
   pub forms : AreForms count kinds parts columns items
   pub lines : List Cell
   pub are_lines : AreLinesOf kinds parts lines
-  pub shown : groups ≡ map (λ line. group_in columns items (told line)) lines
+  pub shown : groups ≡ map (λ line. group_in columns items (texts_over kinds parts) (told line)) lines
 
 -- ---- where there is none
 

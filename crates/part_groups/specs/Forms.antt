@@ -1,5 +1,5 @@
 -- In which form the values of a column, or the ends of the answers of an item, are written.
-use Rattle.std.specs.Prelude.{◌≡◌, ℕ, ◌<◌, ◌==◌, Bool, true, false, List, [], ◌∷◌, IsTrue, length, map, slice_get}
+use Rattle.std.specs.Prelude.{◌≡◌, ℕ, ◌<◌, ◌==◌, Bool, true, false, List, [], ◌∷◌, IsTrue, is_some, length, map, slice_get, if◌then◌else◌}
 use Rattle.std.specs.List.{flat_map, list_all}
 use Rattle.std.specs.declared.option.Option.{Option}
 use Rattle.std.specs.declared.option.Option.TheVariants.{Some, None}
@@ -13,6 +13,7 @@ use Rattle.report_text.specs.declared.forms.Form.TheVariants.{Date, Decimals}
 use Rattle.report_text.specs.declared.keys.ShownEnds.{ShownEnds}
 use Rattle.report_text.specs.declared.keys.ShownEnds.TheVariants as shown
 use Rattle.report_text.specs.declared.keys.ShownSpan.{ShownSpan}
+use Rattle.part_groups.specs.Texts.{text_at}
 use Rattle.part_groups.specs.declared.forms.EndsForm.{EndsForm}
 use Rattle.part_groups.specs.declared.forms.EndsForm.TheVariants.{Texts, Values}
 use Rattle.part_groups.specs.declared.forms.Places.{Places}
@@ -50,10 +51,14 @@ abbrev pub told_of_answer : Option Answer → Option EndsForm
 told_of_answer None = None
 told_of_answer (Some answer) = told_by_answer answer
 
+-- a text, or else an answer
+abbrev pub told_by_item : ℕ → Group → Option EndsForm
+told_by_item item group = if is_some (text_at item group.texts) then Some Texts else told_of_answer (slice_get group.answers item)
+
 -- of a column or an item, counted from 0
 abbrev pub told_at : Places → ℕ → Group → Option EndsForm
 told_at Columns number group = told_of_span (slice_get group.line.keys number)
-told_at Items number group = told_of_answer (slice_get group.answers number)
+told_at Items number group = told_by_item number group
 
 -- line by line, over all parts
 abbrev pub told_over : Places → ℕ → List (List Group) → List (Option EndsForm)

@@ -4,4 +4,6 @@ pub mod Faults
 pub mod Forms
 pub mod Laws
 pub mod Shown
+pub mod TextLaws
+pub mod Texts
 pub mod Whole

@@ -17,6 +17,7 @@ use Rattle.report_text.specs.declared.forms.Form.TheVariants.{Date, Decimals}
 use Rattle.report_text.specs.declared.keys.ShownEnds.{ShownEnds}
 use Rattle.report_text.specs.declared.keys.ShownEnds.TheVariants as shown
 use Rattle.report_text.specs.declared.keys.ShownSpan.{ShownSpan}
+use Rattle.report_text.specs.declared.text_answers.TextAnswer.{TextAnswer}
 use Rattle.shard_groups.specs.declared.keys.Ends.{Ends}
 use Rattle.shard_groups.specs.declared.keys.KeyValue.{KeyValue}
 use Rattle.shard_groups.specs.declared.keys.KeyValue.TheVariants.{Number, Text}
@@ -115,9 +116,10 @@ answers_from item forms (said ∷ others) = answer_in (form_at item forms) said 
 
 -- ---- the group
 
--- the forms of the columns, and of the items
-abbrev pub group_in : List (Option EndsForm) → List (Option EndsForm) → Told → Group
-group_in columns items told = record {
+-- the forms of the columns, and of the items, and the texts of keys
+abbrev pub group_in : List (Option EndsForm) → List (Option EndsForm) → (List Span → List (Option TextAnswer)) → Told → Group
+group_in columns items texts told = record {
   line = record { keys = shown_from 0 columns told.keys; present = told.present };
   answers = answers_from 0 items told.items;
+  texts = texts told.keys;
 }

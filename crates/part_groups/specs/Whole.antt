@@ -27,6 +27,7 @@ use Rattle.part_groups.specs.Combined.{FitTogether, IsCombineFault, IsCombinedRe
 use Rattle.part_groups.specs.Faults.{IsFirstOther}
 use Rattle.part_groups.specs.Forms.{AreAllAlike, AreWrittenAlike, shared_form, told_over}
 use Rattle.part_groups.specs.Shown.{group_in}
+use Rattle.part_groups.specs.Texts.{texts_over}
 use Rattle.part_groups.specs.declared.fault.CombineFault.{CombineFault}
 use Rattle.part_groups.specs.declared.fault.CombineFault.TheVariants.{NoMemory, OtherColumn, OtherItem, TooWide}
 use Rattle.part_groups.specs.declared.forms.EndsForm.{EndsForm}
@@ -61,7 +62,8 @@ told_line line = record { keys = line.keys; present = line.present; items = line
 -- the groups over all parts of a query with so many group columns, and with items of these kinds
 abbrev pub groups_over : ℕ → List ItemKind → List (List Group) → List Group
 groups_over count kinds parts =
-    map (λ line. group_in (forms_over Columns count parts) (forms_over Items (length kinds) parts) (told_line line))
+    map
+    (λ line. group_in (forms_over Columns count parts) (forms_over Items (length kinds) parts) (texts_over kinds parts) (told_line line))
     (combined_lines kinds (cells_by parts))
 
 -- null is allowed, or a value

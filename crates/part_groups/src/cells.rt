@@ -1,24 +1,18 @@
 //! What the lines of a group say, as a cell.
 
-ghost use Rattle.std.specs.Prelude.{◌≡◌, IfOk, map, max};
+ghost use Rattle.std.specs.Prelude.{◌≡◌, IfOk, [], map, max};
 ghost use Rattle.query_model.specs.Bounds.{fractions_of};
 ghost use Rattle.shard_groups.specs.Groups.{said_of};
 ghost use Rattle.part_groups.specs.Cells.{fractions_by, keys_of, said_by, slices, span_of, told, told_by, values_of};
 
 use crate::group::Group;
-use daq_table::{Listed, Text};
+use daq_table::Listed;
 use interval_calc::Fraction;
 use query_model::AverageBound;
 use report_text::{Answer, GroupLine, Ratio, ShownAverage, ShownEnds, ShownSpan};
 use shard_groups::{Cell, Cells, Ends, ItemBound, KeyValue, Keys, Span};
 use std::alloc::{AllocError, Global};
-
-// The same text.
-pub(crate) fn copied(alloc: Global, text: &Text) -> Result<Text, AllocError>
-    ensures { IfOk result (λ copy. copy ≡ text.now) }
-{
-    Ok(Text::new(Vec::from_slice(alloc, text.as_slice())?))
-}
+use text_extremes::copied;
 
 // The values that are shown: none where a column of texts has none.
 fn values_of(alloc: Global, ends: &ShownEnds) -> Result<Option<Ends>, AllocError>
@@ -30,8 +24,8 @@ fn values_of(alloc: Global, ends: &ShownEnds) -> Result<Option<Ends>, AllocError
             high: KeyValue::Number(ends.high),
         })),
         ShownEnds::Texts(ends) => {
-            let low = copied(alloc, &ends.low)?;
-            let high = copied(alloc, &ends.high)?;
+            let low = copied(alloc, ends.low.as_slice())?;
+            let high = copied(alloc, ends.high.as_slice())?;
             Ok(Some(Ends {
                 low: KeyValue::Text(low),
                 high: KeyValue::Text(high),
@@ -56,7 +50,7 @@ pub fn span_of(alloc: Global, span: &ShownSpan) -> Result<Span, AllocError>
 }
 
 // What is shown of all columns.
-fn keys_of(alloc: Global, spans: &[ShownSpan]) -> Result<Keys, AllocError>
+pub(crate) fn keys_of(alloc: Global, spans: &[ShownSpan]) -> Result<Keys, AllocError>
     ensures { IfOk result (λ keys. keys ≡ keys_of spans.now) }
 {
     let mut keys = Vec::with_capacity(alloc, spans.len())?;
@@ -109,7 +103,7 @@ fn items_by(alloc: Global, answers: &[Answer]) -> Result<Vec<ItemBound>, AllocEr
 
 /// The cell that the line of a group and the answers of its items tell: numbers in units, dates as day numbers, texts as they are.
 pub fn cell_of(alloc: Global, line: &GroupLine, answers: &[Answer]) -> Result<Cell, AllocError>
-    ensures { IfOk result (λ cell. told cell ≡ told_by (record { line = line.now; answers = answers.now })) }
+    ensures { IfOk result (λ cell. told cell ≡ told_by (record { line = line.now; answers = answers.now; texts = [] })) }
 {
     let keys = keys_of(alloc, line.keys.as_slice())?;
     let items = items_by(alloc, answers)?;

@@ -6,6 +6,7 @@ ghost use Rattle.part_groups.specs.Cells.{slices, told};
 ghost use Rattle.part_groups.specs.Combined.{AreLinesOf, FitTogether, IsCombineFault, IsCombinedReport, IsShown, IsWide, answers_in};
 ghost use Rattle.part_groups.specs.Faults.{IsTextless, IsTextlessIn};
 ghost use Rattle.part_groups.specs.Shown.{group_in};
+ghost use Rattle.part_groups.specs.Texts.{texts_with};
 
 use crate::answers::shown_answers;
 use crate::cells::all_cells;
@@ -13,6 +14,8 @@ use crate::fault::CombineFault;
 use crate::forms::{EndsForm, Places, forms_over};
 use crate::group::Group;
 use crate::keys::shown_keys;
+use crate::text_cells::{TextCell, told_cells};
+use crate::texts::texts_with;
 use daq_table::Listed;
 use query_model::ItemKind;
 use report_text::GroupLine;
@@ -34,26 +37,31 @@ fn lines_over(
     Ok(lines)
 }
 
-// The group of a line, in these forms.
+// The group of a line, in these forms, with its texts.
 fn group_in(
     alloc: Global,
     columns: &[Option<EndsForm>],
     items: &[Option<EndsForm>],
+    kinds: &[ItemKind],
+    cells: &Option<Listed<Listed<TextCell>>>,
     line: &Cell,
 ) -> Result<Group, CombineFault>
     requires { 0 < length columns.now }
-    ensures group { IfOk result (λ group. group ≡ group_in columns.now items.now (told line.now)) }
+    ensures group { IfOk result (λ group. group ≡ group_in columns.now items.now (texts_with kinds.now cells.now) (told line.now)) }
     ensures shown { IfOk result IsShown }
-    ensures fault { IfErr result (λ why. IsTextless why (group_in columns.now items.now (told line.now)).answers) }
+    ensures fault { IfErr result (λ why.
+        IsTextless why (group_in columns.now items.now (texts_with kinds.now cells.now) (told line.now)).answers) }
 {
     let keys = shown_keys(alloc, columns, line.keys.as_slice())?;
     let answers = shown_answers(alloc, items, line.items.as_slice())?;
+    let texts = texts_with(alloc, kinds, cells, line.keys.as_slice())?;
     Ok(Group {
         line: GroupLine {
             keys,
             present: line.present,
         },
         answers: Listed::new(answers),
+        texts: Listed::new(texts),
     })
 }
 
@@ -62,17 +70,21 @@ fn groups_in(
     alloc: Global,
     columns: &[Option<EndsForm>],
     items: &[Option<EndsForm>],
+    kinds: &[ItemKind],
+    cells: &Option<Listed<Listed<TextCell>>>,
     lines: &[Cell],
 ) -> Result<Vec<Group>, CombineFault>
     requires { 0 < length columns.now }
-    ensures groups { IfOk result (λ groups. groups.items ≡ map (λ line. group_in columns.now items.now (told line)) lines.now) }
+    ensures groups { IfOk result (λ groups.
+        groups.items ≡ map (λ line. group_in columns.now items.now (texts_with kinds.now cells.now) (told line)) lines.now) }
     ensures shown { IfOk result (λ groups. All IsShown groups.items) }
     ensures fault { IfErr result (λ why.
-        IsTextlessIn why (answers_in (map (λ line. group_in columns.now items.now (told line)) lines.now))) }
+        IsTextlessIn why
+        (answers_in (map (λ line. group_in columns.now items.now (texts_with kinds.now cells.now) (told line)) lines.now))) }
 {
     let mut groups = Vec::with_capacity(alloc, lines.len())?;
     for line in lines {
-        groups.push(group_in(alloc, columns, items, line)?)?;
+        groups.push(group_in(alloc, columns, items, kinds, cells, line)?)?;
     }
     Ok(groups)
 }
@@ -94,5 +106,6 @@ pub fn combine(
     let column_forms = forms_over(alloc, Places::Columns, columns, parts)?;
     let item_forms = forms_over(alloc, Places::Items, kinds.len(), parts)?;
     let lines = lines_over(alloc, kinds, parts)?;
-    groups_in(alloc, &column_forms, &item_forms, &lines)
+    let cells = told_cells(alloc, parts)?;
+    groups_in(alloc, &column_forms, &item_forms, kinds, &cells, &lines)
 }

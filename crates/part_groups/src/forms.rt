@@ -1,14 +1,14 @@
 //! In which form the values of a column, or the ends of the answers of an item, are written.
 
 ghost use Rattle.std.specs.Prelude.{◌≡◌, ◌++◌, IfErr, IfOk, OnOk, map};
-ghost use Rattle.std.specs.List.{flat_map, list_all};
 ghost use Rattle.part_groups.specs.Cells.{slices};
 ghost use Rattle.part_groups.specs.Faults.{IsFormFault, IsOtherForm, other_form};
 ghost use Rattle.part_groups.specs.Forms.{AreAlike, AreSharedForms, are_alike, fits, is_same_form, shared_form};
-ghost use Rattle.part_groups.specs.Forms.{form_at, told_at, told_by_answer, told_by_null, told_by_span, told_over};
+ghost use Rattle.part_groups.specs.Forms.{form_at, told_at, told_by_answer, told_by_item, told_by_null, told_by_span, told_over};
 
 use crate::fault::CombineFault;
 use crate::group::Group;
+use crate::text_cells::has_text;
 use query_model::Nullity;
 use report_text::{Answer, Form, ShownEnds, ShownSpan};
 use std::alloc::{AllocError, Global};
@@ -61,13 +61,24 @@ fn told_by_answer(answer: &Answer) -> Option<EndsForm>
     }
 }
 
+// The form of what a group tells of an item.
+fn told_by_item(item: usize, group: &Group) -> Option<EndsForm>
+    ensures { result ≡ told_by_item item group.now }
+{
+    if has_text(item, group.texts.as_slice()) {
+        Some(EndsForm::Texts)
+    } else {
+        told_by_answer(group.answers.as_slice().get(item)?)
+    }
+}
+
 // The form that a line tells of a column or an item.
 fn told_at(places: Places, number: usize, group: &Group) -> Option<EndsForm>
     ensures { result ≡ told_at places number group.now }
 {
     match places {
         Places::Columns => told_by_span(group.line.keys.as_slice().get(number)?),
-        Places::Items => told_by_answer(group.answers.as_slice().get(number)?),
+        Places::Items => told_by_item(number, group),
     }
 }
 

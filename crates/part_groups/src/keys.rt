@@ -1,20 +1,19 @@
 //! The keys of a cell, as the line of a group shows them.
 
 ghost use Rattle.std.specs.Prelude.{◌≡◌, IfOk, IfSome, length};
-ghost use Rattle.std.specs.Cmp.Lexicographic.{slice_cmp};
 ghost use Rattle.std.specs.List.{All};
-ghost use Rattle.std.specs.Ordering.{is_le, nat_cmp};
+ghost use Rattle.std.specs.Ordering.{is_le};
 ghost use Rattle.report_text.specs.Keys.{AreShownEnds, IsShownSpan};
 ghost use Rattle.part_groups.specs.Shown.{are_written, ends_between, or_dash, shown_ends, shown_from};
 ghost use Rattle.part_groups.specs.Shown.{shown_span, span_at, texts_between, values_between};
 
-use crate::cells::copied;
 use crate::forms::EndsForm;
 use daq_table::Text;
 use query_model::{Bound, Nullity};
 use report_text::{Form, ShownEnds, ShownKeys, ShownSpan, TextEnds, ValueEnds, has_texts};
 use shard_groups::{Ends, KeyValue, Span};
 use std::alloc::{AllocError, Global};
+use text_extremes::copied;
 
 // Whether the form writes both, and they are in order.
 fn are_written(form: Form, low: i128, high: i128) -> bool
@@ -47,8 +46,8 @@ fn texts_between(alloc: Global, low: &Text, high: &Text) -> Result<Option<ShownE
     if !low.as_slice().cmp(high.as_slice()).is_le() {
         return Ok(None);
     }
-    let low = copied(alloc, low)?;
-    let high = copied(alloc, high)?;
+    let low = copied(alloc, low.as_slice())?;
+    let high = copied(alloc, high.as_slice())?;
     Ok(Some(ShownEnds::Texts(TextEnds { low, high })))
 }
 

@@ -3,6 +3,7 @@
 ghost use Rattle.part_groups.specs.Laws.{GroupsContain, GroupsReportAverages, GroupsHaveColumns};
 ghost use Rattle.part_groups.specs.Laws.{GroupsNest, GroupsNestAverages};
 ghost use Rattle.part_groups.specs.Laws.{GroupsTell, GroupsTellAverages, GroupsTellKeys};
+ghost use Rattle.part_groups.specs.TextLaws.{GroupsContainTexts, GroupsNestTexts, GroupsTellTexts};
 ghost use Rattle.part_groups.specs.Whole.{CombinedCanBe, CombinedIsWhole, FaultsAreOne, FaultsAreWhole, WholeIsCombined};
 
 use shard_groups::{
@@ -97,4 +98,19 @@ pub fn groups_tell_averages()
 /// The groups of a combined report have as many columns as those of the parts.
 pub fn groups_have_columns()
     ensures { GroupsHaveColumns }
+{}
+
+/// Where the parts' reports are certain of a key, a group that has it contains the least or the greatest text of the rows of all parts.
+pub fn groups_contain_texts()
+    ensures { GroupsContainTexts }
+{}
+
+/// Where the parts' reports are exact, a group that has a key says the least or the greatest text of the rows of all parts.
+pub fn groups_tell_texts()
+    ensures { GroupsTellTexts }
+{}
+
+/// With later reports of the parts, the group of a key and its least or greatest text lie within those before.
+pub fn groups_nest_texts()
+    ensures { GroupsNestTexts }
 {}

@@ -3,6 +3,7 @@ use Rattle.std.specs.Prelude.{ℕ, ◌+◌, nat_lt, Bool, true, false, not, ◌|
 use Rattle.std.specs.List.{filter, list_any}
 use Rattle.std.specs.declared.option.Option.TheVariants.{Some}
 use Rattle.part_groups.specs.Cells.{span_of}
+use Rattle.plane_schedule.specs.Plans.{few_rows}
 use Rattle.report_text.specs.RowBlocks.{RowsTold, certain_rows, possible_rows, tag_bytes, told_rows}
 use Rattle.query_model.specs.declared.bounds.Standing.{Standing}
 use Rattle.query_model.specs.declared.bounds.Standing.TheVariants.{Certain, Possible, Excluded}
@@ -119,13 +120,9 @@ block_of asked listed = record { top = Counts (top_of asked.limit (told_lines as
 abbrev pub skipped_block : ℕ → CombinedRows
 skipped_block limit = record { top = Skipped limit; rows = [] }
 
--- a part may list so many rows in a block that is judged
-abbrev pub most_rows : ℕ
-most_rows = 100000
-
--- some part lists more, or has judged none itself
+-- some part lists more than few rows, or has judged none itself
 abbrev pub is_skipped : List PartListing → Bool
-is_skipped parts = list_any (λ part. part.skipped || nat_lt most_rows (length part.rows)) parts
+is_skipped parts = list_any (λ part. part.skipped || nat_lt few_rows (length part.rows)) parts
 
 -- the block over all parts
 abbrev pub combined : FirstRows → List PartListing → CombinedRows

@@ -9,17 +9,16 @@ ghost use Rattle.part_rows.specs.Faults.{AreAlike, AreClear, IsRowsFault, IsTagF
 
 use crate::fault::RowsFault;
 use crate::forms::are_alike;
-use crate::listed::{ListedRow, ListedRows, copied, listed_rows, rows_of, tag_bytes};
+use crate::listed::{ListedRow, ListedRows, listed_rows, rows_of, tag_bytes};
 use crate::row::PartRow;
 use crate::standings::judge;
 use daq_table::Text;
+use plane_schedule::FEW_ROWS;
 use query_kinds::FirstRows;
 use query_model::Standing;
 use report_text::{RowLine, RowName, RowsBlock, RowsTop, ShownEnds, ShownSpan, TextEnds, TopLine};
 use std::alloc::{AllocError, Global};
-
-// A part may list so many rows in a block that is judged.
-const MOST_ROWS: usize = 100_000;
+use text_extremes::copied;
 
 // Whether each of its bytes comes behind the space.
 fn is_clear(tag: &[u8]) -> bool
@@ -51,7 +50,7 @@ fn is_skipped(parts: &[ListedRows<'_>]) -> bool
     ensures { result ≡ is_skipped (part_listings parts.now) }
 {
     for part in parts {
-        if part.skipped || part.rows.len() > MOST_ROWS {
+        if part.skipped || part.rows.len() > FEW_ROWS {
             return true;
         }
     }

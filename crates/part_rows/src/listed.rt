@@ -9,6 +9,7 @@ use daq_table::Text;
 use part_groups::span_of;
 use report_text::RowLine;
 use std::alloc::{AllocError, Global};
+use text_extremes::copied;
 
 /// The rows that the report of a part lists, and the tag of the part. A report that is itself of several parts may have judged no row.
 #[derive(Clone, Copy)]
@@ -56,13 +57,6 @@ pub(crate) fn listed_rows<'a>(
         append(place, *part, &mut rows)?;
     }
     Ok(rows)
-}
-
-// The same text.
-pub(crate) fn copied(alloc: Global, text: &[u8]) -> Result<Text, AllocError>
-    ensures { IfOk result (λ copy. copy ≡ text.now) }
-{
-    Ok(Text::new(Vec::from_slice(alloc, text)?))
 }
 
 // The bytes of a tag. A row of one table has none.
