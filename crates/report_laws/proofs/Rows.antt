@@ -15,7 +15,7 @@ use Rattle.daq_report.specs.Rankings as report
 use Rattle.daq_report.specs.Rankings.{standing_at}
 use Rattle.daq_report.proofs.Parts.{key_shows}
 use Rattle.report_text.specs.Intervals.{key_interval}
-use Rattle.report_text.specs.Rows.{IsRowName}
+use Rattle.report_text.specs.Rows.{IsRowName, skip_line}
 use Rattle.report_laws.specs.Groups.{HasPlainPart, span_of}
 use Rattle.report_laws.specs.Rows.{FirstRowsAreShown, IsInOrder, IsRowShown, IsTopShown}
 use Rattle.report_laws.proofs.Cells.{are_plain, parts_ordered}
@@ -98,5 +98,8 @@ top_shown head stage key limit is few = record {
     no_more : (test : ℕ → Bool) (frame : Frame) → frame.rows < 2 ^ 64 → count_by test (rows_of frame) < 2 ^ 64
     no_more test frame few = omega (arith, few, count_by-le-length test (rows_of frame), length-range_with_len 0 frame.rows)
 
+untold_shown : (limit : ℕ) → report.untold_line limit ≡ skip_line limit ++ codes "\n"
+untold_shown limit = ap (λ (rest : List ℕ). codes "top " ++ rest) (sym (append_assoc (decimal limit) (codes " certain 0") (codes "\n")))
+
 pub first_rows_shown : FirstRowsAreShown
-first_rows_shown = record { top = top_shown; certain = certain_shown; possible = possible_shown }
+first_rows_shown = record { top = top_shown; certain = certain_shown; possible = possible_shown; untold = untold_shown }

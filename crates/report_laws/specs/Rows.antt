@@ -11,7 +11,7 @@ use Rattle.round_engine.specs.Stages.{Stage}
 use Rattle.daq_report.specs.Intervals.{column_of}
 use Rattle.daq_report.specs.Rankings as report
 use Rattle.daq_report.specs.Rankings.{standing_at}
-use Rattle.report_text.specs.Rows.{IsShownRow, IsTopLine, row_line, top_line}
+use Rattle.report_text.specs.Rows.{IsShownRow, IsTopLine, row_line, skip_line, top_line}
 use Rattle.report_text.specs.declared.rows.RowLine.{RowLine}
 use Rattle.report_text.specs.declared.rows.TopLine.{TopLine}
 use Rattle.report_laws.specs.Groups.{IsPlainColumn, span_of}
@@ -56,3 +56,4 @@ pub record FirstRowsAreShown : Type 0 where
       IsRowShown head stage key true (codes " certain ") r
   pub possible : (head : Head) (stage : Stage) (key r : ℕ) → IsInOrder head stage key → r < stage.frame.rows →
       IsRowShown head stage key false (codes " possible ") r
+  pub untold : (limit : ℕ) → report.untold_line limit ≡ skip_line limit ++ codes "\n"

@@ -57,7 +57,7 @@ pub fn groups_are_shown()
     cells_tell_keys();
 }
 
-/// So are the lines of a query of first rows: how many there are, and each row with where its sort key lies.
+/// So are the lines of a query of first rows: how many there are, and each row with where its sort key lies; or that none is told.
 pub fn first_rows_are_shown()
     ensures { FirstRowsAreShown }
 {}

@@ -8,8 +8,6 @@ ghost use Rattle.query_model.specs.declared.bounds.Bound.{Bound};
 ghost use Rattle.query_model.specs.declared.query.Face.{Face};
 ghost use Rattle.query_model.specs.declared.query.TypedQuery.{TypedQuery};
 ghost use Rattle.report_laws.specs.Laws.{IsPlainAverage, IsPlainBound, average_of, form_of_face, shown_of};
-ghost use Rattle.report_text.specs.Averages.{IsShownAverage};
-ghost use Rattle.report_text.specs.Bounds.{IsShown};
 ghost use Rattle.report_text.specs.declared.forms.Form.{Form};
 ghost use Rattle.report_text.specs.declared.forms.Form.TheVariants.{Decimals};
 

@@ -69,7 +69,7 @@ plain_is : (round item : ℕ) (parts : List Told) → IsDivisible (average_in ro
 plain_is round item parts d = shown_back (decimals_in (shared_form (answers_in round item parts))) (average_in round item parts) d
 
 -- where the sum is written alike, the answer is the narrower bound
-narrowed_is : (alike : Bool) (sum count : Bound) (shown : ShownAverage) → alike ≡ true → IsDivisible (average_of (Average shown)) →
+pub narrowed_is : (alike : Bool) (sum count : Bound) (shown : ShownAverage) → alike ≡ true → IsDivisible (average_of (Average shown)) →
     average_of (narrowed alike sum count shown) ≡ average_beside sum count (average_of (Average shown))
 narrowed_is true sum count shown e d =
     shown_back shown.low.sum.decimals (average_beside sum count (average_of (Average shown))) (beside_divides sum count (average_of (Average shown)) d)
@@ -123,14 +123,14 @@ module _ (stand : BesidesStand) (tables : List (List ℤ)) (sum count new_sum ne
       TellsAverage said (shards.average_over tables)
   said_tells few p q = subst (λ (b : AverageBound). TellsAverage b (shards.average_over tables)) (sym is) (stand.tell sum count other (together tables) few p q h.other_admits)
 
-admit_values : (sum count : Bound) (other : AverageBound) (tables : List (List ℤ)) → Admits sum (shards.answer_over Sum tables) →
+pub admit_values : (sum count : Bound) (other : AverageBound) (tables : List (List ℤ)) → Admits sum (shards.answer_over Sum tables) →
     Admits count (shards.answer_over Count tables) → AdmitsAverage other (shards.average_over tables) → AdmitValues sum count other (together tables)
 admit_values sum count other tables p q r = record { sum_admits = p; count_admits = q; other_admits = r }
 
-no_average_sum : Sum ≢ Avg
+pub no_average_sum : Sum ≢ Avg
 no_average_sum e = cc
 
-no_average_count : Count ≢ Avg
+pub no_average_count : Count ≢ Avg
 no_average_count e = cc
 
 module _ (contains : CombinationsContain) (nests : CombinationsNest) (tells : CombinationsTell) (item : ℕ) (beside : Beside) (parts : List Told) (tables : List (List ℤ))

@@ -29,7 +29,7 @@ use Rattle.report_parts.specs.Written.Writes.{ends, goes as goes_behind, waits}
 use Rattle.report_text.specs.Lines.{round_words}
 use Rattle.report_parts.specs.declared.block.Block.{Block}
 use Rattle.report_parts.specs.declared.fault.BlockFault.{BlockFault}
-use Rattle.report_parts.specs.declared.fault.BlockFault.TheVariants.{NoMemory, OtherColumn, OtherDecimals, OtherForm, TooWide, UnclearTag}
+use Rattle.report_parts.specs.declared.fault.BlockFault.TheVariants.{NoMemory, OtherColumn, OtherItem, OtherForm, TooWide, UnclearTag}
 use Rattle.report_parts.specs.declared.fault.InputFault.{InputFault}
 use Rattle.report_parts.specs.declared.shape.Shape.{Shape}
 
@@ -486,7 +486,7 @@ stops_here why old wholes text before has fault ahead goes = by_case why (block_
 
     by_case : (why : BlockFault) → IsBlockFault why old.round old.task.shape wholes → StopsBy why old.task wholes text before before
     by_case (OtherColumn column) refused = stopped (OtherColumn column) refused
-    by_case (OtherDecimals item) refused = stopped (OtherDecimals item) refused
+    by_case (OtherItem item) refused = stopped (OtherItem item) refused
     by_case (TooWide item) refused = stopped (TooWide item) refused
     by_case (UnclearTag part) refused = stopped (UnclearTag part) refused
     by_case OtherForm refused = stopped OtherForm refused
@@ -510,7 +510,7 @@ stops_behind why task wholes text more before mid after put h = by_case why h
 
     by_case : (why : BlockFault) → StopsBy why task wholes (text ++ more) mid after → StopsBy why task wholes text before after
     by_case (OtherColumn column) h = stopped (OtherColumn column) h
-    by_case (OtherDecimals item) h = stopped (OtherDecimals item) h
+    by_case (OtherItem item) h = stopped (OtherItem item) h
     by_case (TooWide item) h = stopped (TooWide item) h
     by_case (UnclearTag part) h = stopped (UnclearTag part) h
     by_case OtherForm h = stopped OtherForm h

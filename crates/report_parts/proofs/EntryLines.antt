@@ -12,10 +12,11 @@ lines_from number kinds entries place kind entry less below = rw (drop_more kind
 
 -- the lines of one item more are put behind a text
 pub lines_go_on : (before after : List ℕ) (kinds : List ItemKind) (entries : List Entry) (place : ℕ) (kind : ItemKind) (entry : Entry) → place < length kinds →
-    place < length entries → after ≡ before ++ entry_lines (get_or kinds place kind) (place + 1) (get_or entries place entry) →
+    place < length entries → entry ≡ get_or entries place entry → after ≡ before ++ entry_lines (get_or kinds place kind) (place + 1) entry →
     after ++ item_lines (place + 1 + 1) (drop (place + 1) kinds) (drop (place + 1) entries) ≡ before ++ item_lines (place + 1) (drop place kinds) (drop place entries)
-lines_go_on before after kinds entries place kind entry less below put =
+lines_go_on before after kinds entries place kind entry less below there put =
     let rest = item_lines (place + 1 + 1) (drop (place + 1) kinds) (drop (place + 1) entries) in
     ap (λ (text : List ℕ). text ++ rest) put
-    ∙ append_assoc before (entry_lines (get_or kinds place kind) (place + 1) (get_or entries place entry)) rest
+    ∙ append_assoc before (entry_lines (get_or kinds place kind) (place + 1) entry) rest
+    ∙ ap (λ (e : Entry). before ++ (entry_lines (get_or kinds place kind) (place + 1) e ++ rest)) there
     ∙ sym (ap (λ (text : List ℕ). before ++ text) (lines_from (place + 1) kinds entries place kind entry less below))

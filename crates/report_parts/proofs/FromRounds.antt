@@ -13,6 +13,8 @@ use Rattle.query_model.specs.declared.query.ItemKind.{ItemKind}
 use Rattle.query_model.specs.declared.query.ItemKind.TheVariants.{Avg}
 use Rattle.report_text.specs.Extras.{IsRowsLine, extra_line}
 use Rattle.report_text.specs.Lines.{IsRoundLine, item_line}
+use Rattle.report_text.specs.TextAnswers.{text_item_line}
+use Rattle.report_parts.specs.Texts.{group_texts, is_extreme, text_clip_line}
 use Rattle.report_text.specs.RowBlocks.{LacksPossible, RowsTold, TakesRows}
 use Rattle.report_text.specs.declared.groups.GroupLine.{GroupLine}
 use Rattle.report_parts.proofs.Said.{fault_as, said_as}
@@ -21,13 +23,13 @@ use Rattle.report_parts.specs.Faults.{CanSay, IsBlockFault}
 use Rattle.report_parts.specs.Passed.{AllTellFrom, TellsFrom}
 use Rattle.part_groups.specs.Whole.{groups_over}
 use Rattle.report_parts.specs.Blocks.{groups_of, entries_of, is_skipped, no_block, rows_of}
-use Rattle.report_parts.specs.Entries.{answers_of, ends_with_extra, last_entry, no_entry}
+use Rattle.report_parts.specs.Entries.{answers_of, ends_with_extra, last_entry, no_answer, no_entry}
 use Rattle.report_parts.specs.Reports.{block_beside, block_by, block_over, entries_over}
 use Rattle.query_kinds.specs.declared.rows.FirstRows.{FirstRows}
 use Rattle.part_rows.specs.Combined.{PartListing, combined, told_by}
 use Rattle.report_parts.specs.Rounds.{all_groups_in, all_listed_in, block_for, groups_in, entries_in, entry_in, has_block, is_over, listed_in}
 use Rattle.report_parts.specs.Tags.{AreInOrder, CannotTake, HasPart, IsLineRefused, IsOneMore, IsRefused, TakesTagged, against, behind_tag, by_order, tag_of, told_of, with_part}
-use Rattle.report_parts.specs.Told.{Answers, BeginsGroup, Closes, Extends, GoesOn, GroupsGoOn, IsUnlisted, ListsRow, OrElse, PassesBehind, PassesBehindSection, PassesInside, RowsGoOn, Takes, TakesAt, TakesBehind, TakesBehindAnswer, TakesBetween, TakesInside, TakesRest, Told, at_place, block_done, closed, closed_by, completed, completed_by, is_whole, nothing_told, opened_by, rows_done, settled, with_answer, with_current, with_extra, with_group, with_rows}
+use Rattle.report_parts.specs.Told.{Answers, BeginsGroup, ClipsText, Closes, Extends, GoesOn, GroupsGoOn, IsUnlisted, ListsRow, OrElse, PassesBehind, PassesBehindSection, PassesInside, RowsGoOn, Takes, TakesAt, TakesBehind, TakesBehindAnswer, TakesBetween, TakesExtra, TakesInside, TakesRest, Told, at_place, block_done, closed, closed_by, completed, completed_by, is_whole, nothing_told, opened_by, rows_done, settled, with_current, with_extra, with_group, with_rows, TakesItem, TellsText, entry_of, extended, text_entry, with_entry}
 use Rattle.report_parts.specs.declared.block.Block.{Block}
 use Rattle.report_parts.specs.declared.block.Block.TheVariants.{Groups, Rows, Totals}
 use Rattle.part_groups.specs.declared.group.Group.{Group as GroupTold}
@@ -227,7 +229,7 @@ closed_by_too None round current whole told h = record {
 closed_by_too (Some group) round current whole told h = record {
   tag = h.tag;
   closing = refl;
-  sections = ap (λ (sections : List GroupTold). sections ++ record { line = group; answers = answers_of current } ∷ []) h.sections;
+  sections = ap (λ (sections : List GroupTold). sections ++ record { line = group; answers = answers_of current; texts = group_texts current } ∷ []) h.sections;
   group = refl;
   current = refl;
   rows = h.rows;
@@ -377,7 +379,7 @@ groups_go_on round shape line near far one two whole told next h (inr k) =
 
 answers : (round : ℕ) (kinds : List ItemKind) (line : List ℕ) → IsTaken round (λ told next. Answers kinds told line next)
 answers round kinds line whole told next h k = record {
-  wholly = with_answer kinds whole k.answer;
+  wholly = with_entry kinds whole (entry_of k.answer);
   taken = record {
     kind = k.kind;
     answer = k.answer;
@@ -388,13 +390,34 @@ answers round kinds line whole told next h k = record {
     };
     told_so = refl;
   };
-  tells = subst (λ (t : Told). TellsFrom round (with_answer kinds whole k.answer) t) (sym k.told_so)
-      (put_too round kinds (λ current. current ++ record { answer = k.answer; extra = None } ∷ []) whole told h);
+  tells = subst (λ (t : Told). TellsFrom round (with_entry kinds whole (entry_of k.answer)) t) (sym k.told_so)
+      (put_too round kinds (λ current. current ++ entry_of k.answer ∷ []) whole told h);
 }
+
+tells_text : (round : ℕ) (kinds : List ItemKind) (line : List ℕ) → IsTaken round (λ told next. TellsText kinds told line next)
+tells_text round kinds line whole told next h k = record {
+  wholly = with_entry kinds whole (text_entry k.text);
+  taken = record {
+    text = k.text;
+    is_next = record {
+      extreme = subst (λ (current : List Entry). is_extreme (slice_get kinds (length current)) ≡ true) h.current k.is_next.extreme;
+      shown = k.is_next.shown;
+      is_line = subst (λ (current : List Entry). text_item_line (length current + 1) k.text ≡ line) h.current k.is_next.is_line;
+    };
+    told_so = refl;
+  };
+  tells = subst (λ (t : Told). TellsFrom round (with_entry kinds whole (text_entry k.text)) t) (sym k.told_so)
+      (put_too round kinds (λ current. current ++ text_entry k.text ∷ []) whole told h);
+}
+
+item : (round : ℕ) (kinds : List ItemKind) (line : List ℕ) → IsTaken round (λ told next. TakesItem kinds told line next)
+item round kinds line =
+    or_else round (λ told next. Answers kinds told line next) (λ told next. TellsText kinds told line next)
+    (answers round kinds line) (tells_text round kinds line)
 
 extends : (round : ℕ) (kinds : List ItemKind) (line : List ℕ) → IsTaken round (λ told next. Extends kinds told line next)
 extends round kinds line whole told next h k = record {
-  wholly = with_extra kinds whole k.extra;
+  wholly = with_extra kinds whole k.extra None;
   taken = record {
     kind = k.kind;
     extra = k.extra;
@@ -407,9 +430,33 @@ extends round kinds line whole told next h k = record {
     };
     told_so = refl;
   };
-  tells = subst (λ (t : Told). TellsFrom round (with_extra kinds whole k.extra) t) (sym k.told_so)
-      (put_too round kinds (λ current. set current (length current - 1) (record { answer = (last_entry current).answer; extra = Some k.extra })) whole told h);
+  tells = subst (λ (t : Told). TellsFrom round (with_extra kinds whole k.extra None) t) (sym k.told_so)
+      (put_too round kinds (λ current. set current (length current - 1) (extended (last_entry current) k.extra None)) whole told h);
 }
+
+clips_text : (round : ℕ) (kinds : List ItemKind) (line : List ℕ) → IsTaken round (λ told next. ClipsText kinds told line next)
+clips_text round kinds line whole told next h k = record {
+  wholly = with_extra kinds whole no_answer (Some k.clip);
+  taken = record {
+    clip = k.clip;
+    is_next = record {
+      some = subst (λ (current : List Entry). 0 < length current) h.current k.is_next.some;
+      first = subst (λ (current : List Entry). ends_with_extra current ≡ false) h.current k.is_next.first;
+      totals = sym h.group ∙ k.is_next.totals;
+      extreme = subst (λ (current : List Entry). is_extreme (slice_get kinds (length current - 1)) ≡ true) h.current k.is_next.extreme;
+      shown = k.is_next.shown;
+      is_line = subst (λ (current : List Entry). text_clip_line (length current) k.clip ≡ line) h.current k.is_next.is_line;
+    };
+    told_so = refl;
+  };
+  tells = subst (λ (t : Told). TellsFrom round (with_extra kinds whole no_answer (Some k.clip)) t) (sym k.told_so)
+      (put_too round kinds (λ current. set current (length current - 1) (extended (last_entry current) no_answer (Some k.clip))) whole told h);
+}
+
+extra : (round : ℕ) (kinds : List ItemKind) (line : List ℕ) → IsTaken round (λ told next. TakesExtra kinds told line next)
+extra round kinds line =
+    or_else round (λ told next. Extends kinds told line next) (λ told next. ClipsText kinds told line next)
+    (extends round kinds line) (clips_text round kinds line)
 
 passes_inside : (round : ℕ) (kinds : List ItemKind) (line : List ℕ) → IsTaken round (λ told next. PassesInside kinds told line next)
 passes_inside round kinds line whole told next h k = record {
@@ -450,13 +497,13 @@ rest round shape line =
 
 behind_answer : (round : ℕ) (shape : Shape) (line : List ℕ) → IsTaken round (λ told next. TakesBehindAnswer shape told line next)
 behind_answer round shape line =
-    or_else round (λ told next. Extends shape.kinds told line next) (λ told next. TakesRest shape told line next)
-    (extends round shape.kinds line) (rest round shape line)
+    or_else round (λ told next. TakesExtra shape.kinds told line next) (λ told next. TakesRest shape told line next)
+    (extra round shape.kinds line) (rest round shape line)
 
 inside : (round : ℕ) (shape : Shape) (line : List ℕ) → IsTaken round (λ told next. TakesInside shape told line next)
 inside round shape line =
-    or_else round (λ told next. Answers shape.kinds told line next) (λ told next. TakesBehindAnswer shape told line next)
-    (answers round shape.kinds line) (behind_answer round shape line)
+    or_else round (λ told next. TakesItem shape.kinds told line next) (λ told next. TakesBehindAnswer shape told line next)
+    (item round shape.kinds line) (behind_answer round shape line)
 
 behind : (round : ℕ) (shape : Shape) (line : List ℕ) → IsTaken round (λ told next. TakesBehind shape told line next)
 behind round shape line =

@@ -51,16 +51,16 @@ printed_first round item kinds kind parts e =
     printed_from round item 0 kinds kind parts e ∙ ap (λ (n : ℕ). Some (entry_over kind (entries_in round n parts))) here
 
 -- what stands beside an item leaves its line behind as it is, and each answer that is no average
-extra_stays : (block : List Entry) (beside : Option Beside) (entry : Entry) → (entry_by block beside entry).extra ≡ entry.extra
+pub extra_stays : (block : List Entry) (beside : Option Beside) (entry : Entry) → (entry_by block beside entry).extra ≡ entry.extra
 extra_stays block None entry = refl
 extra_stays block (Some beside) entry = refl
 
-value_stays : (sum count : Answer) (shown : ShownBound) → answer_beside sum count (Value shown) ≡ Value shown
+pub value_stays : (sum count : Answer) (shown : ShownBound) → answer_beside sum count (Value shown) ≡ Value shown
 value_stays (Value sum) (Value count) shown = refl
 value_stays (Value sum) (Average count) shown = refl
 value_stays (Average sum) count shown = refl
 
-answer_stays : (block : List Entry) (beside : Option Beside) (kind : ItemKind) (entries : List Entry) → kind ≢ Avg →
+pub answer_stays : (block : List Entry) (beside : Option Beside) (kind : ItemKind) (entries : List Entry) → kind ≢ Avg →
     (entry_by block beside (entry_over kind entries)).answer ≡ answer_over kind (answers_of entries)
 answer_stays block None kind entries other = refl
 answer_stays block (Some beside) Count entries other = value_stays _ _ _
@@ -104,7 +104,7 @@ printed_item round item shape kind parts totals e =
 
 -- ---- each part in a round
 
-last_below : (round count : ℕ) → 0 < count → min round (count - 1) < count
+pub last_below : (round count : ℕ) → 0 < count → min round (count - 1) < count
 last_below round count some = omega (arith, some)
 
 -- a way to read what blocks say of an item
@@ -112,10 +112,10 @@ abbrev Reading : Type 0
 Reading = Entry → Answer
 
 -- what a block says by that reading
-abbrev read_at : Reading → ℕ → Told → ℕ → Answer
+abbrev read_at : {A : Type 0} → (Entry → A) → ℕ → Told → ℕ → A
 read_at reads item told block = reads (entry_at item (entries_of (get_or told.blocks block no_block)))
 
-abbrev read_in : Reading → ℕ → ℕ → Told → Answer
+abbrev read_in : {A : Type 0} → (Entry → A) → ℕ → ℕ → Told → A
 read_in reads round item told = reads (entry_in round item told)
 
 abbrev all_in : Reading → ℕ → ℕ → List Told → List Answer
@@ -144,7 +144,7 @@ stays_nested : (bound : Bound) → IsNested bound bound
 stays_nested bound = record { null = λ w. w; full = λ w. w; lo = λ w. omega (arith, ints); hi = λ w. omega (arith, ints) }
 
 -- what holds of each two neighbours among its blocks holds of what it says in a round and in the next
-next_in : (reads : Reading) (R : Answer → Answer → Type 0) → ((a : Answer) → R a a) → (round item : ℕ) (part : Told) →
+pub next_in : {A : Type 0} (reads : Entry → A) (R : A → A → Type 0) → ((a : A) → R a a) → (round item : ℕ) (part : Told) →
     ((block : ℕ) → block + 1 < length part.blocks → R (read_at reads item part block) (read_at reads item part (block + 1))) →
     R (read_in reads round item part) (read_in reads (round + 1) item part)
 next_in reads R stays round item part h = elim (cases_lt (round + 1) (length part.blocks)) [
@@ -197,11 +197,11 @@ shown_in Is round item (part ∷ parts) (values ∷ tables) some shown h =
     rw (here, shown_in Is round item parts tables some shown h.1) refl
 
 -- a line behind the item is printed
-told_behind : (kind : ItemKind) (entries : List Entry) → have_extras entries ≡ true → extra_of_all kind entries ≡ Some (extra_over kind (extras_of entries))
+pub told_behind : (kind : ItemKind) (entries : List Entry) → have_extras entries ≡ true → extra_of_all kind entries ≡ Some (extra_over kind (extras_of entries))
 told_behind kind entries e = rw e refl
 
 -- but for averages it tells what the answer would be of these answers
-as_answers : (kind : ItemKind) (answers : List Answer) → kind ≢ Avg → extra_over kind answers ≡ answer_over kind answers
+pub as_answers : (kind : ItemKind) (answers : List Answer) → kind ≢ Avg → extra_over kind answers ≡ answer_over kind answers
 as_answers Count answers other = refl
 as_answers Sum answers other = refl
 as_answers Min answers other = refl

@@ -1,19 +1,21 @@
 -- That each group of which parts tell has a key, whatever lines come.
-use Rattle.std.proofs.Common.{◌≡◌, ℕ, ◌+◌, ◌-◌, ◌≤◌, min, Bool, true, false, Option, Some, None, List, [], ◌∷◌, ◌++◌, length, set, get_or, if◌then◌else◌, sym, subst, inl, inr, arith, All}
+use Rattle.std.proofs.Common.{◌≡◌, ℕ, ◌-◌, ◌≤◌, min, Bool, true, false, Option, Some, None, List, [], ◌∷◌, ◌++◌, length, set, get_or, if◌then◌else◌, sym, subst, inl, inr, arith, All}
 use Rattle.std.proofs.lemmas.List.Elements.{All-cons, All-head, All-nil, All-push, All-tail}
 use Rattle.std.specs.declared.cmp.Ordering.{Ordering}
 use Rattle.std.specs.declared.cmp.Ordering.TheVariants.{Less, Equal, Greater}
 use Rattle.report_text.specs.declared.groups.GroupLine.{GroupLine}
 use Rattle.part_groups.specs.Whole.{AreKeyed, IsKeyed}
 use Rattle.part_groups.specs.declared.group.Group.{Group as GroupTold}
+use Rattle.query_model.specs.declared.query.ItemKind.{ItemKind}
 use Rattle.report_parts.proofs.Pushed.{at_later}
 use Rattle.report_parts.specs.Blocks.{groups_of, no_block}
-use Rattle.report_parts.specs.Entries.{answers_of, last_entry}
+use Rattle.report_parts.specs.Entries.{answers_of, last_entry, no_answer}
+use Rattle.report_parts.specs.Texts.{group_texts}
 use Rattle.report_parts.specs.Keyed.{AreKeyedFrom, IsBegunKeyed, IsKeyedFrom}
 use Rattle.report_parts.specs.Passed.{AllTellFrom, TellsFrom}
 use Rattle.report_parts.specs.Rounds.{all_groups_in, groups_in}
 use Rattle.report_parts.specs.Tags.{TakesTagged, against, behind_tag, by_order, tag_of, told_of, with_part}
-use Rattle.report_parts.specs.Told.{BeginsGroup, GoesOn, GroupsGoOn, ListsRow, RowsGoOn, Takes, TakesAt, TakesBehindAnswer, TakesInside, TakesRest, Told, at_place, block_done, closed, closed_by, completed, completed_by, is_whole, nothing_told, opened_by, rows_done, with_current, with_group, with_rows}
+use Rattle.report_parts.specs.Told.{BeginsGroup, GoesOn, GroupsGoOn, ListsRow, RowsGoOn, Takes, TakesAt, TakesBehindAnswer, TakesInside, TakesRest, Told, at_place, block_done, closed, closed_by, completed, completed_by, is_whole, nothing_told, opened_by, rows_done, with_current, with_group, with_rows, TakesItem, entry_of, extended, text_entry}
 use Rattle.report_parts.specs.declared.block.Block.{Block}
 use Rattle.report_parts.specs.declared.block.Block.TheVariants.{Groups, Rows, Totals}
 use Rattle.report_parts.specs.declared.entry.Entry.{Entry}
@@ -52,7 +54,7 @@ closed_keyed columns round None told begun h = record {
 closed_keyed columns round (Some group) told begun h = record {
   blocks = h.blocks;
   sections =
-      All-push (IsKeyed columns) told.sections (record { line = group; answers = answers_of told.current }) h.sections
+      All-push (IsKeyed columns) told.sections (record { line = group; answers = answers_of told.current; texts = group_texts told.current }) h.sections
       (record { shown = begun.shown; key = begun.key; columns = begun.columns });
   begun = tt;
 }
@@ -121,16 +123,26 @@ rest shape round told line next (inr h) k = closes shape round told next line h.
 
 behind_answer : (shape : Shape) (round : ℕ) (told : Told) (line : List ℕ) (next : Told) → TakesBehindAnswer shape told line next →
     IsKeyedFrom shape.columns round told → IsKeyedFrom shape.columns round next
-behind_answer shape round told line next (inl h) k =
-    let current = set told.current (length told.current - 1) (record { answer = (last_entry told.current).answer; extra = Some h.extra }) in
+behind_answer shape round told line next (inl (inl h)) k =
+    let current = set told.current (length told.current - 1) (extended (last_entry told.current) h.extra None) in
     put_in (is_whole shape.kinds told.closing current) shape.columns round told next current h.told_so k
+behind_answer shape round told line next (inl (inr h)) k =
+    let current = set told.current (length told.current - 1) (extended (last_entry told.current) no_answer (Some h.1.clip)) in
+    put_in (is_whole shape.kinds told.closing current) shape.columns round told next current h.1.told_so k
 behind_answer shape round told line next (inr h) k = rest shape round told line next h.1 k
+
+item : (kinds : List ItemKind) (columns round : ℕ) (told : Told) (line : List ℕ) (next : Told) → TakesItem kinds told line next →
+    IsKeyedFrom columns round told → IsKeyedFrom columns round next
+item kinds columns round told line next (inl h) k =
+    let current = told.current ++ entry_of h.answer ∷ [] in
+    put_in (is_whole kinds told.closing current) columns round told next current h.told_so k
+item kinds columns round told line next (inr h) k =
+    let current = told.current ++ text_entry h.1.text ∷ [] in
+    put_in (is_whole kinds told.closing current) columns round told next current h.1.told_so k
 
 inside : (shape : Shape) (round : ℕ) (told : Told) (line : List ℕ) (next : Told) → TakesInside shape told line next →
     IsKeyedFrom shape.columns round told → IsKeyedFrom shape.columns round next
-inside shape round told line next (inl h) k =
-    let current = told.current ++ record { answer = h.answer; extra = None } ∷ [] in
-    put_in (is_whole shape.kinds told.closing current) shape.columns round told next current h.told_so k
+inside shape round told line next (inl h) k = item shape.kinds shape.columns round told line next h k
 inside shape round told line next (inr h) k = behind_answer shape round told line next h.1 k
 
 takes_at : (place : Place) (query : List ℕ) (shape : Shape) (round : ℕ) (told : Told) (line : List ℕ) (next : Told) →

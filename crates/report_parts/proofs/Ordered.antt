@@ -1,7 +1,7 @@
 -- That the parts stay in the order of their tags, and where a part stands among them.
 use Rattle.std.proofs.Common.{◌≡◌, ℕ, zero, suc, ◌<◌, ◌≤◌, List, [], ◌∷◌, length, get_or, map, set, refl, sym, ap, subst, ◌∙◌, inl, inr, ◌⊎◌, arith, MatchResult, OnErr, OnOk}
-use Rattle.std.proofs.lemmas.Cmp.{nat_list_cmp_total}
-use Rattle.std.proofs.lemmas.List.{get_or-map, length-map}
+use Rattle.std.proofs.lemmas.Cmp.{nat_list_cmp_total, tied_itself}
+use Rattle.std.proofs.lemmas.List.{get_or-map, get_or_default, length-map}
 use Rattle.std.proofs.lemmas.Map.Keys.{Less-from_sorted, sorted_tail}
 use Rattle.std.proofs.lemmas.Map.Text.{is_eq-slice_cmp}
 use Rattle.std.proofs.lemmas.Slice.Eq.{bytes_eq-Decides}
@@ -164,6 +164,15 @@ searched tag parts (Err place) sorted within h =
           (subst (λ (t : List ℕ). AllWithin (λ (y : Told). against t y ≡ Less) parts 0 place) (sym e) point.0)
           (subst (λ (t : List ℕ). AllWithin (λ (y : Told). against t y ≡ Greater) parts place (length parts)) (sym e) point.1);
     }
+
+-- a part stands where its tag is seen
+pub seen_there : (tag : List ℕ) (parts : List Told) (place : ℕ) → AreInOrder parts → place < length parts → (part_at place parts).tag ≡ tag →
+    StandsAt tag parts place
+seen_there tag parts place sorted within same =
+    let equal : slice_cmp nat_cmp (part_at place parts).tag tag ≡ Equal =
+    subst (λ (t : List ℕ). slice_cmp nat_cmp (part_at place parts).tag t ≡ Equal) same (tied_itself nat_list_cmp_total (part_at place parts).tag) in
+    searched tag parts (Ok place) sorted within
+    (λ d. subst (λ (part : Told). against tag part ≡ Equal) (get_or_default parts place (nothing_told []) d within) equal)
 
 -- ---- the order stays
 

@@ -17,7 +17,7 @@ use Rattle.report_parts.specs.Told.{Told}
 use Rattle.report_parts.specs.Written.{Wanted, Writes, end_at}
 use Rattle.report_parts.specs.Written.Writes.{ends, goes, waits}
 use Rattle.report_parts.specs.declared.fault.BlockFault.{BlockFault}
-use Rattle.report_parts.specs.declared.fault.BlockFault.TheVariants.{NoMemory, OtherColumn, OtherDecimals, OtherForm, TooWide, UnclearTag}
+use Rattle.report_parts.specs.declared.fault.BlockFault.TheVariants.{NoMemory, OtherColumn, OtherItem, OtherForm, TooWide, UnclearTag}
 
 -- a block that is reached is written
 said_at : (wanted : Wanted) (parts : List Told) (start round : ℕ) (text : List ℕ) (end : Option ReportEnd) → start ≤ round →
@@ -85,7 +85,7 @@ stops_once task parts text other before mid after last a b s t one two = elim (w
 pub as_stops : (why : BlockFault) (task : Task) (parts : List Told) (text before after : List ℕ) → why ≢ NoMemory → StopsBy why task parts text before after →
     Stops task parts text before after why
 as_stops (OtherColumn column) task parts text before after some s = s
-as_stops (OtherDecimals item) task parts text before after some s = s
+as_stops (OtherItem item) task parts text before after some s = s
 as_stops (TooWide item) task parts text before after some s = s
 as_stops (UnclearTag part) task parts text before after some s = s
 as_stops OtherForm task parts text before after some s = s

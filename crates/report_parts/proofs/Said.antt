@@ -15,7 +15,7 @@ use Rattle.report_parts.specs.Rounds.{all_groups_in, all_listed_in, entries_in}
 use Rattle.report_parts.specs.Told.{Told}
 use Rattle.report_parts.specs.declared.entry.Entry.{Entry}
 use Rattle.report_parts.specs.declared.fault.BlockFault.{BlockFault}
-use Rattle.report_parts.specs.declared.fault.BlockFault.TheVariants.{NoMemory, OtherColumn, OtherDecimals, OtherForm, TooWide, UnclearTag}
+use Rattle.report_parts.specs.declared.fault.BlockFault.TheVariants.{NoMemory, OtherColumn, OtherItem, OtherForm, TooWide, UnclearTag}
 use Rattle.report_parts.specs.declared.shape.Shape.{Shape}
 
 -- ---- parts that tell the same
@@ -41,7 +41,7 @@ module _ (round : ℕ) (kinds : List ItemKind) (parts laters : List Told) (same 
 
   totals_as : (why : BlockFault) → IsTotalsFault why round kinds parts → IsTotalsFault why round kinds laters
   totals_as (OtherColumn column) h = first_as (OtherColumn column) h
-  totals_as (OtherDecimals item) h = first_as (OtherDecimals item) h
+  totals_as (OtherItem item) h = first_as (OtherItem item) h
   totals_as (TooWide item) h = first_as (TooWide item) h
   totals_as (UnclearTag part) h = first_as (UnclearTag part) h
   totals_as OtherForm h = first_as OtherForm h
@@ -88,7 +88,7 @@ first_fault why round item place kinds parts kind is at before fault =
   where
     by_case : (why : BlockFault) → IsItemFault why place kind (entries_in round place parts) → IsTotalsFault why round kinds parts
     by_case (OtherColumn column) own = absurd own
-    by_case (OtherDecimals number) own = record { item = place; kind = kind; there = at; before = before; fault = own }
+    by_case (OtherItem number) own = record { item = place; kind = kind; there = at; before = before; fault = own }
     by_case (TooWide number) own = record { item = place; kind = kind; there = at; before = before; fault = own }
     by_case (UnclearTag part) own = absurd own
     by_case OtherForm own = absurd own
@@ -98,7 +98,7 @@ first_fault why round item place kinds parts kind is at before fault =
 
 unsaid : (why : BlockFault) (item : ℕ) (kind : ItemKind) (entries : List Entry) → why ≢ NoMemory → IsItemFault why item kind entries → CanBeSaid kind entries → ⊥
 unsaid (OtherColumn column) item kind entries some h said = h
-unsaid (OtherDecimals place) item kind entries some h said = h.1 said.alike
+unsaid (OtherItem place) item kind entries some h said = h.1 said.alike
 unsaid (TooWide place) item kind entries some h said = h.2 said.fit
 unsaid (UnclearTag part) item kind entries some h said = h
 unsaid OtherForm item kind entries some h said = h
@@ -107,14 +107,14 @@ unsaid NoMemory item kind entries some h said = some refl
 item_once : (a b : BlockFault) (item : ℕ) (kind other : ItemKind) (entries : List Entry) → a ≢ NoMemory → b ≢ NoMemory → IsItemFault a item kind entries →
     IsItemFault b item other entries → a ≡ b
 item_once (OtherColumn column) b item kind other entries one two h k = absurd h
-item_once (OtherDecimals place) (OtherColumn column) item kind other entries one two h k = absurd k
-item_once (OtherDecimals place) (OtherDecimals again) item kind other entries one two h k = ap (λ (n : ℕ). OtherDecimals n) (h.0 ∙ sym k.0)
-item_once (OtherDecimals place) (TooWide again) item kind other entries one two h k = absurd (h.1 k.1)
-item_once (OtherDecimals place) (UnclearTag part) item kind other entries one two h k = absurd k
-item_once (OtherDecimals place) OtherForm item kind other entries one two h k = absurd k
-item_once (OtherDecimals place) NoMemory item kind other entries one two h k = absurd (two refl)
+item_once (OtherItem place) (OtherColumn column) item kind other entries one two h k = absurd k
+item_once (OtherItem place) (OtherItem again) item kind other entries one two h k = ap (λ (n : ℕ). OtherItem n) (h.0 ∙ sym k.0)
+item_once (OtherItem place) (TooWide again) item kind other entries one two h k = absurd (h.1 k.1)
+item_once (OtherItem place) (UnclearTag part) item kind other entries one two h k = absurd k
+item_once (OtherItem place) OtherForm item kind other entries one two h k = absurd k
+item_once (OtherItem place) NoMemory item kind other entries one two h k = absurd (two refl)
 item_once (TooWide place) (OtherColumn column) item kind other entries one two h k = absurd k
-item_once (TooWide place) (OtherDecimals again) item kind other entries one two h k = absurd (k.1 h.1)
+item_once (TooWide place) (OtherItem again) item kind other entries one two h k = absurd (k.1 h.1)
 item_once (TooWide place) (TooWide again) item kind other entries one two h k = ap (λ (n : ℕ). TooWide n) (h.0 ∙ sym k.0)
 item_once (TooWide place) (UnclearTag part) item kind other entries one two h k = absurd k
 item_once (TooWide place) OtherForm item kind other entries one two h k = absurd k
@@ -146,7 +146,7 @@ first_unsaid why round kinds parts some h all =
 as_first : (why : BlockFault) (round : ℕ) (kinds : List ItemKind) (parts : List Told) → why ≢ NoMemory → IsTotalsFault why round kinds parts →
     IsFirstFault why round kinds parts
 as_first (OtherColumn column) round kinds parts some h = h
-as_first (OtherDecimals item) round kinds parts some h = h
+as_first (OtherItem item) round kinds parts some h = h
 as_first (TooWide item) round kinds parts some h = h
 as_first (UnclearTag part) round kinds parts some h = h
 as_first OtherForm round kinds parts some h = h
@@ -163,7 +163,7 @@ record IsOwn (why : BlockFault) (columns : ℕ) (kinds : List ItemKind) (all : L
 own_fault : (why : BlockFault) (columns : ℕ) (kinds : List ItemKind) (all : List (List GroupTold)) → why ≢ NoMemory →
     IsGroupsFault why columns kinds all → IsOwn why columns kinds all
 own_fault (OtherColumn column) columns kinds all some h = record { own = groups_fault.OtherColumn column; same = refl; fault = h }
-own_fault (OtherDecimals item) columns kinds all some h = record { own = groups_fault.OtherItem item; same = refl; fault = h }
+own_fault (OtherItem item) columns kinds all some h = record { own = groups_fault.OtherItem item; same = refl; fault = h }
 own_fault (TooWide item) columns kinds all some h = record { own = groups_fault.TooWide item; same = refl; fault = h }
 own_fault (UnclearTag part) columns kinds all some h = absurd h
 own_fault OtherForm columns kinds all some h = absurd h
@@ -191,16 +191,16 @@ groups_unsaid why columns kinds all some h can =
 
 lists_once : (a b : BlockFault) (all : List PartListing) → a ≢ NoMemory → b ≢ NoMemory → IsListFault a all → IsListFault b all → a ≡ b
 lists_once (OtherColumn column) b all one two h k = absurd h
-lists_once (OtherDecimals item) b all one two h k = absurd h
+lists_once (OtherItem item) b all one two h k = absurd h
 lists_once (TooWide item) b all one two h k = absurd h
 lists_once (UnclearTag part) (OtherColumn column) all one two h k = absurd k
-lists_once (UnclearTag part) (OtherDecimals item) all one two h k = absurd k
+lists_once (UnclearTag part) (OtherItem item) all one two h k = absurd k
 lists_once (UnclearTag part) (TooWide item) all one two h k = absurd k
 lists_once (UnclearTag part) (UnclearTag again) all one two h k = ap (λ (n : ℕ). UnclearTag n) (h.0 ∙ sym k.0)
 lists_once (UnclearTag part) OtherForm all one two h k = let clear : first_unclear all ≡ length all = k.0 in absurd (omega (arith, h.0, h.1, clear))
 lists_once (UnclearTag part) NoMemory all one two h k = absurd (two refl)
 lists_once OtherForm (OtherColumn column) all one two h k = absurd k
-lists_once OtherForm (OtherDecimals item) all one two h k = absurd k
+lists_once OtherForm (OtherItem item) all one two h k = absurd k
 lists_once OtherForm (TooWide item) all one two h k = absurd k
 lists_once OtherForm (UnclearTag part) all one two h k = let clear : first_unclear all ≡ length all = h.0 in absurd (omega (arith, k.0, k.1, clear))
 lists_once OtherForm OtherForm all one two h k = refl
@@ -209,7 +209,7 @@ lists_once NoMemory b all one two h k = absurd (one refl)
 
 lists_unsaid : (why : BlockFault) (all : List PartListing) → why ≢ NoMemory → IsListFault why all → AreClear all × AreRowsAlike all → ⊥
 lists_unsaid (OtherColumn column) all some h said = h
-lists_unsaid (OtherDecimals item) all some h said = h
+lists_unsaid (OtherItem item) all some h said = h
 lists_unsaid (TooWide item) all some h said = h
 lists_unsaid (UnclearTag part) all some h said = let clear : first_unclear all ≡ length all = said.0 in omega (arith, h.0, h.1, clear)
 lists_unsaid OtherForm all some h said = h.1 said.1

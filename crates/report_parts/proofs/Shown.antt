@@ -11,14 +11,15 @@ use Rattle.part_rows.specs.ReadBack.{AreShownParts}
 use Rattle.part_rows.specs.Rising.{AreRisingLines}
 use Rattle.part_rows.specs.Worlds.{IsIn}
 use Rattle.part_rows.proofs.RisingRows.{rises_on}
+use Rattle.query_model.specs.declared.query.ItemKind.{ItemKind}
 use Rattle.report_parts.proofs.Pushed.{at_later}
 use Rattle.report_parts.specs.Blocks.{no_block, rows_of}
-use Rattle.report_parts.specs.Entries.{last_entry}
+use Rattle.report_parts.specs.Entries.{last_entry, no_answer}
 use Rattle.report_parts.specs.Passed.{AllTellFrom, TellsFrom}
 use Rattle.report_parts.specs.Rounds.{all_listed_in, listed_in}
 use Rattle.report_parts.specs.Shown.{AreShownFrom, AreTakenRows, IsShownFrom}
 use Rattle.report_parts.specs.Tags.{TakesTagged, against, behind_tag, by_order, tag_of, told_of, with_part}
-use Rattle.report_parts.specs.Told.{BeginsGroup, GoesOn, GroupsGoOn, ListsRow, RowsGoOn, TakesAt, TakesBehindAnswer, TakesInside, TakesRest, Told, at_place, block_done, closed, closed_by, completed, completed_by, is_whole, nothing_told, opened_by, rows_done, with_current, with_group, with_rows}
+use Rattle.report_parts.specs.Told.{BeginsGroup, GoesOn, GroupsGoOn, ListsRow, RowsGoOn, TakesAt, TakesBehindAnswer, TakesInside, TakesItem, TakesRest, Told, at_place, block_done, closed, closed_by, completed, completed_by, entry_of, extended, is_whole, nothing_told, opened_by, rows_done, text_entry, with_current, with_group, with_rows}
 use Rattle.report_parts.specs.declared.block.Block.{Block}
 use Rattle.report_parts.specs.declared.block.Block.TheVariants.{Groups, Rows, Totals}
 use Rattle.report_parts.specs.declared.entry.Entry.{Entry}
@@ -113,16 +114,26 @@ rest shape round told line next (inr h) k = closes shape round told next line h.
 
 behind_answer : (shape : Shape) (round : ℕ) (told : Told) (line : List ℕ) (next : Told) → TakesBehindAnswer shape told line next →
     IsShownFrom round told → IsShownFrom round next
-behind_answer shape round told line next (inl h) k =
-    let current = set told.current (length told.current - 1) (record { answer = (last_entry told.current).answer; extra = Some h.extra }) in
+behind_answer shape round told line next (inl (inl h)) k =
+    let current = set told.current (length told.current - 1) (extended (last_entry told.current) h.extra None) in
     put_in (is_whole shape.kinds told.closing current) round told next current h.told_so k
+behind_answer shape round told line next (inl (inr h)) k =
+    let current = set told.current (length told.current - 1) (extended (last_entry told.current) no_answer (Some h.1.clip)) in
+    put_in (is_whole shape.kinds told.closing current) round told next current h.1.told_so k
 behind_answer shape round told line next (inr h) k = rest shape round told line next h.1 k
+
+item : (kinds : List ItemKind) (round : ℕ) (told : Told) (line : List ℕ) (next : Told) → TakesItem kinds told line next → IsShownFrom round told →
+    IsShownFrom round next
+item kinds round told line next (inl h) k =
+    let current = told.current ++ entry_of h.answer ∷ [] in
+    put_in (is_whole kinds told.closing current) round told next current h.told_so k
+item kinds round told line next (inr h) k =
+    let current = told.current ++ text_entry h.1.text ∷ [] in
+    put_in (is_whole kinds told.closing current) round told next current h.1.told_so k
 
 inside : (shape : Shape) (round : ℕ) (told : Told) (line : List ℕ) (next : Told) → TakesInside shape told line next → IsShownFrom round told →
     IsShownFrom round next
-inside shape round told line next (inl h) k =
-    let current = told.current ++ record { answer = h.answer; extra = None } ∷ [] in
-    put_in (is_whole shape.kinds told.closing current) round told next current h.told_so k
+inside shape round told line next (inl h) k = item shape.kinds round told line next h k
 inside shape round told line next (inr h) k = behind_answer shape round told line next h.1 k
 
 -- behind each line that a part takes

@@ -4,11 +4,13 @@ use Rattle.std.proofs.lemmas.Bool.{false≢true, lt-ltb, ltb-true}
 use Rattle.std.proofs.lemmas.List.{append_assoc, get_or_append_left}
 use Rattle.query_kinds.specs.declared.rows.FirstRows.{FirstRows}
 use Rattle.report_text.specs.declared.groups.GroupLine.{GroupLine}
+use Rattle.query_model.specs.declared.query.ItemKind.{ItemKind}
 use Rattle.report_parts.specs.Blocks.{no_block}
-use Rattle.report_parts.specs.Entries.{answers_of, last_entry}
+use Rattle.report_parts.specs.Entries.{answers_of, last_entry, no_answer}
+use Rattle.report_parts.specs.Texts.{group_texts}
 use Rattle.report_parts.specs.Laws.{GoesBehind, KeepsBlock, LinesOnlyAdd, ToldBlocksStay}
 use Rattle.report_parts.specs.Rounds.{is_ended}
-use Rattle.report_parts.specs.Told.{BeginsGroup, GoesOn, GroupsGoOn, ListsRow, RowsGoOn, TakesAt, TakesBehindAnswer, TakesInside, TakesRest, Told, at_place, block_done, closed, closed_by, completed, completed_by, is_whole, opened_by, opened_with, with_current, with_rows}
+use Rattle.report_parts.specs.Told.{BeginsGroup, GoesOn, GroupsGoOn, ListsRow, RowsGoOn, TakesAt, TakesBehindAnswer, TakesInside, TakesItem, TakesRest, Told, at_place, block_done, closed, closed_by, completed, completed_by, entry_of, extended, is_whole, opened_by, opened_with, text_entry, with_current, with_rows}
 use Rattle.report_parts.specs.declared.block.Block.{Block}
 use Rattle.report_parts.specs.declared.block.Block.TheVariants.{Groups, Rows, Totals}
 use Rattle.report_parts.specs.declared.entry.Entry.{Entry}
@@ -67,7 +69,7 @@ completed_follows None told = closed_follows None told (closed_by None told) ref
 completed_follows (Some group) told = record {
   tag = refl;
   begun = λ f. absurd (let g : Round ≡ Query = f in cc);
-  behind = record { more = Groups (told.sections ++ record { line = group; answers = answers_of told.current } ∷ []) ∷ []; blocks = refl };
+  behind = record { more = Groups (told.sections ++ record { line = group; answers = answers_of told.current; texts = group_texts told.current } ∷ []) ∷ []; blocks = refl };
 }
 
 put_in : (whole : Bool) (told next : Told) (current : List Entry) →
@@ -115,15 +117,24 @@ rest shape told line next other (inl h) = rests told next other h.same
 rest shape told line next other (inr h) = closes shape told next line h.1.goes_on
 
 behind_answer : (shape : Shape) (told : Told) (line : List ℕ) (next : Told) → told.place ≢ Query → TakesBehindAnswer shape told line next → Follows told next
-behind_answer shape told line next other (inl h) =
-    let current = set told.current (length told.current - 1) (record { answer = (last_entry told.current).answer; extra = Some h.extra }) in
+behind_answer shape told line next other (inl (inl h)) =
+    let current = set told.current (length told.current - 1) (extended (last_entry told.current) h.extra None) in
     put_in (is_whole shape.kinds told.closing current) told next current h.told_so
+behind_answer shape told line next other (inl (inr h)) =
+    let current = set told.current (length told.current - 1) (extended (last_entry told.current) no_answer (Some h.1.clip)) in
+    put_in (is_whole shape.kinds told.closing current) told next current h.1.told_so
 behind_answer shape told line next other (inr h) = rest shape told line next other h.1
 
+item : (kinds : List ItemKind) (told : Told) (line : List ℕ) (next : Told) → TakesItem kinds told line next → Follows told next
+item kinds told line next (inl h) =
+    let current = told.current ++ entry_of h.answer ∷ [] in
+    put_in (is_whole kinds told.closing current) told next current h.told_so
+item kinds told line next (inr h) =
+    let current = told.current ++ text_entry h.1.text ∷ [] in
+    put_in (is_whole kinds told.closing current) told next current h.1.told_so
+
 inside : (shape : Shape) (told : Told) (line : List ℕ) (next : Told) → told.place ≢ Query → TakesInside shape told line next → Follows told next
-inside shape told line next other (inl h) =
-    let current = told.current ++ record { answer = h.answer; extra = None } ∷ [] in
-    put_in (is_whole shape.kinds told.closing current) told next current h.told_so
+inside shape told line next other (inl h) = item shape.kinds told line next h
 inside shape told line next other (inr h) = behind_answer shape told line next other h.1
 
 lists_row : (shape : Shape) (told : Told) (line : List ℕ) (next : Told) → told.place ≢ Query → ListsRow shape told line next → Follows told next

@@ -1,6 +1,7 @@
 -- That lines tell one thing, and that a report which has ended stays as it is.
-use Rattle.std.proofs.Common.{◌≡◌, ℕ, suc, ◌+◌, ◌<◌, ◌≤◌, true, get_or, Option, Some, List, [], ◌∷◌, ◌++◌, length, codes, decimal, refl, sym, ap, subst, ◌∙◌, inl, inr, ◌⊎◌, arith, length-append}
+use Rattle.std.proofs.Common.{◌≡◌, ℕ, suc, ◌+◌, ◌<◌, ◌≤◌, true, get_or, Option, Some, None, List, [], ◌∷◌, ◌++◌, length, codes, decimal, refl, sym, ap, subst, ◌∙◌, inl, inr, ◌⊎◌, arith, length-append}
 use Rattle.std.proofs.lemmas.Bool.{false≢true}
+use Rattle.std.proofs.lemmas.List.{append_cancel_left}
 use Rattle.std.proofs.lemmas.Option.{none-some, same_Some}
 use Rattle.std.specs.List.{list_all}
 use Rattle.query_kinds.specs.declared.rows.FirstRows.{FirstRows}
@@ -8,6 +9,7 @@ use Rattle.query_model.specs.declared.query.ItemKind.{ItemKind}
 use Rattle.report_text.proofs.OneAnswer.{extras_say_one, lines_say_one}
 use Rattle.report_text.proofs.OneGroup.{groups_say_one}
 use Rattle.report_text.proofs.OneRow.{rows_say_one, tops_say_one}
+use Rattle.report_text.proofs.OneText.{text_items_say_one}
 use Rattle.report_text.specs.Answers.{IsAnswerOf}
 use Rattle.report_text.specs.Extras.{IsExtraOf, extra_line}
 use Rattle.report_text.specs.Groups.{presence_text}
@@ -16,6 +18,7 @@ use Rattle.report_text.specs.Keys.{keys_text}
 use Rattle.report_text.specs.RowBlocks.{IsNextRow, IsNextTop, RowsTold, TakesRows, with_row, with_top}
 use Rattle.report_text.specs.Rows.{counts_text, name_text, skip_line, standing_word, top_line}
 use Rattle.report_text.specs.Lines.{end_line}
+use Rattle.report_text.specs.TextAnswers.{IsTextAnswer, text_of}
 use Rattle.report_text.specs.declared.answers.Answer.{Answer}
 use Rattle.report_text.specs.declared.groups.GroupLine.{GroupLine}
 use Rattle.report_text.specs.declared.lines.ReportEnd.{ReportEnd}
@@ -23,17 +26,20 @@ use Rattle.report_text.specs.declared.lines.ReportEnd.TheVariants.{Narrow, Reads
 use Rattle.report_text.specs.declared.row_blocks.RowsTop.TheVariants.{Counts}
 use Rattle.report_text.specs.declared.rows.RowLine.{RowLine}
 use Rattle.report_text.specs.declared.rows.TopLine.{TopLine}
+use Rattle.report_text.specs.declared.text_answers.TextAnswer.{TextAnswer}
 use Rattle.report_parts.proofs.Courses.{all_reach, few_told, longer}
 use Rattle.report_parts.proofs.Grows.{all_keep, same_block}
 use Rattle.report_parts.proofs.Kept.{end_stays, none_behind_yet, same_end, some_same}
 use Rattle.report_parts.specs.Course.{Combines, Task, Tell, wanted_of}
+use Rattle.report_parts.specs.Entries.{no_answer}
 use Rattle.report_parts.specs.Laws.{AllReach, Reaches}
 use Rattle.report_parts.specs.Laws.Reaches.{goes as reaches, stays as remains}
 use Rattle.report_parts.specs.Reports.{block_text}
 use Rattle.report_parts.specs.Rounds.{has_block, is_over}
 use Rattle.report_parts.specs.Tags.{TakesTagged, behind_tag, tag_of, told_of, with_part}
 use Rattle.report_parts.specs.Telling.{EndedStays, TellingIsOne}
-use Rattle.report_parts.specs.Told.{Answers, BeginsGroup, BeginsRound, Closes, Ends, Extends, GoesOn, GroupsGoOn, ListsRow, OrElse, PassesBehind, PassesBehindSection, PassesInside, RowsGoOn, TakesAt, TakesBehindAnswer, TakesInside, TakesRest, TellsParts, Told, at_place, block_done, closed, completed, with_answer, with_extra, with_group, with_rows}
+use Rattle.report_parts.specs.Texts.{text_clip_line}
+use Rattle.report_parts.specs.Told.{Answers, BeginsGroup, BeginsRound, ClipsText, Closes, Ends, Extends, GoesOn, GroupsGoOn, ListsRow, OrElse, PassesBehind, PassesBehindSection, PassesInside, RowsGoOn, TakesAt, TakesBehindAnswer, TakesExtra, TakesInside, TakesItem, TakesRest, TellsParts, TellsText, Told, at_place, block_done, closed, completed, entry_of, text_entry, with_entry, with_extra, with_group, with_rows}
 use Rattle.report_parts.specs.Written.{Wanted, Writes, end_text, is_narrow_at}
 use Rattle.report_parts.specs.Written.Writes.{ends, goes, waits}
 use Rattle.report_parts.specs.declared.part.Place.{Place}
@@ -115,7 +121,12 @@ answers kinds told line a b h k =
     let kind = same_Some h.kind k.kind (sym h.is_next.there ∙ k.is_next.there) in
     let mine : IsAnswerOf k.kind h.answer = subst (λ (x : ItemKind). IsAnswerOf x h.answer) kind h.is_next.of_kind in
     let answer = lines_say_one k.kind (length told.current + 1) h.answer k.answer mine k.is_next.of_kind (h.is_next.is_line ∙ sym k.is_next.is_line) in
-    k.told_so ∙ ap (λ (x : Answer). with_answer kinds told x) (sym answer) ∙ sym h.told_so
+    k.told_so ∙ ap (λ (x : Answer). with_entry kinds told (entry_of x)) (sym answer) ∙ sym h.told_so
+
+tells_text : (kinds : List ItemKind) (told : Told) (line : List ℕ) → IsOneWay (TellsText kinds told line)
+tells_text kinds told line a b h k =
+    let text = text_items_say_one (length told.current + 1) h.text k.text h.is_next.shown k.is_next.shown (h.is_next.is_line ∙ sym k.is_next.is_line) in
+    k.told_so ∙ ap (λ (x : TextAnswer). with_entry kinds told (text_entry x)) (sym text) ∙ sym h.told_so
 
 extends : (kinds : List ItemKind) (told : Told) (line : List ℕ) → IsOneWay (Extends kinds told line)
 extends kinds told line a b h k =
@@ -124,7 +135,19 @@ extends kinds told line a b h k =
     let my_line : extra_line k.kind (length told.current) h.extra ≡ line =
     subst (λ (x : ItemKind). extra_line x (length told.current) h.extra ≡ line) kind h.is_next.is_line in
     let extra = extras_say_one k.kind (length told.current) h.extra k.extra mine k.is_next.of_kind (my_line ∙ sym k.is_next.is_line) in
-    k.told_so ∙ ap (λ (x : Answer). with_extra kinds told x) (sym extra) ∙ sym h.told_so
+    k.told_so ∙ ap (λ (x : Answer). with_extra kinds told x None) (sym extra) ∙ sym h.told_so
+
+-- the line behind says one text, as that of an item does
+clips_say_one : (number : ℕ) (clip other : TextAnswer) → IsTextAnswer clip → IsTextAnswer other → text_clip_line number clip ≡ text_clip_line number other → clip ≡ other
+clips_say_one number clip other shown another e =
+    let same : text_of clip ≡ text_of other =
+    append_cancel_left (codes "clip ") (text_of clip) (text_of other) (append_cancel_left (codes " ") _ _ (append_cancel_left (decimal number) _ _ e)) in
+    text_items_say_one number clip other shown another (ap (λ (t : List ℕ). decimal number ++ (codes " " ++ t)) same)
+
+clips_text : (kinds : List ItemKind) (told : Told) (line : List ℕ) → IsOneWay (ClipsText kinds told line)
+clips_text kinds told line a b h k =
+    let clip = clips_say_one (length told.current) h.clip k.clip h.is_next.shown k.is_next.shown (h.is_next.is_line ∙ sym k.is_next.is_line) in
+    k.told_so ∙ ap (λ (x : TextAnswer). with_extra kinds told no_answer (Some x)) (sym clip) ∙ sym h.told_so
 
 rest : (shape : Shape) (told : Told) (line : List ℕ) → IsOneWay (TakesRest shape told line)
 rest shape told line =
@@ -132,8 +155,11 @@ rest shape told line =
 
 inside : (shape : Shape) (told : Told) (line : List ℕ) → IsOneWay (TakesInside shape told line)
 inside shape told line =
-    or_else (Answers shape.kinds told line) (TakesBehindAnswer shape told line) (answers shape.kinds told line)
-    (or_else (Extends shape.kinds told line) (TakesRest shape told line) (extends shape.kinds told line) (rest shape told line))
+    or_else (TakesItem shape.kinds told line) (TakesBehindAnswer shape told line)
+    (or_else (Answers shape.kinds told line) (TellsText shape.kinds told line) (answers shape.kinds told line) (tells_text shape.kinds told line))
+    (or_else (TakesExtra shape.kinds told line) (TakesRest shape told line)
+    (or_else (Extends shape.kinds told line) (ClipsText shape.kinds told line) (extends shape.kinds told line) (clips_text shape.kinds told line))
+    (rest shape told line))
 
 -- ---- a line of first rows
 

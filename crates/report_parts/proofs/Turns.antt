@@ -7,6 +7,7 @@ use Rattle.report_parts.specs.Told.{Closes, GroupsGoOn, OrElse, Refuses, Told, b
 use Rattle.report_parts.specs.declared.block.Block.TheVariants.{Groups, Totals}
 use Rattle.report_parts.specs.declared.closing.Closing.TheVariants.{Unknown}
 use Rattle.report_parts.specs.Entries.{answers_of}
+use Rattle.report_parts.specs.Texts.{group_texts}
 use Rattle.report_parts.specs.declared.shape.Shape.{Shape}
 
 -- where the first is refused, which changes nothing, the second decides
@@ -46,6 +47,10 @@ pub refused_when : (A B : Type 0) (b : Bool) → b ≡ false → MatchBool b A B
 refused_when A B true e h = absurd (false≢true (sym e))
 refused_when A B false e h = h
 
+pub taken_when : (A B : Type 0) (b : Bool) → b ≡ true → MatchBool b A B → A
+taken_when A B true e h = h
+taken_when A B false e h = absurd (false≢true e)
+
 pub none_given : {X : Type 0} (o : Option X) (A : Type 0) (B : X → Type 0) → o ≡ None → MatchOption o A B → A
 none_given None A B e h = h
 none_given (Some x) A B e h = absurd (none-some x (sym e))
@@ -67,7 +72,7 @@ closes_ok (Err e) shape told line next first all h = tt
 
 completed_more : (group : Option GroupLine) (told : Told) → length (completed_by group told).blocks ≡ length told.blocks + 1
 completed_more None told = length-append told.blocks (Totals told.current ∷ [])
-completed_more (Some group) told = length-append told.blocks (Groups (told.sections ++ record { line = group; answers = answers_of told.current } ∷ []) ∷ [])
+completed_more (Some group) told = length-append told.blocks (Groups (told.sections ++ record { line = group; answers = answers_of told.current; texts = group_texts told.current } ∷ []) ∷ [])
 
 -- there is one block more
 pub completed_count : (told : Told) (count : ℕ) → count ≡ length told.blocks → length (completed told).blocks ≡ count + 1

@@ -18,7 +18,9 @@ use Rattle.report_text.specs.declared.averages.Ratio.{Ratio}
 use Rattle.report_text.specs.declared.averages.ShownAverage.{ShownAverage}
 use Rattle.report_text.specs.declared.forms.Form.{Form}
 use Rattle.report_text.specs.declared.forms.Form.TheVariants.{Date, Decimals}
+use Rattle.report_text.specs.declared.text_answers.TextAnswer.{TextAnswer}
 use Rattle.report_parts.specs.Entries.{answers_of, extras_of, have_extras}
+use Rattle.report_parts.specs.Texts.{clips_of, tell_text, text_over, texts_of}
 use Rattle.report_parts.specs.declared.entry.Entry.{Entry}
 use Rattle.shard_bounds.specs.Averages.{FitsAverage, combined_average, hull_of_averages, no_average}
 use Rattle.shard_bounds.specs.Combined.{FitsBound, combined}
@@ -42,6 +44,10 @@ is_possible Always = false
 
 abbrev pub may_answer : Answer → Bool
 may_answer answer = is_possible (null_of answer)
+
+-- none may have an answer
+abbrev pub are_all_null : List Answer → Bool
+are_all_null answers = list_all (λ answer. not (may_answer answer)) answers
 
 -- the form of the first part that may have an answer
 abbrev pub shared_form : List Answer → Form
@@ -125,14 +131,25 @@ extra_over Avg answers = exact_over answers
 abbrev pub extra_of_all : ItemKind → List Entry → Option Answer
 extra_of_all kind entries = if have_extras entries then Some (extra_over kind (extras_of entries)) else None
 
+abbrev pub clip_of_all : ItemKind → List Entry → Option TextAnswer
+clip_of_all kind entries = if have_extras entries then text_over kind (clips_of entries) else None
+
 -- what the entries of all parts say of the item over all
 abbrev pub entry_over : ItemKind → List Entry → Entry
-entry_over kind entries = record { answer = answer_over kind (answers_of entries); extra = extra_of_all kind entries }
+entry_over kind entries = record {
+  answer = answer_over kind (answers_of entries);
+  extra = extra_of_all kind entries;
+  text = text_over kind (texts_of entries);
+  clip = clip_of_all kind entries;
+}
 
--- the answers have one form, and so do those of the lines behind, where there is one over all
+-- the answers have one form, and so do those of the lines behind, where there is one over all; where a part tells a text, the others tell
+-- texts too, or that there is no answer, and so it is in the lines behind
 pub record AreAlikeEntries (entries : List Entry) : Type 0 where
   pub answers : AreAlike (answers_of entries)
   pub extras : have_extras entries ≡ true → AreAlike (extras_of entries)
+  pub texts : tell_text (texts_of entries) ≡ true → are_all_null (answers_of entries) ≡ true
+  pub clips : have_extras entries ≡ true → tell_text (clips_of entries) ≡ true → are_all_null (extras_of entries) ≡ true
 
 -- ---- what can be written
 

@@ -1,5 +1,6 @@
 -- The course of a combination: which lines were taken, and what is written of them.
-use Rattle.std.specs.Prelude.{◌≡◌, ◌≢◌, ℕ, zero, suc, ◌+◌, ◌<◌, ◌≤◌, ◌==◌, ◌&&◌, Bool, true, false, List, [], ◌∷◌, ◌++◌, codes, length}
+use Rattle.std.specs.Prelude.{◌≡◌, ◌≢◌, ℕ, zero, suc, ◌+◌, ◌<◌, ◌≤◌, ◌==◌, Bool, true, false, not, ◌&&◌, ◌||◌}
+use Rattle.std.specs.Prelude.{List, [], ◌∷◌, ◌++◌, codes, length}
 use Rattle.std.specs.declared.option.Option.{Option}
 use Rattle.std.specs.declared.option.Option.TheVariants.{Some, None}
 use Rattle.std.specs.List.{list_all}
@@ -8,7 +9,8 @@ use Rattle.report_text.specs.declared.lines.ReportEnd.{ReportEnd}
 use Rattle.report_text.specs.declared.row_blocks.RowsTop.{RowsTop}
 use Rattle.report_text.specs.declared.row_blocks.RowsTop.TheVariants.{Counts, Skipped}
 use Rattle.report_parts.specs.Faults.{CanSay, IsBlockFault}
-use Rattle.report_parts.specs.Narrowness.{is_narrow}
+use Rattle.plane_schedule.specs.declared.policy.Nearness.{Nearness}
+use Rattle.report_parts.specs.Narrowness.{has_near_key, is_narrow_entry, is_narrow_group}
 use Rattle.report_parts.specs.Passed.{AllTellFrom}
 use Rattle.report_parts.specs.Reports.{blocks_text}
 use Rattle.report_parts.specs.Rounds.{has_block, is_over}
@@ -18,19 +20,19 @@ use Rattle.report_parts.specs.Written.{Wanted, Writes, is_narrow_at}
 use Rattle.report_parts.specs.declared.block.Block.{Block as BlockTold}
 use Rattle.report_parts.specs.declared.block.Block.TheVariants.{Groups, Rows, Totals}
 use Rattle.report_parts.specs.declared.fault.BlockFault.{BlockFault}
-use Rattle.report_parts.specs.declared.fault.BlockFault.TheVariants.{NoMemory, OtherColumn, OtherDecimals, OtherForm, TooWide, UnclearTag}
+use Rattle.report_parts.specs.declared.fault.BlockFault.TheVariants.{NoMemory, OtherColumn, OtherItem, OtherForm, TooWide, UnclearTag}
 use Rattle.report_parts.specs.declared.fault.CourseFault.{CourseFault}
 use Rattle.report_parts.specs.declared.fault.CourseFault.TheVariants.{Block, Input}
 use Rattle.report_parts.specs.declared.fault.InputFault.{InputFault}
 use Rattle.report_parts.specs.declared.shape.Shape.{Shape}
 
--- what is asked: the query and the shape of its blocks, how many parts there are, the width of a narrow answer, and the number of the last
--- round, if it is limited
+-- what is asked: the query and the shape of its blocks, how many parts there are, when a block is narrow, and the number of the last round,
+-- if it is limited
 pub record Task : Type 0 where
   pub query : List ℕ
   pub shape : Shape
   pub count : ℕ
-  pub width : ℕ
+  pub near : Nearness
   pub last : Option ℕ
 
 abbrev pub is_last : Option ℕ → ℕ → Bool
@@ -43,16 +45,17 @@ none_possible None = false
 none_possible (Some (Counts top)) = top.possible == 0
 none_possible (Some (Skipped limit)) = false
 
--- a block is narrow where each answer is, whatever the lines behind tell, each group is in the result for certain, and no row is possible
-abbrev pub is_narrow_block : ℕ → BlockTold → Bool
-is_narrow_block width (Totals entries) = list_all (λ entry. is_narrow width entry.answer) entries
-is_narrow_block width (Groups groups) = list_all (λ group. group.line.present && list_all (is_narrow width) group.answers) groups
-is_narrow_block width (Rows told) = none_possible told.top
+-- a block is narrow where each answer is, whatever the lines behind tell, each group is in the result for certain, no row is possible, and,
+-- where keys are answers too, the key of each row is near
+abbrev pub is_narrow_block : Nearness → BlockTold → Bool
+is_narrow_block near (Totals entries) = list_all (is_narrow_entry near.width) entries
+is_narrow_block near (Groups groups) = list_all (is_narrow_group near.width) groups
+is_narrow_block near (Rows told) = none_possible told.top && (not near.keys || list_all (has_near_key near.width) told.rows)
 
 abbrev pub wanted_of : Task → Wanted
 wanted_of task = record {
   shape = task.shape;
-  narrow = is_narrow_block task.width;
+  narrow = is_narrow_block task.near;
   last = is_last task.last;
 }
 
@@ -194,7 +197,7 @@ pub record Stops (task : Task) (parts : List Told) (text before after : List ℕ
 
 abbrev pub StopsBy : BlockFault → Task → List Told → List ℕ → List ℕ → List ℕ → Type 0
 StopsBy (OtherColumn column) task parts text before after = Stops task parts text before after (OtherColumn column)
-StopsBy (OtherDecimals item) task parts text before after = Stops task parts text before after (OtherDecimals item)
+StopsBy (OtherItem item) task parts text before after = Stops task parts text before after (OtherItem item)
 StopsBy (TooWide item) task parts text before after = Stops task parts text before after (TooWide item)
 StopsBy (UnclearTag part) task parts text before after = Stops task parts text before after (UnclearTag part)
 StopsBy OtherForm task parts text before after = Stops task parts text before after OtherForm

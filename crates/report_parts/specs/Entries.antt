@@ -1,4 +1,5 @@
--- What a block says of its items: of each an answer, and perhaps, in a line behind it, the same told in another way.
+-- What a block says of its items: of each an answer, and perhaps, in a line behind it, the same told in another way. Of the least or the
+-- greatest text it says where the text lies, and that there is no other answer, in its line and in the one behind.
 use Rattle.std.specs.Prelude.{ℕ, ◌-◌, pos, is_some, Bool, List, length, map, slice_index_or}
 use Rattle.std.specs.declared.option.Option.{Option}
 use Rattle.std.specs.declared.option.Option.TheVariants.{Some, None}
@@ -14,7 +15,7 @@ abbrev pub no_answer : Answer
 no_answer = Value (record { form = Decimals 0; bound = record { null = Always; lo = pos 0; hi = pos 0 } })
 
 abbrev pub no_entry : Entry
-no_entry = record { answer = no_answer; extra = None }
+no_entry = record { answer = no_answer; extra = None; text = None; clip = None }
 
 -- what a block says of an item
 abbrev pub entry_at : ℕ → List Entry → Entry

@@ -17,7 +17,7 @@ use Rattle.report_parts.specs.Rounds.{all_groups_in, all_listed_in, entries_in}
 use Rattle.report_parts.specs.Told.{Told}
 use Rattle.report_parts.specs.declared.entry.Entry.{Entry}
 use Rattle.report_parts.specs.declared.fault.BlockFault.{BlockFault}
-use Rattle.report_parts.specs.declared.fault.BlockFault.TheVariants.{NoMemory, OtherColumn, OtherDecimals, OtherForm, TooWide, UnclearTag}
+use Rattle.report_parts.specs.declared.fault.BlockFault.TheVariants.{NoMemory, OtherColumn, OtherItem, OtherForm, TooWide, UnclearTag}
 use Rattle.report_parts.specs.declared.shape.Shape.{Shape}
 
 -- ---- which can be written
@@ -47,7 +47,7 @@ CanSay round shape parts = CanSayBy shape.columns shape.rows round shape.kinds p
 -- why an item of that kind cannot be said
 abbrev pub IsItemFault : BlockFault → ℕ → ItemKind → List Entry → Type 0
 IsItemFault (OtherColumn column) item kind entries = ⊥
-IsItemFault (OtherDecimals place) item kind entries = (place ≡ item) × ¬ AreAlikeEntries entries
+IsItemFault (OtherItem place) item kind entries = (place ≡ item) × ¬ AreAlikeEntries entries
 IsItemFault (TooWide place) item kind entries = (place ≡ item) × AreAlikeEntries entries × ¬ FitEntries kind entries
 IsItemFault (UnclearTag part) item kind entries = ⊥
 IsItemFault OtherForm item kind entries = ⊥
@@ -63,7 +63,7 @@ pub record IsFirstFault (why : BlockFault) (round : ℕ) (kinds : List ItemKind)
 
 abbrev pub IsTotalsFault : BlockFault → ℕ → List ItemKind → List Told → Type 0
 IsTotalsFault (OtherColumn column) round kinds parts = IsFirstFault (OtherColumn column) round kinds parts
-IsTotalsFault (OtherDecimals item) round kinds parts = IsFirstFault (OtherDecimals item) round kinds parts
+IsTotalsFault (OtherItem item) round kinds parts = IsFirstFault (OtherItem item) round kinds parts
 IsTotalsFault (TooWide item) round kinds parts = IsFirstFault (TooWide item) round kinds parts
 IsTotalsFault (UnclearTag part) round kinds parts = IsFirstFault (UnclearTag part) round kinds parts
 IsTotalsFault OtherForm round kinds parts = IsFirstFault OtherForm round kinds parts
@@ -72,13 +72,13 @@ IsTotalsFault NoMemory round kinds parts = Unit {0}
 -- a fault of groups
 abbrev pub of_groups : GroupsFault → BlockFault
 of_groups (groups.OtherColumn column) = OtherColumn column
-of_groups (groups.OtherItem item) = OtherDecimals item
+of_groups (groups.OtherItem item) = OtherItem item
 of_groups (groups.TooWide item) = TooWide item
 of_groups groups.NoMemory = NoMemory
 
 abbrev pub IsGroupsFault : BlockFault → ℕ → List ItemKind → List (List GroupTold) → Type 0
 IsGroupsFault (OtherColumn column) columns kinds all = IsFaultOver (groups.OtherColumn column) columns kinds all
-IsGroupsFault (OtherDecimals item) columns kinds all = IsFaultOver (groups.OtherItem item) columns kinds all
+IsGroupsFault (OtherItem item) columns kinds all = IsFaultOver (groups.OtherItem item) columns kinds all
 IsGroupsFault (TooWide item) columns kinds all = IsFaultOver (groups.TooWide item) columns kinds all
 IsGroupsFault (UnclearTag part) columns kinds all = ⊥
 IsGroupsFault OtherForm columns kinds all = ⊥
@@ -92,7 +92,7 @@ of_rows rows.NoMemory = NoMemory
 
 abbrev pub IsListFault : BlockFault → List PartListing → Type 0
 IsListFault (OtherColumn column) all = ⊥
-IsListFault (OtherDecimals item) all = ⊥
+IsListFault (OtherItem item) all = ⊥
 IsListFault (TooWide item) all = ⊥
 IsListFault (UnclearTag part) all = IsRowsFault (rows.UnclearTag part) all
 IsListFault OtherForm all = IsRowsFault rows.OtherForm all

@@ -11,7 +11,7 @@ use Rattle.report_parts.specs.Told.{Told}
 -- the line of a group that is begun, if one is: a report shows it, and it has a key of so many parts
 abbrev pub IsBegunKeyed : ℕ → Option GroupLine → Type 0
 IsBegunKeyed columns None = Unit {0}
-IsBegunKeyed columns (Some line) = IsKeyed columns (record { line = line; answers = [] })
+IsBegunKeyed columns (Some line) = IsKeyed columns (record { line = line; answers = []; texts = [] })
 
 -- what the part says of groups in that round and behind it, and in the block that it has begun
 pub record IsKeyedFrom (columns round : ℕ) (told : Told) : Type 0 where

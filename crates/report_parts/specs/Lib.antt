@@ -17,5 +17,7 @@ pub mod RowHeadline
 pub mod Shown
 pub mod Tags
 pub mod Telling
+pub mod TextHeadline
+pub mod Texts
 pub mod Told
 pub mod Written

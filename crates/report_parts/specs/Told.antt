@@ -10,13 +10,16 @@ use Rattle.report_text.specs.Extras.{IsExtraOf, IsRowsLine, extra_line}
 use Rattle.report_text.specs.Groups.{IsShownGroup, group_line}
 use Rattle.report_text.specs.Lines.{IsRoundLine, end_line, item_line, parts_line}
 use Rattle.report_text.specs.RowBlocks.{IsWhole, LacksPossible, RowsTold, TakesRows, no_rows}
+use Rattle.report_text.specs.TextAnswers.{IsTextAnswer, text_item_line}
 use Rattle.report_text.specs.declared.answers.Answer.{Answer}
 use Rattle.report_text.specs.declared.groups.GroupLine.{GroupLine}
 use Rattle.report_text.specs.declared.lines.ReportEnd.{ReportEnd}
+use Rattle.report_text.specs.declared.text_answers.TextAnswer.{TextAnswer}
 use Rattle.part_groups.specs.Whole.{has_key}
 use Rattle.part_groups.specs.declared.group.Group.{Group as GroupTold}
 use Rattle.query_kinds.specs.declared.rows.FirstRows.{FirstRows}
-use Rattle.report_parts.specs.Entries.{answers_of, ends_with_extra, last_entry}
+use Rattle.report_parts.specs.Entries.{answers_of, ends_with_extra, last_entry, no_answer}
+use Rattle.report_parts.specs.Texts.{group_texts, is_extreme, text_clip_line}
 use Rattle.report_parts.specs.declared.block.Block.{Block}
 use Rattle.report_parts.specs.declared.block.Block.TheVariants.{Groups, Rows, Totals}
 use Rattle.report_parts.specs.declared.entry.Entry.{Entry}
@@ -97,7 +100,7 @@ closed_by (Some group) told = record {
   tag = told.tag;
   blocks = told.blocks;
   closing = closing_of told.current;
-  sections = told.sections ++ record { line = group; answers = answers_of told.current } ∷ [];
+  sections = told.sections ++ record { line = group; answers = answers_of told.current; texts = group_texts told.current } ∷ [];
   group = None;
   current = [];
   rows = told.rows;
@@ -144,14 +147,25 @@ with_current told current = record {
   place = told.place;
 }
 
--- with one answer more
-abbrev pub with_answer : List ItemKind → Told → Answer → Told
-with_answer kinds told answer = settled kinds (with_current told (told.current ++ record { answer = answer; extra = None } ∷ []))
+-- with one entry more
+abbrev pub with_entry : List ItemKind → Told → Entry → Told
+with_entry kinds told entry = settled kinds (with_current told (told.current ++ entry ∷ []))
+
+-- an answer, or where a text lies, before a line stands behind it
+abbrev pub entry_of : Answer → Entry
+entry_of answer = record { answer = answer; extra = None; text = None; clip = None }
+
+abbrev pub text_entry : TextAnswer → Entry
+text_entry text = record { answer = no_answer; extra = None; text = Some text; clip = None }
+
+-- with what the line behind tells
+abbrev pub extended : Entry → Answer → Option TextAnswer → Entry
+extended entry extra clip = record { answer = entry.answer; extra = Some extra; text = entry.text; clip = clip }
 
 -- with the line behind the last answer
-abbrev pub with_extra : List ItemKind → Told → Answer → Told
-with_extra kinds told extra = settled kinds (with_current told
-    (set told.current (length told.current - 1) (record { answer = (last_entry told.current).answer; extra = Some extra })))
+abbrev pub with_extra : List ItemKind → Told → Answer → Option TextAnswer → Told
+with_extra kinds told extra clip = settled kinds (with_current told
+    (set told.current (length told.current - 1) (extended (last_entry told.current) extra clip)))
 
 -- with these rows of the block that is not whole
 abbrev pub with_rows : Told → RowsTold → Told
@@ -239,7 +253,18 @@ pub record Answers (kinds : List ItemKind) (told : Told) (line : List ℕ) (next
   pub kind : ItemKind
   pub answer : Answer
   pub is_next : IsNextAnswer kinds told line kind answer
-  pub told_so : next ≡ with_answer kinds told answer
+  pub told_so : next ≡ with_entry kinds told (entry_of answer)
+
+-- where the text of the next item lies, of the least or the greatest
+pub record IsNextText (kinds : List ItemKind) (told : Told) (line : List ℕ) (text : TextAnswer) : Type 0 where
+  pub extreme : is_extreme (slice_get kinds (length told.current)) ≡ true
+  pub shown : IsTextAnswer text
+  pub is_line : text_item_line (length told.current + 1) text ≡ line
+
+pub record TellsText (kinds : List ItemKind) (told : Told) (line : List ℕ) (next : Told) : Type 0 where
+  pub text : TextAnswer
+  pub is_next : IsNextText kinds told line text
+  pub told_so : next ≡ with_entry kinds told (text_entry text)
 
 -- in the line behind, what is told in another way of the item that was answered last
 pub record IsNextExtra (kinds : List ItemKind) (told : Told) (line : List ℕ) (kind : ItemKind) (extra : Answer) : Type 0 where
@@ -253,7 +278,21 @@ pub record Extends (kinds : List ItemKind) (told : Told) (line : List ℕ) (next
   pub kind : ItemKind
   pub extra : Answer
   pub is_next : IsNextExtra kinds told line kind extra
-  pub told_so : next ≡ with_extra kinds told extra
+  pub told_so : next ≡ with_extra kinds told extra None
+
+-- in the line behind, where the clipped text lies: of totals alone, and of the least or the greatest
+pub record IsNextClip (kinds : List ItemKind) (told : Told) (line : List ℕ) (clip : TextAnswer) : Type 0 where
+  pub some : 0 < length told.current
+  pub first : ends_with_extra told.current ≡ false
+  pub totals : told.group ≡ None
+  pub extreme : is_extreme (slice_get kinds (length told.current - 1)) ≡ true
+  pub shown : IsTextAnswer clip
+  pub is_line : text_clip_line (length told.current) clip ≡ line
+
+pub record ClipsText (kinds : List ItemKind) (told : Told) (line : List ℕ) (next : Told) : Type 0 where
+  pub clip : TextAnswer
+  pub is_next : IsNextClip kinds told line clip
+  pub told_so : next ≡ with_extra kinds told no_answer (Some clip)
 
 -- behind the exact average that was told last, a line of the rows that it takes, which is passed over
 pub record PassesInside (kinds : List ItemKind) (told : Told) (line : List ℕ) (next : Told) : Type 0 where
@@ -323,11 +362,19 @@ TakesBetween shape told line =
 abbrev pub TakesRest : Shape → Told → List ℕ → Told → Type 0
 TakesRest shape told line = OrElse (PassesInside shape.kinds told line) (Closes shape told line)
 
+-- what is told of the next item
+abbrev pub TakesItem : List ItemKind → Told → List ℕ → Told → Type 0
+TakesItem kinds told line = OrElse (Answers kinds told line) (TellsText kinds told line)
+
+-- what is told of the last one in another way
+abbrev pub TakesExtra : List ItemKind → Told → List ℕ → Told → Type 0
+TakesExtra kinds told line = OrElse (Extends kinds told line) (ClipsText kinds told line)
+
 abbrev pub TakesBehindAnswer : Shape → Told → List ℕ → Told → Type 0
-TakesBehindAnswer shape told line = OrElse (Extends shape.kinds told line) (TakesRest shape told line)
+TakesBehindAnswer shape told line = OrElse (TakesExtra shape.kinds told line) (TakesRest shape told line)
 
 abbrev pub TakesInside : Shape → Told → List ℕ → Told → Type 0
-TakesInside shape told line = OrElse (Answers shape.kinds told line) (TakesBehindAnswer shape told line)
+TakesInside shape told line = OrElse (TakesItem shape.kinds told line) (TakesBehindAnswer shape told line)
 
 abbrev pub TakesAt : Place → List ℕ → Shape → Told → List ℕ → Told → Type 0
 TakesAt Query query shape told line next = Opens query told line next

@@ -82,7 +82,7 @@ pub(crate) fn average_over(alloc: Global, answers: &[Answer]) -> Result<Answer, 
     ensures combined { IfOk result (λ answer. answer ≡ average_over answers.now) }
     ensures fit { OnOk result (FitsAverage (combined_average (map average_of answers.now))) }
     ensures wide { result ≡ Err CombineFault.TooWide → ¬ FitsAverage (combined_average (map average_of answers.now)) }
-    ensures alike { result ≢ Err CombineFault.OtherDecimals }
+    ensures alike { result ≢ Err CombineFault.OtherForm }
 {
     let bounds = averages_of(alloc, answers)?;
     match combine_averages(&bounds) {

@@ -2,21 +2,20 @@
 
 ghost use Rattle.std.specs.Prelude.{◌≡◌, IfOk, None, length, slice_index_or};
 ghost use Rattle.std.specs.List.{All};
-ghost use Rattle.query_model.specs.Bounds.{fractions_of};
 ghost use Rattle.report_text.specs.Answers.{CanBeWritten};
 ghost use Rattle.report_text.specs.declared.answers.Answer.TheVariants.{Average};
 ghost use Rattle.report_parts.specs.Beside.{answer_beside, entries_beside, entry_by, narrowed};
 ghost use Rattle.report_parts.specs.Combined.{HasEntryTexts, average_of};
 
 use crate::averages::{average_of, shown_average};
-use crate::entry::Entry;
+use crate::entry::{Entry, answer_at, copied_entry};
 use crate::forms::are_alike;
-use crate::rounds::entry_at;
 use narrow_averages::average_beside;
 use query_kinds::Beside;
 use query_model::Bound;
 use report_text::{Answer, ShownAverage};
 use std::alloc::{AllocError, Global};
+use text_extremes::copied_answer;
 
 // The average, narrowed by its sum and its number of values where the sum is written alike.
 fn narrowed(alike: bool, sum: &Bound, count: &Bound, shown: &ShownAverage) -> Answer
@@ -34,7 +33,7 @@ fn narrowed(alike: bool, sum: &Bound, count: &Bound, shown: &ShownAverage) -> An
 }
 
 // The answer of an average beside its sum and its number of values; another answer stays.
-fn answer_beside(sum: &Answer, count: &Answer, answer: &Answer) -> Answer
+pub(crate) fn answer_beside(sum: &Answer, count: &Answer, answer: &Answer) -> Answer
     requires { CanBeWritten answer.now }
     ensures answer { result ≡ answer_beside sum.now count.now answer.now }
     ensures written { CanBeWritten result }
@@ -53,26 +52,33 @@ fn answer_beside(sum: &Answer, count: &Answer, answer: &Answer) -> Answer
 }
 
 // What is said of an item, where these stand beside it in its block.
-fn entry_by(block: &[Entry], beside: Option<Beside>, entry: &Entry) -> Entry
+fn entry_by(
+    alloc: Global,
+    block: &[Entry],
+    beside: Option<Beside>,
+    entry: &Entry,
+) -> Result<Entry, AllocError>
     requires { HasEntryTexts entry.now }
-    ensures entry { result ≡ entry_by block.now beside entry.now }
-    ensures written { HasEntryTexts result }
+    ensures entry { IfOk result (λ by. by ≡ entry_by block.now beside entry.now) }
+    ensures written { IfOk result HasEntryTexts }
 {
     match beside {
-        None => *entry,
+        None => copied_entry(alloc, entry),
         Some(beside) => {
-            let sum = entry_at(beside.sum, block);
-            let count = entry_at(beside.count, block);
-            Entry {
-                answer: answer_beside(&sum.answer, &count.answer, &entry.answer),
+            let sum = answer_at(beside.sum, block);
+            let count = answer_at(beside.count, block);
+            Ok(Entry {
+                answer: answer_beside(&sum, &count, &entry.answer),
                 extra: entry.extra,
-            }
+                text: copied_answer(alloc, &entry.text)?,
+                clip: copied_answer(alloc, &entry.clip)?,
+            })
         }
     }
 }
 
 // What stands beside an item.
-fn beside_at(besides: &[Option<Beside>], item: usize) -> Option<Beside>
+pub(crate) fn beside_at(besides: &[Option<Beside>], item: usize) -> Option<Beside>
     ensures { result ≡ slice_index_or besides.now item None }
 {
     if item < besides.len() {
@@ -96,7 +102,7 @@ pub(crate) fn entries_beside(
     let mut entries = Vec::with_capacity(alloc, block.len())?;
     for entry in block {
         let beside = beside_at(besides, entries.len());
-        entries.push(entry_by(block, beside, entry))?;
+        entries.push(entry_by(alloc, block, beside, entry)?)?;
     }
     Ok(entries)
 }

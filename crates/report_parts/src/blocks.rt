@@ -5,17 +5,19 @@ ghost use Rattle.std.specs.List.{All};
 ghost use Rattle.report_parts.specs.Combined.{HasEntryTexts, HasExtraText, entry_over};
 ghost use Rattle.report_parts.specs.Course.{opening_text};
 ghost use Rattle.report_parts.specs.Faults.{CanBeSaid, CanSayBefore, IsItemFault, IsTotalsFault};
-ghost use Rattle.report_parts.specs.Reports.{entries_over, entry_lines, extra_lines, item_lines};
+ghost use Rattle.report_parts.specs.Reports.{answer_line, entries_over, entry_lines, extra_lines, item_lines};
 ghost use Rattle.report_parts.specs.Rounds.{entries_in};
+ghost use Rattle.report_text.specs.Answers.{CanBeWritten};
 ghost use Rattle.report_text.specs.Lines.{parts_line, round_words};
 
 use crate::combined::combine_item;
 use crate::entry::Entry;
 use crate::fault::{BlockFault, CombineFault};
 use crate::part::Part;
+use crate::texts::written_text_clip;
 use daq_table::{TextBuf, written_number};
 use query_model::ItemKind;
-use report_text::{Answer, written_extra, written_item};
+use report_text::{Answer, TextAnswer, written_extra, written_item, written_text_item};
 use std::alloc::{AllocError, Global};
 
 // What is said over all parts in a round, of the item of that kind.
@@ -33,7 +35,7 @@ fn item_over(
 {
     match combine_item(alloc, kind, round, item, parts) {
         Ok(entry) => Ok(entry),
-        Err(CombineFault::OtherDecimals) => Err(BlockFault::OtherDecimals(item)),
+        Err(CombineFault::OtherForm) => Err(BlockFault::OtherItem(item)),
         Err(CombineFault::TooWide) => Err(BlockFault::TooWide(item)),
         Err(CombineFault::NoMemory) => Err(BlockFault::NoMemory),
     }
@@ -70,22 +72,44 @@ pub(crate) fn push_line(text: &mut Vec<u8>, line: &[u8]) -> Result<(), AllocErro
 
 // Puts the line behind that of an item behind the text, if there is one.
 fn push_extra(
+    alloc: Global,
     text: &mut Vec<u8>,
     kind: ItemKind,
     number: u64,
-    extra: &Option<Answer>,
+    entry: &Entry,
 ) -> Result<(), AllocError>
-    requires { HasExtraText extra.now }
-    ensures { OnOk result (text.new.items ≡ text.old.items ++ extra_lines kind number extra.now) }
+    requires { HasExtraText entry.now.extra }
+    ensures { OnOk result (text.new.items ≡ text.old.items ++ extra_lines kind number entry.now.extra entry.now.clip) }
 {
-    match extra {
-        Some(answer) => push_line(text, written_extra(kind, number, answer).bytes()),
-        None => Ok(()),
+    let Some(answer) = &entry.extra else {
+        return Ok(());
+    };
+    match &entry.clip {
+        Some(clip) => push_line(text, written_text_clip(alloc, number, clip)?.as_slice()),
+        None => push_line(text, written_extra(kind, number, answer).bytes()),
+    }
+}
+
+// Puts the line of an item behind the text: where its text lies, or else its answer.
+pub(crate) fn push_answer(
+    alloc: Global,
+    text: &mut Vec<u8>,
+    number: u64,
+    answer: &Answer,
+    told: &Option<TextAnswer>,
+) -> Result<(), AllocError>
+    requires { CanBeWritten answer.now }
+    ensures { OnOk result (text.new.items ≡ text.old.items ++ (answer_line number answer.now told.now ++ codes "\n")) }
+{
+    match told {
+        Some(told) => push_line(text, written_text_item(alloc, number, told)?.as_slice()),
+        None => push_line(text, written_item(number, answer).bytes()),
     }
 }
 
 // Puts the lines of an item behind the text.
 fn push_entry(
+    alloc: Global,
     text: &mut Vec<u8>,
     kind: ItemKind,
     number: u64,
@@ -94,12 +118,13 @@ fn push_entry(
     requires { HasEntryTexts entry.now }
     ensures { OnOk result (text.new.items ≡ text.old.items ++ entry_lines kind number entry.now) }
 {
-    push_line(text, written_item(number, &entry.answer).bytes())?;
-    push_extra(text, kind, number, &entry.extra)
+    push_answer(alloc, text, number, &entry.answer, &entry.text)?;
+    push_extra(alloc, text, kind, number, entry)
 }
 
 // Puts the lines of the items behind the text.
 pub(crate) fn push_items(
+    alloc: Global,
     text: &mut Vec<u8>,
     kinds: &[ItemKind],
     entries: &[Entry],
@@ -109,7 +134,7 @@ pub(crate) fn push_items(
     ensures { OnOk result (text.new.items ≡ text.old.items ++ item_lines 1 kinds.now entries.now) }
 {
     for place in 0..entries.len() {
-        push_entry(text, kinds[place], place as u64 + 1, &entries[place])?;
+        push_entry(alloc, text, kinds[place], place as u64 + 1, &entries[place])?;
     }
     Ok(())
 }
@@ -153,7 +178,7 @@ fn written_entries(
     ensures { IfOk result (λ text. text.items ≡ (round_words round ++ codes "\n") ++ item_lines 1 kinds.now entries.now) }
 {
     let mut text = written_start(alloc, round)?;
-    push_items(&mut text, kinds, entries)?;
+    push_items(alloc, &mut text, kinds, entries)?;
     Ok(text)
 }
 

@@ -21,14 +21,15 @@ use crate::narrowness::is_narrow_block;
 use crate::over::{block_over, written_over};
 use crate::parts::{Asked, Parts};
 use crate::rounds::{all_have_block, first_behind, have_all_ended, is_behind};
+use plane_schedule::Nearness;
 use report_text::ReportEnd;
 use std::alloc::Global;
 use std::marker::Model;
 
-/// Up to which round a combination goes: the first in which each answer is at most so wide, or that with the number.
+/// Up to which round a combination goes: the first that is narrow, or that with the number.
 #[derive(Clone, Copy, Debug, PartialEq, Eq)]
 pub struct Until {
-    pub width: u64,
+    pub near: Nearness,
     pub rounds: Option<u32>,
 }
 
@@ -58,7 +59,7 @@ impl Model for Combination {
         query = c.asked.query.items;
         shape = c.asked.shape;
         count = c.count;
-        width = c.until.width;
+        near = c.until.near;
         last = c.until.rounds;
       };
       parts = c.parts;
@@ -96,7 +97,7 @@ impl Combination {
         ensures query { result.task.query ≡ asked.query.items }
         ensures shape { result.task.shape ≡ asked.shape }
         ensures count { result.task.count ≡ count }
-        ensures width { result.task.width ≡ until.width }
+        ensures near { result.task.near ≡ until.near }
         ensures last { result.task.last ≡ until.rounds }
         ensures stands { Stands result [] [] }
         ensures open { result.end ≡ None }
@@ -197,7 +198,7 @@ impl Combination {
         let parts = self.parts.as_slice();
         let shape = &self.asked.shape;
         let block = block_over(alloc, self.round, shape, parts)?;
-        let narrow = is_narrow_block(self.until.width, &block);
+        let narrow = is_narrow_block(self.until.near, &block);
         let last = is_last(self.until.rounds, self.round);
         Ok(Ahead {
             block: written_over(alloc, self.round, shape.kinds.as_slice(), &block)?,

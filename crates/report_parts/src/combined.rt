@@ -10,12 +10,13 @@ ghost use Rattle.report_parts.specs.Rounds.{entries_in};
 use crate::averages::{average_over, exact_over};
 use crate::entry::{Entry, answers_of, extras_of, have_extras};
 use crate::fault::CombineFault;
-use crate::forms::are_alike;
+use crate::forms::{are_alike, are_all_null};
 use crate::part::Part;
 use crate::rounds::entries_in;
+use crate::texts::{clip_over, tell_clip, tell_text, text_over};
 use crate::values::combine_values;
 use query_model::ItemKind;
-use report_text::Answer;
+use report_text::{Answer, TextAnswer};
 use std::alloc::Global;
 
 // The answer over all parts, by its kind.
@@ -25,7 +26,7 @@ fn answer_over(alloc: Global, kind: ItemKind, answers: &[Answer]) -> Result<Answ
     ensures combined { IfOk result (λ answer. answer ≡ answer_over kind answers.now) }
     ensures fit { OnOk result (FitsOver kind answers.now) }
     ensures wide { result ≡ Err CombineFault.TooWide → ¬ FitsOver kind answers.now }
-    ensures alike { result ≢ Err CombineFault.OtherDecimals }
+    ensures alike { result ≢ Err CombineFault.OtherForm }
 {
     match kind {
         ItemKind::Count => combine_values(alloc, ItemKind::Count, answers),
@@ -43,7 +44,7 @@ fn extra_over(alloc: Global, kind: ItemKind, answers: &[Answer]) -> Result<Answe
     ensures combined { IfOk result (λ answer. answer ≡ extra_over kind answers.now) }
     ensures fit { OnOk result (FitsExtra kind answers.now) }
     ensures wide { result ≡ Err CombineFault.TooWide → ¬ FitsExtra kind answers.now }
-    ensures alike { result ≢ Err CombineFault.OtherDecimals }
+    ensures alike { result ≢ Err CombineFault.OtherForm }
 {
     match kind {
         ItemKind::Count | ItemKind::Sum | ItemKind::Min | ItemKind::Max => {
@@ -59,36 +60,50 @@ fn both_over(
     kind: ItemKind,
     answers: &[Answer],
     extras: &[Answer],
+    text: Option<TextAnswer>,
+    clip: Option<TextAnswer>,
 ) -> Result<Entry, CombineFault>
     requires answers { decimals_in (shared_form answers.now) ≤ 18 }
     requires extras { decimals_in (shared_form extras.now) ≤ 18 }
     ensures written { IfOk result HasEntryTexts }
     ensures answer { IfOk result (λ entry. entry.answer ≡ answer_over kind answers.now) }
     ensures extra { IfOk result (λ entry. entry.extra ≡ Some (extra_over kind extras.now)) }
+    ensures text { IfOk result (λ entry. entry.text ≡ text) }
+    ensures clip { IfOk result (λ entry. entry.clip ≡ clip) }
     ensures fit { OnOk result (FitsOver kind answers.now × FitsExtra kind extras.now) }
     ensures wide { result ≡ Err CombineFault.TooWide → ¬ (FitsOver kind answers.now × FitsExtra kind extras.now) }
-    ensures alike { result ≢ Err CombineFault.OtherDecimals }
+    ensures alike { result ≢ Err CombineFault.OtherForm }
 {
     let answer = answer_over(alloc, kind, answers)?;
     let extra = extra_over(alloc, kind, extras)?;
     Ok(Entry {
         answer,
         extra: Some(extra),
+        text,
+        clip,
     })
 }
 
 // The entry of an answer alone.
-fn alone(alloc: Global, kind: ItemKind, answers: &[Answer]) -> Result<Entry, CombineFault>
+fn alone(
+    alloc: Global,
+    kind: ItemKind,
+    answers: &[Answer],
+    text: Option<TextAnswer>,
+) -> Result<Entry, CombineFault>
     requires { decimals_in (shared_form answers.now) ≤ 18 }
     ensures written { IfOk result HasEntryTexts }
-    ensures answer { IfOk result (λ entry. entry ≡ record { answer = answer_over kind answers.now; extra = None }) }
+    ensures answer { IfOk result (λ entry. entry
+        ≡ record { answer = answer_over kind answers.now; extra = None; text = text; clip = None }) }
     ensures fit { OnOk result (FitsOver kind answers.now) }
     ensures wide { result ≡ Err CombineFault.TooWide → ¬ FitsOver kind answers.now }
-    ensures alike { result ≢ Err CombineFault.OtherDecimals }
+    ensures alike { result ≢ Err CombineFault.OtherForm }
 {
     Ok(Entry {
         answer: answer_over(alloc, kind, answers)?,
         extra: None,
+        text,
+        clip: None,
     })
 }
 
@@ -97,21 +112,23 @@ fn entry_over(alloc: Global, kind: ItemKind, entries: &[Entry]) -> Result<Entry,
     ensures written { IfOk result HasEntryTexts }
     ensures said { OnOk result (CanBeSaid kind entries.now) }
     ensures combined { IfOk result (λ entry. entry ≡ entry_over kind entries.now) }
-    ensures other { result ≡ Err CombineFault.OtherDecimals → ¬ AreAlikeEntries entries.now }
+    ensures other { result ≡ Err CombineFault.OtherForm → ¬ AreAlikeEntries entries.now }
     ensures wide { result ≡ Err CombineFault.TooWide → AreAlikeEntries entries.now × ¬ FitEntries kind entries.now }
 {
     let answers = answers_of(alloc, entries)?;
-    if !are_alike(&answers) {
-        return Err(CombineFault::OtherDecimals);
+    if !are_alike(&answers) || tell_text(entries) && !are_all_null(&answers) {
+        return Err(CombineFault::OtherForm);
     }
+    let text = text_over(alloc, kind, entries)?;
     if !have_extras(entries) {
-        return alone(alloc, kind, &answers);
+        return alone(alloc, kind, &answers, text);
     }
     let extras = extras_of(alloc, entries)?;
-    if !are_alike(&extras) {
-        return Err(CombineFault::OtherDecimals);
+    if !are_alike(&extras) || tell_clip(entries) && !are_all_null(&extras) {
+        return Err(CombineFault::OtherForm);
     }
-    both_over(alloc, kind, &answers, &extras)
+    let clip = clip_over(alloc, kind, entries)?;
+    both_over(alloc, kind, &answers, &extras, text, clip)
 }
 
 /// What is said of an item over all parts, by what they say in that round: its answer, and what the line behind tells, where each part has
@@ -126,7 +143,7 @@ pub fn combine_item(
     ensures written { IfOk result HasEntryTexts }
     ensures said { OnOk result (CanBeSaid kind (entries_in round item parts.now)) }
     ensures combined { IfOk result (λ entry. entry ≡ entry_over kind (entries_in round item parts.now)) }
-    ensures other { result ≡ Err CombineFault.OtherDecimals → ¬ AreAlikeEntries (entries_in round item parts.now) }
+    ensures other { result ≡ Err CombineFault.OtherForm → ¬ AreAlikeEntries (entries_in round item parts.now) }
     ensures wide { result ≡ Err CombineFault.TooWide
         → AreAlikeEntries (entries_in round item parts.now) × ¬ FitEntries kind (entries_in round item parts.now) }
 {

@@ -10,6 +10,7 @@ use crate::closing::closing_of;
 use crate::entry::answers_of;
 use crate::part::{Part, Place};
 use crate::shape::Shape;
+use crate::texts::group_texts;
 use daq_table::Listed;
 use part_groups::Group;
 use std::alloc::{AllocError, Global};
@@ -31,9 +32,11 @@ impl Part {
             }
             Some(group) => {
                 let answers = Listed::new(answers_of(alloc, entries.as_slice())?);
+                let texts = Listed::new(group_texts(alloc, entries.as_slice())?);
                 self.sections.push(Group {
                     line: group,
                     answers,
+                    texts,
                 })?;
                 self.place = Place::Group;
                 Ok(())

@@ -129,11 +129,11 @@ pub enum EndFault {
 #[derive(Clone, Copy, Debug, PartialEq, Eq, Drop, Error)]
 pub enum BlockFault {
     /// Two lines write this group column, of those from 0, in other ways: with other decimals, or as dates.
-    #[error("column {0}: other decimals")]
+    #[error("column {0}: another form")]
     OtherColumn(usize),
-    /// The numbers of two parts have other decimals.
-    #[error("item {0}: other decimals")]
-    OtherDecimals(usize),
+    /// Two parts write what they tell of this item, of those from 0, in other ways: with other decimals, or as dates or texts.
+    #[error("item {0}: another form")]
+    OtherItem(usize),
     /// An end has more than 128 bits, or a number of rows more than 64.
     #[error("item {0}: too wide")]
     TooWide(usize),
@@ -141,7 +141,7 @@ pub enum BlockFault {
     #[error("part {0}: a space or a control character in its tag")]
     UnclearTag(usize),
     /// Two first rows write their keys in other forms.
-    #[error("first rows: other decimals")]
+    #[error("first rows: another form")]
     OtherForm,
     /// Memory ran out.
     #[error("no memory")]
@@ -166,7 +166,7 @@ impl From<GroupsFault> for BlockFault {
     fn from(why: GroupsFault) -> Self {
         match why {
             GroupsFault::OtherColumn(column) => BlockFault::OtherColumn(column),
-            GroupsFault::OtherItem(item) => BlockFault::OtherDecimals(item),
+            GroupsFault::OtherItem(item) => BlockFault::OtherItem(item),
             GroupsFault::TooWide(item) => BlockFault::TooWide(item),
             GroupsFault::NoMemory => BlockFault::NoMemory,
         }
@@ -192,9 +192,9 @@ impl<T: Drop> From<AllocFailed<T>> for BlockFault {
 /// Why the answers of parts are not combined. Of several faults the one that stands first here is answered.
 #[derive(Debug, PartialEq, Eq, Drop, Error)]
 pub enum CombineFault {
-    /// The numbers of two parts have other decimals.
-    #[error("other decimals")]
-    OtherDecimals,
+    /// The numbers of two parts have other decimals, or one tells a text or a date and another a number.
+    #[error("another form")]
+    OtherForm,
     /// An end has more than 128 bits, or a number of rows more than 64.
     #[error("too wide")]
     TooWide,

@@ -2,7 +2,8 @@
 
 ghost use Rattle.std.specs.Prelude.{◌≡◌};
 ghost use Rattle.std.specs.List.{list_all};
-ghost use Rattle.report_parts.specs.Combined.{are_alike, decimals_in, form_of, has_form, is_few, is_same_form, may_answer, shared_form};
+ghost use Rattle.report_parts.specs.Combined.{are_alike, are_all_null, decimals_in, form_of, has_form, is_few};
+ghost use Rattle.report_parts.specs.Combined.{is_same_form, may_answer, shared_form};
 
 use query_model::Nullity;
 use report_text::{Answer, Form};
@@ -19,6 +20,18 @@ fn may_answer(answer: &Answer) -> bool
         Nullity::Never | Nullity::Possibly => true,
         Nullity::Always => false,
     }
+}
+
+// Whether none may have an answer.
+pub(crate) fn are_all_null(answers: &[Answer]) -> bool
+    ensures { result ≡ are_all_null answers.now }
+{
+    for answer in answers {
+        if may_answer(answer) {
+            return false;
+        }
+    }
+    true
 }
 
 // The form of its ends; the sums of an average are numbers.

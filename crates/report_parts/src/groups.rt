@@ -7,17 +7,16 @@ ghost use Rattle.part_groups.specs.Combined.{IsShown};
 ghost use Rattle.part_groups.specs.Whole.{AreKeyed, CanBeCombined, groups_over};
 ghost use Rattle.report_text.specs.Answers.{CanBeWritten};
 ghost use Rattle.report_text.specs.Groups.{group_line};
-ghost use Rattle.report_text.specs.Lines.{item_line};
 ghost use Rattle.report_parts.specs.Faults.{IsGroupsFault};
 ghost use Rattle.report_parts.specs.Reports.{answer_lines, group_lines};
 ghost use Rattle.report_parts.specs.Rounds.{all_groups_in};
 
-use crate::blocks::push_line;
+use crate::blocks::{push_answer, push_line};
 use crate::fault::BlockFault;
 use crate::part::Part;
-use part_groups::{Group, combine, combined_can_be, combined_is_whole, faults_are_whole};
+use part_groups::{Group, combine, combined_can_be, combined_is_whole, faults_are_whole, text_at};
 use query_model::ItemKind;
-use report_text::{Answer, written_group, written_item};
+use report_text::{Answer, TextAnswer, written_group};
 use std::alloc::{AllocError, Global};
 
 // What each part says of groups in that round.
@@ -53,33 +52,36 @@ pub(crate) fn groups_over(
     Ok(combine(alloc, columns, kinds, &groups)?)
 }
 
-// Puts the line of an answer behind the text.
-fn push_answer(text: &mut Vec<u8>, number: u64, answer: &Answer) -> Result<(), AllocError>
-    requires { CanBeWritten answer.now }
-    ensures { OnOk result (text.new.items ≡ text.old.items ++ (item_line number answer.now ++ codes "\n")) }
-{
-    push_line(text, written_item(number, answer).bytes())
-}
-
-// Puts the lines of the answers behind the text.
-fn push_answers(text: &mut Vec<u8>, answers: &[Answer]) -> Result<(), AllocError>
+// Puts the lines of the items behind the text.
+fn push_answers(
+    alloc: Global,
+    text: &mut Vec<u8>,
+    texts: &[Option<TextAnswer>],
+    answers: &[Answer],
+) -> Result<(), AllocError>
     requires { All CanBeWritten answers.now }
-    ensures { OnOk result (text.new.items ≡ text.old.items ++ answer_lines 1 answers.now) }
+    ensures { OnOk result (text.new.items ≡ text.old.items ++ answer_lines 0 texts.now answers.now) }
 {
     for place in 0..answers.len() {
-        push_answer(text, place as u64 + 1, &answers[place])?;
+        let told = text_at(alloc, place, texts)?;
+        push_answer(alloc, text, place as u64 + 1, &answers[place], &told)?;
     }
     Ok(())
 }
 
-// Puts the line of a group and those of its answers behind the text.
+// Puts the line of a group and those of its items behind the text.
 fn push_group(alloc: Global, text: &mut Vec<u8>, group: &Group) -> Result<(), AllocError>
     requires { IsShown group.now }
     ensures { OnOk result (text.new.items ≡ text.old.items
-        ++ ((group_line group.now.line ++ codes "\n") ++ answer_lines 1 group.now.answers)) }
+        ++ ((group_line group.now.line ++ codes "\n") ++ answer_lines 0 group.now.texts group.now.answers)) }
 {
     push_line(text, written_group(alloc, &group.line)?.as_slice())?;
-    push_answers(text, group.answers.as_slice())
+    push_answers(
+        alloc,
+        text,
+        group.texts.as_slice(),
+        group.answers.as_slice(),
+    )
 }
 
 // Puts the lines of groups behind the text.

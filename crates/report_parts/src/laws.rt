@@ -8,12 +8,14 @@ ghost use Rattle.report_parts.specs.Laws.{AnswersContain, AnswersNest, AnswersTe
 ghost use Rattle.report_parts.specs.Laws.{LinesOnlyAdd, ReportsOnlyGrow, ToldBlocksStay};
 ghost use Rattle.report_parts.specs.RowHeadline.{CombinedRowsAreCertain};
 ghost use Rattle.report_parts.specs.Telling.{EndedStays, TellingIsOne};
+ghost use Rattle.report_parts.specs.TextHeadline.{CombinedTextClipsAreCertain, CombinedTextsAreCertain};
 ghost use Rattle.report_parts.specs.Written.{WrittenStays};
 
 use narrow_averages::besides_stand;
 use part_groups::{
-    groups_contain, groups_nest, groups_nest_averages, groups_report_averages, groups_tell,
-    groups_tell_averages, groups_tell_keys, whole_is_combined,
+    groups_contain, groups_contain_texts, groups_nest, groups_nest_averages, groups_nest_texts,
+    groups_report_averages, groups_tell, groups_tell_averages, groups_tell_keys, groups_tell_texts,
+    whole_is_combined,
 };
 use part_rows::{
     joined_lines_become_exact, joined_lines_nest, lines_hold, named_lines_are_right,
@@ -155,7 +157,8 @@ pub fn combined_exact_averages_are_certain()
 /// The same of groups: in each round the parts write each column and each item in one form, or its block has a fault. Where they do, each
 /// key of the whole result is in one group that is printed, each key of a present group is in the result, and what the group says contains
 /// the key's answer over the rows of all parts, lies within what the round before says of it, and is the answer where each part says its
-/// own.
+/// own. An average beside which the sum and the number of its values are asked lies besides within what the parts' averages give alone, and
+/// is that of all values where each part says its sum and its number of values.
 pub fn combined_groups_are_certain()
     ensures { CombinedGroupsAreCertain }
 {
@@ -167,6 +170,28 @@ pub fn combined_groups_are_certain()
     groups_report_averages();
     groups_nest_averages();
     groups_tell_averages();
+    groups_contain_texts();
+    groups_nest_texts();
+    groups_tell_texts();
+    besides_stand();
+}
+
+/// The same of the least and the greatest text, by the bytes of texts, where no part tells a number or a date.
+pub fn combined_texts_are_certain()
+    ensures { CombinedTextsAreCertain }
+{
+    text_extremes::combinations_contain();
+    text_extremes::combinations_nest();
+    text_extremes::combinations_tell();
+}
+
+/// So it is of the clipped one in the line behind, which is printed where each part has it.
+pub fn combined_text_clips_are_certain()
+    ensures { CombinedTextClipsAreCertain }
+{
+    text_extremes::combinations_contain();
+    text_extremes::combinations_nest();
+    text_extremes::combinations_tell();
 }
 
 /// The same of first rows: in each round in which rows are judged a line that says certain is that of a row among the first of all parts,

@@ -15,6 +15,7 @@ mod ends;
 mod entry;
 mod fault;
 mod forms;
+mod group_besides;
 mod groups;
 mod inside;
 mod laws;
@@ -29,6 +30,7 @@ mod rows;
 mod rows_over;
 mod shape;
 mod tags;
+mod texts;
 mod values;
 
 pub use block::Block;
@@ -43,8 +45,9 @@ pub use laws::{
     answers_contain, answers_nest, answers_tell, averages_report, combined_averages_are_certain,
     combined_besides_are_certain, combined_clips_are_certain, combined_exact_averages_are_certain,
     combined_groups_are_certain, combined_is_certain, combined_rows_are_certain,
-    combined_text_is_one, ended_reports_stay, lines_only_add, order_of_lines_is_free,
-    reports_only_grow, stands_are_combined, tellings_are_one, told_blocks_stay, written_stays,
+    combined_text_clips_are_certain, combined_text_is_one, combined_texts_are_certain,
+    ended_reports_stay, lines_only_add, order_of_lines_is_free, reports_only_grow,
+    stands_are_combined, tellings_are_one, told_blocks_stay, written_stays,
 };
 pub use narrowness::is_narrow;
 pub use part::{Part, Place};

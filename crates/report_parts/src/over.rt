@@ -12,6 +12,7 @@ use crate::beside::entries_beside;
 use crate::block::Block;
 use crate::blocks::{entries_over, push_items, written_start};
 use crate::fault::BlockFault;
+use crate::group_besides::groups_beside;
 use crate::groups::{groups_over, push_groups};
 use crate::part::Part;
 use crate::rows_over::{push_rows, rows_over};
@@ -36,15 +37,17 @@ pub(crate) fn block_over(
     ensures fault { IfErr result (λ why. IsBlockFault why round shape.now parts.now) }
 {
     let kinds = shape.kinds.as_slice();
+    let besides = shape.besides.as_slice();
     if shape.columns == 0 {
         if let Some(asked) = shape.rows {
             return Ok(Block::Rows(rows_over(alloc, round, asked, parts)?));
         }
         let entries = entries_over(alloc, round, kinds, parts)?;
-        let entries = entries_beside(alloc, shape.besides.as_slice(), &entries)?;
+        let entries = entries_beside(alloc, besides, &entries)?;
         return Ok(Block::Totals(Listed::new(entries)));
     }
     let groups = groups_over(alloc, round, shape.columns, kinds, parts)?;
+    let groups = groups_beside(alloc, besides, groups)?;
     Ok(Block::Groups(Groups::new(groups)))
 }
 
@@ -59,7 +62,7 @@ fn push_block(
     ensures { OnOk result (text.new.items ≡ text.old.items ++ block_lines kinds.now block.now) }
 {
     match block {
-        Block::Totals(entries) => push_items(text, kinds, entries.as_slice()),
+        Block::Totals(entries) => push_items(alloc, text, kinds, entries.as_slice()),
         Block::Groups(groups) => push_groups(alloc, text, groups.as_slice()),
         Block::Rows(rows) => push_rows(alloc, text, rows),
     }

@@ -1,6 +1,6 @@
 //! The parts of a table, in the order of their tags.
 
-ghost use Rattle.std.specs.Prelude.{◌≡◌, ◌≤◌, ◌<◌, [], IfErr, MatchResult, OnErr, OnOk, length, set};
+ghost use Rattle.std.specs.Prelude.{◌≡◌, ◌≤◌, ◌<◌, ◌↔◌, [], IfErr, IsTrue, MatchResult, OnErr, OnOk, length, set};
 ghost use Rattle.std.specs.List.{insert};
 ghost use Rattle.report_parts.specs.Passed.{AllTellFrom};
 ghost use Rattle.report_parts.specs.Tags.{AreInOrder, AreKept, BelongsAt, IsKept, IsLineRefused, IsRefused, StandsAt, TakesTagged, part_at};
@@ -24,6 +24,8 @@ pub struct Asked {
 #[derive(Drop)]
 pub struct Parts {
     parts: Vec<Part>,
+    // Where the part stood that took a line last: the next line is often of the same.
+    last: usize,
 }
 
 impl Model for Parts {
@@ -44,6 +46,25 @@ fn place_of(parts: &[Part], tag: &[u8]) -> Result<usize, usize>
     ensures { MatchResult result (StandsAt tag.now parts.now) (BelongsAt tag.now parts.now) }
 {
     parts.binary_search_by(|part| part.tag().cmp(tag))
+}
+
+// Whether it is the part with that tag.
+fn has_tag(part: &Part, tag: &[u8]) -> bool
+    ensures { IsTrue result ↔ (part.now.tag ≡ tag.now) }
+{
+    part.tag() == tag
+}
+
+// The same, where the part is looked for at one place first.
+fn place_near(parts: &[Part], place: usize, tag: &[u8]) -> Result<usize, usize>
+    requires { AreInOrder parts.now }
+    ensures { MatchResult result (StandsAt tag.now parts.now) (BelongsAt tag.now parts.now) }
+{
+    if place < parts.len() && has_tag(&parts[place], tag) {
+        Ok(place)
+    } else {
+        place_of(parts, tag)
+    }
 }
 
 // A part takes a line.
@@ -115,6 +136,7 @@ impl Parts {
     {
         Parts {
             parts: Vec::new(alloc),
+            last: 0,
         }
     }
 
@@ -147,11 +169,14 @@ impl Parts {
         ensures kept { IfErr result (λ why. AreKept why self.old self.new) }
     {
         let tagged = read_tag(line)?;
-        match place_of(&self.parts, tagged.tag) {
-            Ok(place) => match take_at(alloc, &mut self.parts, place, asked, tagged.line) {
-                Ok(()) => Ok(()),
-                Err(why) => Err(InputFault::Line(why)),
-            },
+        match place_near(&self.parts, self.last, tagged.tag) {
+            Ok(place) => {
+                self.last = place;
+                match take_at(alloc, &mut self.parts, place, asked, tagged.line) {
+                    Ok(()) => Ok(()),
+                    Err(why) => Err(InputFault::Line(why)),
+                }
+            }
             Err(place) => {
                 if self.parts.len() >= most {
                     return Err(InputFault::OtherPart);

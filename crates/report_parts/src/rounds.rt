@@ -5,7 +5,7 @@ ghost use Rattle.std.specs.List.{list_all};
 ghost use Rattle.report_parts.specs.Entries.{entry_at};
 ghost use Rattle.report_parts.specs.Rounds.{entries_in, entry_in, has_block, is_ended, is_over};
 
-use crate::entry::{Entry, NO_ANSWER};
+use crate::entry::{Entry, copied_entry, no_entry};
 use crate::part::{Part, Place};
 use std::alloc::{AllocError, Global};
 
@@ -74,27 +74,22 @@ pub fn have_all_ended(round: usize, parts: &[Part]) -> bool
     true
 }
 
-const NO_ENTRY: Entry = Entry {
-    answer: NO_ANSWER,
-    extra: None,
-};
-
 // What a block says of an item.
-pub(crate) fn entry_at(item: usize, block: &[Entry]) -> Entry
-    ensures { result ≡ entry_at item block.now }
+fn entry_at(alloc: Global, item: usize, block: &[Entry]) -> Result<Entry, AllocError>
+    ensures { IfOk result (λ entry. entry ≡ entry_at item block.now) }
 {
     if item < block.len() {
-        block[item]
+        copied_entry(alloc, &block[item])
     } else {
-        NO_ENTRY
+        Ok(no_entry())
     }
 }
 
 // What the part says of an item in that round.
-fn entry_in(round: usize, item: usize, part: &Part) -> Entry
-    ensures { result ≡ entry_in round item part.now }
+fn entry_in(alloc: Global, round: usize, item: usize, part: &Part) -> Result<Entry, AllocError>
+    ensures { IfOk result (λ entry. entry ≡ entry_in round item part.now) }
 {
-    entry_at(item, part.entries_for(round))
+    entry_at(alloc, item, part.entries_for(round))
 }
 
 // What all parts say of an item in that round.
@@ -108,7 +103,7 @@ pub(crate) fn entries_in(
 {
     let mut entries = Vec::with_capacity(alloc, parts.len())?;
     for part in parts {
-        entries.push(entry_in(round, item, part))?;
+        entries.push(entry_in(alloc, round, item, part)?)?;
     }
     Ok(entries)
 }

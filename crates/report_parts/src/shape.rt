@@ -7,9 +7,9 @@ use daq_table::Listed;
 use query_kinds::{Beside, FirstRows};
 use query_model::ItemKind;
 
-/// The shape of the blocks of a report: the kinds of the items, how many group columns there are (totals have none), for each item of
-/// totals the places of the sum and of the number of its values, where it is an average beside which both are asked, and which first rows
-/// are asked for, where the query has an order. First rows have neither items nor columns.
+/// The shape of the blocks of a report: the kinds of the items, how many group columns there are (totals have none), for each item the
+/// places of the sum and of the number of its values, where it is an average beside which both are asked, and which first rows are asked
+/// for, where the query has an order. First rows have neither items nor columns.
 #[derive(Drop)]
 pub struct Shape {
     pub kinds: Listed<ItemKind>,

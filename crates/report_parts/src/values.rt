@@ -46,7 +46,7 @@ pub(crate) fn combine_values(
     ensures combined { IfOk result (λ answer. answer ≡ value_over kind answers.now) }
     ensures fit { OnOk result (FitsValues kind answers.now) }
     ensures wide { result ≡ Err CombineFault.TooWide → ¬ FitsValues kind answers.now }
-    ensures alike { result ≢ Err CombineFault.OtherDecimals }
+    ensures alike { result ≢ Err CombineFault.OtherForm }
 {
     let bounds = bounds_of(alloc, answers)?;
     let Some(bound) = combine(kind, &bounds) else {

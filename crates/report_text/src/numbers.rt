@@ -1,6 +1,6 @@
 //! The texts of numbers with decimals, read back.
 
-ghost use Rattle.std.specs.Prelude.{◌≡◌, ◌<◌, ◌≤◌, ◌^◌, ℕ, ℤ, Some, FitsSigned, IfSome, decimal, length, unsigned_abs};
+ghost use Rattle.std.specs.Prelude.{◌≡◌, ◌<◌, ◌≤◌, ℤ, Some, FitsSigned, IfSome, decimal, length, unsigned_abs};
 ghost use Rattle.std.specs.Int.{w128};
 ghost use Rattle.std.specs.Str.Parse.{starts_with_minus};
 ghost use Rattle.report_text.specs.Numbers.{CanBeRead, CanBeReadPlain, HasDigits, is_negative, number_text, plain_text, unsigned_part};
