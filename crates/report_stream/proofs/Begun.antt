@@ -64,20 +64,20 @@ module _ (count : ℕ) (until : Until) (input source : SourceState) (out : SinkS
   not_asked there short WriteFault p = absurd p
 
 task_of : (count : ℕ) (until : Until) (first query : List ℕ) (shape : Shape) (task : Task) → IsAsked first query shape → task.query ≡ query →
-    task.shape ≡ shape → task.count ≡ count → task.width ≡ until.width → task.last ≡ until.rounds → IsTask count until first task
+    task.shape ≡ shape → task.count ≡ count → task.near ≡ until.near → task.last ≡ until.rounds → IsTask count until first task
 task_of count until first query shape task h q k n w l = record {
   is_tag = h.is_tag;
   query = q ∙ h.is_query;
   is_shape = subst (λ (own : Shape). IsShapeOf task.query own) (sym k) (subst (λ (own : List ℕ). IsShapeOf own shape) (sym q) h.is_shape);
   count = n;
-  width = w;
+  near = w;
   last = l;
 }
 
 pub starts : (count : ℕ) (until : Until) (input source : SourceState) (out : SinkState) (reader : LinesState) (course : Course) (text query : List ℕ)
     (shape : Shape) → HasRead input source reader [] → has_line reader.pending ≡ true → IsAsked (front_line reader.pending) query shape →
     text ≡ opening_text query count → course.task.query ≡ query → course.task.shape ≡ shape → course.task.count ≡ count →
-    course.task.width ≡ until.width → course.task.last ≡ until.rounds → Stands course [] [] → course.end ≡ None →
+    course.task.near ≡ until.near → course.task.last ≡ until.rounds → Stands course [] [] → course.end ≡ None →
     Runs count until input source out out reader course text 0
 starts count until input source out reader course text query shape read there asked opening q k n w l stands e =
     begins count until input source out reader course text read there stands e

@@ -61,7 +61,7 @@ not_memory number why e = cc
 stops_empty : (task : Task) (lines : List (List ℕ)) (body before after : List ℕ) (fault : BlockFault) (number : ℕ) (why : LineRefusal) →
     Line number why ≡ of_block number fault → IsStopped task lines body before after fault → StopsEmpty task lines body before after fault
 stops_empty task lines body before after (b.OtherColumn column) number why e h = stops_of task lines body before after (b.OtherColumn column) h h.stops (λ more own. own)
-stops_empty task lines body before after (b.OtherDecimals item) number why e h = stops_of task lines body before after (b.OtherDecimals item) h h.stops (λ more own. own)
+stops_empty task lines body before after (b.OtherItem item) number why e h = stops_of task lines body before after (b.OtherItem item) h h.stops (λ more own. own)
 stops_empty task lines body before after (b.TooWide item) number why e h = stops_of task lines body before after (b.TooWide item) h h.stops (λ more own. own)
 stops_empty task lines body before after (b.UnclearTag part) number why e h = stops_of task lines body before after (b.UnclearTag part) h h.stops (λ more own. own)
 stops_empty task lines body before after b.OtherForm number why e h = stops_of task lines body before after b.OtherForm h h.stops (λ more own. own)

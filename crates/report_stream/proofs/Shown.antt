@@ -835,7 +835,7 @@ module _ (kinds : QueriesAreOne) (count : ℕ) (until : Until) (whole bytes : Li
   query_only first tab tag none r.Unlisted h = absurd h
   query_only first tab tag none r.OtherLine h = absurd h
   query_only first tab tag none (r.OtherColumn column) h = absurd h
-  query_only first tab tag none (r.OtherDecimals item) h = absurd h
+  query_only first tab tag none (r.OtherItem item) h = absurd h
   query_only first tab tag none (r.TooWide item) h = absurd h
   query_only first tab tag none (r.UnclearTag part) h = absurd h
   query_only first tab tag none r.OtherForm h = absurd h
@@ -851,7 +851,7 @@ module _ (kinds : QueriesAreOne) (count : ℕ) (until : Until) (whole bytes : Li
   items_only first tab tag other r.Unlisted h = absurd h
   items_only first tab tag other r.OtherLine h = absurd h
   items_only first tab tag other (r.OtherColumn column) h = absurd h
-  items_only first tab tag other (r.OtherDecimals item) h = absurd h
+  items_only first tab tag other (r.OtherItem item) h = absurd h
   items_only first tab tag other (r.TooWide item) h = absurd h
   items_only first tab tag other (r.UnclearTag part) h = absurd h
   items_only first tab tag other r.OtherForm h = absurd h
@@ -867,7 +867,7 @@ module _ (kinds : QueriesAreOne) (count : ℕ) (until : Until) (whole bytes : Li
   tab_only first none r.Unlisted h = absurd h
   tab_only first none r.OtherLine h = absurd h
   tab_only first none (r.OtherColumn column) h = absurd h
-  tab_only first none (r.OtherDecimals item) h = absurd h
+  tab_only first none (r.OtherItem item) h = absurd h
   tab_only first none (r.TooWide item) h = absurd h
   tab_only first none (r.UnclearTag part) h = absurd h
   tab_only first none r.OtherForm h = absurd h
@@ -883,7 +883,7 @@ module _ (kinds : QueriesAreOne) (count : ℕ) (until : Until) (whole bytes : Li
   tag_only first tab none r.Unlisted h = absurd h
   tag_only first tab none r.OtherLine h = absurd h
   tag_only first tab none (r.OtherColumn column) h = absurd h
-  tag_only first tab none (r.OtherDecimals item) h = absurd h
+  tag_only first tab none (r.OtherItem item) h = absurd h
   tag_only first tab none (r.TooWide item) h = absurd h
   tag_only first tab none (r.UnclearTag part) h = absurd h
   tag_only first tab none r.OtherForm h = absurd h
@@ -921,7 +921,7 @@ module _ (kinds : QueriesAreOne) (count : ℕ) (until : Until) (whole bytes : Li
 
   no_end : (number : ℕ) (fault : BlockFault) → IsOfEnd (of_block number fault) → ⊥
   no_end number (b.OtherColumn column) end = end
-  no_end number (b.OtherDecimals item) end = end
+  no_end number (b.OtherItem item) end = end
   no_end number (b.TooWide item) end = end
   no_end number (b.UnclearTag part) end = end
   no_end number b.OtherForm end = end

@@ -7,6 +7,7 @@ use Rattle.std.specs.declared.cmp.Ordering.{Ordering}
 use Rattle.std.specs.declared.cmp.Ordering.TheVariants.{Less, Equal, Greater}
 use Rattle.query_kinds.specs.Kinds.{Asks}
 use Rattle.query_model.specs.declared.query.ItemKind.{ItemKind}
+use Rattle.report_text.specs.TextAnswers.{text_of}
 use Rattle.report_text.specs.Answers.{answer_text}
 use Rattle.report_text.specs.Extras.{IsRowsLine, extra_text}
 use Rattle.report_text.specs.Lines.{end_line}
@@ -88,7 +89,8 @@ none_rest shape told next (inl h) = none_rows (length told.current) h.is_line
 none_rest shape told next (inr h) = none_groups shape (closed told) (completed told) next h.1.goes_on
 
 none_behind : (shape : Shape) (told next : Told) → TakesBehindAnswer shape told [] next → ⊥
-none_behind shape told next (inl h) = none_spelled (length told.current) (extra_text h.kind h.extra) h.is_next.is_line
+none_behind shape told next (inl (inl h)) = none_spelled (length told.current) (extra_text h.kind h.extra) h.is_next.is_line
+none_behind shape told next (inl (inr h)) = none_spelled (length told.current) (codes "clip " ++ text_of h.1.clip) h.1.is_next.is_line
 none_behind shape told next (inr h) = none_rest shape told next h.1
 
 -- no report has an empty line
@@ -100,7 +102,8 @@ no_empty Round query shape told next some (inl h) = none_goes_on shape told next
 no_empty Round query shape told next some (inr h) = none_rows (length shape.kinds) h.1.is_line
 no_empty Group query shape told next some (inl h) = none_groups shape told (block_done told) next h
 no_empty Group query shape told next some (inr h) = none_rows (length shape.kinds) h.1.passes.is_line
-no_empty Items query shape told next some (inl h) = none_spelled (length told.current + 1) (answer_text h.answer) h.is_next.is_line
+no_empty Items query shape told next some (inl (inl h)) = none_spelled (length told.current + 1) (answer_text h.answer) h.is_next.is_line
+no_empty Items query shape told next some (inl (inr h)) = none_spelled (length told.current + 1) (text_of h.1.text) h.1.is_next.is_line
 no_empty Items query shape told next some (inr h) = none_behind shape told next h.1
 no_empty Row query shape told next some h = none_row shape told next h
 no_empty (Ended end) query shape told next some h = absurd h

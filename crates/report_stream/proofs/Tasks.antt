@@ -3,6 +3,7 @@ use Rattle.std.proofs.Common.{◌≡◌, ◌≢◌, ℕ, Option, List, [], ◌�
 use Rattle.std.proofs.lemmas.Option.{none-some, same_Some}
 use Rattle.std.specs.Io.KnownBytes.{Consumes}
 use Rattle.outer_world.specs.Device.{SinkState}
+use Rattle.plane_schedule.specs.declared.policy.Nearness.{Nearness}
 use Rattle.query_kinds.specs.Beside.{BesidesAreOne}
 use Rattle.query_kinds.specs.Kinds.{IsNoQuery, KindsAreOne}
 use Rattle.query_kinds.specs.Rows.{RowsAreOne}
@@ -71,11 +72,11 @@ pub same_task : QueriesAreOne → (count : ℕ) (until : Until) (first : List �
 same_task kinds count until first a b h k =
     let query = h.query ∙ sym k.query in
     let shape = shapes_same kinds b.query a.shape b.shape (subst (λ (q : List ℕ). IsShapeOf q a.shape) query h.is_shape) k.is_shape in
-    ap (λ (q : List ℕ). record { query = q; shape = a.shape; count = a.count; width = a.width; last = a.last }) query
-    ∙ ap (λ (x : Shape). record { query = b.query; shape = x; count = a.count; width = a.width; last = a.last }) shape
-    ∙ ap (λ (n : ℕ). record { query = b.query; shape = b.shape; count = n; width = a.width; last = a.last }) (h.count ∙ sym k.count)
-    ∙ ap (λ (n : ℕ). record { query = b.query; shape = b.shape; count = b.count; width = n; last = a.last }) (h.width ∙ sym k.width)
-    ∙ ap (λ (o : Option ℕ). record { query = b.query; shape = b.shape; count = b.count; width = b.width; last = o }) (h.last ∙ sym k.last)
+    ap (λ (q : List ℕ). record { query = q; shape = a.shape; count = a.count; near = a.near; last = a.last }) query
+    ∙ ap (λ (x : Shape). record { query = b.query; shape = x; count = a.count; near = a.near; last = a.last }) shape
+    ∙ ap (λ (n : ℕ). record { query = b.query; shape = b.shape; count = n; near = a.near; last = a.last }) (h.count ∙ sym k.count)
+    ∙ ap (λ (n : Nearness). record { query = b.query; shape = b.shape; count = b.count; near = n; last = a.last }) (h.near ∙ sym k.near)
+    ∙ ap (λ (o : Option ℕ). record { query = b.query; shape = b.shape; count = b.count; near = b.near; last = o }) (h.last ∙ sym k.last)
 
 -- a task is that of a line
 pub some_lines : (count : ℕ) (until : Until) (lines : List (List ℕ)) (task : Task) → IsTask count until (first_line lines) task → lines ≢ []
@@ -119,7 +120,7 @@ module _ (kinds : QueriesAreOne) (count : ℕ) (until : Until) where
   first_not_refused r.Unlisted first task is h = absurd h
   first_not_refused r.OtherLine first task is h = absurd h
   first_not_refused (r.OtherColumn column) first task is h = absurd h
-  first_not_refused (r.OtherDecimals item) first task is h = absurd h
+  first_not_refused (r.OtherItem item) first task is h = absurd h
   first_not_refused (r.TooWide item) first task is h = absurd h
   first_not_refused (r.UnclearTag part) first task is h = absurd h
   first_not_refused r.OtherForm first task is h = absurd h

@@ -32,7 +32,7 @@ of_kinds k.NoMemory = NoMemory
 -- behind the line with that number a block is not written
 abbrev pub of_block : ℕ → BlockFault → StreamFault
 of_block line (b.OtherColumn column) = Line line (r.OtherColumn column)
-of_block line (b.OtherDecimals item) = Line line (r.OtherDecimals item)
+of_block line (b.OtherItem item) = Line line (r.OtherItem item)
 of_block line (b.TooWide item) = Line line (r.TooWide item)
 of_block line (b.UnclearTag part) = Line line (r.UnclearTag part)
 of_block line b.OtherForm = Line line r.OtherForm

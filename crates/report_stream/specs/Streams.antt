@@ -6,7 +6,7 @@ use Rattle.std.specs.declared.option.Option.TheVariants.{Some, None}
 use Rattle.std.specs.declared.result.Result.{Result}
 use Rattle.outer_world.specs.Device.{Rose, SinkState, SourceState}
 use Rattle.outer_world.specs.Whole.{Writes}
-use Rattle.query_kinds.specs.Beside.{TellsBeside}
+use Rattle.query_kinds.specs.Beside.{AsksBeside}
 use Rattle.query_kinds.specs.Kinds.{Asks, AsksOther, IsNoQuery}
 use Rattle.query_kinds.specs.Rows.{AsksNoRows, AsksRows}
 use Rattle.query_kinds.specs.declared.rows.FirstRows.{FirstRows}
@@ -59,7 +59,7 @@ first_line (line ∷ lines) = line
 -- a query of totals or groups, whose blocks have this shape
 pub record IsOfItems (query : List ℕ) (shape : Shape) : Type 0 where
   pub asks : Asks query shape.kinds shape.columns
-  pub besides : TellsBeside query shape.besides
+  pub besides : AsksBeside query shape.besides
   pub no_rows : shape.rows ≡ None
 
 -- a block of first rows has no item and no group column
@@ -86,7 +86,7 @@ pub record IsTask (wanted : ℕ) (until : Until) (first : List ℕ) (task : Task
   pub query : task.query ≡ behind_tag first
   pub is_shape : IsShapeOf task.query task.shape
   pub count : task.count ≡ wanted
-  pub width : task.width ≡ until.width
+  pub near : task.near ≡ until.near
   pub last : task.last ≡ until.rounds
 
 -- ---- what is written

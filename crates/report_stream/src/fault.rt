@@ -75,11 +75,11 @@ pub enum LineRefusal {
     #[error("no line of a report at this place")]
     OtherLine,
     /// Two lines of groups write the values of the group column with other decimals, or as dates and numbers.
-    #[error("scales of group column {0} differ")]
+    #[error("another form of group column {0}")]
     OtherColumn(usize),
-    /// The numbers that two parts say of the item have other decimals.
-    #[error("scales of item {0} differ")]
-    OtherDecimals(usize),
+    /// The numbers that two parts say of the item have other decimals, or one says a text or a date and another a number.
+    #[error("another form of item {0}")]
+    OtherItem(usize),
     /// An end of the item has more than 128 bits, or a number of rows more than 64.
     #[error("item {0} too wide")]
     TooWide(usize),
@@ -87,7 +87,7 @@ pub enum LineRefusal {
     #[error("the tag of part {0} has a space or a control character")]
     UnclearTag(usize),
     /// First rows are asked for, and two lines write their keys with other decimals, or as dates, numbers and texts.
-    #[error("scales of the sort column differ")]
+    #[error("another form of the sort column")]
     OtherForm,
     /// It has more bytes than a line may have.
     #[error("too long")]

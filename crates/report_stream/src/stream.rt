@@ -1,8 +1,7 @@
 //! Reads line by line, writes each block as soon as the lines tell it, and reads no further behind the end.
 
 ghost use Rattle.std.specs.Prelude.{◌≡◌, ◌<◌, ◌≤◌, None, Ok, IfErr, IfOk, OnOk, false, length, true};
-ghost use Rattle.query_kinds.specs.Beside.{TellsBeside};
-ghost use Rattle.query_kinds.specs.Kinds.{Asks, AsksOther};
+ghost use Rattle.query_kinds.specs.Kinds.{AsksOther, IsKindsFault};
 ghost use Rattle.report_stream.specs.Steps.{IsAsked, IsEarly, IsEnd, IsFirstFault, IsOpen, IsShapeFault, PutsOut, RefusesBlocks};
 ghost use Rattle.report_stream.specs.Steps.{StopsAt, StopsTake};
 ghost use Rattle.report_stream.specs.Streams.{Combined, IsOfItems, IsShapeOf, StreamCause, shape_of_rows};
@@ -11,43 +10,25 @@ ghost use Rattle.source_lines.specs.Lines.{Ends, Stands as HasRead, has_line};
 use crate::fault::{LineRefusal, StreamFault, Tag, of_input, of_kinds, of_source};
 use daq_table::Listed;
 use outer_world::{Sink, Source, write_whole};
-use query_kinds::{
-    Beside, FirstRows, KindsFault, QueryShape, averages_beside, first_rows, query_shape,
-};
+use query_kinds::{FirstRows, KindsFault, first_rows, query_shape};
 use report_parts::{
     Asked, BlockFault, Combination, CourseFault, EndFault, Shape, Until, untagged, written_opening,
 };
 use source_lines::SourceLines;
 use std::alloc::Global;
 
-// What stands beside the items of the query, where it asks for totals.
-fn read_besides(alloc: Global, query: &[u8]) -> Result<Vec<Option<Beside>>, KindsFault>
-    ensures besides { IfOk result (λ besides. TellsBeside query.now besides.items) }
-    ensures fault { IfErr result (IsShapeFault query.now) }
-{
-    match averages_beside(alloc, query) {
-        Ok(besides) => Ok(besides),
-        Err(KindsFault::NoTotals) => Ok(Vec::new(alloc)),
-        Err(KindsFault::NoQuery) => Err(KindsFault::NoQuery),
-        Err(KindsFault::NoMemory) => Err(KindsFault::NoMemory),
-    }
-}
-
 // The shape of the blocks of a query of totals or groups.
-fn shape_of_items(alloc: Global, query: &[u8], asked: QueryShape) -> Result<Shape, KindsFault>
-    requires { Asks query.now asked.kinds.items asked.columns }
+fn shape_of_items(alloc: Global, query: &[u8]) -> Result<Shape, KindsFault>
     ensures shape { IfOk result (IsOfItems query.now) }
-    ensures fault { IfErr result (IsShapeFault query.now) }
+    ensures fault { IfErr result (IsKindsFault query.now) }
 {
-    match read_besides(alloc, query) {
-        Ok(besides) => Ok(Shape {
-            kinds: Listed::new(asked.kinds),
-            columns: asked.columns,
-            besides: Listed::new(besides),
-            rows: None,
-        }),
-        Err(fault) => Err(fault),
-    }
+    let asked = query_shape(alloc, query)?;
+    Ok(Shape {
+        kinds: Listed::new(asked.kinds),
+        columns: asked.columns,
+        besides: Listed::new(asked.besides),
+        rows: None,
+    })
 }
 
 // The shape of the blocks of a query of first rows.
@@ -81,8 +62,8 @@ fn read_shape(alloc: Global, query: &[u8]) -> Result<Shape, KindsFault>
     ensures shape { IfOk result (IsShapeOf query.now) }
     ensures fault { IfErr result (IsShapeFault query.now) }
 {
-    match query_shape(alloc, query) {
-        Ok(asked) => shape_of_items(alloc, query, asked),
+    match shape_of_items(alloc, query) {
+        Ok(shape) => Ok(shape),
         Err(KindsFault::NoTotals) => read_rows(alloc, query),
         Err(KindsFault::NoQuery) => Err(KindsFault::NoQuery),
         Err(KindsFault::NoMemory) => Err(KindsFault::NoMemory),
@@ -164,8 +145,8 @@ fn take<K: Sink>(
             let why = LineRefusal::OtherColumn(column);
             Err(write_before(out, text, number, why))
         }
-        Err(CourseFault::Block(BlockFault::OtherDecimals(item))) => {
-            let why = LineRefusal::OtherDecimals(item);
+        Err(CourseFault::Block(BlockFault::OtherItem(item))) => {
+            let why = LineRefusal::OtherItem(item);
             Err(write_before(out, text, number, why))
         }
         Err(CourseFault::Block(BlockFault::TooWide(item))) => {

@@ -81,7 +81,7 @@ lines-init g c =
     (first_read (state c.args.input.now) (state c.read_line.new.input) c.new-reader.result c.read_line.new.reader c.new-reader.ensures came
     c.in_ok-read_line.ensures.faults)
     came.line asked opening c.new-combination.ensures.query c.new-combination.ensures.shape c.new-combination.ensures.count
-    c.new-combination.ensures.width c.new-combination.ensures.last c.new-combination.ensures.stands c.new-combination.ensures.open
+    c.new-combination.ensures.near c.new-combination.ensures.last c.new-combination.ensures.stands c.new-combination.ensures.open
 
 -- ---- a line more
 

@@ -37,16 +37,16 @@ returns-in-Err-Block-OtherColumn-clause-refused g c =
     c.deref-in-Err-Block-OtherColumn.result.now c.args.number c.args.out.now c.write_before.new.out (b.OtherColumn arm.column)
     (r.OtherColumn arm.column) c.write_before.result refl stopped c.deref-in-Err-Block-OtherColumn.ensures.value c.write_before.ensures
 
-pub returns-in-Err-Block-OtherDecimals-clause-refused : goal.returns-in-Err-Block-OtherDecimals-clause-refused
-returns-in-Err-Block-OtherDecimals-clause-refused g c =
-    let arm = c.in-Err-Block-OtherDecimals in
+pub returns-in-Err-Block-OtherItem-clause-refused : goal.returns-in-Err-Block-OtherItem-clause-refused
+returns-in-Err-Block-OtherItem-clause-refused g c =
+    let arm = c.in-Err-Block-OtherItem in
     let stopped = subst (λ (f : BlockFault). IsCourseFault (Block f) c.args.combination.now c.args.line.now c.args.text.now.items c.take.new.text.items)
     arm.field-0-0-is (subst (λ (f : CourseFault). IsCourseFault f c.args.combination.now c.args.line.now c.args.text.now.items c.take.new.text.items)
     arm.field-0-is arm.ensures.refused) in
     block_stops g.K.Sink.state c.args.combination.now c.args.line.now c.args.text.now.items c.take.new.text.items
-    c.deref-in-Err-Block-OtherDecimals.result.now c.args.number c.args.out.now c.write_before-in-Err-Block-OtherDecimals.new.out (b.OtherDecimals arm.item)
-    (r.OtherDecimals arm.item) c.write_before-in-Err-Block-OtherDecimals.result refl stopped c.deref-in-Err-Block-OtherDecimals.ensures.value
-    c.write_before-in-Err-Block-OtherDecimals.ensures
+    c.deref-in-Err-Block-OtherItem.result.now c.args.number c.args.out.now c.write_before-in-Err-Block-OtherItem.new.out (b.OtherItem arm.item)
+    (r.OtherItem arm.item) c.write_before-in-Err-Block-OtherItem.result refl stopped c.deref-in-Err-Block-OtherItem.ensures.value
+    c.write_before-in-Err-Block-OtherItem.ensures
 
 pub returns-in-Err-Block-TooWide-clause-refused : goal.returns-in-Err-Block-TooWide-clause-refused
 returns-in-Err-Block-TooWide-clause-refused g c =
