@@ -42,11 +42,11 @@ column_before reads more (suc before) h = get reads more before (omega arith)
 
 pub query_blocks_stay : (head : Head) (plan : Plan) (query : TypedQuery) (bits : Planes) → Stay (block_of head plan query bits)
 query_blocks_stay head plan query bits reads more round h =
-    ap (λ s. block_text head plan.list plan.extras s round (column_read (reads ++ more) round)) (same_before query (frame_of head) bits reads more round h)
-    ∙ ap (block_text head plan.list plan.extras (stage_after query (frame_of head) bits reads round) round) (column_before reads more round h)
+    ap (λ s. block_text head plan.listing plan.extras s round (column_read (reads ++ more) round)) (same_before query (frame_of head) bits reads more round h)
+    ∙ ap (block_text head plan.listing plan.extras (stage_after query (frame_of head) bits reads round) round) (column_before reads more round h)
 
 -- and it shows the planes alone that were read
 pub query_blocks_agree : (head : Head) (plan : Plan) (query : TypedQuery) (a b : Planes) (reads : List ℕ) → HaveSameRead (rounds_of plan query (frame_of head) a) reads a b → (round : ℕ) →
     block_of head plan query a reads round ≡ block_of head plan query b reads round
 query_blocks_agree head plan query a b reads same round =
-    ap (λ s. block_text head plan.list plan.extras s round (column_read reads round)) (alike_stages query (frame_of head) a b reads (have_same plan query (frame_of head) a b reads same) round)
+    ap (λ s. block_text head plan.listing plan.extras s round (column_read reads round)) (alike_stages query (frame_of head) a b reads (have_same plan query (frame_of head) a b reads same) round)

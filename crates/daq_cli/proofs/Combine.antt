@@ -8,6 +8,7 @@ use Rattle.report_parts.specs.Course.{Tell}
 use Rattle.report_parts.specs.GroupHeadline.{CombinedGroupsAreCertain}
 use Rattle.report_parts.specs.Headline.{CombinedAveragesAreCertain, CombinedBesidesAreCertain, CombinedClipsAreCertain, CombinedExactAveragesAreCertain, CombinedIsCertain}
 use Rattle.report_parts.specs.RowHeadline.{CombinedRowsAreCertain}
+use Rattle.report_parts.specs.TextHeadline.{CombinedTextClipsAreCertain, CombinedTextsAreCertain}
 use Rattle.report_parts.specs.Told.{Told}
 use Rattle.report_stream.proofs.LineTexts.{read_before}
 use Rattle.report_stream.specs.Streams.{AreLines, Combined, HasWritten, IsCutOff, ReadsLines, StreamCause, TellsBody, lines_text}
@@ -122,9 +123,9 @@ combine_stops c i i' j o o' p why e f cause = subst (λ x. CombineCause c x j o'
 
 -- what is written is certain, where the reports of the parts are
 pub combine_done : CombinedIsCertain → CombinedAveragesAreCertain → CombinedBesidesAreCertain → CombinedClipsAreCertain → CombinedExactAveragesAreCertain → CombinedGroupsAreCertain →
-    CombinedRowsAreCertain →
+    CombinedRowsAreCertain → CombinedTextsAreCertain → CombinedTextClipsAreCertain →
     (c : Combine) (input input' : SourceState) (out out' : SinkState) → Combined c.parts (until_of c) input input' out out' → CombinesReports c input input' out out'
-combine_done certain averages besides clips exact groups rows c input input' out out' combined = record {
+combine_done certain averages besides clips exact groups rows texts text_clips c input input' out out' combined = record {
   combined = combined;
   headline = λ totals. record {
     items = λ item kind tables round other there all. certain item kind combined.task.shape combined.combines.parts tables round totals other there all;
@@ -132,6 +133,8 @@ combine_done certain averages besides clips exact groups rows c input input' out
     besides = λ item beside tables round there stands all both. besides item beside combined.task.shape combined.combines.parts tables round totals there stands all both;
     clips = λ item kind tables round other there all. clips item kind combined.task.shape combined.combines.parts tables round totals other there all;
     exact_averages = λ item tables round there all. exact item combined.task.shape combined.combines.parts tables round totals there all;
+    texts = λ item kind extreme tables round there asks all. texts item kind extreme combined.task.shape combined.combines.parts tables round totals there asks all;
+    text_clips = λ item kind extreme tables round there asks all. text_clips item kind extreme combined.task.shape combined.combines.parts tables round totals there asks all;
   };
   groups = groups combined.task (combined.lines ++ combined.last ∷ []) combined.combines.parts combined.combines.told;
   rows = λ asked no_groups is_asked.

@@ -37,7 +37,7 @@ use Rattle.table_gen.specs.Laws as seed_laws
 use Rattle.table_gen.specs.TableOf.{IsTableOfSeed}
 use Rattle.daq_cli.specs.Inputs.{input_step, limits, most_bytes, schema_step, table_step}
 use Rattle.daq_cli.specs.Laws.{StepsAreComplete}
-use Rattle.daq_cli.specs.Questions.{IsAnswerable, IsPolicyOf, RefusesOrder, ShowsQuestion, asked_with, extras_of, question_of, question_step, sql_step}
+use Rattle.daq_cli.specs.Questions.{IsAnswerable, IsPolicyOf, RefusesOrder, ShowsQuestion, asked_with, extras_of, nearness_of, question_of, question_step, sql_step}
 use Rattle.daq_cli.specs.Scripts.{ShowsLine}
 use Rattle.daq_cli.specs.Steps.{IsComplete}
 use Rattle.daq_cli.specs.commands.Demo.{generator_step, most_rows}
@@ -126,8 +126,8 @@ module _ (law : Laws) where
         by : Ordered options.order → Judged
         by (inl (policy, is)) = inl (record {
           typed = typed;
-          plan = record { policy = policy; width = options.width; most = options.rounds; list = options.list; extras = extras_of options };
-          planned = record { is_typed = is_typed; planned = record { policy = is; width = refl; most = refl; list = refl; extras = refl } };
+          plan = record { policy = policy; near = nearness_of options; most = options.rounds; listing = options.listing; extras = extras_of options };
+          planned = record { is_typed = is_typed; planned = record { policy = is; near = refl; most = refl; listing = refl; extras = refl } };
         })
         by (inr (fault, shown, faulty)) = inr (Reads fault, inr (record { typed = typed; is_typed = is_typed; fault = fault; shown = shown; is = refl; faulty = faulty }))
 

@@ -26,13 +26,13 @@ use Rattle.daq_cli.proofs.Reached.{same_below}
 module _ (head : Head) (plan : Plan) (query : TypedQuery) (reads : List ℕ) (a b : Planes)
     (same : (round : ℕ) → stage_after query (frame_of head) a reads round ≡ stage_after query (frame_of head) b reads round) where
   same_block : (round : ℕ) → block_of head plan query a reads round ≡ block_of head plan query b reads round
-  same_block round = ap (λ s. block_text head plan.list plan.extras s round (column_read reads round)) (same round)
+  same_block round = ap (λ s. block_text head plan.listing plan.extras s round (column_read reads round)) (same round)
 
   pub same_blocks : (n : ℕ) → blocks_below (block_of head plan query a) reads n ≡ blocks_below (block_of head plan query b) reads n
   same_blocks n = same_below (block_of head plan query a) (block_of head plan query b) reads reads n (λ round h. same_block round)
 
   same_last : last_text (shown_rounds head plan query a) reads ≡ last_text (shown_rounds head plan query b) reads
-  same_last = ap (λ s. block_text head plan.list plan.extras s (length reads) (column_read reads (length reads)) ++ end_line (ending_at plan s)) (same (length reads))
+  same_last = ap (λ s. block_text head plan.listing plan.extras s (length reads) (column_read reads (length reads)) ++ end_line (ending_at plan s)) (same (length reads))
 
   pub same_text : rounds_text (shown_rounds head plan query a) reads ≡ rounds_text (shown_rounds head plan query b) reads
   same_text =

@@ -38,11 +38,11 @@ module _ (lists : reads_laws.AnswersAreOne) (options : Options) (head : Head) (t
   pub one_plan : (a b : Plan) → IsPlanOf options typed head a → IsPlanOf options typed head b → a ≡ b
   one_plan a b p r =
       let policy = one_policy options.order a.policy b.policy p.policy r.policy in
-      let width = p.width ∙ sym r.width in
+      let near = p.near ∙ sym r.near in
       let most = p.most ∙ sym r.most in
-      let list = p.list ∙ sym r.list in
+      let listing = p.listing ∙ sym r.listing in
       let extras = p.extras ∙ sym r.extras in
-      λ i. record { policy = policy i; width = width i; most = most i; list = list i; extras = extras i }
+      λ i. record { policy = policy i; near = near i; most = most i; listing = listing i; extras = extras i }
 
 module _ (law : Laws) (question : Question) where
   pub one_report : (a b : List ℕ) → IsReport question a → IsReport question b → a ≡ b

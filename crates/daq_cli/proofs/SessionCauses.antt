@@ -83,7 +83,7 @@ module _ (words : line.Session) (side side' : SourceState) (planes opened planes
   headline bytes reads steps = λ n query there cells has. (
     certain begun.plan begun.typed begun.file.head (bits_at begun.file.head bytes) reads n query cells valid longs steps there has,
     λ round h. same_stages query (frame_of begun.file.head) (bits_at begun.file.head bytes)
-        (own_reads begun.plan.width (frame_of begun.file.head) (bits_at begun.file.head bytes) (places_read begun.typed reads) query (length reads)) cells has round,
+        (own_reads begun.plan.near (frame_of begun.file.head) (bits_at begun.file.head bytes) (places_read begun.typed reads) query (length reads)) cells has round,
   )
 
   -- each query alone
@@ -92,7 +92,7 @@ module _ (words : line.Session) (side side' : SourceState) (planes opened planes
   tables bytes reads all front n query there =
       let steps = all.rounds in
       let head = begun.file.head in
-      let own = own_reads begun.plan.width (frame_of head) (bits_at head bytes) (places_read begun.typed reads) query (length reads) in
+      let own = own_reads begun.plan.near (frame_of head) (bits_at head bytes) (places_read begun.typed reads) query (length reads) in
       let shown = alone begun.plan begun.typed head (bits_at head bytes) reads n query steps there in
       let named = names head query (all_there (IsValid head) begun.typed n query valid there) in
       (shown, are_of_tables have head begun.file.version (plan_alone begun.plan own) query bytes own front named shown.rounds (λ cells has. (headline bytes reads steps n query there cells has).0))

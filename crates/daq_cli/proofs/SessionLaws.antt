@@ -40,7 +40,7 @@ use Rattle.sql_typing.specs.Refusals.{IsTyped}
 use Rattle.sql_typing.specs.declared.fault.TypeFault.{TypeFault}
 use Rattle.sql_typing.specs.declared.fault.TypeFault.TheVariants as y
 use Rattle.table_rounds.specs.Outcomes.{Outcome, ended, refused, unreadable}
-use Rattle.daq_cli.specs.Questions.{extras_of}
+use Rattle.daq_cli.specs.Questions.{extras_of, nearness_of}
 use Rattle.daq_cli.specs.Scripts.{Scripted, ShowsLine, line_step, queries_step, script_step}
 use Rattle.daq_cli.specs.SessionReport.{session_report}
 use Rattle.daq_cli.specs.Steps.{IsComplete, IsExact, each}
@@ -104,11 +104,11 @@ one_policy (line.reads names) a b e f = absurd e
 one_plan : (options : Options) (a b : Plan) → IsSessionPlan options a → IsSessionPlan options b → a ≡ b
 one_plan options a b e f =
     let policy = one_policy options.order a.policy b.policy e.policy f.policy in
-    let width = e.width ∙ sym f.width in
+    let near = e.near ∙ sym f.near in
     let most = e.most ∙ sym f.most in
-    let list = e.list ∙ sym f.list in
+    let listing = e.listing ∙ sym f.listing in
     let extras = e.extras ∙ sym f.extras in
-    λ i. record { policy = policy i; width = width i; most = most i; list = list i; extras = extras i }
+    λ i. record { policy = policy i; near = near i; most = most i; listing = listing i; extras = extras i }
 
 pub unlisted_policy : (order : ReadOrder) (policy : Policy) → IsPolicyFor order policy → IsUnlisted policy
 unlisted_policy (line.fixed named) policy is = subst IsUnlisted (sym is) tt
@@ -259,7 +259,7 @@ module _ (law : GoOn) where
 
   module _ (options : Options) (by_policy : (names : List ℕ) → options.order ≢ line.reads names) (asked : AskedTogether) (bytes : List ℕ) (valid : AreValid asked.head asked.typed) where
     abbrev plan_so : Policy → Plan
-    plan_so policy = record { policy = policy; width = options.width; most = options.rounds; list = options.list; extras = extras_of options }
+    plan_so policy = record { policy = policy; near = nearness_of options; most = options.rounds; listing = options.listing; extras = extras_of options }
 
     to_end : (outcome : Outcome) → StepsEndIn options asked bytes outcome → IsComplete (planes_step options asked bytes)
     to_end ended steps = inl (session_report (printed_forms asked.queries) asked.head steps.plan asked.typed (bits_at asked.head bytes) steps.reads, record { steps = steps; is = refl })
@@ -276,7 +276,7 @@ module _ (law : GoOn) where
         (IsUnpadded head bytes) (judged asked bytes) [] (sessions_begin law.begin (plan_so policy) asked.typed head (bits_at head bytes)).rounds (each_of_none (IsUnpadded head bytes) course) in
         to_end outcome (record {
           plan = plan_so policy;
-          planned = record { policy = is; width = refl; most = refl; list = refl; extras = refl };
+          planned = record { policy = is; near = refl; most = refl; listing = refl; extras = refl };
           reads = reads;
           ends = ends;
         })

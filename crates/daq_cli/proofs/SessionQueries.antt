@@ -1,4 +1,5 @@
 -- The queries of a session: they are over the table, and so are their columns.
+use Rattle.plane_schedule.specs.declared.policy.Nearness.{Nearness}
 use Rattle.std.proofs.Common.{◌≡◌, ℕ, ◌<◌, List, [], ◌∷◌, length, refl, sym, ap, slice_get, Option, Some, None, IfSome}
 use Rattle.std.proofs.lemmas.List.Quantifiers.{position-Some}
 use Rattle.std.specs.Prelude.{◌==◌, slice_index}
@@ -12,9 +13,9 @@ use Rattle.table_rounds.specs.Steps.{FitsSession, queries_of}
 use Rattle.daq_cli.specs.SessionReport.{own_of}
 
 -- those of a session that was opened
-pub queries_of_opened : (queries : List Query) (head : Head) (width : ℕ) → queries_of (session_opened queries head width) ≡ queries
-queries_of_opened [] head width = refl
-queries_of_opened (query ∷ queries) head width = ap (λ l. query ∷ l) (queries_of_opened queries head width)
+pub queries_of_opened : (queries : List Query) (head : Head) (near : Nearness) → queries_of (session_opened queries head near) ≡ queries
+queries_of_opened [] head near = refl
+queries_of_opened (query ∷ queries) head near = ap (λ l. query ∷ l) (queries_of_opened queries head near)
 
 pub fits_there : (s : Session) (head : Head) (place : ℕ) (stage : Stage) → FitsSession s head → slice_get s.stages place ≡ Some stage → FitsHead stage.query stage.frame head
 fits_there s head place stage fits = all_there (λ stage. FitsHead stage.query stage.frame head) s.stages place stage fits.stages

@@ -36,11 +36,11 @@ module _ (head : Head) (plan : Plan) (query : Query) (bits : Planes) where
 
   pub shown_alone : (places : List ℕ) (step : ℕ) →
       blocks_below (shown_of head plan bits query) places (suc step)
-      ≡ blocks_below (block_of head plan query bits) (own_reads plan.width (frame_of head) bits places query step) (suc (length (own_reads plan.width (frame_of head) bits places query step)))
+      ≡ blocks_below (block_of head plan query bits) (own_reads plan.near (frame_of head) bits places query step) (suc (length (own_reads plan.near (frame_of head) bits places query step)))
   unfolding blocks_below
   shown_alone places zero = refl
   shown_alone places (suc step) =
-      let own = own_reads plan.width (frame_of head) bits places query step in
-      let o = awaited plan.width (slice_index places step) (stage_in plan.width (frame_of head) bits places query step) in
+      let own = own_reads plan.near (frame_of head) bits places query step in
+      let o = awaited plan.near (slice_index places step) (stage_in plan.near (frame_of head) bits places query step) in
       ap (λ l. l ++ (if is_some o then block_of head plan query bits (own ++ option_map_or (λ c. c ∷ []) o []) (length (own ++ option_map_or (λ c. c ∷ []) o [])) else [])) (shown_alone places step)
       ∙ next_shown own o

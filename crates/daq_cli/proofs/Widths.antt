@@ -1,6 +1,6 @@
 -- The width of a command's options is below 2 ^ 63.
 use Rattle.std.proofs.Common.{ℕ, ◌≤◌, List, Option, Some, None, IfSome, unwrap_or, zero-le}
-use Rattle.command_line.specs.Commands.{Ask, Demo, Given, Gives, IsCommand, Query, Session, ask, demo, query, session, most_width, no_more, more_width, more_rounds, more_policy, more_reads, more_list, more_clip, more_exact}
+use Rattle.command_line.specs.Commands.{Ask, Demo, Given, Gives, IsCommand, Query, Session, ask, demo, query, session, most_width, no_more, more_width, more_rounds, more_policy, more_reads, more_list, more_part, more_clip, more_exact, more_keys}
 
 abbrev IsSmall : Given → Type 0
 IsSmall g = IfSome g.width (λ n. n ≤ most_width)
@@ -12,8 +12,10 @@ small_given (more_rounds none number rest) s = small_given rest s
 small_given (more_policy none is rest) s = small_given rest s
 small_given (more_reads none rest) s = small_given rest s
 small_given (more_list none rest) s = small_given rest s
+small_given (more_part none rest) s = small_given rest s
 small_given (more_clip none rest) s = small_given rest s
 small_given (more_exact none rest) s = small_given rest s
+small_given (more_keys none rest) s = small_given rest s
 
 small_width : (width : Option ℕ) → IfSome width (λ n. n ≤ most_width) → unwrap_or width 0 ≤ most_width
 small_width None s = zero-le

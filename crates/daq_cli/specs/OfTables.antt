@@ -47,5 +47,5 @@ abbrev pub AllAreOfTables : Plan → List TypedQuery → Head → List ℕ → L
 AllAreOfTables plan queries head bytes reads =
     (n : ℕ) (query : TypedQuery) → slice_get queries n ≡ Some query →
     let places = places_read queries reads in
-    let own = own_reads plan.width (frame_of head) (bits_at head bytes) places query (length reads) in
+    let own = own_reads plan.near (frame_of head) (bits_at head bytes) places query (length reads) in
     IsShownAlone head plan (bits_at head bytes) places query (length reads) own × AreOfTables head (plan_alone plan own) query bytes own

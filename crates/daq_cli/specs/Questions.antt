@@ -6,6 +6,7 @@ use Rattle.daq_table.specs.declared.table_head.Head.{Head}
 use Rattle.outer_world.specs.Device.{SinkState}
 use Rattle.outer_world.specs.Whole.{Writes}
 use Rattle.plane_schedule.specs.declared.policy.Extras.{Extras}
+use Rattle.plane_schedule.specs.declared.policy.Nearness.{Nearness}
 use Rattle.plane_schedule.specs.declared.policy.Plan.{Plan}
 use Rattle.plane_schedule.specs.declared.policy.Policy.{Policy}
 use Rattle.plane_schedule.specs.declared.policy.Policy.TheVariants as p
@@ -81,12 +82,16 @@ pub record RefusesOrder (order : ReadOrder) (typed : TypedQuery) (head : Head) (
 abbrev pub extras_of : Options → Extras
 extras_of options = record { clip = options.clip; exact = options.exact }
 
+-- when a round is narrow by the options
+abbrev pub nearness_of : Options → Nearness
+nearness_of options = record { width = options.width; keys = options.keys }
+
 -- the plan of the options
 pub record IsPlanOf (options : Options) (typed : TypedQuery) (head : Head) (plan : Plan) : Type 0 where
   pub policy : IsPolicyOf options.order typed head plan.policy
-  pub width : plan.width ≡ options.width
+  pub near : plan.near ≡ nearness_of options
   pub most : plan.most ≡ options.rounds
-  pub list : plan.list ≡ options.list
+  pub listing : plan.listing ≡ options.listing
   pub extras : plan.extras ≡ extras_of options
 
 -- the query is typed so, and there is such a plan of the options

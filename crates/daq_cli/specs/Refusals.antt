@@ -140,7 +140,7 @@ line_refusal_text parts (refusal.OtherColumn column) =
 line_refusal_text parts (refusal.UnclearTag part) =
     codes "the tag of part " ++ signed_decimal (pos (part + 1)) ++ codes " has a space or a control character"
 line_refusal_text parts refusal.OtherForm = codes "scales of the sort column differ"
-line_refusal_text parts (refusal.OtherDecimals item) = codes "scales of item " ++ signed_decimal (pos (item + 1)) ++ codes " differ"
+line_refusal_text parts (refusal.OtherItem item) = codes "scales of item " ++ signed_decimal (pos (item + 1)) ++ codes " differ"
 line_refusal_text parts (refusal.TooWide item) = codes "item " ++ signed_decimal (pos (item + 1)) ++ codes " too wide"
 line_refusal_text parts refusal.TooLong = codes "longer than 65536 bytes"
 

@@ -59,7 +59,7 @@ rounds_text shown reads = blocks_below shown.block reads (length reads) ++ last_
 -- the block of a round by the plan, where the rounds read these columns
 abbrev pub block_of : Head → Plan → TypedQuery → Planes → List ℕ → ℕ → List ℕ
 block_of head plan query bits reads round =
-    block_text head plan.list plan.extras (stage_after query (frame_of head) bits reads round) round (column_read reads round)
+    block_text head plan.listing plan.extras (stage_after query (frame_of head) bits reads round) round (column_read reads round)
 
 -- the rounds of a query, shown by their blocks
 abbrev pub shown_rounds : Head → Plan → TypedQuery → Planes → Shown

@@ -44,12 +44,12 @@ at_line step number = codes "at " ++ (decimal step ++ (codes " query " ++ (decim
 -- the block of a query alone after its own reads in so many steps
 abbrev pub own_block : Head → Plan → Planes → List ℕ → Query → ℕ → List ℕ
 own_block head plan bits places query step =
-    let own = own_reads plan.width (frame_of head) bits places query step in block_of head plan query bits own (length own)
+    let own = own_reads plan.near (frame_of head) bits places query step in block_of head plan query bits own (length own)
 
 -- what is shown of a query, with this number, after so many steps: this block, where the last of them went to it
 abbrev pub block_at : Head → Plan → Planes → List ℕ → ℕ → ℕ → Query → List ℕ
 block_at head plan bits places step number query =
-    if is_moved plan.width (frame_of head) bits places query step
+    if is_moved plan.near (frame_of head) bits places query step
     then at_line step number ++ own_block head plan bits places query step else []
 
 -- the blocks of the queries after so many steps, which read these columns of the session
@@ -69,7 +69,7 @@ session_report sqls head plan queries bits reads = queries_lines sqls ++ rounds_
 -- what is shown of a query after so many steps: its block alone, where the last of them went to it
 abbrev pub shown_of : Head → Plan → Planes → Query → List ℕ → ℕ → List ℕ
 shown_of head plan bits query places step =
-    if is_moved plan.width (frame_of head) bits places query step then own_block head plan bits places query step else []
+    if is_moved plan.near (frame_of head) bits places query step then own_block head plan bits places query step else []
 
 -- those of these steps are the blocks of the query alone, all of whose rounds by the list of its own reads these are
 pub record IsShownAlone (head : Head) (plan : Plan) (bits : Planes) (places : List ℕ) (query : Query) (steps : ℕ) (own : List ℕ)
@@ -84,4 +84,4 @@ QueriesAreShownAlone =
     (plan : Plan) (queries : List Query) (head : Head) (bits : Planes) (reads : List ℕ) (q : ℕ) (query : Query) →
     AreSteps plan queries head bits reads → slice_get queries q ≡ Some query →
     let places = places_read queries reads in
-    IsShownAlone head plan bits places query (length reads) (own_reads plan.width (frame_of head) bits places query (length reads))
+    IsShownAlone head plan bits places query (length reads) (own_reads plan.near (frame_of head) bits places query (length reads))

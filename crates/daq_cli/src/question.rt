@@ -6,7 +6,7 @@ ghost use Rattle.round_engine.specs.Stages.{opened};
 ghost use Rattle.command_line.specs.Values.{options_of, order_of};
 ghost use Rattle.daq_table.specs.ValueTexts.{HeadHasTexts};
 ghost use Rattle.daq_cli.specs.Questions.{IsPlanOf, IsPlanned, IsPolicyOf, QuestionCause, RefusesOrder};
-ghost use Rattle.daq_cli.specs.Questions.{Reports, StopsPlanning, asked_with, question_of};
+ghost use Rattle.daq_cli.specs.Questions.{Reports, StopsPlanning, asked_with, nearness_of, question_of};
 ghost use Rattle.daq_cli.specs.Worlds.{whole};
 ghost use Rattle.query_model.specs.Validity.{IsValid};
 ghost use Rattle.sql_text.specs.Answer.{IsFault, IsText};
@@ -22,7 +22,7 @@ use daq_table::{Head, Table};
 use outer_world::Sink;
 use plane_kernels::Plane;
 use plane_reads::{ReadsFault, answers_are_one, check_reads};
-use plane_schedule::{Extras, Plan, Policy};
+use plane_schedule::{Extras, Nearness, Plan, Policy};
 use query_model::TypedQuery;
 use round_engine::Engine;
 use sql_print::{print, reads_back};
@@ -64,6 +64,16 @@ fn policy_of(
     }
 }
 
+// When a round is narrow by the options.
+pub(crate) fn nearness_of(options: &Options) -> Nearness
+    ensures { result ≡ nearness_of (options_of options.now) }
+{
+    Nearness {
+        width: options.width,
+        keys: options.keys,
+    }
+}
+
 // The plan of the options.
 fn plan_of(
     alloc: Global,
@@ -78,9 +88,9 @@ fn plan_of(
     let policy = policy_of(alloc, &options.order, typed, head)?;
     Ok(Plan {
         policy,
-        width: options.width,
+        near: nearness_of(options),
         most: options.rounds,
-        list: options.list,
+        listing: options.listing,
         extras: Extras {
             clip: options.clip,
             exact: options.exact,
@@ -116,7 +126,7 @@ pub(crate) fn prepare(
     ensures opened { IfOk result (λ p. p.begun.running ≡ opened p.begun.running.query head.now) }
     ensures text { IfOk result (λ p. string_bytes p.sql ≡ printed (query_of query.now)) }
     ensures rows { IfOk result (λ p. length p.begun.plane ≡ head.now.rows) }
-    ensures width { IfOk result (λ p. p.begun.plan.width < 2 ^ 63) }
+    ensures width { IfOk result (λ p. p.begun.plan.near.width < 2 ^ 63) }
     ensures readable { IfOk result (λ p. IsReadable p.begun.plan.policy p.begun.running.frame) }
     ensures refused { IfErr result (StopsPlanning (asked_with (query_of query.now) (options_of options.now) head.now)) }
 {

@@ -47,7 +47,7 @@ pub(crate) fn write_round<K: Sink>(
     requires texts { HeadHasTexts head.now }
     requires last { IfSome last (λ c. c < length engine.now.query.columns) }
     ensures { Writes result (K.state out.old) (K.state out.new)
-        (block_text head.now plan.now.list plan.now.extras engine.now (planes_read engine.now.known) last) }
+        (block_text head.now plan.now.listing plan.now.extras engine.now (planes_read engine.now.known) last) }
 {
     let round = engine.progress().done;
     write_block(engine, head, round, last, plan, out)
@@ -79,7 +79,7 @@ pub(crate) fn report_table<K: Sink>(
     requires opened { begun.old.running ≡ opened begun.old.running.query table.now.head }
     requires texts { HeadHasTexts table.now.head }
     requires rows { length begun.old.plane ≡ begun.old.running.frame.rows }
-    requires width { begun.old.plan.width < 2 ^ 63 }
+    requires width { begun.old.plan.near.width < 2 ^ 63 }
     requires readable { IsReadable begun.old.plan.policy begun.old.running.frame }
     ensures done { OnOk result ((query : Query) → sql.now ≡ printed query
         → ReportsRounds query begun.old.running.query begun.old.plan table.now whole (K.state out.old) (K.state out.new)) }

@@ -76,9 +76,7 @@ fn written_line_refusal(parts: u32, why: LineRefusal) -> TextBuf
             b" has a space or a control character",
         ),
         LineRefusal::OtherForm => plain(b"scales of the sort column differ"),
-        LineRefusal::OtherDecimals(item) => {
-            with_number(b"scales of item ", after(item), b" differ")
-        }
+        LineRefusal::OtherItem(item) => { with_number(b"scales of item ", after(item), b" differ") }
         LineRefusal::TooWide(item) => with_number(b"item ", after(item), b" too wide"),
         LineRefusal::TooLong => plain(b"longer than 65536 bytes"),
     }

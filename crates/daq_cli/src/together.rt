@@ -17,6 +17,7 @@ ghost use Rattle.daq_cli.specs.Steps.{StopsStep, each};
 ghost use Rattle.daq_cli.specs.commands.Session.{IsPolicyFor, IsSessionPlan, asked_together, printed_forms, together_step, typing_step};
 
 use crate::course_report::Begun;
+use crate::question::nearness_of;
 use crate::refusal::Refusal;
 use crate::scripts::Scripted;
 use command_line::{Options, ReadOrder};
@@ -96,9 +97,9 @@ fn plan_of(options: &Options) -> Plan
 {
     Plan {
         policy: policy_of(&options.order),
-        width: options.width,
+        near: nearness_of(options),
         most: options.rounds,
-        list: options.list,
+        listing: options.listing,
         extras: Extras {
             clip: options.clip,
             exact: options.exact,
@@ -134,18 +135,19 @@ pub(crate) fn prepare_all(
         (asked_together (map scripted_of queries.now) (queries_of p.begun.running) head.now)) }
     ensures planned { IfOk result (λ p. IsSessionPlan (options_of options.now) p.begun.plan) }
     ensures valid { IfOk result (λ p. AreValid head.now (queries_of p.begun.running)) }
-    ensures opened { IfOk result (λ p. p.begun.running ≡ session_opened (queries_of p.begun.running) head.now p.begun.plan.width) }
+    ensures opened { IfOk result (λ p. p.begun.running ≡ session_opened (queries_of p.begun.running) head.now p.begun.plan.near) }
     ensures texts { IfOk result (λ p. map string_bytes p.sqls.items ≡ printed_forms (map scripted_of queries.now)) }
     ensures rows { IfOk result (λ p. length p.begun.plane ≡ p.begun.running.rows) }
     ensures unlisted { IfOk result (λ p. IsUnlisted p.begun.plan.policy) }
     ensures refused { IfErr result (StopsStep (together_step (map scripted_of queries.now) head.now)) }
 {
     let typed = type_each(alloc, queries, head)?;
-    let session = Session::open(alloc, typed, head, options.width)?;
+    let plan = plan_of(options);
+    let session = Session::open(alloc, typed, head, plan.near)?;
     let sqls = print_each(alloc, queries)?;
     let plane = Plane::blank(alloc, head.rows as usize)?;
     let begun = Begun {
-        plan: plan_of(options),
+        plan,
         running: session,
         plane,
     };

@@ -23,9 +23,9 @@ fn line_sentence(why: &str) -> &'static str {
     } else if why == "another query" {
         "ask all parts the same query, letter by letter"
     } else if why.starts_with("scales of ") {
-        "the parts have other decimals there: load all of them with one schema"
+        "the parts write the values there in other forms, as with other decimals: load all of them with one schema"
     } else if why == "possible rows are not listed" {
-        "for first rows ask all parts with --list"
+        "for first rows ask all parts with --part"
     } else if why.starts_with("the tag of part ") {
         "where first rows are asked for, a tag has no space and no control character: give the part another name"
     } else if why.starts_with("item ") {
@@ -33,7 +33,7 @@ fn line_sentence(why: &str) -> &'static str {
     } else if why.starts_with("longer than ") {
         "a line has at most 65536 bytes: this is no line of a report"
     } else {
-        "the report has no such line there: ask each part once, by a tag of its own; MIN and MAX take no texts"
+        "the report has no such line there: ask each part once, by a tag of its own; MIN and MAX take no text with a line feed"
     }
 }
 

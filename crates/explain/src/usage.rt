@@ -15,19 +15,21 @@ const USAGES: [(&str, &str); 8] = [
     ("demo", "daq demo SEED ROWS SQL [OPTION ..]"),
     (
         "combine",
-        "daq combine PARTS REPORTS [--width NUMBER] [--rounds NUMBER]",
+        "daq combine PARTS REPORTS [--width NUMBER] [--rounds NUMBER] [--keys]",
     ),
 ];
 
 // The options, and what stands behind each.
-const OPTIONS: [(&str, &str); 7] = [
+const OPTIONS: [(&str, &str); 9] = [
     ("--width", "a number of at most 9223372036854775807"),
     ("--rounds", "a number of at most 4294967295"),
     ("--policy", "widest, order, filter or balanced"),
     ("--reads", "names of columns, parted by commas"),
     ("--list", ""),
+    ("--part", ""),
     ("--clip", ""),
     ("--exact-avg", ""),
+    ("--keys", ""),
 ];
 
 // What stands beside a word in such a list.
@@ -79,15 +81,19 @@ fn push_reason(out: &mut String, scene: &Scene<'_>, number: usize) -> Result<(),
 
 // What is wrong with a word behind which no option asks for something.
 fn told_of(scene: &Scene<'_>, number: usize, word: &str) -> &'static str {
-    if number == 2 && scene.word_or_nothing(1) == "combine" {
+    let command = scene.word_or_nothing(1);
+    if number == 2 && command == "combine" {
         return " is no number of parts, from 1 to 65536";
     }
+    let usage = beside(&USAGES, command).unwrap_or("");
     match beside(&OPTIONS, word) {
-        Some(_) if word == "--reads" && scene.word_or_nothing(1) == "session" => {
-            " may not stand in a session"
-        }
+        Some(_) if !usage.ends_with("[OPTION ..]") => " may not stand here, or stands twice",
+        Some(_) if word == "--reads" && command == "session" => { " may not stand in a session" }
         Some(_) if word == "--reads" || word == "--policy" => {
             " may not stand here: --policy and --reads say the same, once"
+        }
+        Some(_) if word == "--list" || word == "--part" => {
+            " may not stand here: --list and --part say which rows are listed, once"
         }
         Some(_) => " may not stand here, or stands twice",
         None if word.starts_with("--") => " is no option",

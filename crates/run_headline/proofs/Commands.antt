@@ -62,7 +62,7 @@ module _ (law : Laws) where
         rounds = r.rounds;
         has = itself;
         certain = r.headline;
-        list = r.planned.planned.list;
+        listing = r.planned.planned.listing;
         extras = r.planned.planned.extras;
       } in
       answered question.query question.table.head (planes_of question.table) question.options ran out out' reports.text r.is reports.written.done
@@ -126,7 +126,7 @@ module _ (law : Laws) where
         rounds = completed.rounds.rounds;
         has = some.1;
         certain = (completed.headline some.0 some.1).0;
-        list = begun.planned.planned.list;
+        listing = begun.planned.planned.listing;
         extras = begun.planned.planned.extras;
       } in (
         begun.file.version,

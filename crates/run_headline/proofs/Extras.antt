@@ -12,6 +12,7 @@ use Rattle.daq_table.specs.Tables.{frame_of}
 use Rattle.daq_table.specs.declared.table_head.Head.{Head}
 use Rattle.plane_schedule.specs.Plans.{no_extras}
 use Rattle.plane_schedule.specs.declared.policy.Extras.{Extras}
+use Rattle.plane_schedule.specs.declared.policy.Listing.{Listing}
 use Rattle.plane_schedule.specs.declared.policy.Plan.{Plan}
 use Rattle.query_model.specs.Bounds.{average_under, bound_under}
 use Rattle.query_model.specs.declared.bounds.Bound.{Bound}
@@ -85,8 +86,8 @@ module _ (head : Head) (stage : Stage) where
   lined extra n [] = []
   lined extra n (item ∷ items) = (line_of n (answer item) ++ extra n item) ++ lined extra (n + 1) items
 
-  form_is : (list : Bool) (extras : Extras) → form_text head list extras stage Plain ≡ lined (extra_lines head stage extras) 1 stage.query.items
-  form_is list extras = search
+  form_is : (listing : Listing) (extras : Extras) → form_text head listing extras stage Plain ≡ lined (extra_lines head stage extras) 1 stage.query.items
+  form_is listing extras = search
 
   -- ---- what is added
 
@@ -102,10 +103,10 @@ module _ (head : Head) (stage : Stage) where
       in_both (line_of n (answer item) ++ extra_lines head stage no_extras n item) (line_of n (answer item) ++ extra_lines head stage extras n item)
       (lined (extra_lines head stage no_extras) (n + 1) items) (lined (extra_lines head stage extras) (n + 1) items) (item_adds extras n item) (items_add extras (n + 1) items)
 
-  form_adds : (list : Bool) (extras : Extras) → AddsIn (form_text head list no_extras stage Plain) (form_text head list extras stage Plain)
-  form_adds list extras =
-      subst (λ l. AddsIn l (form_text head list extras stage Plain)) (sym (form_is list no_extras))
-      (subst (AddsIn (lined (extra_lines head stage no_extras) 1 stage.query.items)) (sym (form_is list extras)) (items_add extras 1 stage.query.items))
+  form_adds : (listing : Listing) (extras : Extras) → AddsIn (form_text head listing no_extras stage Plain) (form_text head listing extras stage Plain)
+  form_adds listing extras =
+      subst (λ l. AddsIn l (form_text head listing extras stage Plain)) (sym (form_is listing no_extras))
+      (subst (AddsIn (lined (extra_lines head stage no_extras) 1 stage.query.items)) (sym (form_is listing extras)) (items_add extras 1 stage.query.items))
 
   line_ends : (round : ℕ) (last : Option ℕ) → EndsLine (round_line head stage round last)
   line_ends round None = ends_behind (codes "round ") _ (ends_line _)
@@ -119,10 +120,10 @@ module _ (one other : List ℕ → ℕ → List ℕ) (reads : List ℕ) (each : 
   blocks_add (suc n) = in_both (blocks_below one reads n) (blocks_below other reads n) (one reads n) (other reads n) (blocks_add n) (each n)
 
 abbrev bare : Plan → Plan
-bare plan = record { policy = plan.policy; width = plan.width; most = plan.most; list = plan.list; extras = no_extras }
+bare plan = record { policy = plan.policy; near = plan.near; most = plan.most; listing = plan.listing; extras = no_extras }
 
 abbrev with_extras : Extras → Plan → Plan
-with_extras extras plan = record { policy = plan.policy; width = plan.width; most = plan.most; list = plan.list; extras = extras }
+with_extras extras plan = record { policy = plan.policy; near = plan.near; most = plan.most; listing = plan.listing; extras = extras }
 
 module _ (sql : List ℕ) (head : Head) (plan : Plan) (extras : Extras) (query : TypedQuery) (bits : Planes) (reads : List ℕ) where
   abbrev stage : ℕ → Stage
@@ -132,7 +133,7 @@ module _ (sql : List ℕ) (head : Head) (plan : Plan) (extras : Extras) (query :
   line round = round_line head (stage round) round (column_read reads round)
 
   abbrev form : Extras → ℕ → Shape → List ℕ
-  form extras round shape = form_text head plan.list extras (stage round) shape
+  form extras round shape = form_text head plan.listing extras (stage round) shape
 
   abbrev end : List ℕ
   end = end_line (ending_at plan (stage (length reads)))
@@ -147,7 +148,7 @@ module _ (sql : List ℕ) (head : Head) (plan : Plan) (extras : Extras) (query :
   totals plain =
       let each : (round : ℕ) → AddsIn (line round ++ form no_extras round query.shape) (line round ++ form extras round query.shape) = λ round.
       subst (λ (s : Shape). AddsIn (line round ++ form no_extras round s) (line round ++ form extras round s)) (sym plain)
-      (in_both (line round) (line round) (form no_extras round Plain) (form extras round Plain) (stays (line round) (line_ends head (stage round) round (column_read reads round))) (form_adds head (stage round) plan.list extras)) in
+      (in_both (line round) (line round) (form no_extras round Plain) (form extras round Plain) (stays (line round) (line_ends head (stage round) round (column_read reads round))) (form_adds head (stage round) plan.listing extras)) in
       stays (query_line sql) (ends_behind (codes "query ") _ (ends_line sql)) _ _
       (blocks_add (block_of head (bare plan) query bits) (block_of head (with_extras extras plan) query bits) reads each (length reads) _ _ (each (length reads) end end (same end)))
 

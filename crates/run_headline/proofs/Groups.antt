@@ -123,7 +123,7 @@ module _ (law : Laws) (q : tree.Query) (head : Head) (bits : Planes) (options : 
 
   has_sections : (round : ℕ) → HasSections reading round (sections round) (rounds.block law q head bits options ran round)
   has_sections round =
-      let own = grouping.block_is law run ran.plan (rounds.sure law q head bits options ran) names grouped ran.plan.list ran.plan.extras round (column_read ran.reads round) in
+      let own = grouping.block_is law run ran.plan (rounds.sure law q head bits options ran) names grouped ran.plan.listing ran.plan.extras round (column_read ran.reads round) in
       record {
         text = own.0;
         are = own.2;

@@ -68,7 +68,7 @@ pub record IsRan (q : tree.Query) (head : Head) (bits : Planes) (options : Optio
   pub rounds : AreAllRounds plan query (frame_of head) bits reads
   pub has : HasPlanes query (frame_of head) bits (counts_after query reads (length reads)) cells
   pub certain : AreCertain query (frame_of head) cells reads
-  pub list : plan.list ≡ options.list
+  pub listing : plan.listing ≡ options.listing
   pub extras : plan.extras ≡ extras_of options
 
 module _ (law : Laws) (q : tree.Query) (head : Head) (bits : Planes) (options : Options) (ran : IsRan q head bits options) where
@@ -175,8 +175,8 @@ module _ (law : Laws) (q : tree.Query) (head : Head) (bits : Planes) (options : 
   abbrev pub block : ℕ → List ℕ
   block = block_of head ran.plan query bits reads
 
-  pub block_is : (round : ℕ) → block round ≡ block_text head ran.plan.list ran.plan.extras (stage_at run round) round (column_read reads round)
-  block_is round = ap (λ s. block_text head ran.plan.list ran.plan.extras s round (column_read reads round)) (same_stages query frame bits reads ran.cells ran.has round)
+  pub block_is : (round : ℕ) → block round ≡ block_text head ran.plan.listing ran.plan.extras (stage_at run round) round (column_read reads round)
+  block_is round = ap (λ s. block_text head ran.plan.listing ran.plan.extras s round (column_read reads round)) (same_stages query frame bits reads ran.cells ran.has round)
 
   -- the line of a round
   abbrev first_line : ℕ → Option ℕ → List ℕ

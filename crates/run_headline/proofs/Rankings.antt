@@ -1,8 +1,8 @@
 -- A report of rows in an order holds the first rows.
-use Rattle.std.proofs.Common.{◌≡◌, ℕ, ◌<◌, ◌≤◌, Bool, List, ◌++◌, length, refl, ap, subst, ◌∙◌}
+use Rattle.std.proofs.Common.{◌≡◌, ℕ, ◌+◌, ◌<◌, ◌≤◌, nat_abs, Bool, List, ◌++◌, length, refl, ap, subst, ◌∙◌, if◌then◌else◌}
 use Rattle.std.specs.List.{flat_map, range_with_len}
 use Rattle.command_line.specs.Commands.{Options}
-use Rattle.daq_report.specs.Rankings.{standing_at}
+use Rattle.daq_report.specs.Rankings.{is_untold, lists_possible, standing_at, untold_line}
 use Rattle.daq_table.specs.declared.table_head.Head.{Head}
 use Rattle.query_model.specs.declared.bounds.Standing.{Standing}
 use Rattle.query_model.specs.declared.bounds.Standing.TheVariants.{Certain, Excluded, Possible}
@@ -16,7 +16,7 @@ use Rattle.sql_text.specs.Tree as tree
 use Rattle.sql_text.specs.Tree.{Name}
 use Rattle.sql_text.specs.declared.tree.Num.{Num}
 use Rattle.table_rounds.specs.Rounds.{Planes, column_read}
-use Rattle.run_headline.specs.Rankings.{HasRows, HoldsRows, HoldsRanking, Place, counts_line, line_for}
+use Rattle.run_headline.specs.Rankings.{HasRows, HoldsRows, HoldsRanking, Place, certain_count, counts_line, line_for, possible_count}
 use Rattle.run_headline.specs.Printed.{line_of_round}
 use Rattle.run_headline.specs.Readings.{Reading}
 use Rattle.run_headline.proofs.Ran as rounds
@@ -67,22 +67,32 @@ module _ (law : Laws) (q : tree.Query) (head : Head) (bits : Planes) (options : 
   abbrev texts : ℕ → ℕ → List ℕ
   texts round row = ranked.text law run ran.plan (rounds.sure law q head bits options ran) key down limit ordered round row
 
-  has_rows : (round : ℕ) → HasRows reading ran.plan.list limit round (places round) (rounds.block law q head bits options ran round)
+  abbrev list : Bool
+  list = lists_possible ran.plan.listing
+
+  -- what is told of the rows, by their lines
+  abbrev told_by : ℕ → List ℕ → List ℕ
+  told_by round lines =
+      let standings = standing_at (stage_at run round) in
+      if is_untold ran.plan.listing (certain_count head.rows standings + possible_count head.rows standings) then untold_line (nat_abs limit.units)
+      else (counts_line limit head.rows standings ++ lines)
+
+  has_rows : (round : ℕ) → HasRows reading ran.plan.listing limit round (places round) (rounds.block law q head bits options ran round)
   has_rows round = record {
     texts = texts round;
     shown = ranked.shown law run ran.plan (rounds.sure law q head bits options ran) key down limit ordered round;
     is = rounds.block_is law q head bits options ran round
-        ∙ ranked.block_is law run ran.plan (rounds.sure law q head bits options ran) key down limit ordered ran.plan.list ran.plan.extras round (column_read ran.reads round)
-        ∙ ap (λ l. l ++ (counts_line limit head.rows (standing_at (stage_at run round)) ++ flat_map (λ row. ranked.line_by ran.plan.list row (texts round row) (standing_at (stage_at run round) row)) (range_with_len 0 head.rows)))
+        ∙ ranked.block_is law run ran.plan (rounds.sure law q head bits options ran) key down limit ordered ran.plan.listing ran.plan.extras round (column_read ran.reads round)
+        ∙ ap (λ l. l ++ told_by round (flat_map (λ row. ranked.line_by list row (texts round row) (standing_at (stage_at run round) row)) (range_with_len 0 head.rows)))
         (rounds.line_is law q head bits options ran round)
-        ∙ ap (λ l. line_of_round reading round ++ (counts_line limit head.rows (standing_at (stage_at run round)) ++ l))
-        (ranked.flat_same (λ row. ranked.line_by ran.plan.list row (texts round row) (standing_at (stage_at run round) row)) (λ row. line_for ran.plan.list row (texts round row) (standing_at (stage_at run round) row))
-        (λ row. line_is ran.plan.list row (texts round row) (standing_at (stage_at run round) row)) (range_with_len 0 head.rows));
+        ∙ ap (λ l. line_of_round reading round ++ told_by round l)
+        (ranked.flat_same (λ row. ranked.line_by list row (texts round row) (standing_at (stage_at run round) row)) (λ row. line_for list row (texts round row) (standing_at (stage_at run round) row))
+        (λ row. line_is list row (texts round row) (standing_at (stage_at run round) row)) (range_with_len 0 head.rows));
   }
 
-  pub told : HoldsRanking reading options.list key down limit (rounds.block law q head bits options ran)
+  pub told : HoldsRanking reading options.listing key down limit (rounds.block law q head bits options ran)
   told = record {
     places = places;
-    shown = λ round. subst (λ list. HasRows reading list limit round (places round) (rounds.block law q head bits options ran round)) ran.list (has_rows round);
+    shown = λ round. subst (λ listing. HasRows reading listing limit round (places round) (rounds.block law q head bits options ran round)) ran.listing (has_rows round);
     holds = holds;
   }

@@ -80,7 +80,7 @@ same_blocks f g each (suc n) = ap (λ l. l ++ f n) (same_blocks f g each n) ∙ 
 module _ (head : Head) (plan : Plan) (bits : Planes) (places : List ℕ) where
   -- the block of a query where a step went to it
   abbrev pub block_shown : ℕ → Query → Option (List ℕ)
-  block_shown step query = if is_moved plan.width (frame_of head) bits places query step then Some (own_block head plan bits places query step) else None
+  block_shown step query = if is_moved plan.near (frame_of head) bits places query step then Some (own_block head plan bits places query step) else None
 
   abbrev pub all_shown : List Query → ℕ → List (Option (List ℕ))
   all_shown queries step = map (block_shown step) queries
@@ -93,7 +93,7 @@ module _ (head : Head) (plan : Plan) (bits : Planes) (places : List ℕ) where
   pieces_are step number [] = refl
   pieces_are step number (query ∷ queries) =
       ap (λ l. l ++ numbered (block_at head plan bits places step) (number + 1) queries)
-      (piece_by (is_moved plan.width (frame_of head) bits places query step) step number (own_block head plan bits places query step))
+      (piece_by (is_moved plan.near (frame_of head) bits places query step) step number (own_block head plan bits places query step))
       ∙ ap (λ l. piece step number (block_shown step query) ++ l) (pieces_are step (number + 1) queries)
 
   shown_by : (b : Bool) (own : List ℕ) → unwrap_or (if b then Some own else None) [] ≡ (if b then own else [])
@@ -103,7 +103,7 @@ module _ (head : Head) (plan : Plan) (bits : Planes) (places : List ℕ) where
   shown_is : (queries : List Query) (place : ℕ) (query : Query) → slice_get queries place ≡ Some query → (step : ℕ) → unwrap_or (slice_index_or (all_shown queries step) place None) [] ≡ shown_of head plan bits query places step
   shown_is [] place query e step = absurd (none-some query e)
   shown_is (first ∷ queries) zero query e step =
-      shown_by (is_moved plan.width (frame_of head) bits places first step) (own_block head plan bits places first step)
+      shown_by (is_moved plan.near (frame_of head) bits places first step) (own_block head plan bits places first step)
       ∙ ap (λ (w : Query). shown_of head plan bits w places step) (same_Some first query e)
   shown_is (first ∷ queries) (suc place) query e step = shown_is queries place query e step
 
@@ -132,14 +132,14 @@ module _ (head : Head) (plan : Plan) (bits : Planes) (typed : List Query) (reads
             ∙ ap (λ l. queries_lines forms ++ (blocks_before (λ step. numbered (piece step) 1 (shown step)) last ++ (numbered (piece last) 1 (shown last) ++ l))) end.1;
       }
 
-module _ (law : Laws) (head : Head) (plan : Plan) (bytes : List ℕ) (typed : List Query) (reads : List ℕ) (options : Options) (list : plan.list ≡ options.list) (extras : plan.extras ≡ extras_of options)
+module _ (law : Laws) (head : Head) (plan : Plan) (bytes : List ℕ) (typed : List Query) (reads : List ℕ) (options : Options) (listing : plan.listing ≡ options.listing) (extras : plan.extras ≡ extras_of options)
     (headline : AreAllCertain plan typed head (bits_at head bytes) reads) (tables : AllAreOfTables plan typed head bytes reads) where
   abbrev bits : Planes
   bits = bits_at head bytes
 
   module _ (place : ℕ) (query : tree.Query) (is : IsTypedAt head typed place query) where
     abbrev own : List ℕ
-    own = own_reads plan.width (frame_of head) bits (places_read typed reads) is.typed_query (length reads)
+    own = own_reads plan.near (frame_of head) bits (places_read typed reads) is.typed_query (length reads)
 
     alone : IsShownAlone head plan bits (places_read typed reads) is.typed_query (length reads) own
     alone = (tables place is.typed_query is.there).0
@@ -157,7 +157,7 @@ module _ (law : Laws) (head : Head) (plan : Plan) (bytes : List ℕ) (typed : Li
       rounds = alone.rounds;
       has = of_tables.some.1;
       certain = (headline place is.typed_query is.there of_tables.some.0 of_tables.some.1).0;
-      list = list;
+      listing = listing;
       extras = extras;
     }
 
@@ -209,7 +209,7 @@ session_answered law s side side' planes planes' out out' does =
                   ∙ sym (length-map begun.queries (λ (one : Scripted). one.query));
               steps = has_steps head begun.plan (bits_at head bytes) typed reads begun.queries _ completed.rounds.rounds.ended;
               each = λ place query e.
-                  shown_alone law head begun.plan bytes typed reads s.options begun.planned.list begun.planned.extras completed.headline completed.tables place query (typed_at head begun.queries typed all_typed place query e);
+                  shown_alone law head begun.plan bytes typed reads s.options begun.planned.listing begun.planned.extras completed.headline completed.tables place query (typed_at head begun.queries typed all_typed place query e);
             },
           ),
     )

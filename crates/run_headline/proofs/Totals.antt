@@ -80,11 +80,11 @@ module _ (law : Laws) (q : tree.Query) (head : Head) (bits : Planes) (options : 
   texts round = (lined round).0
 
   abbrev besides : ℕ → List (List ℕ)
-  besides round = ((lined round).1.wanted ran.plan.list ran.plan.extras round (column_read ran.reads round)).0
+  besides round = ((lined round).1.wanted ran.plan.listing ran.plan.extras round (column_read ran.reads round)).0
 
   lines_are : (round : ℕ) → rounds.block law q head bits options ran round ≡ line_of_round (rounds.reading law q head bits options ran) round ++ lines_of 1 (texts round) (besides round)
   lines_are round =
-      rounds.block_is law q head bits options ran round ∙ ((lined round).1.wanted ran.plan.list ran.plan.extras round (column_read ran.reads round)).3
+      rounds.block_is law q head bits options ran round ∙ ((lined round).1.wanted ran.plan.listing ran.plan.extras round (column_read ran.reads round)).3
       ∙ ap (λ l. l ++ lines_of 1 (texts round) (besides round)) (rounds.line_is law q head bits options ran round)
 
   whole : typed_items head.columns (columns_of head.columns q) q.ending q.head ≡ typed_head head.columns (columns_of head.columns q) q.head
@@ -142,7 +142,7 @@ module _ (law : Laws) (q : tree.Query) (head : Head) (bits : Planes) (options : 
   extra place round t = extra_lines head (stage_at run round) ran.plan.extras (place + 1) t
 
   behind_is : (place : ℕ) (t : Aggregate) → slice_get ran.query.items place ≡ Some t → (round : ℕ) → slice_get (besides round) place ≡ Some (extra place round t)
-  behind_is place t there round = ((lined round).1.wanted ran.plan.list ran.plan.extras round (column_read ran.reads round)).2 place t there
+  behind_is place t there round = ((lined round).1.wanted ran.plan.listing ran.plan.extras round (column_read ran.reads round)).2 place t there
 
   -- spans that are told again hold the answer
   holds_again : (item : Item) (t : Aggregate) (spans : ℕ → Span) (texts : ℕ → List ℕ) → IsRetold run item t spans texts

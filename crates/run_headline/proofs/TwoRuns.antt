@@ -131,7 +131,7 @@ module _ (lists : AnswersAreOne) (valid : IsTypedValid) (once : RoundsAreOne) wh
   same_text sql head plan typed a b reads same =
       let stages = alike_stages typed (frame_of head) a b reads same in
       let n = length reads in
-      let blocks : (round : ℕ) → block_of head plan typed b reads round ≡ block_of head plan typed a reads round = λ round. ap (λ s. block_text head plan.list plan.extras s round (column_read reads round)) (sym (stages round)) in
+      let blocks : (round : ℕ) → block_of head plan typed b reads round ≡ block_of head plan typed a reads round = λ round. ap (λ s. block_text head plan.listing plan.extras s round (column_read reads round)) (sym (stages round)) in
       let below = same_below (block_of head plan typed b) (block_of head plan typed a) reads reads n (λ round h. blocks round) in
       let end = ap (λ s. end_line (ending_at plan s)) (sym (stages n)) in
       ap (λ l. query_line sql ++ (l ++ (block_of head plan typed b reads n ++ end_line (ending_at plan (stage_after typed (frame_of head) b reads n))))) below
@@ -173,10 +173,10 @@ module _ (lists : AnswersAreOne) (valid : IsTypedValid) (once : RoundsAreOne) wh
       HasSamePlanes (inquiry (without_extras asked) a) r (inquiry asked b) → AddsLines (text_by (inquiry (without_extras asked) a) r) (text_by (inquiry asked b) s)
   lines_added asked a b r s same =
       let extras = extras_of asked.options in
-      let plan : Plan = record { policy = r.plan.policy; width = r.plan.width; most = r.plan.most; list = r.plan.list; extras = extras } in
+      let plan : Plan = record { policy = r.plan.policy; near = r.plan.near; most = r.plan.most; listing = r.plan.listing; extras = extras } in
       let head = asked.head in
       let p = r.planned.planned in
-      let planned : IsPlanOf asked.options r.typed head plan = record { policy = p.policy; width = p.width; most = p.most; list = p.list; extras = refl } in
+      let planned : IsPlanOf asked.options r.typed head plan = record { policy = p.policy; near = p.near; most = p.most; listing = p.listing; extras = refl } in
       let more = text_is asked b r.typed plan r.reads s (s.planned.is_typed.same ∙ sym r.planned.is_typed.same) planned (all_rounds r.typed (frame_of head) a b r.reads same r.plan r.rounds) in
       let less = same_text (printed asked.query) head r.plan r.typed a b r.reads same in
       subst (AddsLines (text_by (inquiry (without_extras asked) a) r)) (sym more)
@@ -241,7 +241,7 @@ module _ (lists : AnswersAreOne) (valid : IsTypedValid) (once : RoundsAreOne) wh
       let all = all_rounds r.typed (frame_of head) a b r.reads same r.plan r.rounds in
       let cut = (rounds_cut most r.plan r.typed head b r.reads (p.most ∙ free) all).rounds in
       let plan = cuts.cut_at most r.plan in
-      let planned : IsPlanOf (cut_at most asked).options r.typed head plan = record { policy = p.policy; width = p.width; most = refl; list = p.list; extras = p.extras } in
+      let planned : IsPlanOf (cut_at most asked).options r.typed head plan = record { policy = p.policy; near = p.near; most = refl; listing = p.listing; extras = p.extras } in
       let is_typed = s.planned.is_typed.same ∙ sym r.planned.is_typed.same in (
         reads_are (cut_at most asked) b r.typed plan (take most r.reads) s is_typed planned cut,
         subst (IsBeginning (text_by (inquiry asked a) r)) (sym (text_is (cut_at most asked) b r.typed plan (take most r.reads) s is_typed planned cut))

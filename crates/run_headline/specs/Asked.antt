@@ -33,7 +33,7 @@ pub record HasScript (side side' : SourceState) (queries : List Query) : Type 0 
 
 -- the lines that options ask for
 abbrev pub wanted_by : Options → Wanted
-wanted_by options = record { list = options.list; clip = options.clip; exact = options.exact }
+wanted_by options = record { listing = options.listing; clip = options.clip; exact = options.exact }
 
 -- the input was read to its end, and the table is one that is taken: its bytes stand for it within the limits
 pub record HasTaken (items : List SchemaItem) (input input' : SourceState) (table : Contents) : Type 0 where

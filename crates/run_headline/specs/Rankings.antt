@@ -2,7 +2,9 @@
 use Rattle.std.specs.Prelude.{◌≡◌, ◌≢◌, ℕ, ◌+◌, ◌<◌, ◌≤◌, nat_abs, Bool, IsFalse, IsTrue, List, [], ◌++◌, codes, count_by}
 use Rattle.std.specs.Prelude.{decimal, if◌then◌else◌}
 use Rattle.std.specs.List.{flat_map, range_with_len}
+use Rattle.daq_report.specs.Rankings.{is_untold, lists_possible, untold_line}
 use Rattle.daq_table.specs.Tables.{Cells}
+use Rattle.plane_schedule.specs.declared.policy.Listing.{Listing}
 use Rattle.query_model.specs.Ranking.{StandingKept}
 use Rattle.query_model.specs.declared.bounds.Standing.{Standing}
 use Rattle.query_model.specs.declared.bounds.Standing.TheVariants.{Certain, Excluded, Possible}
@@ -26,25 +28,38 @@ pub record Place : Type 0 where
 abbrev pub row_line : List ℕ → ℕ → List ℕ → List ℕ
 row_line standing row text = (codes "row " ++ (decimal (row + 1) ++ standing)) ++ (text ++ codes "\n")
 
--- a row that is certain has a line, and one that is possible has where `--list` is given
+-- a row that is certain has a line, and one that is possible has where such rows are listed
 abbrev pub line_for : Bool → ℕ → List ℕ → Standing → List ℕ
 line_for list row text Certain = row_line (codes " certain ") row text
 line_for list row text Possible = if list then row_line (codes " possible ") row text else []
 line_for list row text Excluded = []
 
--- how many rows are asked for, and how many are certain and how many possible, of so many
+-- how many rows, of so many, are certain, and how many possible
+abbrev pub certain_count : ℕ → (ℕ → Standing) → ℕ
+certain_count rows standings = count_by (λ row. is_certain (standings row)) (range_with_len 0 rows)
+
+abbrev pub possible_count : ℕ → (ℕ → Standing) → ℕ
+possible_count rows standings = count_by (λ row. is_possible (standings row)) (range_with_len 0 rows)
+
+-- how many rows are asked for, and these counts
 abbrev pub counts_line : Num → ℕ → (ℕ → Standing) → List ℕ
 counts_line limit rows standings =
     codes "top " ++ (decimal (nat_abs limit.units)
-    ++ (codes " certain " ++ (decimal (count_by (λ row. is_certain (standings row)) (range_with_len 0 rows))
-    ++ (codes " possible " ++ (decimal (count_by (λ row. is_possible (standings row)) (range_with_len 0 rows)) ++ codes "\n")))))
+    ++ (codes " certain " ++ (decimal (certain_count rows standings)
+    ++ (codes " possible " ++ (decimal (possible_count rows standings) ++ codes "\n")))))
 
--- the block has the line of its round, that of the counts, and those of the rows
-pub record HasRows (reading : Reading) (list : Bool) (limit : Num) (round : ℕ) (places : ℕ → Place) (block : List ℕ) : Type 0 where
+-- the counts and the lines of the rows; with `--part`, where too many would have one, the line alone that tells of none
+abbrev pub rows_told : Listing → Num → ℕ → (ℕ → List ℕ) → (ℕ → Standing) → List ℕ
+rows_told listing limit rows texts standings =
+    if is_untold listing (certain_count rows standings + possible_count rows standings) then untold_line (nat_abs limit.units)
+    else (counts_line limit rows standings
+    ++ flat_map (λ row. line_for (lists_possible listing) row (texts row) (standings row)) (range_with_len 0 rows))
+
+-- the block has the line of its round, and what is told of the rows
+pub record HasRows (reading : Reading) (listing : Listing) (limit : Num) (round : ℕ) (places : ℕ → Place) (block : List ℕ) : Type 0 where
   pub texts : ℕ → List ℕ
   pub shown : (row : ℕ) → Shows (places row).key (texts row)
-  pub is : block ≡ line_of_round reading round ++ (counts_line limit reading.head.rows (λ row. (places row).standing)
-      ++ flat_map (λ row. line_for list row (texts row) (places row).standing) (range_with_len 0 reading.head.rows))
+  pub is : block ≡ line_of_round reading round ++ rows_told listing limit reading.head.rows texts (λ row. (places row).standing)
 
 -- ---- what it says
 
@@ -77,7 +92,7 @@ pub record HoldsRows (reading : Reading) (key : Name) (down : Bool) (limit : Num
       (places round row).standing ≢ Possible
 
 -- these are the blocks of a query with ORDER BY: their lines hold the first rows
-pub record HoldsRanking (reading : Reading) (list : Bool) (key : Name) (down : Bool) (limit : Num) (block : ℕ → List ℕ) : Type 0 where
+pub record HoldsRanking (reading : Reading) (listing : Listing) (key : Name) (down : Bool) (limit : Num) (block : ℕ → List ℕ) : Type 0 where
   pub places : ℕ → ℕ → Place
-  pub shown : (round : ℕ) → HasRows reading list limit round (places round) (block round)
+  pub shown : (round : ℕ) → HasRows reading listing limit round (places round) (block round)
   pub holds : HoldsRows reading key down limit places

@@ -3,6 +3,7 @@ use Rattle.std.specs.Prelude.{◌≡◌, ℕ, ◌<◌, ◌≤◌, ◌==◌, Bool
 use Rattle.std.specs.List.{AllByRecursion}
 use Rattle.daq_table.specs.Tables.{Cells, IsTable, ends_at, frame_of, planes}
 use Rattle.daq_table.specs.declared.table_head.Head.{Head}
+use Rattle.plane_schedule.specs.declared.policy.Listing.{Listing}
 use Rattle.query_model.specs.Knowledge.{plane_of}
 use Rattle.sql_meaning.specs.Conditions.{Row}
 use Rattle.sql_meaning.specs.Answers.{group_of}
@@ -12,10 +13,10 @@ use Rattle.sql_text.specs.Tree.{Query}
 use Rattle.sql_typing.specs.Names.{names_in, place_of}
 use Rattle.table_rounds.specs.Rounds.{Planes}
 
--- which lines are wanted beside the ordinary: with `--list` those of rows that may be among the first, with `--clip` and `--exact-avg` a
--- second line of an item
+-- which lines are wanted beside the ordinary: with `--list` and `--part` those of rows that may be among the first, with `--clip` and
+-- `--exact-avg` a second line of an item
 pub record Wanted : Type 0 where
-  pub list : Bool
+  pub listing : Listing
   pub clip : Bool
   pub exact : Bool
 

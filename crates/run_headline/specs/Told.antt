@@ -12,4 +12,4 @@ pub record IsTold (reading : Reading) (wanted : Wanted) (block : ℕ → List �
   pub totals : reading.text.ending ≡ Nothing → HoldsTotals reading wanted block
   pub groups : (names : List Name) → reading.text.ending ≡ Grouped names → HoldsSections reading block
   pub first : (key : Name) (down : Bool) (limit : Num) → reading.text.ending ≡ Ordered key down limit →
-      HoldsRanking reading wanted.list key down limit block
+      HoldsRanking reading wanted.listing key down limit block

@@ -90,7 +90,8 @@ abbrev pub without_extras : Asked → Asked
 without_extras asked =
     let o = asked.options in
     asked_with asked.query
-    (record { width = o.width; rounds = o.rounds; order = o.order; list = o.list; clip = false; exact = false }) asked.head
+    (record { width = o.width; rounds = o.rounds; order = o.order; listing = o.listing; clip = false; exact = false; keys = o.keys })
+    asked.head
 
 -- these two add lines to the report, and change none
 abbrev pub ExtrasAddLines : Type 0
@@ -106,7 +107,15 @@ abbrev pub cut_at : ℕ → Asked → Asked
 cut_at most asked =
     let o = asked.options in
     asked_with asked.query
-    (record { width = o.width; rounds = Some most; order = o.order; list = o.list; clip = o.clip; exact = o.exact }) asked.head
+    (record {
+      width = o.width;
+      rounds = Some most;
+      order = o.order;
+      listing = o.listing;
+      clip = o.clip;
+      exact = o.exact;
+      keys = o.keys;
+    }) asked.head
 
 -- the second report begins the first one, but for the line that says why its rounds ended
 pub record IsBeginning (whole cut : List ℕ) : Type 0 where

@@ -55,8 +55,8 @@ module _ (most : ℕ) (plan : Plan) (query : Query) (frame : Frame) (bits : Plan
 
   going_on : (stage : Stage) → IsNone (ending_at plan stage) → planes_read stage.known < most → IsNone (ending_at (cut_at most plan) stage)
   going_on stage h below =
-      subst (λ m. IsNone (first_ending (is_narrow plan.width stage) m (is_list_end plan.policy (planes_read stage.known)))) (sym (unequal (planes_read stage.known) most _ refl below))
-      (subst (λ o. IsNone (first_ending (is_narrow plan.width stage) (is_most o (planes_read stage.known)) (is_list_end plan.policy (planes_read stage.known)))) free h)
+      subst (λ m. IsNone (first_ending (is_narrow plan.near stage) m (is_list_end plan.policy (planes_read stage.known)))) (sym (unequal (planes_read stage.known) most _ refl below))
+      (subst (λ o. IsNone (first_ending (is_narrow plan.near stage) (is_most o (planes_read stage.known)) (is_list_end plan.policy (planes_read stage.known)))) free h)
 
   cut_rounds : (reads more : List ℕ) → AreRounds plan query frame bits (reads ++ more) → length reads ≤ most → AreRounds (cut_at most plan) query frame bits reads
   cut_rounds reads more rounds short =
@@ -82,13 +82,13 @@ module _ (most : ℕ) (plan : Plan) (query : Query) (frame : Frame) (bits : Plan
       let stage = stage_after query frame bits reads (length reads) in
       let read = read_at reads more rounds (length reads) (omega arith) in
       let here : (planes_read stage.known == most) ≡ true = (Decides-eqb (planes_read stage.known) most).1 (read ∙ full) in
-      subst (λ m. IsSome (first_ending (is_narrow plan.width stage) m (is_list_end plan.policy (planes_read stage.known)))) (sym here)
-      (most_ends (is_narrow plan.width stage) (is_list_end plan.policy (planes_read stage.known)))
+      subst (λ m. IsSome (first_ending (is_narrow plan.near stage) m (is_list_end plan.policy (planes_read stage.known)))) (sym here)
+      (most_ends (is_narrow plan.near stage) (is_list_end plan.policy (planes_read stage.known)))
 
   ends_before : (stage : Stage) → IsSome (ending_at plan stage) → IsSome (ending_at (cut_at most plan) stage)
   ends_before stage h =
-      still_ends (is_narrow plan.width stage) (planes_read stage.known == most) (is_list_end plan.policy (planes_read stage.known))
-      (subst (λ o. IsSome (first_ending (is_narrow plan.width stage) (is_most o (planes_read stage.known)) (is_list_end plan.policy (planes_read stage.known)))) free h)
+      still_ends (is_narrow plan.near stage) (planes_read stage.known == most) (is_list_end plan.policy (planes_read stage.known))
+      (subst (λ o. IsSome (first_ending (is_narrow plan.near stage) (is_most o (planes_read stage.known)) (is_list_end plan.policy (planes_read stage.known)))) free h)
 
   split : (reads : List ℕ) → take most reads ++ drop most reads ≡ reads
   split reads = take-append-drop most reads
@@ -115,9 +115,9 @@ module _ (most : ℕ) (plan : Plan) (query : Query) (frame : Frame) (bits : Plan
 pub rounds_cut : RoundsAreCut
 rounds_cut most plan query head bits reads free all = record {
   rounds = cut most plan query (frame_of head) bits free reads all (at_most_or_more most (length reads));
-  blocks = λ round low inside list extras last.
+  blocks = λ round low inside listing extras last.
       let long = length-take most reads in
-      ap (λ (s : Stage). block_text head list extras s round last)
+      ap (λ (s : Stage). block_text head listing extras s round last)
       (sym (alike_stage most plan query (frame_of head) bits free (take most reads) (drop most reads) round (omega (arith, long, low, inside)))
       ∙ ap (λ (l : List ℕ). stage_after query (frame_of head) bits l round) (take-append-drop most reads));
 }

@@ -10,6 +10,7 @@ use Rattle.daq_report.specs.Extras.{is_average}
 use Rattle.daq_table.specs.Tables.{Cells, ends_at, ends_of, frame_of, no_ends, rows_of}
 use Rattle.daq_table.specs.declared.head.ColumnHead.{ColumnHead}
 use Rattle.plane_schedule.specs.declared.policy.Extras.{Extras}
+use Rattle.plane_schedule.specs.declared.policy.Listing.{Listing}
 use Rattle.plane_schedule.specs.declared.policy.Plan.{Plan}
 use Rattle.query_model.proofs.Cells.{illegal_cells_are_empty, legal_cells_have_keys}
 use Rattle.query_model.specs.Answers.{Key, groups_of}
@@ -163,10 +164,10 @@ module _ (law : Laws) (run : Run) (plan : Plan) (is : IsSure run plan) (names : 
   all_numbered [] each = tt
   all_numbered (t ∷ ts) each = (each 0 t refl, all_numbered ts (λ place u e. each (suc place) u e))
 
-  pub block_is : (list : Bool) (extras : Extras) (round : ℕ) (last : Option ℕ) →
-      (text : List ℕ) × (block_text run.head list extras (stage_at run round) round last ≡ round_line run.head (stage_at run round) round last ++ text) × AreSections (sections_at round) text
-  block_is list extras round last =
-      sectioned.block_is run.head (stage_at run round) groups (columns_there own known_own) (all_numbered run.query.items numbered) shape_is list extras round last
+  pub block_is : (listing : Listing) (extras : Extras) (round : ℕ) (last : Option ℕ) →
+      (text : List ℕ) × (block_text run.head listing extras (stage_at run round) round last ≡ round_line run.head (stage_at run round) round last ++ text) × AreSections (sections_at round) text
+  block_is listing extras round last =
+      sectioned.block_is run.head (stage_at run round) groups (columns_there own known_own) (all_numbered run.query.items numbered) shape_is listing extras round last
 
   known_in : (n : Name) → IsKnown run.head.columns run.query.columns n → number n < length run.query.columns
   known_in n known = slice_get_within run.query.columns (number n) known.place known.number

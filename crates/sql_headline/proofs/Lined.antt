@@ -9,6 +9,7 @@ use Rattle.daq_report.specs.Items.{item_lines, items_text}
 use Rattle.daq_table.specs.declared.table_head.Head.{Head}
 use Rattle.plane_schedule.specs.Plans.{no_extras}
 use Rattle.plane_schedule.specs.declared.policy.Extras.{Extras}
+use Rattle.plane_schedule.specs.declared.policy.Listing.{Listing}
 use Rattle.query_model.specs.Bounds.{average_under, bound_under}
 use Rattle.query_model.specs.Queries.{Aggregate}
 use Rattle.query_model.specs.declared.query.ItemKind.{ItemKind}
@@ -44,8 +45,8 @@ module _ (head : Head) (stage : Stage) where
       → items_text head stage s ≡ lines_of 1 (map answer stage.query.items) (besides (extra_lines head stage extras) 1 stage.query.items)
   scoped extras s next = with_more (item_lines head stage s) (extra_lines head stage extras) (λ n. refl) next 1 stage.query.items
 
-  form_with : (list : Bool) (extras : Extras) → form_text head list extras stage Plain ≡ lines_of 1 (map answer stage.query.items) (besides (extra_lines head stage extras) 1 stage.query.items)
-  form_with list extras = search (scoped extras)
+  form_with : (listing : Listing) (extras : Extras) → form_text head listing extras stage Plain ≡ lines_of 1 (map answer stage.query.items) (besides (extra_lines head stage extras) 1 stage.query.items)
+  form_with listing extras = search (scoped extras)
 
   many : (extra : ℕ → Aggregate → List ℕ) (n : ℕ) (items : List Aggregate) → length (besides extra n items) ≡ length (map answer items)
   many extra n [] = refl
@@ -78,8 +79,8 @@ module _ (head : Head) (stage : Stage) where
   no_extra : (number : ℕ) (item : Aggregate) → extra_lines head stage no_extras number item ≡ []
   no_extra number item = neither (is_average item.kind) [] [] refl refl
 
-  form_alone : (list : Bool) → form_text head list no_extras stage Plain ≡ lines_of 1 (map answer stage.query.items) []
-  form_alone list = form_with list no_extras ∙ flat (extra_lines head stage no_extras) no_extra 1 stage.query.items
+  form_alone : (listing : Listing) → form_text head listing no_extras stage Plain ≡ lines_of 1 (map answer stage.query.items) []
+  form_alone listing = form_with listing no_extras ∙ flat (extra_lines head stage no_extras) no_extra 1 stage.query.items
 
   plain_text : (item : Aggregate) (kind : ItemKind) → kind ≢ kinds.Avg → (if is_average kind then averaged item else bounded item) ≡ bounded item
   plain_text item kinds.Count other = refl
@@ -104,13 +105,13 @@ module _ (head : Head) (stage : Stage) where
   lines is_plain = record {
     as_many = as_many stage.query.items;
     shown = shown_at is_plain stage.query.items;
-    plain = λ list round last.
-        ap (λ (s : Shape). round_line head stage round last ++ form_text head list no_extras stage s) is_plain ∙ ap (λ text. round_line head stage round last ++ text) (form_alone list);
-    wanted = λ list extras round last. (
+    plain = λ listing round last.
+        ap (λ (s : Shape). round_line head stage round last ++ form_text head listing no_extras stage s) is_plain ∙ ap (λ text. round_line head stage round last ++ text) (form_alone listing);
+    wanted = λ listing extras round last. (
       besides (extra_lines head stage extras) 1 stage.query.items,
       many (extra_lines head stage extras) 1 stage.query.items,
       behind (extra_lines head stage extras) 1 stage.query.items,
-      ap (λ (s : Shape). round_line head stage round last ++ form_text head list extras stage s) is_plain ∙ ap (λ text. round_line head stage round last ++ text) (form_with list extras),
+      ap (λ (s : Shape). round_line head stage round last ++ form_text head listing extras stage s) is_plain ∙ ap (λ text. round_line head stage round last ++ text) (form_with listing extras),
     );
   }
 

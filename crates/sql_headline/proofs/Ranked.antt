@@ -5,9 +5,10 @@ use Rattle.std.specs.List.{AllByRecursion, flat_map, range_with_len}
 use Rattle.std.specs.Prelude.{codes}
 use Rattle.daq_report.specs.Blocks.{block_text, form_text, round_line}
 use Rattle.daq_report.specs.Intervals.{bound_text}
-use Rattle.daq_report.specs.Rankings.{bound_of_range, row_start, row_text, standing_at, top_line}
+use Rattle.daq_report.specs.Rankings.{bound_of_range, certain_count, is_untold, lists_possible, possible_count, row_start, row_text, standing_at, top_line, untold_line}
 use Rattle.daq_table.specs.Tables.{Cells}
 use Rattle.plane_schedule.specs.declared.policy.Extras.{Extras}
+use Rattle.plane_schedule.specs.declared.policy.Listing.{Listing}
 use Rattle.plane_schedule.specs.declared.policy.Plan.{Plan}
 use Rattle.query_model.specs.Knowledge.{ranges_of}
 use Rattle.query_model.specs.Queries.{Query}
@@ -86,14 +87,23 @@ module _ (law : Laws) (run : Run) (plan : Plan) (is : IsSure run plan) (key : Na
   line_is list round row Possible = refl
   line_is list round row Excluded = refl
 
-  pub block_is : (list : Bool) (extras : Extras) (round : ℕ) (last : Option ℕ) →
-      block_text run.head list extras (stage_at run round) round last
-      ≡ round_line run.head (stage_at run round) round last ++ (top_line (stage_at run round) (nat_abs limit.units)
-      ++ flat_map (λ row. line_by list row (text round row) (standing_at (stage_at run round) row)) (range_with_len 0 run.head.rows))
-  block_is list extras round last =
+  -- where so many rows are not told a line says so, else their numbers stand before their lines
+  abbrev pub told_text : Listing → ℕ → List ℕ
+  told_text listing round =
       let stage = stage_at run round in
-      ap (λ (s : Shape). round_line run.head stage round last ++ form_text run.head list extras stage s) shape_is
-      ∙ ap (λ l. round_line run.head stage round last ++ (top_line stage (nat_abs limit.units) ++ l))
+      if is_untold listing (certain_count stage + possible_count stage) then untold_line (nat_abs limit.units)
+      else top_line stage (nat_abs limit.units)
+      ++ flat_map (λ row. line_by (lists_possible listing) row (text round row) (standing_at stage row)) (range_with_len 0 run.head.rows)
+
+  pub block_is : (listing : Listing) (extras : Extras) (round : ℕ) (last : Option ℕ) →
+      block_text run.head listing extras (stage_at run round) round last
+      ≡ round_line run.head (stage_at run round) round last ++ told_text listing round
+  block_is listing extras round last =
+      let stage = stage_at run round in
+      let list = lists_possible listing in
+      ap (λ (s : Shape). round_line run.head stage round last ++ form_text run.head listing extras stage s) shape_is
+      ∙ ap (λ l. round_line run.head stage round last ++ (if is_untold listing (certain_count stage + possible_count stage)
+      then untold_line (nat_abs limit.units) else top_line stage (nat_abs limit.units) ++ l))
       (flat_same (λ row. row_text run.head stage number list row (standing_at stage row)) (λ row. line_by list row (text round row) (standing_at stage row))
       (λ row. line_is list round row (standing_at stage row)) (range_with_len 0 run.head.rows))
 

@@ -9,6 +9,6 @@ use Rattle.table_rounds.specs.Rounds.{counts_after}
 use Rattle.sql_headline.specs.Blocks.{EqualPlanesGiveEqualBlocks}
 
 pub same_blocks : PlanesTellStages → EqualPlanesGiveEqualBlocks
-same_blocks tell head query reads round one other list extras last same =
-    ap (λ (s : Stage). block_text head list extras s round last)
+same_blocks tell head query reads round one other listing extras last same =
+    ap (λ (s : Stage). block_text head listing extras s round last)
     (tell query (frame_of head) (plane_of (frame_of head) one) (plane_of (frame_of head) other) (counts_after query reads round) same)

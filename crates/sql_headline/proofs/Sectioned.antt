@@ -18,6 +18,7 @@ use Rattle.daq_report.specs.Rankings.{bound_of_range}
 use Rattle.daq_table.specs.declared.head.ColumnHead.{ColumnHead}
 use Rattle.daq_table.specs.declared.table_head.Head.{Head}
 use Rattle.plane_schedule.specs.declared.policy.Extras.{Extras}
+use Rattle.plane_schedule.specs.declared.policy.Listing.{Listing}
 use Rattle.query_model.specs.Queries.{Aggregate}
 use Rattle.query_model.specs.Truths.{Range}
 use Rattle.query_model.specs.declared.bounds.Nullity.{Nullity}
@@ -157,11 +158,11 @@ module _ (head : Head) (stage : Stage) where
       sections_are [] = refl
       sections_are (cell ∷ cells) = one_more cell (absence_in_cell stage cell) (filter_map section_at cells) _ (sections_are cells)
 
-      pub block_is : stage.query.shape ≡ Grouped columns → (list : Bool) (extras : Extras) (round : ℕ) (last : Option ℕ) →
-          (text : List ℕ) × (block_text head list extras stage round last ≡ round_line head stage round last ++ text) × AreSections sections text
-      block_is grouped list extras round last = (
+      pub block_is : stage.query.shape ≡ Grouped columns → (listing : Listing) (extras : Extras) (round : ℕ) (last : Option ℕ) →
+          (text : List ℕ) × (block_text head listing extras stage round last ≡ round_line head stage round last ++ text) × AreSections sections text
+      block_is grouped listing extras round last = (
         groups_text head stage columns,
-        ap (λ (s : Shape). round_line head stage round last ++ form_text head list extras stage s) grouped,
+        ap (λ (s : Shape). round_line head stage round last ++ form_text head listing extras stage s) grouped,
         sections_are (range_with_len 0 (cells_in stage)),
       )
 

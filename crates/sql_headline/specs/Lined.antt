@@ -1,5 +1,5 @@
 -- The block of a query of totals: a line for each item, with the text that is shown of it, and what is wanted besides.
-use Rattle.std.specs.Prelude.{◌≡◌, ◌≢◌, ℕ, ◌+◌, Bool, List, [], ◌∷◌, ◌++◌, codes, decimal, length, slice_get}
+use Rattle.std.specs.Prelude.{◌≡◌, ◌≢◌, ℕ, ◌+◌, List, [], ◌∷◌, ◌++◌, codes, decimal, length, slice_get}
 use Rattle.std.specs.declared.option.Option.{Option}
 use Rattle.std.specs.declared.option.Option.TheVariants.{Some}
 use Rattle.daq_report.specs.Blocks.{block_text, round_line}
@@ -7,6 +7,7 @@ use Rattle.daq_report.specs.Extras.{extra_lines}
 use Rattle.daq_table.specs.declared.table_head.Head.{Head}
 use Rattle.plane_schedule.specs.Plans.{no_extras}
 use Rattle.plane_schedule.specs.declared.policy.Extras.{Extras}
+use Rattle.plane_schedule.specs.declared.policy.Listing.{Listing}
 use Rattle.query_model.specs.Queries.{Aggregate}
 use Rattle.query_model.specs.declared.query.ItemKind.TheVariants.{Avg}
 use Rattle.query_model.specs.declared.query.Shape.TheVariants.{Plain}
@@ -34,13 +35,13 @@ pub record AreLines (head : Head) (stage : Stage) (texts : List (List ℕ)) : Ty
   pub as_many : length texts ≡ length stage.query.items
   pub shown : (i : ℕ) (item : Aggregate) (text : List ℕ) → slice_get stage.query.items i ≡ Some item →
       slice_get texts i ≡ Some text → IsItemText head stage item text
-  pub plain : (list : Bool) (round : ℕ) (last : Option ℕ) →
-      block_text head list no_extras stage round last ≡ round_line head stage round last ++ lines_of 1 texts []
-  pub wanted : (list : Bool) (extras : Extras) (round : ℕ) (last : Option ℕ) →
+  pub plain : (listing : Listing) (round : ℕ) (last : Option ℕ) →
+      block_text head listing no_extras stage round last ≡ round_line head stage round last ++ lines_of 1 texts []
+  pub wanted : (listing : Listing) (extras : Extras) (round : ℕ) (last : Option ℕ) →
       (besides : List (List ℕ)) × (length besides ≡ length texts)
       × ((i : ℕ) (item : Aggregate) → slice_get stage.query.items i ≡ Some item →
       slice_get besides i ≡ Some (extra_lines head stage extras (i + 1) item))
-      × (block_text head list extras stage round last ≡ round_line head stage round last ++ lines_of 1 texts besides)
+      × (block_text head listing extras stage round last ≡ round_line head stage round last ++ lines_of 1 texts besides)
 
 -- each block of totals consists of such lines
 abbrev pub BlocksHaveLines : Type 0

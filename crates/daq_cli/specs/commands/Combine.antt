@@ -13,6 +13,8 @@ use Rattle.report_parts.specs.GroupHeadline.{AreGroupsCertain}
 use Rattle.report_parts.specs.Headline.{AreCertainAverages, AreCertainBeside, AreCertainOf, AreClippedOf, AreExactOf}
 use Rattle.report_parts.specs.Headline.{IsAverageIn, IsBesideIn, IsCertainIn, IsClippedIn, IsExactIn, IsOfTotals}
 use Rattle.report_parts.specs.RowHeadline.{AreRowsCertain}
+use Rattle.report_parts.specs.TextHeadline.{AreCertainTexts, AreClippedTexts, IsClippedTextIn, IsTextIn, own_line}
+use Rattle.part_groups.specs.Texts.{extreme_of}
 use Rattle.report_parts.specs.Told.{Told}
 use Rattle.report_parts.specs.declared.combination.Until.{Until}
 use Rattle.report_parts.specs.declared.shape.Shape.{Shape}
@@ -20,12 +22,13 @@ use Rattle.report_stream.specs.Accepted.{AreReports}
 use Rattle.report_stream.specs.Shown.{TellsFault}
 use Rattle.report_stream.specs.Streams.{AreLines, Combined, IsTask, StreamCause, first_line, lines_text}
 use Rattle.report_stream.specs.declared.fault.StreamFault.{StreamFault}
+use Rattle.text_extremes.specs.declared.extreme.Extreme.{Extreme}
 use Rattle.daq_cli.specs.Faults as of
 use Rattle.daq_cli.specs.declared.refusal.Refusal.{Refusal}
 
 -- up to which round
 abbrev pub until_of : Combine → Until
-until_of c = record { width = c.width; rounds = c.rounds }
+until_of c = record { near = record { width = c.width; keys = c.keys }; rounds = c.rounds }
 
 -- where an input tells these bytes, why they are refused, behind lines that are right
 pub record ShowsReports (c : Combine) (bytes : List ℕ) (why : Refusal) : Type 0 where
@@ -45,8 +48,9 @@ CombineAccepts c told text = (bytes : List ℕ) × (told ≡ Some bytes) × AreR
 
 -- where the report of each part is certain of an item over the part's own rows, so is each block that is printed over the rows of all parts
 -- together: it contains the answer, lies within the block before, and is the answer where each part says its own. So it is of the clipped
--- bounds in the lines behind. What a line behind says of an average contains it, and lies within what the block before says. Of an average
--- beside which the sum and the number of its values are asked it holds where the parts are certain of these too
+-- bounds in the lines behind, and of the least and the greatest text, in both lines. What a line behind says of an average contains it, and
+-- lies within what the block before says. Of an average beside which the sum and the number of its values are asked it holds where the
+-- parts are certain of these too
 pub record AreCertainTogether (shape : Shape) (parts : List Told) : Type 0 where
   pub items : (item : ℕ) (kind : ItemKind) (tables : List (List ℤ)) (round : ℕ) → kind ≢ Avg → slice_get shape.kinds item ≡ Some kind →
       AreCertainOf item kind parts tables → IsCertainIn round item kind shape parts tables
@@ -59,6 +63,12 @@ pub record AreCertainTogether (shape : Shape) (parts : List Told) : Type 0 where
       AreClippedOf item kind parts tables → IsClippedIn round item kind shape parts tables
   pub exact_averages : (item : ℕ) (tables : List (List ℤ)) (round : ℕ) → slice_get shape.kinds item ≡ Some Avg →
       AreExactOf item parts tables → IsExactIn round item shape parts tables
+  pub texts : (item : ℕ) (kind : ItemKind) (extreme : Extreme) (tables : List (List (List ℕ))) (round : ℕ) →
+      slice_get shape.kinds item ≡ Some kind → extreme_of kind ≡ Some extreme →
+      AreCertainTexts item extreme parts tables → IsTextIn own_line round item extreme shape parts tables
+  pub text_clips : (item : ℕ) (kind : ItemKind) (extreme : Extreme) (tables : List (List (List ℕ))) (round : ℕ) →
+      slice_get shape.kinds item ≡ Some kind → extreme_of kind ≡ Some extreme →
+      AreClippedTexts item extreme parts tables → IsClippedTextIn round item extreme shape parts tables
 
 -- the combined report of the lines that were read was written to its end. Of totals each interval in it is certain, where those of the
 -- parts are; so is each group of a query by groups, and each row where first rows are asked for

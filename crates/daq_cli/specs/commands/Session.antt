@@ -29,7 +29,7 @@ use Rattle.plane_course.specs.declared.reading.StepFault.{StepFault}
 use Rattle.daq_cli.specs.FileReports.{FileReport, IsCutOff, IsReported, IsStopped, refusal_at}
 use Rattle.daq_cli.specs.Files.{StopsOpening, file_step}
 use Rattle.daq_cli.specs.OfTables.{AllAreOfTables, AreCertainOf}
-use Rattle.daq_cli.specs.Questions.{extras_of}
+use Rattle.daq_cli.specs.Questions.{extras_of, nearness_of}
 use Rattle.daq_cli.specs.Scripts.{ReadsScript, ScriptCause, Scripted, queries_step}
 use Rattle.daq_cli.specs.SessionReport.{queries_lines, session_report, shown_steps}
 use Rattle.daq_cli.specs.Steps.{Step, each, then}
@@ -86,9 +86,9 @@ IsPolicyFor (line.reads names) policy = ⊥
 -- the plan of the options, which is that of all queries
 pub record IsSessionPlan (options : Options) (plan : Plan) : Type 0 where
   pub policy : IsPolicyFor options.order plan.policy
-  pub width : plan.width ≡ options.width
+  pub near : plan.near ≡ nearness_of options
   pub most : plan.most ≡ options.rounds
-  pub list : plan.list ≡ options.list
+  pub listing : plan.listing ≡ options.listing
   pub extras : plan.extras ≡ extras_of options
 
 -- the printed forms of queries
@@ -153,7 +153,7 @@ pub record BeginsSteps (words : line.Session) (side side' : SourceState) (planes
 abbrev pub AreAllCertain : Plan → List TypedQuery → Head → Planes → List ℕ → Type 0
 AreAllCertain plan queries head bits reads =
     (n : ℕ) (query : TypedQuery) → slice_get queries n ≡ Some query →
-    AreCertainOf query (frame_of head) bits (own_reads plan.width (frame_of head) bits (places_read queries reads) query (length reads))
+    AreCertainOf query (frame_of head) bits (own_reads plan.near (frame_of head) bits (places_read queries reads) query (length reads))
 
 -- the report of the queries. What is shown of each are the blocks of its report alone, which is that of each table that has the planes
 -- that it read, as the table has whose file the bytes are

@@ -7,10 +7,11 @@ ghost use Rattle.daq_cli.specs.commands.Combine.{CombineCause, CombinesReports};
 use crate::refusal::{Refusal, refused_reports};
 use command_line::Combine;
 use outer_world::{Sink, Source};
+use plane_schedule::Nearness;
 use report_parts::{
     Until, combined_averages_are_certain, combined_besides_are_certain, combined_clips_are_certain,
     combined_exact_averages_are_certain, combined_groups_are_certain, combined_is_certain,
-    combined_rows_are_certain,
+    combined_rows_are_certain, combined_text_clips_are_certain, combined_texts_are_certain,
 };
 use report_stream::combine_reports;
 use std::alloc::Global;
@@ -35,8 +36,13 @@ pub(crate) fn carry_out<S: Source, K: Sink>(
     combined_exact_averages_are_certain();
     combined_groups_are_certain();
     combined_rows_are_certain();
+    combined_texts_are_certain();
+    combined_text_clips_are_certain();
     let until = Until {
-        width: asked.width,
+        near: Nearness {
+            width: asked.width,
+            keys: asked.keys,
+        },
         rounds: asked.rounds,
     };
     match combine_reports(alloc, asked.parts as usize, until, input, out) {

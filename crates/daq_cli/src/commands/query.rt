@@ -42,7 +42,7 @@ fn report_query<P: Store, K: Sink>(
     requires valid { IsValid file.now.head begun.old.running.query }
     requires opened { begun.old.running ≡ opened begun.old.running.query file.now.head }
     requires rows { length begun.old.plane ≡ begun.old.running.frame.rows }
-    requires width { begun.old.plan.width < 2 ^ 63 }
+    requires width { begun.old.plan.near.width < 2 ^ 63 }
     requires readable { IsReadable begun.old.plan.policy begun.old.running.frame }
     ensures same { HoldsSame (P.state planes.old) (P.state planes.new) }
     ensures cause { HasStopCause (StopsAfter file.now.head (P.state planes.old) (P.state planes.new)) result

@@ -45,7 +45,7 @@ fn report_session<P: Store, K: Sink>(
 ) -> Result<(), Stop<PlaneFault>>
     requires holds { HoldsFile file.now.head (P.state planes.old) }
     requires valid { AreValid file.now.head (queries_of begun.old.running) }
-    requires opened { begun.old.running ≡ session_opened (queries_of begun.old.running) file.now.head begun.old.plan.width }
+    requires opened { begun.old.running ≡ session_opened (queries_of begun.old.running) file.now.head begun.old.plan.near }
     requires rows { length begun.old.plane ≡ begun.old.running.rows }
     requires unlisted { IsUnlisted begun.old.plan.policy }
     ensures same { HoldsSame (P.state planes.old) (P.state planes.new) }

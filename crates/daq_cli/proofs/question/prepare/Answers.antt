@@ -1,9 +1,10 @@
 -- A question is refused by its first step that shows why, or it has a plan that can be followed to its end.
-use Rattle.std.proofs.Common.{sym, ap, subst, inr}
+use Rattle.std.proofs.Common.{◌<◌, ◌^◌, sym, ap, subst, inr}
 use Rattle.std.proofs.lemmas.Result.{err_from_is_err_and}
 use Rattle.command_line.specs.Values.{options_of, order_of}
 use Rattle.daq_table.specs.Tables.{Frame}
 use Rattle.plane_schedule.specs.Plans.{IsReadable}
+use Rattle.plane_schedule.specs.declared.policy.Nearness.{Nearness}
 use Rattle.round_engine.specs.Stages.{Stage}
 use Rattle.sql_text.specs.Tree.{query_of}
 use Rattle.daq_cli.specs.Questions.{asked_with}
@@ -46,3 +47,6 @@ pub returns-clause-readable : goal.returns-clause-readable
 returns-clause-readable c =
     let readable = readable_of (order_of c.args.options.now.order) c.in_ok-typed.typed c.args.head.now c.in_ok-plan.plan.policy c.in_ok-plan.ensures.ok.policy in
     subst (λ (f : Frame). IsReadable c.in_ok-plan.plan.policy f) (sym (ap (λ (s : Stage). s.frame) c.in_ok-engine.ensures)) readable
+
+pub returns-clause-width : goal.returns-clause-width
+returns-clause-width c = subst (λ (near : Nearness). near.width < 2 ^ 63) (sym c.in_ok-plan.ensures.ok.near) c.requires.width

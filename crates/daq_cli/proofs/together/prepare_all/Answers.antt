@@ -1,8 +1,9 @@
 -- Queries are refused by the first step that shows why, or may be answered together.
-use Rattle.std.proofs.Common.{◌≡◌, ◌∙◌, List, ap, false, inr, length, map, subst, sym}
+use Rattle.std.proofs.Common.{◌≡◌, ◌∙◌, ◌<◌, ◌^◌, List, ap, false, inr, length, map, subst, sym}
 use Rattle.std.proofs.lemmas.List.{length-replicate}
 use Rattle.std.proofs.lemmas.Result.{err_from_is_err_and}
 use Rattle.multi_session.specs.Sessions.{Session, session_opened}
+use Rattle.plane_schedule.specs.declared.policy.Nearness.{Nearness}
 use Rattle.query_model.specs.Queries.{Query}
 use Rattle.table_rounds.specs.SessionLaws.{AreValid}
 use Rattle.daq_cli.specs.ScriptValues.{scripted_of}
@@ -33,28 +34,30 @@ returns-in_err-plane-clause-refused c =
     let p = err_from_is_err_and c.from_residual-in_err-plane.result c.from_residual-in_err-plane.ensures.1 in
     rw p.1 (inr p.2)
 
-opened_queries : (s : Session) (queries : List Query) (head : _) (width : _) → s ≡ session_opened queries head width → queries_of s ≡ queries
-opened_queries s queries head width is = ap queries_of is ∙ queries_of_opened queries head width
+opened_queries : (s : Session) (queries : List Query) (head : _) (near : _) → s ≡ session_opened queries head near → queries_of s ≡ queries
+opened_queries s queries head near is = ap queries_of is ∙ queries_of_opened queries head near
 
 pub returns-clause-accepted : goal.returns-clause-accepted
 returns-clause-accepted c =
     let typed = c.in_ok-typed.typed.items in
-    let same = opened_queries c.in_ok-session.session typed c.args.head.now c.args.options.now.width c.in_ok-session.ensures.opened in
+    let same = opened_queries c.in_ok-session.session typed c.args.head.now c.plan_of-plan.result.near c.in_ok-session.ensures.opened in
     (typed, c.in_ok-typed.ensures.typed, record { same = ap (λ l. asked_together (map scripted_of c.args.queries.now) l c.args.head.now) same; within = c.in_ok-session.ensures.within })
 
 pub returns-clause-valid : goal.returns-clause-valid
 returns-clause-valid c =
     let typed = c.in_ok-typed.typed.items in
-    subst (AreValid c.args.head.now) (sym (opened_queries c.in_ok-session.session typed c.args.head.now c.args.options.now.width c.in_ok-session.ensures.opened)) c.in_ok-typed.ensures.valid
+    subst (AreValid c.args.head.now) (sym (opened_queries c.in_ok-session.session typed c.args.head.now c.plan_of-plan.result.near c.in_ok-session.ensures.opened)) c.in_ok-typed.ensures.valid
 
 pub returns-clause-opened : goal.returns-clause-opened
 returns-clause-opened c =
     let typed = c.in_ok-typed.typed.items in
     let head = c.args.head.now in
     let session = c.in_ok-session.session in
-    let width = c.args.options.now.width in
-    subst (λ w. session ≡ session_opened (queries_of session) head w) (sym c.plan_of.ensures.planned.width)
-    (subst (λ l. session ≡ session_opened l head width) (sym (opened_queries session typed head width c.in_ok-session.ensures.opened)) c.in_ok-session.ensures.opened)
+    let near = c.plan_of-plan.result.near in
+    subst (λ l. session ≡ session_opened l head near) (sym (opened_queries session typed head near c.in_ok-session.ensures.opened)) c.in_ok-session.ensures.opened
+
+pub open-requires-clause-near : goal.open-requires-clause-near
+open-requires-clause-near c = subst (λ (near : Nearness). near.width < 2 ^ 63) (sym c.plan_of-plan.ensures.planned.near) c.requires.width
 
 pub returns-clause-rows : goal.returns-clause-rows
 returns-clause-rows c =

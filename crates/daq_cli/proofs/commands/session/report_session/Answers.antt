@@ -69,4 +69,4 @@ pub report_file-requires-clause-fits : goal.report_file-requires-clause-fits
 report_file-requires-clause-fits g c =
     let head = c.args.file.now.head in
     let queries = queries_of c.args.begun.now.running in
-    subst (λ s. FitsSession s head) (sym c.requires.opened) (fits_opened queries head c.args.begun.now.plan.width c.requires.valid)
+    subst (λ s. FitsSession s head) (sym c.requires.opened) (fits_opened queries head c.args.begun.now.plan.near c.requires.valid)

@@ -18,9 +18,9 @@ returns-clause-block g c = λ first bits reads after last_is.
     let stage = c.args.self.now in
     let round = length reads in
     subst (Writes c.write_round.result (g.K.Sink.state c.args.out.now) (g.K.Sink.state c.write_round.new.out))
-    (ap (λ (s : Stage). block_text head plan.list plan.extras s (planes_read s.known) c.args.last) c.view.ensures
-    ∙ ap (λ n. block_text head plan.list plan.extras stage n c.args.last) (c.rounds_are_counted.ensures plan first.query (frame_of head) bits reads stage after)
-    ∙ ap (block_text head plan.list plan.extras stage round) last_is ∙ ap (λ s. block_text head plan.list plan.extras s round (column_read reads round)) after.known)
+    (ap (λ (s : Stage). block_text head plan.listing plan.extras s (planes_read s.known) c.args.last) c.view.ensures
+    ∙ ap (λ n. block_text head plan.listing plan.extras stage n c.args.last) (c.rounds_are_counted.ensures plan first.query (frame_of head) bits reads stage after)
+    ∙ ap (block_text head plan.listing plan.extras stage round) last_is ∙ ap (λ s. block_text head plan.listing plan.extras s round (column_read reads round)) after.known)
     c.write_round.ensures
 
 pub returns-clause-stays : goal.returns-clause-stays
