@@ -16,7 +16,7 @@ use crate::small::item;
 use daq_report::write_block;
 use daq_table::{ColumnHead, ColumnHeads, Dictionary, Head, Kind, Name, Text};
 use outer_world::MemSink;
-use plane_schedule::{Extras, Plan};
+use plane_schedule::{Extras, Listing, Plan};
 use query_model::{
     Atom, Comparison, Expr, Face, ItemKind, Items, Pred, Shape, TableColumns, TypedQuery,
 };
@@ -194,14 +194,14 @@ fn lines_behind_items(rt: HostRuntime) -> Result<(), Fail> {
 }
 
 // The block of a ranking of so many rows of the market.
-fn ranking_shown(alloc: Global, limit: u32, list: bool) -> Result<MemSink, AllocError>
+fn ranking_shown(alloc: Global, limit: u32, listing: Listing) -> Result<MemSink, AllocError>
     requires limit { 1 ≤ limit }
     requires few { limit ≤ 1000 }
 {
     let head = market(alloc)?;
     let engine = ranked(alloc, &head, limit)?;
     let plan = Plan {
-        list,
+        listing,
         ..Plan::widest()
     };
     sink_after(alloc, &engine.view(), &head, None, &plan, 300)
@@ -211,17 +211,17 @@ fn ranking_shown(alloc: Global, limit: u32, list: bool) -> Result<MemSink, Alloc
 fn blocks_of_a_ranking(rt: HostRuntime) -> Result<(), Fail> {
     let alloc = rt.alloc();
     assert_eq!(rt;
-        ranking_shown(alloc, 2, false)?.contents(),
+        ranking_shown(alloc, 2, Listing::Certain)?.contents(),
         b"round 3\ntop 2 certain 2 possible 0\n\
             row 1 certain ['it''s', 'plum'] or null\nrow 2 certain ['it''s', 'plum'] or null\n"
             .as_slice()
     );
     assert_eq!(rt;
-        ranking_shown(alloc, 1, false)?.contents(),
+        ranking_shown(alloc, 1, Listing::Certain)?.contents(),
         b"round 3\ntop 1 certain 0 possible 2\n".as_slice()
     );
     assert_eq!(rt;
-        ranking_shown(alloc, 1, true)?.contents(),
+        ranking_shown(alloc, 1, Listing::All)?.contents(),
         b"round 3\ntop 1 certain 0 possible 2\n\
             row 1 possible ['it''s', 'plum'] or null\nrow 2 possible ['it''s', 'plum'] or null\n"
             .as_slice()

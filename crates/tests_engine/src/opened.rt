@@ -14,7 +14,7 @@ use crate::small::{item, step, whole_numbers};
 use daq_table::{ColumnHeads, Head};
 use interval_calc::{Fraction, Interval};
 use known_column::OverTop;
-use plane_schedule::Role;
+use plane_schedule::{Nearness, Role};
 use query_model::{
     Atom, AverageBound, Bound, Comparison, Expr, Face, ItemKind, Items, Nullity, Pred, Shape,
     TableColumns, Truth, TypedQuery,
@@ -126,13 +126,16 @@ fn take_three(alloc: Global, engine: &mut Engine) -> Result<Taken, AllocError>
 {
     let first = step(alloc, engine, 0, &[0, 1])?;
     let second = step(alloc, engine, 0, &[1, 1])?;
-    let between = (engine.view().progress().done, engine.view().narrow(0));
+    let between = (
+        engine.view().progress().done,
+        engine.view().narrow(Nearness::exact()),
+    );
     let third = step(alloc, engine, 0, &[1, 0])?;
     let progress = engine.view().progress();
     let last = (
         progress.unread[0],
         progress.role[0],
-        engine.view().narrow(0),
+        engine.view().narrow(Nearness::exact()),
     );
     Ok(([first, second, third], between, last))
 }

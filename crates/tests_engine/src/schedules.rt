@@ -5,7 +5,8 @@ ghost use Rattle.plane_schedule.specs.Choices.{HasUnread, IsSound, outlook_of};
 ghost use Rattle.plane_schedule.specs.Keeping.{Follows, Keeps};
 
 use plane_schedule::{
-    Chooser, Ending, Extras, FixedPolicy, Plan, Policy, Progress, Role, choose, listed,
+    Chooser, Ending, Extras, FixedPolicy, Listing, Nearness, Plan, Policy, Progress, Role, choose,
+    listed,
 };
 use query_model::Columns;
 use std::alloc::AllocError;
@@ -243,9 +244,9 @@ fn list_is_read_while_it_can(rt: HostRuntime) -> Result<(), AllocError> {
 fn first_ending_is_told(rt: HostRuntime) -> Result<(), AllocError> {
     let plan = Plan {
         policy: Policy::Listed(Columns::new(vec![in rt.alloc(); 0, 0]?)),
-        width: 0,
+        near: Nearness::exact(),
         most: Some(2),
-        list: false,
+        listing: Listing::Certain,
         extras: Extras::none(),
     };
     assert_eq!(rt; plan.ending(false, 1), None);

@@ -12,7 +12,7 @@ use crate::small::{item, question, small_head};
 use known_column::OverTop;
 use multi_session::{Session, SessionFault};
 use plane_kernels::{Plane, transpose};
-use plane_schedule::{Chooser, Progress, widest};
+use plane_schedule::{Chooser, Nearness, Progress, widest};
 use query_model::{Atom, Comparison, Expr, Face, ItemKind, Pred, TypedQuery};
 use std::alloc::{AllocError, Global};
 use std::test::Fail;
@@ -58,7 +58,8 @@ fn small_session(alloc: Global) -> Result<Session, SessionFault>
     ensures rows { IfOk result (λ session. session.rows ≡ 4) }
     ensures queries { IfOk result (λ session. length session.stages ≡ 3) }
 {
-    Session::open(alloc, three_queries(alloc)?, &small_head(alloc)?, 0)
+    let near = Nearness::exact();
+    Session::open(alloc, three_queries(alloc)?, &small_head(alloc)?, near)
 }
 
 // What a step did: the column that was read, the queries to which it went, and the number of each query's own reads.

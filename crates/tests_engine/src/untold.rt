@@ -13,7 +13,7 @@ use daq_table::{Head, width};
 use multi_session::{Session, SessionFault};
 use plane_course::{PlaneSource, StepFault, ending, read_next, session_ending};
 use plane_kernels::{Plane, transpose};
-use plane_schedule::{Chooser, Plan, Progress, widest};
+use plane_schedule::{Chooser, Nearness, Plan, Progress, widest};
 use query_model::{Atom, Comparison, Expr, Face, ItemKind, Pred, TypedQuery};
 use round_engine::Engine;
 use std::alloc::{AllocError, Global};
@@ -158,7 +158,7 @@ fn session_of(alloc: Global, queries: Vec<TypedQuery>, head: &Head) -> Result<Se
     ensures rows { IfOk result (λ session. session.rows ≡ head.now.rows) }
     ensures fits { IfOk result (λ session. FitsSession session head.now) }
 {
-    Session::open(alloc, queries, head, 0)
+    Session::open(alloc, queries, head, Nearness::exact())
 }
 
 // The column of the next step, or none where there is no such step.

@@ -4,7 +4,7 @@ use command_line::{
     Ask, Combine, Command, Demo, Info, Load, Options, Query, ReadOrder, Session, Upgrade, Usage,
     Words,
 };
-use plane_schedule::FixedPolicy;
+use plane_schedule::{FixedPolicy, Listing};
 use std::alloc::{AllocError, Global};
 use std::test::Fail;
 
@@ -18,7 +18,7 @@ fn words_of(alloc: Global, line: &str) -> Result<Words, AllocError> {
 }
 
 // Words that are no command, and the place where they go wrong.
-const WRONG: [(&str, usize); 55] = [
+const WRONG: [(&str, usize); 58] = [
     ("", 1),
     ("sum p.csv s q", 1),
     ("Ask p.csv s q", 1),
@@ -27,6 +27,8 @@ const WRONG: [(&str, usize); 55] = [
     ("ask p.csv s", 4),
     ("ask p.csv s q more", 5),
     ("ask p.csv s q --list --list", 6),
+    ("ask p.csv s q --list --part", 6),
+    ("ask p.csv s q --part --keys --part", 7),
     ("ask p.csv s q --width", 6),
     ("ask p.csv s q --width x", 6),
     ("ask p.csv s q --width -1", 6),
@@ -67,6 +69,7 @@ const WRONG: [(&str, usize); 55] = [
     ("combine 2", 3),
     ("combine 2 r.txt more", 4),
     ("combine 2 r.txt --list", 4),
+    ("combine 2 r.txt --part", 4),
     ("combine 2 r.txt --width 1 --width 2", 6),
     ("combine 2 r.txt --rounds 4294967296", 5),
     ("help query", 2),
@@ -95,9 +98,10 @@ fn a_query_over_a_csv(rt: HostRuntime) -> Result<(), Fail> {
         width: 9_223_372_036_854_775_807,
         rounds: Some(7),
         order: ReadOrder::Reads("a,b"),
-        list: false,
+        listing: Listing::Certain,
         clip: true,
         exact: false,
+        keys: false,
     };
     let ask = Ask {
         csv: "--list",
@@ -113,15 +117,16 @@ fn a_query_over_a_csv(rt: HostRuntime) -> Result<(), Fail> {
 fn a_query_over_a_generated_table(rt: HostRuntime) -> Result<(), Fail> {
     let words = words_of(
         rt.alloc(),
-        "demo 18446744073709551615 0 q --exact-avg --list --policy filter",
+        "demo 18446744073709551615 0 q --exact-avg --keys --list --policy filter",
     )?;
     let options = Options {
         width: 0,
         rounds: None,
         order: ReadOrder::By(FixedPolicy::FilterFirst),
-        list: true,
+        listing: Listing::All,
         clip: false,
         exact: true,
+        keys: true,
     };
     let demo = Demo {
         seed: 18_446_744_073_709_551_615,
@@ -139,13 +144,14 @@ fn questions_to_plane_files(rt: HostRuntime) -> Result<(), Fail> {
         width: 0,
         rounds: Some(3),
         order: ReadOrder::By(FixedPolicy::Widest),
-        list: false,
+        listing: Listing::Few,
         clip: true,
         exact: true,
+        keys: false,
     };
     let commands = [
         (
-            "query p.daq q --exact-avg --rounds 3 --clip",
+            "query p.daq q --exact-avg --part --rounds 3 --clip",
             Command::Query(Query {
                 file: "p.daq",
                 sql: "q",
@@ -153,7 +159,7 @@ fn questions_to_plane_files(rt: HostRuntime) -> Result<(), Fail> {
             }),
         ),
         (
-            "session p.daq --reads --rounds 3 --exact-avg --policy widest --clip",
+            "session p.daq --reads --rounds 3 --exact-avg --policy widest --clip --part",
             Command::Session(Session {
                 file: "p.daq",
                 script: "--reads",
@@ -198,23 +204,32 @@ fn commands_over_whole_plane_files(rt: HostRuntime) -> Result<(), Fail> {
 #[test]
 fn reports_of_parts(rt: HostRuntime) -> Result<(), Fail> {
     let commands = [
-        ("combine 1 --width", 1, "--width", 0, None),
-        ("combine 065536 r.txt --width 7", 65_536, "r.txt", 7, None),
+        ("combine 1 --width", 1, "--width", 0, None, false),
+        (
+            "combine 065536 r.txt --keys --width 7",
+            65_536,
+            "r.txt",
+            7,
+            None,
+            true,
+        ),
         (
             "combine 12 r.txt --rounds 0 --width 9223372036854775807",
             12,
             "r.txt",
             9_223_372_036_854_775_807,
             Some(0),
+            false,
         ),
     ];
-    for (line, parts, reports, width, rounds) in commands {
+    for (line, parts, reports, width, rounds, keys) in commands {
         let words = words_of(rt.alloc(), line)?;
         let combine = Combine {
             parts,
             reports,
             width,
             rounds,
+            keys,
         };
         assert_eq!(rt; Command::parse(&words), Ok(Command::Combine(combine)));
     }

@@ -85,6 +85,7 @@ fn groups_of(alloc: Global, parts: &[Lines]) -> Result<Vec<Group>, AllocError> {
             groups.push(Group {
                 line,
                 answers: Listed::new(answers),
+                texts: Listed::new(Vec::new(alloc)),
             })?;
         }
     }

@@ -1,11 +1,12 @@
 //! The reports of a table's parts, read line by line and combined: worked out by hand.
 
 use daq_table::Listed;
+use plane_schedule::Nearness;
 use query_model::{Bound, ItemKind, Nullity};
 use report_parts::{
-    Asked, BlockFault, Combination, CombineFault, EndFault, Entry, InputFault, LineFault, Part,
-    Parts, Shape, Until, all_have_block, combine_item, end_behind, have_all_ended, is_narrow,
-    may_end, written_block, written_opening,
+    Asked, BlockFault, Combination, CombineFault, EndFault, InputFault, LineFault, Part, Parts,
+    Shape, Until, all_have_block, combine_item, end_behind, have_all_ended, is_narrow, may_end,
+    written_block, written_opening,
 };
 use report_text::{Answer, Form, Number, Ratio, ReportEnd, ShownAverage, ShownBound};
 use std::alloc::{AllocError, Global};
@@ -45,11 +46,19 @@ fn value_within(null: Nullity, lo: i128, hi: i128) -> Answer {
     })
 }
 
-fn value(null: Nullity, lo: i128, hi: i128) -> Result<Entry, CombineFault> {
-    Ok(Entry {
-        answer: value_within(null, lo, hi),
-        extra: None,
-    })
+fn value(null: Nullity, lo: i128, hi: i128) -> Result<Answer, CombineFault> {
+    Ok(value_within(null, lo, hi))
+}
+
+// The answer of an item over all parts.
+fn answer_over(
+    alloc: Global,
+    kind: ItemKind,
+    round: usize,
+    item: usize,
+    parts: &[Part],
+) -> Result<Answer, CombineFault> {
+    Ok(combine_item(alloc, kind, round, item, parts)?.answer)
 }
 
 /// A part that ends behind its second block, and one that ends behind its first.
@@ -89,15 +98,15 @@ fn a_part_that_has_ended_stands_by_its_last_block(rt: HostRuntime) {
     };
     assert!(rt; all_have_block(1, &parts));
     assert_eq!(rt;
-        combine_item(alloc, ItemKind::Sum, 0, 0, &parts),
+        answer_over(alloc, ItemKind::Sum, 0, 0, &parts),
         value(Nullity::Never, 3, 29)
     );
     assert_eq!(rt;
-        combine_item(alloc, ItemKind::Sum, 1, 0, &parts),
+        answer_over(alloc, ItemKind::Sum, 1, 0, &parts),
         value(Nullity::Never, 14, 22)
     );
     assert_eq!(rt;
-        combine_item(alloc, ItemKind::Count, 1, 1, &parts),
+        answer_over(alloc, ItemKind::Count, 1, 1, &parts),
         value(Nullity::Never, 2, 3)
     );
 }
@@ -215,17 +224,17 @@ fn other_decimals_are_refused(rt: HostRuntime) {
     };
     let parts = [whole, tenths];
     assert_eq!(rt;
-        combine_item(alloc, ItemKind::Sum, 0, 0, &parts),
-        Err(CombineFault::OtherDecimals)
+        answer_over(alloc, ItemKind::Sum, 0, 0, &parts),
+        Err(CombineFault::OtherForm)
     );
     assert_eq!(rt;
-        combine_item(alloc, ItemKind::Count, 0, 1, &parts),
+        answer_over(alloc, ItemKind::Count, 0, 1, &parts),
         value(Nullity::Never, 2, 2)
     );
     let Err(why) = written_block(alloc, 0, &KINDS, &parts) else {
         panic!(rt; "a block is written");
     };
-    assert_eq!(rt; why, BlockFault::OtherDecimals(0));
+    assert_eq!(rt; why, BlockFault::OtherItem(0));
     assert_eq!(rt; may_end(2, &parts), Err(EndFault::EndsEarly(0)));
 }
 
@@ -419,7 +428,8 @@ const INTERLEAVED: [&[u8]; 14] = [
 ];
 
 fn until(width: u64, rounds: Option<u32>) -> Until {
-    Until { width, rounds }
+    let near = Nearness { width, keys: false };
+    Until { near, rounds }
 }
 
 #[test]

@@ -1,6 +1,6 @@
 //! Lines of queries in front of reports, and lines that are none.
 
-use query_kinds::{Beside, KindsFault, averages_beside, query_shape};
+use query_kinds::{Beside, KindsFault, query_shape};
 use query_model::ItemKind;
 use std::alloc::Global;
 use std::test::Fail;
@@ -93,12 +93,12 @@ fn lines_of_no_totals(rt: HostRuntime) -> Result<(), Fail> {
 
 // What stands beside the last aggregate of the query of the line.
 fn last_beside(alloc: Global, line: &[u8]) -> Result<Option<Beside>, KindsFault> {
-    averages_beside(alloc, line).map(|besides| besides.last().copied().flatten())
+    query_shape(alloc, line).map(|shape| shape.besides.last().copied().flatten())
 }
 
 #[test]
 fn sums_beside_averages(rt: HostRuntime) -> Result<(), Fail> {
-    let lines: [(&[u8], Option<Beside>); 5] = [
+    let lines: [(&[u8], Option<Beside>); 6] = [
         (
             b"query SELECT COUNT(a), SUM(b), SUM(a), SUM(a), AVG(a) FROM t",
             Some(Beside { sum: 2, count: 0 }),
@@ -110,6 +110,10 @@ fn sums_beside_averages(rt: HostRuntime) -> Result<(), Fail> {
         (b"query SELECT SUM(a), COUNT(*), AVG(a) FROM t", None),
         (b"query SELECT SUM(a + b), COUNT(a), AVG(a) FROM t", None),
         (b"query SELECT AVG(a), COUNT(a), SUM(a) FROM t", None),
+        (
+            b"query SELECT city, SUM(a), city, COUNT(a), AVG(a) FROM t GROUP BY city",
+            Some(Beside { sum: 0, count: 1 }),
+        ),
     ];
     for (line, beside) in lines {
         assert_eq!(rt; last_beside(rt.alloc(), line), Ok(beside));

@@ -1,6 +1,7 @@
 //! Reports of parts, read from a source in memory and combined on a sink: worked out by hand.
 
 use outer_world::{MemSink, MemSource, read_all};
+use plane_schedule::Nearness;
 use report_parts::Until;
 use report_stream::{LineRefusal, StreamFault, combine_reports};
 use std::alloc::{AllocError, Global};
@@ -50,7 +51,7 @@ fn combined(alloc: Global, bytes: Vec<u8>, fails: Vec<u64>, room: usize) -> Resu
     let mut source = MemSource::new(bytes, 1, fails);
     let mut sink = MemSink::with_room(alloc, room, 5, Vec::new(alloc))?;
     let until = Until {
-        width: 0,
+        near: Nearness::exact(),
         rounds: None,
     };
     let done = combine_reports(alloc, 2, until, &mut source, &mut sink);
