@@ -12,11 +12,11 @@ _daq() {
         return ;;
     *-query---policy* | *-session---policy* | *-ask---policy* | *-demo---policy*) choices='widest order filter balanced' ;;
     *-query-* | *-ask-* | *-demo-*)
-        case $word in -*) choices='--width --rounds --policy --reads --list --clip --exact-avg' ;; esac ;;
+        case $word in -*) choices='--width --rounds --policy --reads --list --part --keys --clip --exact-avg' ;; esac ;;
     *-combine-*)
-        case $word in -*) choices='--width --rounds' ;; esac ;;
+        case $word in -*) choices='--width --rounds --keys' ;; esac ;;
     *-session-*)
-        case $word in -*) choices='--width --rounds --policy --list --clip --exact-avg' ;; esac ;;
+        case $word in -*) choices='--width --rounds --policy --list --part --keys --clip --exact-avg' ;; esac ;;
     esac
     mapfile -t COMPREPLY < <(compgen -W "$choices" -- "$word")
 }

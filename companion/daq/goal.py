@@ -34,13 +34,16 @@ class Goal:
         relative = text.endswith("%")
         return Goal(number / 100 if relative else number, relative)
 
-    def reached(self, block: Block) -> bool:
-        """Whether each item of the block is so narrow, and each group surely there.
+    def reached(self, block: Block, keys: bool = False) -> bool:
+        """Whether each item of the block is so narrow, and each group surely there; of first rows in an order, if it is asked for their
+        `keys`, whether these are so narrow.
 
-        The first rows in an order are not a question of width: there the program ends by itself.
+        Which rows are the first is not a question of width: there the program ends by itself.
         """
+        if block.ranking:
+            return keys and block.ranking.possible == 0 and all(self.holds(row.interval) for row in block.ranking.rows)
         sure = all(group.state in ("", "present") for group in block.groups)
-        return sure and not block.ranking and all(self._item(item) for group in block.groups for item in group.items)
+        return sure and all(self._item(item) for group in block.groups for item in group.items)
 
     def _item(self, item: Item) -> bool:
         # Each of the lines of an item is certain by itself.

@@ -80,7 +80,7 @@ class PageHandler(BaseHTTPRequestHandler):
 def events(table: Table, given: dict[str, str]) -> Iterator[tuple[str, Any]]:
     """The blocks of a query as the page draws them, and then why it ended, or what is wrong with it."""
     try:
-        words = options(given.get("policy"), None, None, False, False, False)
+        words = options(given.get("policy"))
         question, chart = Asked(table, given.get("sql", ""), given.get("within") or None, words), Chart(table.columns)
         for block in question:
             yield "block", block_told(chart, block)

@@ -11,11 +11,13 @@ from typing import Callable, Iterator, NamedTuple, Optional, Sequence, Union
 
 from .errors import CutError, DaqError, FileError, ReportError
 from .program import Failed, Run, find_program, query_error
-from .report import asks_for_rows
+from .report import asks_for_extremes, asks_for_rows
 from .table import Column, Table
 from .values import Value
 
 _CHUNK = 65536
+# What `combine` does not take of texts, whose lines then are none of a report.
+TEXTS = " (MIN and MAX of texts are combined where no text has a line break)"
 
 Files = Union[str, os.PathLike, Sequence[Union[str, os.PathLike]]]
 
@@ -41,15 +43,19 @@ class Parts(Table):
         has_order = asks_for_rows(text)
         if "--list" in words and not has_order:
             raise ValueError("a table in parts is asked without list, but for first rows")
-        # A row that is only possible in its part may be among the first of all.
-        listed = ["--list"] if has_order and "--list" not in words else []
+        # A row that is only possible in its part may be among the first of all. So each part lists its possible rows, and goes on until
+        # their keys are known. Where they are more than `--part` lists, none is judged.
+        asked = [word for word in words if word not in ("--list", "--keys")] + ["--part", "--keys"] if has_order else list(words)
         place = words.index("--rounds") if "--rounds" in words else len(words)
-        return PartsRun(self.program, [table.path for table in self.tables], [text, *words, *listed], words[place : place + 2])
+        limits = words[place : place + 2] + (["--keys"] if "--keys" in words else [])
+        return PartsRun(self.program, [table.path for table in self.tables], [text, *asked], limits)
 
     def error(self, failed: Failed, text: str) -> DaqError:
         told = failed.behind("report refused: ")
         if failed.words[0] == "combine" and failed.status == 9 and told:
-            return ReportError("the reports of the parts are not combined: %s" % told)
+            texts = [column.name for column in self.columns if column.type == "text"]
+            is_of_texts = told.endswith(" at this place") and asks_for_extremes(text, texts)
+            return ReportError("the reports of the parts are not combined: %s%s" % (told, TEXTS if is_of_texts else ""))
         path = failed.words[1] if failed.words[0] == "query" else self.path
         return query_error(failed, path, text, [column.name for column in self.columns])
 

@@ -97,7 +97,7 @@ class RankedRow:
 class Ranking:
     """The first `limit` rows in an order: how many are certain, how many others possible, and those that the report lists.
 
-    `possible` is None where no row is judged, since a part has too many that are possible: then none is certain, and none listed.
+    `possible` is None where nothing is told of the rows, since a part has too many to list: then none is certain, and none listed.
     """
 
     limit: int
@@ -309,7 +309,7 @@ class _Body:
     def ranking(self, is_combined: bool) -> Ranking:
         top = self.need(_TOP)
         limit, certain, possible = int(top[1]), int(top[2]), None if top[3] is None else int(top[3])
-        if possible is None and not (is_combined and certain == 0):
+        if possible is None and certain:
             raise _unknown(top[0])
         rows = tuple(self.ranked_rows(is_combined))
         known = sum(row.state == "certain" for row in rows)
@@ -418,6 +418,13 @@ def asks_for_rows(text: str) -> bool:
     """Whether a query, as people write it, is one for the first rows in an order."""
     words = [word.upper() for word in _TOKEN.findall(text)]
     return ("ORDER", "BY") in zip(words, words[1:])
+
+
+def asks_for_extremes(text: str, columns: Iterable[str]) -> bool:
+    """Whether a query, as people write it, asks for the least or the greatest value of one of these columns."""
+    words, names = _TOKEN.findall(text), set(columns)
+    calls = zip(words, words[1:], words[2:])
+    return any(call.upper() in ("MIN", "MAX") and sign == "(" and _unquoted(name) in names for call, sign, name in calls)
 
 
 def _parted(words: list[str], first: int, end: int) -> Iterator[tuple[int, int]]:

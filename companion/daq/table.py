@@ -65,21 +65,21 @@ class Table:
         return query_error(failed, self.path, text, [column.name for column in self.columns])
 
     def sql(self, text: str, within: Optional[Within] = None, policy: Optional[str] = None, rounds: Optional[int] = None,
-            reads: Reads = None, list: bool = False, clip: bool = False, exact_avg: bool = False) -> Result:
+            reads: Reads = None, list: bool = False, clip: bool = False, exact_avg: bool = False, keys: bool = False) -> Result:
         """Asks a query, until each answer is known, or narrow enough: `within="1%"`, or `within=100` in the units of the values."""
-        asked = Asked(self, text, within, options(policy, rounds, reads, list, clip, exact_avg))
+        asked = Asked(self, text, within, options(policy, rounds, reads, list, clip, exact_avg, keys))
         blocks = [*asked]
         return Result(blocks[-1].query, blocks, asked.end)
 
     def rounds(self, text: str, within: Optional[Within] = None, policy: Optional[str] = None, rounds: Optional[int] = None,
-               reads: Reads = None, list: bool = False, clip: bool = False, exact_avg: bool = False) -> Iterator[Block]:
+               reads: Reads = None, list: bool = False, clip: bool = False, exact_avg: bool = False, keys: bool = False) -> Iterator[Block]:
         """The blocks of a query as they come. Leaving the loop ends the program."""
-        yield from Asked(self, text, within, options(policy, rounds, reads, list, clip, exact_avg))
+        yield from Asked(self, text, within, options(policy, rounds, reads, list, clip, exact_avg, keys))
 
     def show(self, text: str, within: Optional[Within] = None, policy: Optional[str] = None, rounds: Optional[int] = None,
-             reads: Reads = None, list: bool = False, clip: bool = False, exact_avg: bool = False) -> Result:
+             reads: Reads = None, list: bool = False, clip: bool = False, exact_avg: bool = False, keys: bool = False) -> Result:
         """Asks a query and shows each block: in a notebook in one cell that narrows in place, else as text."""
-        question = Asked(self, text, within, options(policy, rounds, reads, list, clip, exact_avg))
+        question = Asked(self, text, within, options(policy, rounds, reads, list, clip, exact_avg, keys))
         display, blocks = cell(), []
         for block in question:
             blocks.append(block)
@@ -142,7 +142,7 @@ class Asked:
             sharper = "--clip" in self.words or "--exact-avg" in self.words
             report = Report(run.lines(), sharper, "--list" in self.words, self.table.plane_bytes)
             for block in report:
-                reached = self.goal is not None and self.goal.reached(block)
+                reached = self.goal is not None and self.goal.reached(block, "--keys" in self.words)
                 self.end = "within" if reached else self.end
                 yield block
                 if reached or self.end == "stopped":
@@ -207,14 +207,16 @@ def check_target(csv: str, file: str) -> None:
         raise FileError("would take the place of its own CSV", file)
 
 
-def options(policy: Optional[str], rounds: Optional[int], reads: Reads, list: bool, clip: bool, exact_avg: bool) -> list[str]:
+def options(policy: Optional[str] = None, rounds: Optional[int] = None, reads: Reads = None, list: bool = False, clip: bool = False,
+            exact_avg: bool = False, keys: bool = False) -> list[str]:
     """The words of the program for these options of a query."""
     if policy is not None and reads is not None:
         raise ValueError("policy and reads both say which column is read next: give one of them")
     words = [] if policy is None else ["--policy", policy]
     words += [] if rounds is None else ["--rounds", str(int(rounds))]
     words += [] if reads is None else ["--reads", reads if isinstance(reads, str) else ",".join(reads)]
-    return words + [word for word, given in (("--list", list), ("--clip", clip), ("--exact-avg", exact_avg)) if given]
+    flags = ("--list", list), ("--clip", clip), ("--exact-avg", exact_avg), ("--keys", keys)
+    return words + [word for word, given in flags if given]
 
 
 def check_text(text: str) -> None:

@@ -97,6 +97,7 @@ def add_query(commands, name: str, what: str, call: Callable[[argparse.Namespace
     command.add_argument("--list", action="store_true", help="list the rows too that are only possible")
     command.add_argument("--clip", action="store_true", help="add the clipped intervals")
     command.add_argument("--exact-avg", action="store_true", help="add the exact extremes of averages")
+    command.add_argument("--keys", action="store_true", help="go on until the keys of the first rows are known too")
     command.add_argument("--program", metavar="PATH", help="the program daq")
     return command
 
@@ -106,7 +107,7 @@ def table_of(given: argparse.Namespace) -> Table:
 
 
 def words_of(given: argparse.Namespace) -> list[str]:
-    return options(given.policy, given.rounds, given.reads, given.list, given.clip, given.exact_avg)
+    return options(given.policy, given.rounds, given.reads, given.list, given.clip, given.exact_avg, given.keys)
 
 
 def asked(table: Table, given: argparse.Namespace) -> Asked:

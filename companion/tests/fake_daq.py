@@ -15,8 +15,7 @@ def combine(count, *options):
     """Combines the reports on standard input as they come, by the reader of the tests."""
     import parts
 
-    given = dict(zip(options[::2], map(int, options[1::2])))
-    whole, shown = parts.Combined(int(count), given.get("--width", 0), given.get("--rounds"), False), 0
+    whole, shown = parts.Combined(int(count), **parts.limits_of(options)), 0
     try:
         for number, line in enumerate(sys.stdin.buffer, 1):
             try:

@@ -12,7 +12,7 @@ from test_program import is_running
 
 from daq import view
 
-INFO = "version 2 rows 2 columns 1\ncolumn 1 price int width %d from %d to %d\n"
+INFO = "version 2 rows 2 columns 2\ncolumn 1 price int width %d from %d to %d\ncolumn 2 city text width 2 from 'Bern' to 'Rome'\n"
 FIRST = """query SELECT SUM(price) FROM t
 round 0
 1 [10, 18]
@@ -82,7 +82,7 @@ class Parts(FakeTest):
         table = self.play_parts()
         self.assertEqual((table.rows, table.plane_bytes), (4, 16))
         self.assertEqual([(column.name, column.type, column.planes, column.least, column.greatest) for column in table.columns],
-                         [("price", "int", 4, 3, 12)])
+                         [("price", "int", 4, 3, 12), ("city", "text", 2, "Bern", "Rome")])
         self.assertIn("2 parts, 4 rows", repr(table))
 
     def test_an_answer(self):
@@ -131,15 +131,29 @@ class Parts(FakeTest):
 
     def test_reports_that_are_not_combined(self):
         table = self.play_parts(second={"out": SECOND.replace("round 0", "round 1")})
-        with self.assertRaisesRegex(daq.ReportError, "no line of a report"):
+        with self.assertRaisesRegex(daq.ReportError, "no line of a report at this place$"):
             table.sql(SQL)
+        self.assert_all_ended()
+
+    def test_texts(self):
+        told = "query SELECT MAX(city) FROM t\nround 0\n1 ['%s', '%s']%s\nround 1 city 1/1\n1 '%s'\nend narrow\n"
+        table = self.play_parts(*({"out": told % words} for words in (("O''Hara", "Rome", " or null", "O''Hara"), ("Bern", "Oslo", "", "Oslo"))))
+        answer = table.sql("SELECT MAX(city) FROM t", within="1%")
+        self.assertEqual([(row.low, row.high, row.maybe_null) for row in answer.history()], [("Bern", "Rome", False), ("Oslo", "Oslo", False)])
+        self.assert_all_ended()
+
+    def test_texts_that_are_not_combined(self):
+        sql = "SELECT MIN(city) FROM t"
+        told = {"out": "query %s\nround 0\n1 'Os\nlo'\nend narrow\n" % sql}
+        with self.assertRaisesRegex(daq.ReportError, "line .*: no line of a report at this place .MIN and MAX of texts"):
+            self.play_parts(told, told).sql(sql)
         self.assert_all_ended()
 
     def test_first_rows(self):
         table = self.play_parts(first={"out": FIRST_ROWS % (5, 9, 5, 9, 5, 8)}, second={"out": FIRST_ROWS % (3, 12, 3, 12, 3, 4)})
         for options in ({}, {"list": True}):
             answer = table.sql(ROWS_SQL, within="1%", **options)
-            self.assertEqual([told["words"][3:] for told in self.processes()], [["--list"], ["--list"], []])
+            self.assertEqual([told["words"][3:] for told in self.processes()], [["--part", "--keys"], ["--part", "--keys"], []])
             self.assertEqual([(row.round, row.keys, row.state) for row in answer.history()],
                              [(0, ("1", 1), "possible"), (0, ("1", 2), "possible"), (0, ("2", 1), "possible"), (0, ("2", 2), "possible"),
                               (1, ("2", 2), "certain")])

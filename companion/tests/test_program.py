@@ -40,9 +40,9 @@ class Runs(FakeTest):
 
     def test_the_words_of_a_query(self):
         self.play()
-        self.table().sql("SELECT SUM(price) FROM t", rounds=3, reads=["price", "qty"], list=True, clip=True, exact_avg=True)
+        self.table().sql("SELECT SUM(price) FROM t", rounds=3, reads=["price", "qty"], list=True, clip=True, exact_avg=True, keys=True)
         self.assertEqual(self.logged()["words"], ["query", "shop.daq", "SELECT SUM(price) FROM t", "--rounds", "3", "--reads", "price,qty",
-                                                  "--list", "--clip", "--exact-avg"])
+                                                  "--list", "--clip", "--exact-avg", "--keys"])
         with self.assertRaises(ValueError):
             self.table().sql("SELECT SUM(price) FROM t", policy="filter", reads="price")
 

@@ -233,8 +233,10 @@ class FirstRowsOfParts(unittest.TestCase):
                          ("possible [5, 9]", "certain [5, 9]")):
             with self.subTest(new), self.assertRaises(daq.ReportError):
                 read(TOP_OF_PARTS.replace(old, new, 1))
-        with self.assertRaises(daq.ReportError):
-            read(TOP_ROWS.replace("top 2 certain 0 possible 4", "top 2 certain 0"))
+
+    def test_a_part_with_too_many_rows_to_list(self):
+        blocks = read(TOP_ROWS.replace("top 2 certain 0 possible 4", "top 2 certain 0"), listed=False)[1]
+        self.assertEqual([block.ranking.possible for block in blocks], [None, 3, 0])
 
 
 class NoReports(unittest.TestCase):

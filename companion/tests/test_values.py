@@ -81,6 +81,7 @@ class Goals(unittest.TestCase):
         self.assertEqual([Goal.of(10).reached(block) for block in read(SUM)[1]], [False, False, True, True, True])
         self.assertEqual([Goal.of(1000).reached(block) for block in read(GROUPS)[1]], [False, False])
         self.assertEqual([Goal.of(1000).reached(block) for block in read(TOP_ROWS)[1]], [False, False, False])
+        self.assertEqual([[Goal.of(most).reached(block, keys=True) for block in read(TOP_ROWS)[1]][1:] for most in (2, 3)], [[False, False], [False, True]])
 
 
 if __name__ == "__main__":

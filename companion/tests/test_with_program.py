@@ -80,6 +80,8 @@ class WithTheProgram(unittest.TestCase):
             end = next(last for last in whole.rows if last.item == row.item)
             self.assertTrue(row.low <= end.low <= end.high <= row.high)
         self.assertEqual(parts.sql(sql, within="20%").end, "within")
+        sql = "SELECT COUNT(*), MIN(zone), MAX(zone), MAX(part) FROM t WHERE area = 'America'"
+        self.assertEqual([row.low for row in parts.sql(sql).rows], [row.low for row in self.zones.sql(sql).rows])
         with self.assertRaises(daq.QueryError) as raised:
             parts.sql("SELECT SUM(pris) FROM t")
         self.assertEqual((raised.exception.place, raised.exception.cause), (11, "unknown column"))
@@ -93,6 +95,7 @@ class WithTheProgram(unittest.TestCase):
                 rows = {150 * (int(row.part) - 1) + row.row: row.state for row in block.ranking.rows}
                 self.assertLessEqual(first, set(rows))
                 self.assertLessEqual({row for row, state in rows.items() if state == "certain"}, first)
+            self.assertEqual((block.ranking.possible, set(rows)), (0, first))
 
     def test_the_tour_of_the_readme(self):
         with tempfile.TemporaryDirectory() as folder:
