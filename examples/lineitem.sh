@@ -33,7 +33,8 @@ block() {
     head -n "$1" "$folder/report" | awk '/^round / { block = "" } { block = block $0 "\n" } END { printf "%s", block }'
 }
 
-# ask QUESTION SQL OTHER_SQL: a person could have stopped at the first block within 1 %; where rows are in an order the last block tells them.
+# ask QUESTION SQL OTHER_SQL: a person could have stopped at the first block within 1 %; where rows are in an order the last block tells
+# them.
 ask() {
     printf '\n# %s\n$ daq query lineitem.daq "%s" --policy balanced\n' "$1" "$2"
     "$program" query "$folder/t.daq" "$2" --policy balanced >"$folder/report" || exit 1

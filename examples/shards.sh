@@ -5,7 +5,8 @@
 # PROGRAM is daq at the top where none is named. At the usual scale it takes 5 GB of the temporary folder.
 #
 # Over many machines: where each has daq and the CSV's parts are to be spread from here,
-#   parallel --sshlogin alpha,beta --transferfile {} --cleanup --tag --line-buffer daq query {} "'SELECT ..'" ::: part*.daq | daq combine 12 /dev/stdin
+#   parallel --sshlogin alpha,beta --transferfile {} --cleanup --tag --line-buffer daq query {} "'SELECT ..'" ::: part*.daq |
+#     daq combine "$(ls part*.daq | wc -l)" /dev/stdin
 # copies each file to the machine that asks it. Where each machine has files of its own, let it combine them first, by a script `daq-parts`,
 #   cd /data && parallel -j0 --tag --line-buffer daq query {} "'SELECT ..'" ::: part*.daq | daq combine "$(ls part*.daq | wc -l)" /dev/stdin
 # and then combine the reports of the machines, each of which is a part:

@@ -187,7 +187,7 @@ def lists_of_commands():
 
 def lists_of_options():
     grammar, tour, manual = read("docs/proof/words.md"), read("docs/guide.md"), read("docs/daq.1")
-    yield "docs/proof/words.md", re.findall(r'"--([\w-]+)"', re.search(r"^ *option = (.*)$", grammar, re.M)[1])
+    yield "docs/proof/words.md", re.findall(r'"--([\w-]+)"', re.search(r"^ *option = (.*(?:\n *\|.*)*)$", grammar, re.M)[1])
     yield "docs/guide.md", re.findall(r"^\| `--([\w-]+)[ `]", tour[tour.index("## All options"):], re.M)
     yield "docs/daq.1", re.findall(r"^\.It Fl -([\w-]+)", manual[manual.index("The options of a query") : manual.index(".Sh SCHEMA")], re.M)
     yield "completions/daq.bash", re.search(r"\*-query-.*\n.*choices='([^']*)'", read("completions/daq.bash"))[1].replace("--", "").split()

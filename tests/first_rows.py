@@ -4,7 +4,6 @@ import re
 
 import reports
 
-MOST_ROWS = 100000
 NUMBER = r"0|[1-9]\d*"
 TOP = re.compile(r"top (%s) certain (%s) possible (%s)" % (NUMBER, NUMBER, NUMBER))
 NAME = re.compile(r"(?:(.+) )?(%s)" % NUMBER, re.DOTALL)
@@ -115,7 +114,7 @@ def standing(limit, down, rows, name, row):
 
 def combined(limit, down, blocks):
     """The block over all parts. Each block is that of a part by its tag, and the tags rise."""
-    if any(block.is_skipped or len(block.rows) > MOST_ROWS for _, block in blocks):
+    if any(block.is_skipped or len(block.rows) > reports.FEW_ROWS for _, block in blocks):
         return skipped()
     rows = {(place,) + row.name(): row for place, (_, block) in enumerate(blocks) for row in block.rows}
     whole = Block(0, 0)

@@ -1,14 +1,15 @@
 #!/usr/bin/env python3
 """Reports of the parts of a table, combined by the definitions alone, apart from the program.
 
-parts.py PARTS REPORTS [--width W] [--rounds N]  prints the combined report of PARTS parts; each line of REPORTS is a tag, a tab and a line
-                                                 of that part's report. A refusal is told on standard error, with status 9. As the program,
-                                                 it takes no extremes of texts
+parts.py PARTS REPORTS [--width W] [--rounds N] [--keys]
+                                                 prints the combined report of PARTS parts; each line of REPORTS is a tag, a tab and a line
+                                                 of that part's report. A refusal is told on standard error, with status 9
 parts.py --certain [COUNT [SEED]]                cuts tables made by chance into parts, combines the parts' reports of totals, of groups
                                                  or of first rows in several orders of their lines, and looks whether each interval, and
                                                  each line of a group or a row, holds what the uncut table answers
 parts.py --program DAQ [COUNT [SEED]]            loads the parts of such tables by the program DAQ, asks them side by side, combines them
-                                                 by it, and looks at the same, and whether it prints what is worked out here
+                                                 by it, and looks at the same, and whether it prints what is worked out here; and so of
+                                                 parts with as many rows as --part lists, and with more
 """
 import datetime
 import os
@@ -18,6 +19,7 @@ import subprocess
 import sys
 import tempfile
 from fractions import Fraction
+from typing import NamedTuple
 
 import first_rows
 import reports
@@ -69,7 +71,12 @@ DATES = Form(
     lambda text: datetime.date.fromisoformat(text).toordinal() - EPOCH,
     lambda value: datetime.date.fromordinal(value + EPOCH).isoformat(),
 )
-TEXTS = Form("text", TEXT, lambda t: t[1:-1].replace("''", "'").encode(), lambda v: reports.quoted(v.decode()))
+TEXTS = Form(
+    "text",
+    TEXT,
+    lambda text: text[1:-1].replace("''", "'").encode(errors="surrogateescape"),
+    lambda value: reports.quoted(value.decode(errors="surrogateescape")),
+)
 NO_TEXTS = "- or null"
 
 
@@ -80,6 +87,8 @@ class Known:
         self.word, self.low, self.high, self.form = word, low, high, form
 
     def text(self):
+        if self.word == "always" and self.form:
+            return NO_TEXTS
         return reports.interval(self.word, self.low, self.high, self.form.text if self.form else None)
 
     def is_exact(self):
@@ -87,28 +96,31 @@ class Known:
 
 
 NOTHING = Known("always", 0, 0, None)
+# The same of a column of texts that has none.
+NO_TEXT = Known("always", 0, 0, TEXTS)
 
 
-def forms_of(kind, text, any_kind):
-    """The forms that the text of an item's answer may have; that of texts only where any kind is read."""
+def forms_of(kind, text):
+    """The forms that the text of an item's answer may have."""
     decimals = [len(part) - 1 for part in re.findall(r"\.\d+", text)][:1] or [0]
     if decimals[0] > 18:
         return []
     if kind == "AVG":
         return [ratio_form(decimals[0])]
-    values = [DATES] + ([TEXTS] if any_kind else [])
-    return [number_form(decimals[0])] + (values if kind in ("MIN", "MAX") else [])
+    return [number_form(decimals[0])] + ([DATES, TEXTS] if kind in ("MIN", "MAX") else [])
 
 
 def order(kind, end):
     return Fraction(*end) if kind == "AVG" else end
 
 
-def read(kind, text, any_kind):
+def read(kind, text):
     """What the text says of an answer, or None where no report says so."""
-    if text == "null" and kind != "COUNT" or any_kind and text == NO_TEXTS and kind in ("MIN", "MAX"):
+    if text == "null" and kind != "COUNT":
         return NOTHING
-    for form in forms_of(kind, text, any_kind):
+    if text == NO_TEXTS and kind in ("MIN", "MAX"):
+        return NO_TEXT
+    for form in forms_of(kind, text):
         match = form.interval.fullmatch(text)
         if match:
             try:
@@ -127,7 +139,7 @@ def read(kind, text, any_kind):
 
 def look_alike(parts):
     """Refuses answers of several forms."""
-    if len({part.form.name for part in parts if part.word != "always"}) > 1:
+    if len({part.form.name for part in parts if part.form}) > 1:
         raise Refused("scales of item %d differ")
 
 
@@ -221,19 +233,20 @@ def beside(total, count, average):
         return average
     known = from_sum(total, count, average.form)
     both = within_both(known, average)
+    if known.is_exact() or both.word == "always":
+        return both
     number, rows = both.high
-    has_room = -(2**126) <= number < 2**126 and rows < 2**63
-    return apart(both) if has_room and not known.is_exact() else both
+    return apart(both) if -(2**126) <= number < 2**126 and rows < 2**63 else both
 
 
-def narrowed(query, block):
-    """The block, with each average narrowed by the sum and the number of the same argument, where both stand in it."""
+def narrowed(query, answers):
+    """These answers, with each average narrowed by the sum and the number of the same argument, where both stand among them."""
     calls, whole = calls_of(query), []
-    for (kind, argument), (answer, extra) in zip(calls, block):
+    for (kind, argument), answer in zip(calls, answers):
         others = ("SUM", argument), ("COUNT", argument)
         if kind == "AVG" and all(call in calls for call in others):
-            answer = beside(*(block[calls.index(call)][0] for call in others), answer)
-        whole.append((answer, extra))
+            answer = beside(*(answers[calls.index(call)] for call in others), answer)
+        whole.append(answer)
     return whole
 
 
@@ -455,6 +468,11 @@ def is_near(known, width):
     return reports.is_near((known.word, known.low, known.high), width)
 
 
+def is_near_key(key, width):
+    """The same of the key of a row. One that may be null is not told yet, also where its column has no texts."""
+    return key.text() != NO_TEXTS and is_near(key, width)
+
+
 # ---- the report of one part
 
 
@@ -515,11 +533,11 @@ class Part(Report):
     """The report of a part. A block has for each item its answer and what the line behind tells, or None; `closing` says whether a block
     ends with such a line, once the first is whole. A block by groups has sections: keys, whether they are present, and answers."""
 
-    def __init__(self, query, any_kind=True):
+    def __init__(self, query):
         super().__init__(query)
         self.kinds, self.current = kinds_of(query), None
         self.columns, self.sections, self.group = columns_of(query), None, None
-        self.any_kind, self.closing = any_kind, "item" if self.kinds[-1] == "COUNT" else None
+        self.closing = "item" if self.kinds[-1] == "COUNT" else None
 
     def take_behind(self, line):
         if not (self.takes_in_block(line) or self.takes_group(line) or self.takes_round(line)):
@@ -550,7 +568,7 @@ class Part(Report):
     def takes_item(self, count, line):
         known = None
         if count < len(self.kinds) and line.startswith("%d " % (count + 1)):
-            known = read(self.kinds[count], line.partition(" ")[2], self.any_kind)
+            known = read(self.kinds[count], line.partition(" ")[2])
         if known:
             self.current.append((known, None))
         return known is not None
@@ -561,7 +579,7 @@ class Part(Report):
         start = "%d %s " % (count, "exact" if kind == "AVG" else "clip")
         if extra or kind == "COUNT" or not line.startswith(start):
             return False
-        known = read(kind, line[len(start):], self.any_kind)
+        known = read(kind, line[len(start):])
         if known:
             self.current[-1] = answer, known
         return known is not None
@@ -627,7 +645,7 @@ class RowsPart(Report):
         if self.current is None:
             self.current = first_rows.top_at(line, self.limit)
             return self.current is not None
-        row = first_rows.row_at(line, lambda text: read("MIN", text, True))
+        row = first_rows.row_at(line, lambda text: read("MIN", text))
         rows = self.current.rows
         if not row or not self.current.has_room(row) or rows and row.name() <= rows[-1].name():
             return False
@@ -651,13 +669,13 @@ class RowsPart(Report):
 # ---- the combined report
 
 
-def part_of(query, any_kind=True):
-    return RowsPart(query) if first_rows.asked_by(query) else Part(query, any_kind)
+def part_of(query):
+    return RowsPart(query) if first_rows.asked_by(query) else Part(query)
 
 
 class Combined:
-    def __init__(self, count, width, rounds, any_kind):
-        self.count, self.width, self.rounds, self.any_kind = count, width, rounds, any_kind
+    def __init__(self, count, width=0, rounds=None, keys=False):
+        self.count, self.width, self.rounds, self.keys = count, width, rounds, keys
         self.query, self.parts, self.lines, self.number, self.ended, self.blocks = None, {}, [], 0, False, []
 
     def in_order(self):
@@ -683,7 +701,7 @@ class Combined:
         if self.query is None:
             look_at_query(line)
             self.query, self.lines = line, [line, "parts %d" % self.count]
-        part = part_of(self.query, self.any_kind)
+        part = part_of(self.query)
         part.take(line)
         self.parts[tag] = part
 
@@ -708,7 +726,7 @@ class Combined:
         self.number += 1
 
     def write_groups(self, kinds, blocks):
-        block = combined_sections(kinds, blocks)
+        block = [(line, present, narrowed(self.query, told)) for line, present, told in combined_sections(kinds, blocks)]
         self.lines.append("round %d" % self.number)
         for section in block:
             self.lines += section_lines(kinds, section)
@@ -724,7 +742,7 @@ class Combined:
         limit, down = first_rows.asked_by(self.query)
         block = first_rows.combined(limit, down, list(zip(tags, blocks)))
         self.lines += ["round %d" % self.number] + block.lines(limit)
-        self.end_behind(block, block.is_narrow())
+        self.end_behind(block, block.is_narrow() and not (self.keys and not all(is_near_key(row.key, self.width) for row in block.rows)))
 
     def end_behind(self, block, is_narrow):
         self.blocks.append(block)
@@ -740,7 +758,8 @@ class Combined:
                 block.append(combined_entry(kind, [b[place] for b in blocks]))
             except Refused as why:
                 raise Refused(str(why) % (place + 1))
-        block = narrowed(self.query, block)
+        answers, extras = zip(*block)
+        block = list(zip(narrowed(self.query, answers), extras))
         self.lines.append("round %d" % self.number)
         for number, (kind, entry) in enumerate(zip(parts[0].kinds, block), 1):
             self.lines += entry_lines(number, kind, entry)
@@ -759,9 +778,16 @@ class Combined:
         raise Refused("%d parts, not %d" % (len(self.parts), self.count))
 
 
-def combine(count, text, width=0, rounds=None, any_kind=True):
+def limits_of(words):
+    """The limits that the words of `combine` tell."""
+    numbers = [word for word in words if word != "--keys"]
+    told = dict(zip(numbers[::2], map(int, numbers[1::2])))
+    return {"width": told.get("--width", 0), "rounds": told.get("--rounds"), "keys": "--keys" in words}
+
+
+def combine(count, text, width=0, rounds=None, keys=False):
     """The combined report, and the refusal if there is one. A last line without its end is none."""
-    whole = Combined(count, width, rounds, any_kind)
+    whole = Combined(count, width, rounds, keys)
     try:
         for number, line in enumerate(text.split(b"\n")[:-1], 1):
             try:
@@ -781,6 +807,7 @@ def combine(count, text, width=0, rounds=None, any_kind=True):
 # ---- by chance
 
 POLICIES = ["widest", "order", "filter", "balanced"]
+SOME_TEXTS = ["Ulm, Donau", "", "'", "A' or null", "', '", "Å", "Bern "]
 
 
 def interleaved(chance, lists):
@@ -791,14 +818,24 @@ def interleaved(chance, lists):
     return b"".join(next(ways[i]) for i in places)
 
 
+def some_items(chance, columns):
+    """Now and then an average stands beside the sum and the number of its values."""
+    items, numbers = reports.some_items(chance, columns), [name for name, kind in columns if kind[:3] in ("int", "dec")]
+    if numbers and chance.random() < 0.3:
+        name = chance.choice(numbers)
+        items += ["%s(%s)" % (kind, name) for kind in ("SUM", "AVG", "COUNT")]
+        chance.shuffle(items)
+    return items
+
+
 def some_query(chance, columns):
-    return "SELECT %s FROM t%s" % (", ".join(reports.some_items(chance, columns)), reports.some_condition(chance, columns))
+    return "SELECT %s FROM t%s" % (", ".join(some_items(chance, columns)), reports.some_condition(chance, columns))
 
 
 def some_query_by_groups(chance, columns):
     """By one column or two, one of which may be named twice; some of their names stand among the items."""
     groups = [column[0] for column in chance.sample(columns, chance.randint(1, 2))]
-    items = chance.sample(groups, chance.randint(0, len(groups))) + reports.some_items(chance, columns)
+    items = chance.sample(groups, chance.randint(0, len(groups))) + some_items(chance, columns)
     chance.shuffle(items)
     by = groups + chance.choice([[], [], [], groups[:1]])
     return "SELECT %s FROM t%s GROUP BY %s" % (", ".join(items), reports.some_condition(chance, columns), ", ".join(by))
@@ -817,13 +854,23 @@ def read_back(sql, text):
     return report
 
 
+class Task(NamedTuple):
+    """A table, its schema, a query, and whether first rows are asked for until their keys are known."""
+
+    text: str
+    schema: str
+    sql: str
+    keys: bool
+
+
 def some_task(chance):
-    """A table, its schema, and a query of totals, of groups or of first rows; in some tables a text holds a comma."""
+    """A query of totals, of groups or of first rows; in some tables a text is one of SOME_TEXTS."""
     text, schema, columns = reports.some_table(chance)
     sql = chance.choice([some_query, some_query_by_groups, some_query_by_order])(chance, columns)
-    if chance.random() < 0.3:
-        text, sql = text.replace("Ulm", '"Ulm, Donau"'), sql.replace("Ulm", "Ulm, Donau")
-    return text, schema, sql
+    if chance.random() < 0.5:
+        other = chance.choice(SOME_TEXTS)
+        text, sql = text.replace("Ulm", '"%s"' % other), sql.replace("'Ulm'", reports.quoted(other))
+    return Task(text, schema, sql, first_rows.asked_by(sql) is not None and chance.random() < 0.5)
 
 
 def cut(chance, text, count):
@@ -833,22 +880,22 @@ def cut(chance, text, count):
     return [head + "".join(rows[a:b]) for a, b in zip([0] + places, places + [len(rows)])]
 
 
-def some_options(chance, sql):
+def some_options(chance, task):
     """The options of the parts: a policy for each, and mostly the same lines behind the items; first rows are listed."""
-    if first_rows.asked_by(sql):
-        return lambda: ["--policy", chance.choice(POLICIES), "--list"]
+    if first_rows.asked_by(task.sql):
+        return lambda: ["--policy", chance.choice(POLICIES), chance.choice(["--list", "--part"])] + ["--keys"] * task.keys
     all_have = ["--clip", "--exact-avg"]
     shown = [chance.choice([all_have, all_have, [], [chance.choice(all_have)]])] * 2
     shown[1] = chance.choice([shown[0]] * 4 + [[]])
     return lambda: ["--policy", chance.choice(POLICIES)] + chance.choice(shown)
 
 
-def tagged(chance, texts, schema, sql):
+def tagged(chance, texts, task):
     """For each part its report's lines behind its tag, by options of its own; the tags are in the order of the parts."""
-    lists, options = [], some_options(chance, sql)
+    lists, options = [], some_options(chance, task)
     for number, text in enumerate(texts):
         words = options()
-        lines = reports.report(text, schema, sql, words).splitlines(True)
+        lines = reports.report(text, task.schema, task.sql, words).splitlines(True)
         lists.append([b"p%04d\t" % number + line.encode() for line in lines])
     return lists
 
@@ -933,55 +980,70 @@ def faults_of_groups(kinds, blocks, answers):
     return wrong + ([] if block_text(blocks[-1]) == block_text(answers) else ["at the end: %s" % block_text(blocks[-1])])
 
 
-def faults_of_rows(blocks, parts, text, schema, sql):
+def faults_of_rows(blocks, parts, task):
     """What is wrong with the blocks of first rows of a table in these parts."""
-    last = read_back(sql, reports.report(text, schema, sql, ["--list"])).blocks[-1]
+    last = read_back(task.sql, reports.report(task.text, task.schema, task.sql, ["--list"])).blocks[-1]
     first = {row.number for row in last.rows}
-    return first_rows.faults(blocks, first_rows.places(parts), first, first_rows.keys_of(text, schema, sql))
+    wrong = first_rows.faults(blocks, first_rows.places(parts), first, first_rows.keys_of(task.text, task.schema, task.sql))
+    is_known = all(row.is_known() for row in blocks[-1].rows)
+    return wrong + (["the first rows are not known at the end"] if task.keys and not is_known else [])
 
 
-def faults_of_blocks(blocks, parts, text, schema, sql):
+def faults_of_blocks(blocks, parts, task):
     """What is wrong with the blocks that are told of a table in these parts, beside what it answers."""
-    if first_rows.asked_by(sql):
-        return faults_of_rows(blocks, parts, text, schema, sql)
-    last = read_back(sql, reports.report(text, schema, sql, []))
+    if first_rows.asked_by(task.sql):
+        return faults_of_rows(blocks, parts, task)
+    last = read_back(task.sql, reports.report(task.text, task.schema, task.sql, []))
     look = faults_of_groups if last.columns else faults_of_totals
     return look(last.kinds, blocks, last.blocks[-1])
 
 
 def without_read(line):
-    """A line of a report as it stands in a combined one, where a round says no column."""
-    return re.sub(r"^(round \d+) .*", r"\1", line.rstrip("\n"))
+    """A line of a report as it stands in a combined one, where a round says no column, and what has no text is null."""
+    return re.sub(r"^(round \d+) .*", r"\1", line.rstrip("\n").replace(NO_TEXTS, "null"))
 
 
-def faults(chance, text, schema, sql, count):
+def faults_of_few(chance, texts, task):
+    """What is wrong where a part lists few rows or none: the same is combined as where it lists all."""
+    told, policies, most = [], [chance.choice(POLICIES) for _ in texts], reports.FEW_ROWS
+    reports.FEW_ROWS = chance.choice([0, 1, 2, 3, 5, 8])
+    for word in ("--list", "--part"):
+        lines = ["p%04d\t%s" % (number, line) for number, (text, policy) in enumerate(zip(texts, policies))
+                 for line in reports.report(text, task.schema, task.sql, ["--policy", policy, word]).splitlines(True)]
+        told.append(combine(len(texts), "".join(lines).encode())[0].lines)
+    reports.FEW_ROWS = most
+    return [] if told[0] == told[1] else ["where few rows are listed: %s, and not %s" % (told[1], told[0])]
+
+
+def faults(chance, task, count):
     """What is wrong with the combined reports of a table that is cut."""
-    parts = cut(chance, text, count)
-    lists = tagged(chance, parts, schema, sql)
-    first, refusal = combine(count, b"".join(line for lines in lists for line in lines))
+    parts = cut(chance, task.text, count)
+    lists = tagged(chance, parts, task)
+    first, refusal = combine(count, b"".join(line for lines in lists for line in lines), keys=task.keys)
     if refusal:
         return [refusal]
     wrong = []
     if count == 1 and first.parts[b"p0000"].columns and first.lines[2:] != [without_read(line[6:].decode()) for line in lists[0][1:]]:
         wrong.append("other than the report of the one part: %s" % first.lines)
     for _ in range(3):
-        other, refusal = combine(count, interleaved(chance, lists))
+        other, refusal = combine(count, interleaved(chance, lists), keys=task.keys)
         if refusal or other.lines != first.lines:
             wrong.append("another order of lines: %s %s" % (refusal, other.lines))
-    again, refusal = combine(1, "".join("all\t%s\n" % line for line in first.lines).encode())
+    again, refusal = combine(1, "".join("all\t%s\n" % line for line in first.lines).encode(), keys=task.keys)
     if refusal or [line.replace("row all ", "row ") for line in again.lines[2:]] != first.lines[2:]:
         wrong.append("as the report of one part: %s %s" % (refusal, again.lines))
-    return wrong + faults_of_blocks(first.blocks, parts, text, schema, sql)
+    wrong += faults_of_few(chance, parts, task) if first_rows.asked_by(task.sql) else []
+    return wrong + faults_of_blocks(first.blocks, parts, task)
 
 
 def certain(count, seed):
     chance, wrong = random.Random(seed), 0
     for number in range(count):
-        text, schema, sql = some_task(chance)
-        found = faults(chance, text, schema, sql, chance.choice([1, 2, 2, 3, 5]))
+        task = some_task(chance)
+        found = faults(chance, task, chance.choice([1, 2, 2, 3, 5]))
         if found:
             wrong += 1
-            print("wrong (%d): %s\n%s%s\n%s" % (number, schema, text, sql, "\n".join(found)))
+            print("wrong (%d): %s\n%s%s\n%s" % (number, task.schema, task.text, task.sql, "\n".join(found)))
             if wrong == 3:
                 break
     print("%d tables cut and combined, %d wrong" % (count, wrong))
@@ -991,20 +1053,20 @@ def certain(count, seed):
 # ---- by the program
 
 
-def told_by(program, folder, texts, schema, sql, chance):
+def told_by(program, folder, texts, task, chance):
     """What the program's `combine` prints of the parts, which it loads and asks side by side: lines come as they come."""
-    started, options = [], some_options(chance, sql)
+    started, options = [], some_options(chance, task)
     for number, text in enumerate(texts):
         path = os.path.join(folder, "p%04d" % number)
         with open(path + ".csv", "w", newline="") as file:
             file.write(text)
-        subprocess.run([program, "load", path + ".csv", path + ".daq", schema], check=True, stdout=subprocess.DEVNULL)
+        subprocess.run([program, "load", path + ".csv", path + ".daq", task.schema], check=True, stdout=subprocess.DEVNULL)
         started.append((path + ".daq", options()))
-    words = [program, "combine", str(len(texts)), "/dev/stdin"]
+    words = [program, "combine", str(len(texts)), "/dev/stdin"] + ["--keys"] * task.keys
     ask = 'tag=$1; shift; "$@" | sed -u "s,^,$tag\t,"'
     with tempfile.TemporaryFile() as out:
         combined = subprocess.Popen(words, stdin=subprocess.PIPE, stdout=out, stderr=subprocess.PIPE)
-        asking = [subprocess.Popen(["sh", "-c", ask, "ask", "p%04d" % number, program, "query", path, sql] + words, stdout=combined.stdin)
+        asking = [subprocess.Popen(["sh", "-c", ask, "ask", "p%04d" % number, program, "query", path, task.sql] + words, stdout=combined.stdin)
                   for number, (path, words) in enumerate(started)]
         combined.stdin.close()
         refusal = combined.stderr.read().decode()
@@ -1015,37 +1077,65 @@ def told_by(program, folder, texts, schema, sql, chance):
         return status, out.read().decode(), refusal, started
 
 
-def has_no_texts(sql, schema):
-    """Whether no extreme of the query is one of texts."""
-    kinds = dict(item.split(":") for item in schema.split(","))
-    return all(kinds.get(name, "int")[:3] != "tex" for name in re.findall(r"(?:MIN|MAX)\((\w+)\)", sql))
-
-
-def faults_of_program(program, folder, chance, text, schema, sql, count):
+def faults_of_program(program, folder, chance, task, count):
     """What is wrong with what the program says of a table that is cut."""
-    texts = cut(chance, text, count)
-    status, told, refusal, started = told_by(program, folder, texts, schema, sql, chance)
+    texts = cut(chance, task.text, count)
+    status, told, refusal, started = told_by(program, folder, texts, task, chance)
     if status or refusal:
         return ["status %d: %s" % (status, refusal)]
-    lists = [[b"p%04d\t" % number + line.encode() for line in reports.report(part, schema, sql, words).splitlines(True)]
+    lists = [[b"p%04d\t" % number + line.encode() for line in reports.report(part, task.schema, task.sql, words).splitlines(True)]
              for number, (part, (_, words)) in enumerate(zip(texts, started))]
-    wanted, refusal = combine(count, b"".join(line for lines in lists for line in lines), any_kind=False)
+    wanted, refusal = combine(count, b"".join(line for lines in lists for line in lines), keys=task.keys)
     wrong = [] if told.splitlines() == wanted.lines else ["not what is worked out: %s" % (refusal or wanted.lines)]
-    return wrong + faults_of_blocks(read_back(sql, told).blocks, texts, text, schema, sql)
+    return wrong + faults_of_blocks(read_back(task.sql, told).blocks, texts, task)
+
+
+def with_few(text):
+    """The lines of the report of a part with `--part`, by its report with `--list`."""
+    lines, are_many = [], False
+    for line in text.splitlines():
+        top = first_rows.TOP.fullmatch(line)
+        if top:
+            are_many = int(top[2]) + int(top[3]) > reports.FEW_ROWS
+        if not are_many or not line.startswith(("top ", "row ")):
+            lines.append(line)
+        elif top:
+            lines.append("top %s certain 0" % top[1])
+    return lines
+
+
+def faults_of_many(program, folder, words):
+    """What is wrong with what the program says of two parts: one has as many rows as `--part` lists, the other one more."""
+    wrong, lists = [], {"--list": "", "--part": ""}
+    for tag, rows in (("few", reports.FEW_ROWS), ("many", reports.FEW_ROWS + 1)):
+        path = os.path.join(folder, tag)
+        with open(path + ".csv", "w") as file:
+            file.write("n\n" + "".join("%d\n" % (row * 7919 % 200003) for row in range(rows)))
+        subprocess.run([program, "load", path + ".csv", path + ".daq", "n:int"], check=True, stdout=subprocess.DEVNULL)
+        told = {word: subprocess.run([program, "query", path + ".daq", *words, word], check=True, stdout=subprocess.PIPE).stdout.decode()
+                for word in lists}
+        wrong += [] if told["--part"].splitlines() == with_few(told["--list"]) else ["part %s by %s" % (tag, words)]
+        for word in lists:
+            lists[word] += "".join("%s\t%s" % (tag, line) for line in told[word].splitlines(True))
+    combined = [subprocess.run([program, "combine", "2", "/dev/stdin"], check=True, input=text.encode(), stdout=subprocess.PIPE).stdout
+                for text in lists.values()]
+    return wrong + ([] if combined[0] == combined[1] else ["the parts together by %s" % words])
 
 
 def by_program(program, count, seed):
     chance, wrong, number = random.Random(seed), 0, 0
     with tempfile.TemporaryDirectory() as folder:
+        for words in (["SELECT * FROM t ORDER BY n LIMIT 5"], ["SELECT * FROM t ORDER BY n DESC LIMIT 1000", "--rounds", "3"]):
+            found = faults_of_many(program, folder, words)
+            wrong += bool(found)
+            print("many rows by %s: %s" % (" ".join(words), ", ".join(found) or "as wanted"))
         while number < count and wrong < 3:
-            text, schema, sql = some_task(chance)
-            if not has_no_texts(sql, schema):
-                continue
+            task = some_task(chance)
             number += 1
-            found = faults_of_program(program, folder, chance, text, schema, sql, chance.choice([1, 2, 2, 3, 5, 8]))
+            found = faults_of_program(program, folder, chance, task, chance.choice([1, 2, 2, 3, 5, 8]))
             if found:
                 wrong += 1
-                print("wrong (%d): %s\n%s%s\n%s" % (number, schema, text, sql, "\n".join(found)))
+                print("wrong (%d): %s\n%s%s\n%s" % (number, task.schema, task.text, task.sql, "\n".join(found)))
     print("%d tables cut, loaded, asked and combined by the program, %d wrong" % (number, wrong))
     return 1 if wrong else 0
 
@@ -1055,9 +1145,8 @@ def main(words):
         return by_program(words[1], int(words[2]) if len(words) > 2 else 1000, int(words[3]) if len(words) > 3 else 1)
     if words[0] == "--certain":
         return certain(int(words[1]) if len(words) > 1 else 1000, int(words[2]) if len(words) > 2 else 1)
-    options = dict(zip(words[2::2], map(int, words[3::2])))
     with open(words[1], "rb") as file:
-        whole, refusal = combine(int(words[0]), file.read(), options.get("--width", 0), options.get("--rounds"), False)
+        whole, refusal = combine(int(words[0]), file.read(), **limits_of(words[2:]))
     sys.stdout.write("".join(line + "\n" for line in whole.lines))
     if refusal:
         print(refusal, file=sys.stderr)

@@ -18,6 +18,8 @@ from fractions import Fraction
 from itertools import product
 
 EPOCH = datetime.date(1970, 1, 1).toordinal()
+# How many rows a block lists with --part at most.
+FEW_ROWS = 100000
 
 # ---- tables
 
@@ -653,13 +655,16 @@ class Rounds:
             else:
                 standing.append("possible")
         certain, possible = standing.count("certain"), standing.count("possible")
-        lines = ["top %d certain %d possible %d" % (query.limit, certain, possible)]
+        lines, keys_are_near = ["top %d certain %d possible %d" % (query.limit, certain, possible)], True
+        are_few = not self.options["part"] or certain + possible <= FEW_ROWS
         for r, word in enumerate(standing):
-            if word == "certain" or word == "possible" and self.options["list"]:
-                given = key.range(r)
-                null = "never" if not given.null else "possibly" if given.numbers() else "always"
+            given = key.range(r)
+            null = "never" if not given.null else "possibly" if given.numbers() else "always"
+            if word == "certain" or word == "possible" and (self.options["list"] or self.options["part"]):
                 lines.append("row %d %s %s" % (r + 1, word, interval(null, given.low, given.high, key.text)))
-        return lines, possible == 0
+            if word == "certain":
+                keys_are_near = keys_are_near and is_near((null, given.low, given.high), self.options["width"])
+        return lines if are_few else ["top %d certain 0" % query.limit], possible == 0 and (keys_are_near or not self.options["keys"])
 
     def block(self):
         if self.query.key:
@@ -801,11 +806,11 @@ def key_text(column, given):
 
 def parse_options(words):
     options = {"width": 0, "rounds": None, "policy": "widest", "reads": None}
-    options.update(dict.fromkeys(("list", "clip", "exact-avg"), False))
+    options.update(dict.fromkeys(("list", "part", "keys", "clip", "exact-avg"), False))
     words = list(words)
     while words:
         word = words.pop(0)[2:]
-        if word in ("list", "clip", "exact-avg"):
+        if word in ("list", "part", "keys", "clip", "exact-avg"):
             options[word] = True
         elif word in ("width", "rounds"):
             options[word] = int(words.pop(0))
@@ -923,7 +928,7 @@ def some_options(chance):
         words += ["--rounds", str(chance.randint(0, 6))]
     if chance.random() < 0.6:
         words += ["--policy", chance.choice(["widest", "order", "filter", "balanced"])]
-    words += ["--" + word for word in ("list", "clip", "exact-avg") if chance.random() < 0.5]
+    words += ["--" + word for word in (chance.choice(["list", "part"]), "keys", "clip", "exact-avg") if chance.random() < 0.5]
     return words
 
 

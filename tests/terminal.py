@@ -47,10 +47,10 @@ TOLD = [
     ("session FILE SCRIPT", "query refused: line 2: unknown column at 11",
      "SELECT SUM(cost) FROM t\n             ^\n  no column is named \"cost\"; the columns are price, qty, city"),
     ("combine 2 REPORTS", "report refused: line 3: no line of a report at this place",
-     "a 1 'Oslo'\n  the report has no such line there: ask each part once, by a tag of its own; MIN and MAX take no texts"),
+     "a 1 'Oslo'\n  the report has no such line there: ask each part once, by a tag of its own; MIN and MAX take no text with a line feed"),
     ("combine 2 CUT", "report refused: part a ends early",
      "the process of that part failed or was cut off: look at its own message, and run it again"),
-    ("combine 0 CUT", "usage: word 2", "\"0\" is no number of parts, from 1 to 65536\n  daq combine PARTS REPORTS [--width NUMBER] [--rounds NUMBER]"),
+    ("combine 0 CUT", "usage: word 2", "\"0\" is no number of parts, from 1 to 65536\n  daq combine PARTS REPORTS [--width NUMBER] [--rounds NUMBER] [--keys]"),
     ("info CSV", "file refused: not a plane file", "daq load makes a plane file of a CSV, and daq ask asks a CSV as it is"),
 ]
 
@@ -79,7 +79,7 @@ def main(words):
         "FILE": trials.put("t.daq", plane_file(TEXT, SCHEMA)[0]), "CSV": trials.put("t.csv", TEXT), "FOLDER": trials.folder.name, "SCHEMA": SCHEMA,
         "BAD": trials.put("bad.csv", "price,qty,city\n5,2,Oslo\n\n9,two,Rome\n"), "SHORT": trials.put("short.csv", "price,qty,city\n5,2\n"),
         "SCRIPT": trials.put("t.sql", "SELECT COUNT(*) FROM t\nSELECT SUM(cost) FROM t\n"),
-        "REPORTS": trials.put("reports", "a\tquery SELECT MAX(city) FROM t\na\tround 0\na\t1 'Oslo'\n"),
+        "REPORTS": trials.put("reports", "a\tquery SELECT SUM(price) FROM t\na\tround 0\na\t1 'Oslo'\n"),
         "CUT": trials.put("cut", "a\tquery SELECT MAX(city) FROM t\na\tround 0\n"),
     }
 
