@@ -1,4 +1,5 @@
 pub mod Digits
 pub mod Kept
 pub mod Cells
+pub mod MovedRows
 pub mod ReadCells

@@ -3,11 +3,13 @@
 
 mod cell;
 mod ends;
+mod moves;
 mod numbers;
 mod ones;
 mod sums;
 
 pub use ends::DigitEnds;
+pub use moves::CellMoves;
 pub use numbers::digit_ends;
 pub use ones::CellOnes;
 pub use sums::DigitSums;

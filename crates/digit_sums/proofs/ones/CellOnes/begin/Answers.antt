@@ -1,7 +1,6 @@
-use Rattle.std.proofs.Common.{◌≡◌, ℕ, ◌<◌, ◌+◌, length, length-set, length-take, set, slice_get, Some, inl, inr, ap, sym, subst, ◌∙◌, arith}
+use Rattle.std.proofs.Common.{◌≡◌, ◌<◌, length, length-set, set, slice_get, Some, inl, inr, ap, sym, subst, ◌∙◌, arith}
 use Rattle.std.proofs.lemmas.Bool.{cases_eq}
-use Rattle.aggregates.proofs.Adding.{set_at, set_elsewhere, taken_same}
-use Rattle.digit_sums.specs.declared.ones.RowBits.{RowBits}
+use Rattle.aggregates.proofs.Adding.{set_at, set_elsewhere}
 use Rattle.digit_sums.specs.Ones.{CountedBits}
 use Rattle.digit_sums.proofs.ones.CellOnes.begin.Goals as goal
 

@@ -1,0 +1,21 @@
+use Rattle.std.proofs.Common.{◌≡◌, ◌<◌, length, length-set, set, slice_get, Some, inl, inr, ap, sym, subst, ◌∙◌, arith}
+use Rattle.std.proofs.lemmas.Bool.{cases_eq}
+use Rattle.aggregates.proofs.Adding.{set_at, set_elsewhere}
+use Rattle.digit_sums.specs.Moves.{CountedMoves, no_moves}
+use Rattle.digit_sums.proofs.moves.CellMoves.begin.Goals as goal
+
+pub loop-cell-preserved : goal.loop-cell-preserved
+loop-cell-preserved c =
+    let before = c.loop-cell.invariant in
+    let items = c.loop-cell.self-inside.moves.items in
+    let n = c.loop-cell.cell in
+    let bits = c.none.result in
+    let room = ap (λ (d : CountedMoves). d.room) c.self.view_is in
+    let within : n < length items = omega (arith, before.count, room, c.requires, c.loop-cell-test.true) in
+    record {
+      count = length-set items n bits ∙ before.count;
+      done = λ k below. elim (cases_eq k n) [
+        | inl here ↦ subst (λ j. slice_get (set items n bits) j ≡ Some no_moves) (sym here) (set_at items n bits within ∙ ap Some c.none.ensures)
+        | inr away ↦ set_elsewhere items n k bits away ∙ before.done k (omega (arith, below, away))
+      ];
+    }
