@@ -8,6 +8,7 @@ pub mod Shown
 pub mod Ratios
 pub mod Interleaved
 pub mod MaskTruths
+pub mod MovedCells
 pub mod Narrow
 pub mod Declared
 pub mod DigitCells

@@ -3,6 +3,7 @@ pub mod Narrowness
 pub mod Cells
 pub mod Promises
 pub mod Progresses
+pub mod MovedCells
 pub mod Moves
 pub mod Counts
 pub mod DigitCells

@@ -1,0 +1,142 @@
+//! Sums of many cells behind a plane that the condition reads, told by the rows that it moved.
+
+ghost use Rattle.std.specs.Prelude.{◌≡◌, ◌<◌, ◌+◌, ◌*◌, ◌≤◌, min, IsTrue, length};
+ghost use Rattle.aggregates.specs.SumsOfCells.{FitsCell};
+ghost use Rattle.kleene_filter.specs.Filters.{truths_under};
+ghost use Rattle.query_model.specs.Validity.{declared_ranges, IsSumKind};
+ghost use Rattle.row_values.specs.ShortSpans.{FitsCells};
+ghost use Rattle.round_engine.specs.CellAnswers.{HasRoom, IsParted, StandForCells};
+ghost use Rattle.round_engine.specs.Cells.{cells_in};
+ghost use Rattle.round_engine.specs.Engines.{stage_of};
+ghost use Rattle.round_engine.specs.MovedCells.{AreMovedBelow, IsMovedFrom, IsRowMoved, WereRows};
+ghost use Rattle.round_engine.specs.Stages.{IsOpenItem, IsOpenStage, Stage};
+
+use crate::read_cells::ReadRows;
+use crate::seen_rows::SeenRows;
+use aggregates::{Running, has_bit};
+use digit_sums::CellMoves;
+use known_column::LentColumns;
+use query_model::{Item, TypedQuery, pairs_are_few};
+use row_groups::cells_tell_keys;
+use row_values::ShortValues;
+
+// Counts a row in its cell, with the ends of its value: as one that now surely counts, as one that does not count now, or not at all.
+fn add_row(moves: &mut CellMoves, cell: u32, came: bool, left: bool, low: i64, high: i64)
+    requires cell { cell < length moves.old.cells }
+    requires fits { FitsCell low high }
+    ensures { IsRowMoved moves.old moves.new cell came left low high }
+{
+    if came {
+        moves.come(cell, low, high);
+    } else if left {
+        moves.leave(cell, low, high);
+    }
+}
+
+// Counts the rows of a block that moved, each in the cell that it is in.
+fn sum_block(
+    query: &TypedQuery,
+    item: &Item,
+    columns: &LentColumns<'_>,
+    rows: ReadRows<'_>,
+    seen: &SeenRows,
+    number: usize,
+    moves: &mut CellMoves,
+)
+    requires open_stage { IsOpenStage (stage_of query.now columns.now) }
+    requires open_item { IsOpenItem columns.now.frame item.now }
+    requires fits { FitsCells item.now.arg (declared_ranges columns.now.frame) }
+    requires judged { rows.filter.now.truths ≡ truths_under query.now.pred columns.now }
+    requires parted { IsParted (stage_of query.now columns.now) rows.cells.now rows.single.now }
+    requires must { length seen.now.must ≡ columns.now.frame.rows }
+    requires may { length seen.now.may ≡ columns.now.frame.rows }
+    requires number { 64 * number < columns.now.frame.rows }
+    requires cells { length moves.old.cells ≡ cells_in (stage_of query.now columns.now) }
+    ensures cells { length moves.new.cells ≡ length moves.old.cells }
+    ensures counted { (before : Stage) → IsMovedFrom (stage_of query.now columns.now) item.now before
+        → WereRows before seen.now.must seen.now.may
+        → AreMovedBelow before (stage_of query.now columns.now) item.now (64 * number) moves.old
+        → AreMovedBelow before (stage_of query.now columns.now) item.now (min (64 * number + 64) columns.now.frame.rows) moves.new }
+{
+    cells_tell_keys();
+    pairs_are_few();
+    let may = rows.filter.may().word(number);
+    let must = rows.filter.must().word(number);
+    let came = must & !seen.must.word(number);
+    let left = seen.may.word(number) & !may;
+    if came | left == 0 {
+        return;
+    }
+    let values = ShortValues::read(&item.arg, columns, number);
+    let came = came & values.sure;
+    let left = left & values.possible;
+    for row in 64 * number..(64 * number + 64).min(columns.rows()) {
+        let cell = rows.cells.cell_of(row);
+        let alone = rows.single[cell as usize];
+        let comes = has_bit(came, row % 64) & alone;
+        let leaves = has_bit(left, row % 64);
+        let span = values.spans[row % 64];
+        add_row(moves, cell, comes, leaves, span.lo, span.hi);
+    }
+}
+
+// Counts all rows that moved, each in the cell that it is in.
+fn sum_rows(
+    query: &TypedQuery,
+    item: &Item,
+    columns: &LentColumns<'_>,
+    rows: ReadRows<'_>,
+    seen: &SeenRows,
+    moves: &mut CellMoves,
+)
+    requires open_stage { IsOpenStage (stage_of query.now columns.now) }
+    requires open_item { IsOpenItem columns.now.frame item.now }
+    requires fits { FitsCells item.now.arg (declared_ranges columns.now.frame) }
+    requires judged { rows.filter.now.truths ≡ truths_under query.now.pred columns.now }
+    requires parted { IsParted (stage_of query.now columns.now) rows.cells.now rows.single.now }
+    requires must { length seen.now.must ≡ columns.now.frame.rows }
+    requires may { length seen.now.may ≡ columns.now.frame.rows }
+    requires room { cells_in (stage_of query.now columns.now) ≤ moves.old.room }
+    ensures cells { length moves.new.cells ≡ cells_in (stage_of query.now columns.now) }
+    ensures counted { (before : Stage) → IsMovedFrom (stage_of query.now columns.now) item.now before
+        → WereRows before seen.now.must seen.now.may
+        → AreMovedBelow before (stage_of query.now columns.now) item.now columns.now.frame.rows moves.new }
+{
+    cells_tell_keys();
+    moves.begin(rows.cells.count());
+    for number in 0..columns.rows().div_ceil(64) {
+        sum_block(query, item, columns, rows, seen, number, moves);
+    }
+}
+
+// Makes each cell of a sum stand for its rows behind the plane, if the sum stood for them before it. Where it is not told, the cells stand
+// for nothing.
+fn move_sums(
+    query: &TypedQuery,
+    item: &Item,
+    columns: &LentColumns<'_>,
+    rows: ReadRows<'_>,
+    moves: &CellMoves,
+    running: &mut Running,
+) -> bool
+    requires open_stage { IsOpenStage (stage_of query.now columns.now) }
+    requires kind { IsSumKind item.now.kind }
+    requires parted { IsParted (stage_of query.now columns.now) rows.cells.now rows.single.now }
+    requires cells { length moves.now.cells ≡ cells_in (stage_of query.now columns.now) }
+    requires room { HasRoom (stage_of query.now columns.now) item.now running.old }
+    requires count { length running.old.cells ≡ cells_in (stage_of query.now columns.now) }
+    ensures room { HasRoom (stage_of query.now columns.now) item.now running.new }
+    ensures stand { IsTrue result → (before : Stage) → before.frame.rows ≡ columns.now.frame.rows
+        → StandForCells before item.now running.old
+        → AreMovedBelow before (stage_of query.now columns.now) item.now columns.now.frame.rows moves.now
+        → StandForCells (stage_of query.now columns.now) item.now running.new }
+{
+    cells_tell_keys();
+    for cell in 0..rows.cells.count() {
+        let Some(tally) = moves.tally(cell, item.kind, &running.tally(cell)) else {
+            return false;
+        };
+        running.set(cell, tally);
+    }
+    true
+}
