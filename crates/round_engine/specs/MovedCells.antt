@@ -1,6 +1,8 @@
 -- Sums of many cells before the next plane of a column and behind it, where the condition reads the column, and neither the item nor a key.
 use Rattle.std.specs.Prelude.{◌≡◌, ◌≢◌, ℕ, ℤ, Bool, false, List, length, map, if◌then◌else◌, slice_get}
 use Rattle.std.specs.declared.option.Option.TheVariants.{Some}
+use Rattle.aggregates.specs.Runnings.{Tallies}
+use Rattle.round_engine.specs.CellAnswers.{StandForCells}
 use Rattle.digit_sums.specs.declared.moves.RowMoves.{RowMoves}
 use Rattle.digit_sums.specs.Moves.{AreFewMoves, AreMoved, CountedMoves, with_came, with_left}
 use Rattle.kleene_filter.specs.Filters.{is_certain, is_possible, stands_in, truths_under}
@@ -47,3 +49,10 @@ pub record IsRowMoved (old new : CountedMoves) (cell : ℕ) (came left : Bool) (
   pub others : (other : ℕ) → other ≢ cell → slice_get new.cells other ≡ slice_get old.cells other
   pub counted : (moves : RowMoves) → AreFewMoves moves → slice_get old.cells cell ≡ Some moves
       → slice_get new.cells cell ≡ Some (moved_by came left low high moves)
+
+-- there an item's cells stood for its rows
+pub record WereMoved (stage : Stage) (item : Aggregate) (must may : List Bool) (running : Tallies) : Type 0 where
+  pub before : Stage
+  pub step : IsMovedFrom stage item before
+  pub rows : WereRows before must may
+  pub stood : StandForCells before item running

@@ -8,17 +8,18 @@ ghost use Rattle.row_values.specs.ShortSpans.{FitsCells};
 ghost use Rattle.round_engine.specs.CellAnswers.{HasRoom, IsParted, StandForCells};
 ghost use Rattle.round_engine.specs.Cells.{cells_in};
 ghost use Rattle.round_engine.specs.Engines.{stage_of};
-ghost use Rattle.round_engine.specs.MovedCells.{AreMovedBelow, IsMovedFrom, IsRowMoved, WereRows};
+ghost use Rattle.round_engine.specs.MovedCells.{AreMovedBelow, IsMovedFrom, IsRowMoved, WereMoved, WereRows};
 ghost use Rattle.round_engine.specs.Stages.{IsOpenItem, IsOpenStage, Stage};
 
+use crate::compact_cells::is_summed;
 use crate::read_cells::ReadRows;
 use crate::seen_rows::SeenRows;
 use aggregates::{Running, has_bit};
 use digit_sums::CellMoves;
 use known_column::LentColumns;
 use query_model::{Item, TypedQuery, pairs_are_few};
-use row_groups::cells_tell_keys;
-use row_values::ShortValues;
+use row_groups::{FEW_CELLS, cells_tell_keys};
+use row_values::{ShortValues, fits_cells};
 
 // Counts a row in its cell, with the ends of its value: as one that now surely counts, as one that does not count now, or not at all.
 fn add_row(moves: &mut CellMoves, cell: u32, came: bool, left: bool, low: i64, high: i64)
@@ -52,6 +53,7 @@ fn sum_block(
     requires may { length seen.now.may ≡ columns.now.frame.rows }
     requires number { 64 * number < columns.now.frame.rows }
     requires cells { length moves.old.cells ≡ cells_in (stage_of query.now columns.now) }
+    ensures room { moves.new.room ≡ moves.old.room }
     ensures cells { length moves.new.cells ≡ length moves.old.cells }
     ensures counted { (before : Stage) → IsMovedFrom (stage_of query.now columns.now) item.now before
         → WereRows before seen.now.must seen.now.may
@@ -97,6 +99,7 @@ fn sum_rows(
     requires must { length seen.now.must ≡ columns.now.frame.rows }
     requires may { length seen.now.may ≡ columns.now.frame.rows }
     requires room { cells_in (stage_of query.now columns.now) ≤ moves.old.room }
+    ensures room { moves.new.room ≡ moves.old.room }
     ensures cells { length moves.new.cells ≡ cells_in (stage_of query.now columns.now) }
     ensures counted { (before : Stage) → IsMovedFrom (stage_of query.now columns.now) item.now before
         → WereRows before seen.now.must seen.now.may
@@ -139,4 +142,40 @@ fn move_sums(
         running.set(cell, tally);
     }
     true
+}
+
+// Makes the cells of a sum stand for their rows behind a plane that the condition reads, if they are many and short numbers tell each value.
+// Else they stand for nothing.
+pub(crate) fn move_sum(
+    query: &TypedQuery,
+    item: &Item,
+    columns: &LentColumns<'_>,
+    rows: ReadRows<'_>,
+    seen: &SeenRows,
+    moves: &mut CellMoves,
+    running: &mut Running,
+) -> bool
+    requires open_stage { IsOpenStage (stage_of query.now columns.now) }
+    requires open_item { IsOpenItem columns.now.frame item.now }
+    requires judged { rows.filter.now.truths ≡ truths_under query.now.pred columns.now }
+    requires parted { IsParted (stage_of query.now columns.now) rows.cells.now rows.single.now }
+    requires must { length seen.now.must ≡ columns.now.frame.rows }
+    requires may { length seen.now.may ≡ columns.now.frame.rows }
+    requires room { HasRoom (stage_of query.now columns.now) item.now running.old }
+    requires count { length running.old.cells ≡ cells_in (stage_of query.now columns.now) }
+    requires before { WereMoved (stage_of query.now columns.now) item.now seen.now.must seen.now.may running.old }
+    ensures kept { moves.new.room ≡ moves.old.room }
+    ensures room { HasRoom (stage_of query.now columns.now) item.now running.new }
+    ensures stand { IsTrue result → StandForCells (stage_of query.now columns.now) item.now running.new }
+{
+    let cells = rows.cells.count();
+    if cells <= FEW_CELLS || !is_summed(item.kind) || !fits_cells(&item.arg, columns) {
+        return false;
+    }
+    cells_tell_keys();
+    if moves.room() < cells as usize {
+        return false;
+    }
+    sum_rows(query, item, columns, rows, seen, moves);
+    move_sums(query, item, columns, rows, moves, running)
 }

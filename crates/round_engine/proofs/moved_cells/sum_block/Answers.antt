@@ -1,7 +1,7 @@
 use Rattle.std.proofs.Common.{◌≡◌, ◌||◌, ℕ, ◌+◌, ◌*◌, ◌%◌, ◌<◌, ◌&&◌, min, get_or, slice_get, Some, refl, ap, sym, ◌∙◌, subst, arith, not, false, IsTrue, ℤ, to_z, of_z}
 use Rattle.std.proofs.lemmas.Option.{get_or_from_slice_get, slice_get-get_or}
 use Rattle.std.specs.Int.{bit_not, w64}
-use Rattle.std.specs.Int.Bits.{bit_and, bit_or}
+use Rattle.std.specs.Int.Bits.{bit_and}
 use Rattle.std.proofs.lemmas.Bool.{or_parts}
 use Rattle.known_column.specs.Columns.{count_in_block}
 use Rattle.plane_kernels.specs.Rows.{digit_at}
@@ -65,6 +65,7 @@ add_row-requires-clause-fits c =
 
 pub loop-row-preserved : goal.loop-row-preserved
 loop-row-preserved c = record {
+  room = c.add_row.ensures.room ∙ c.loop-row.invariant.room;
   cells = c.add_row.ensures.count ∙ c.loop-row.invariant.cells;
   counted = λ before is were start.
       (let query = c.args.query.now in

@@ -20,6 +20,7 @@ loop-number-init c =
     let many : length c.begin.new.self.cells ≡ cells_in stage = omega (arith, counted, c.count.ensures, c.begin.ensures.count) in
     let first : 0 ≡ min (64 * 0) c.args.columns.now.frame.rows = omega arith in
     record {
+      room = c.begin.ensures.room;
       cells = many;
       counted = λ before is were. subst (λ n. AreMovedBelow before stage c.args.item.now n c.begin.new.self) first (record {
         cells = many;
@@ -43,6 +44,7 @@ loop-number-preserved c =
     let from : min (64 * number) rows ≡ 64 * number = omega (arith, within) in
     let end : min (64 * number + 64) rows ≡ min (64 * (number + 1)) rows = omega arith in
     record {
+      room = c.sum_block.ensures.room ∙ inv.room;
       cells = c.sum_block.ensures.cells ∙ inv.cells;
       counted = λ before is were.
           subst (λ n. AreMovedBelow before stage c.args.item.now n c.sum_block.new.moves) end

@@ -7,6 +7,7 @@ use Rattle.round_engine.proofs.moved_cells.sum_rows.Given as goal
 
 abbrev pub invariant-loop-number : goal.invariant-loop-number
 invariant-loop-number l = record {
+  room : l.moves.room ≡ l.fn.moves.room;
   cells : length l.moves.cells ≡ cells_in (stage_of l.query l.columns);
   counted : (before : Stage) → IsMovedFrom (stage_of l.query l.columns) l.item before → WereRows before l.seen.must l.seen.may →
       AreMovedBelow before (stage_of l.query l.columns) l.item (min (64 * l.number) l.columns.frame.rows) l.moves;
