@@ -1,12 +1,14 @@
 //! The rows of cells that counted perhaps and now surely count, or do not, and what that changes in counts and sums.
 
-ghost use Rattle.std.specs.Prelude.{◌≡◌, ◌≢◌, ◌<◌, ◌≤◌, ℕ, ◌+◌, ◌-◌, pos, negsuc, ◌≤ℤ◌, false, List, length, slice_get, Some, IfOk, IfSome, IsTrue};
+ghost use Rattle.std.specs.Prelude.{◌≡◌, ◌≢◌, ◌<◌, ◌≤◌, ℕ, ◌+◌, ◌-◌, pos, negsuc, ◌≤ℤ◌, false};
+ghost use Rattle.std.specs.Prelude.{List, length, slice_get, Some, IfOk, IfSome, IsTrue};
 ghost use Rattle.query_model.specs.declared.query.ItemKind.TheVariants.{Count, Sum};
 ghost use Rattle.query_model.specs.Bounds.{Pair};
 ghost use Rattle.aggregates.specs.SumsOfCells.{FitsCell};
 ghost use Rattle.aggregates.specs.Tallies.{tally_of};
 ghost use Rattle.digit_sums.specs.declared.moves.RowMoves.{RowMoves};
-ghost use Rattle.digit_sums.specs.Moves.{above, AreFewMoves, AreMoved, AreMovedFor, AreRowsMoved, below, no_moves, with_came, with_left, without_ends};
+ghost use Rattle.digit_sums.specs.Moves.{above, AreFewMoves, AreMoved, AreMovedFor, AreRowsMoved, below};
+ghost use Rattle.digit_sums.specs.Moves.{no_moves, with_came, with_left, without_ends};
 
 use aggregates::Tally;
 use query_model::ItemKind;

@@ -144,8 +144,8 @@ fn move_sums(
     true
 }
 
-// Makes the cells of a sum stand for their rows behind a plane that the condition reads, if they are many and short numbers tell each value.
-// Else they stand for nothing.
+// Makes the cells of a sum stand for their rows behind a plane that the condition reads, if they are many and short numbers tell each
+// value. Else they stand for nothing.
 pub(crate) fn move_sum(
     query: &TypedQuery,
     item: &Item,
